@@ -8,5 +8,10 @@ mod StreamRuns
 mod StorageRuns
 mod AreaRuns
 mod FormRuns
+mod PointerRuns
 mod ArraysApart
 mod UnitKinds
+mod CountRuns
+mod SavedRuns
+mod SubscriptRuns
+mod ArrayRuns

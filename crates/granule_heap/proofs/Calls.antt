@@ -1,21 +1,20 @@
 -- What a keeper's calls do with bytes.
-use Rattle.std.proofs.Common.{◌≡◌, ◌≢◌, ℕ, ℤ, zero, suc, ◌+◌, ◌-◌, ◌*◌, ◌/◌, ◌%◌, ◌<◌, ◌≤◌, List, [], ◌∷◌, ◌++◌, length, take, drop, replicate, drop-drop, length-append, length-drop, length-take-le, Option, Some, None, Ok, Bool, true, false, refl, sym, ap, ◌∙◌, subst, arith}
-use Rattle.std.specs.Prelude.{cond, nat_le, ◌==◌, IsSome}
+use Rattle.std.proofs.Common.{◌≡◌, ℕ, ℤ, suc, ◌+◌, ◌-◌, ◌*◌, ◌/◌, ◌<◌, ◌≤◌, List, [], ◌∷◌, ◌++◌, length, take, drop, replicate, drop-drop, length-append, length-drop, length-take-le, Option, Some, None, Ok, Bool, true, false, refl, sym, ap, ◌∙◌, subst, arith}
+use Rattle.std.specs.Prelude.{cond, ◌==◌, IsSome}
 use Rattle.std.proofs.lemmas.List.{length-replicate}
 use borrow.Rule.Slice.PartMut.{put_mid}
 use Rattle.rv_meaning.specs.Words.{word}
-use Rattle.pli_typing.specs.Signatures.{footprint}
 use Rattle.area_keeper.specs.Keeper.{Kept}
 use Rattle.area_keeper.specs.KeptAreas.{kept_as, kept_at, part, with_part}
 use Rattle.area_keeper.specs.KeeperLaws.{greatest_capacity}
 use Rattle.area_keeper.specs.Chain.{with_word, capacity_in}
-use Rattle.area_keeper.proofs.Agreement.{length_part, length_with_part, length_word}
+use Rattle.area_keeper.proofs.Agreement.{length_part}
 use Rattle.area_heap.specs.Answers.{of_signature, kept_of, offset_or_fault, placed_or, bytes_or}
 use Rattle.granule_keeper.proofs.Placing.{granules_fitted}
-use Rattle.granule_keeper.proofs.Runs.{free_within, used_within}
+use Rattle.granule_keeper.proofs.Runs.{free_within}
 use Rattle.granule_keeper.proofs.Standing.{placed_in}
 use Rattle.granule_keeper.specs.Marks.{insides, free_run, room_in, with_run, without_run, used}
-use Rattle.granule_keeper.specs.Granules.{front_for, marks_in, with_marks, kept_in, granules_of, with_header, with_generation, without_generation, placed_at, granules_allocated, freed_if, freed_in, with_copy, granules_copied, granules_area, fitted}
+use Rattle.granule_keeper.specs.Granules.{front_for, marks_in, with_marks, kept_in, granules_of, with_generation, without_generation, placed_at, granules_allocated, freed_if, freed_in, with_copy, granules_copied, granules_area}
 use Rattle.granule_heap.specs.Places.{IsFound}
 use Rattle.granule_heap.proofs.MarkSteps.{le_true, le_false}
 use Rattle.granule_heap.proofs.Finding.{opened}

@@ -8,7 +8,7 @@ use Rattle.area_keeper.specs.KeeperLaws.{greatest_capacity}
 use Rattle.area_keeper.specs.Chain.{word_at, capacity_in}
 use Rattle.area_heap.specs.Answers.{of_signature, kept_of}
 use Rattle.granule_keeper.proofs.Order.{kept_where}
-use Rattle.granule_keeper.proofs.Placing.{Lies, ordered}
+use Rattle.granule_keeper.proofs.Placing.{ordered}
 use Rattle.granule_keeper.proofs.Standing.{Stands, Front, placed_in, stands_from, stands_for, marks_of, order_of}
 use Rattle.granule_keeper.specs.Marks.{insides}
 use Rattle.granule_keeper.specs.Granules.{front_for, marks_in, kept_in, placed_from, granules_area}

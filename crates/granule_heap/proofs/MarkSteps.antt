@@ -1,10 +1,10 @@
 -- What each step along marks keeps.
 use Rattle.std.proofs.Common.{◌≡◌, ◌≢◌, ℕ, zero, suc, ◌+◌, ◌-◌, ◌*◌, ◌<◌, ◌≤◌, min, List, [], ◌∷◌, ◌++◌, length, take, drop, take_all, replicate, append_assoc, length-append, length-drop, length-take-le, drop-cons, drop-drop, drop-set-lt, take-suc-set, get_or-drop, drop_of_length-le, Option, Some, None, Bool, true, false, refl, sym, ap, ◌∙◌, subst, arith}
-use Rattle.std.specs.Prelude.{cond, nat_le, ◌==◌, slice_index, slice_set}
+use Rattle.std.specs.Prelude.{cond, nat_le, slice_index, slice_set}
 use Rattle.std.proofs.Math.Seq.{set-append_seam}
 use Rattle.std.proofs.lemmas.List.{length-replicate, get_or-append_right}
 use Rattle.std.proofs.lemmas.Bool.Decides.{nat_tests}
-use Rattle.memchr.specs.Find.{Passes, Nowhere, is_byte}
+use Rattle.memchr.specs.Find.{OccursAt, Passes, Nowhere, is_byte}
 use Rattle.area_keeper.specs.KeptAreas.{with_part}
 use Rattle.granule_keeper.proofs.Runs.{length_run, free_within}
 use Rattle.granule_keeper.specs.Marks.{insides, free_run, room_in, run, begun, with_run, without_run, used_with, used}
@@ -145,60 +145,123 @@ enough o n (m ∷ ms) h i = ap (λ b. cond b (Some o) (room_in (16 + o) n ms)) (
 rest_is : (ms : List ℕ) (p : ℕ) → take (length ms - p) (drop p ms) ≡ drop p ms
 rest_is ms p = take_all (length ms - p) (drop p ms) (omega (arith, length-drop p ms))
 
-pub room_none :
-    (ms : List ℕ) (p n : ℕ) → 1 ≤ n →
-    Nowhere (Passes (is_byte 0) (take (length ms - p) (drop p ms))) 0 (length (take (length ms - p) (drop p ms))) →
-    room_in 0 n ms ≡ room_in (16 * p) n (drop p ms) → None ≡ room_in 0 n ms
-room_none ms p n h f e =
-    let g = subst (λ xs. Nowhere (Passes (is_byte 0) xs) 0 (length xs)) (rest_is ms p) f in
-    sym (e ∙ all_skipped (16 * p) n (drop p ms) h g)
+-- a needle of free granules, no more than are wanted
+pub record IsFree (n : ℕ) (needle : List ℕ) : Type 0 where
+  pub some : 1 ≤ length needle
+  pub most : length needle ≤ n
+  pub free : (j : ℕ) → slice_index needle j ≡ 0
 
--- where the next free granule is
+zero_at : (k m j : ℕ) → slice_index (take m (replicate k 0)) j ≡ 0
+zero_at zero zero j = refl
+zero_at zero (suc m) j = refl
+zero_at (suc k) zero j = refl
+zero_at (suc k) (suc m) zero = refl
+zero_at (suc k) (suc m) (suc j) = zero_at k m j
+
+pub free_needle : (n m : ℕ) → 1 ≤ n → m ≡ min n 32 → IsFree n (take m (replicate 32 0))
+free_needle n m h e =
+    let zeros : List ℕ = replicate 32 0 in
+    let all : length zeros ≡ 32 = length-replicate {A = ℕ} 32 0 in
+    let long : length (take m zeros) ≡ m = length-take-le m zeros (omega (arith, e, all)) in
+    record { some = omega (arith, long, e, h); most = omega (arith, long, e); free = zero_at 32 m }
+
+free_index : (ms : List ℕ) (j : ℕ) → j < free_run ms → slice_index ms j ≡ 0
+free_index [] j h = absurd (omega (arith, h))
+free_index (zero ∷ ms) zero h = refl
+free_index (zero ∷ ms) (suc j) h = free_index ms j (omega (arith, h))
+free_index (suc m ∷ ms) j h = absurd (omega (arith, h))
+
+occurring : (hay needle : List ℕ) (k n : ℕ) → IsFree n needle → length needle ≤ free_run (drop k hay) → OccursAt hay needle k
+occurring hay needle k n f h =
+    let within = free_within (drop k hay) in
+    let some = f.some in
+    record {
+      fits = omega (arith, within, h, some, length-drop k hay);
+      reads = λ j i. sym (get_or-drop k hay j 0) ∙ (free_index (drop k hay) j (omega (arith, i, h)) ∙ sym (f.free j));
+    }
+
+-- where the needle doesn't occur fewer are free than are wanted
+few : (hay needle : List ℕ) (k n : ℕ) → IsFree n needle → (OccursAt hay needle k → ⊥) → free_run (drop k hay) < n
+few hay needle k n f never = by_test (nat_le (length needle) (free_run (drop k hay))) refl
+  where
+    by_test : (t : Bool) → nat_le (length needle) (free_run (drop k hay)) ≡ t → free_run (drop k hay) < n
+    by_test true e = absurd (never (occurring hay needle k n f (grind (arith, nat_tests, e))))
+    by_test false e = let most = f.most in let less : free_run (drop k hay) < length needle = grind (arith, nat_tests, e) in omega (arith, most, less)
+
+passed :
+    (o n k : ℕ) (ms : List ℕ) → k ≤ length ms → ((j : ℕ) → j < k → free_run (drop j ms) < n) →
+    room_in o n ms ≡ room_in (16 * k + o) n (drop k ms)
+passed o n zero ms i f = let e : o ≡ 16 * 0 + o = omega arith in ap (λ x. room_in x n ms) e
+passed o n (suc k) [] i f = absurd (omega (arith, i))
+passed o n (suc k) (m ∷ ms) i f =
+    let e : 16 * k + (16 + o) ≡ 16 * suc k + o = omega arith in
+    ap (λ b. cond b (Some o) (room_in (16 + o) n ms)) (le_false n (free_run (m ∷ ms)) (f 0 (omega arith)))
+    ∙ (passed (16 + o) n k ms (omega (arith, i)) (λ j b. f (suc j) (omega (arith, b))) ∙ ap (λ x. room_in x n (drop k ms)) e)
+
+pub room_none :
+    (t : Option ℕ) (ms needle : List ℕ) (p n : ℕ) → IsFree n needle →
+    Nowhere (OccursAt (take (length ms - p) (drop p ms)) needle) 0 (length (take (length ms - p) (drop p ms)) + 1) →
+    t ≡ room_in (16 * p) n (drop p ms) → None ≡ t
+room_none t ms needle p n f never e =
+    let g = subst (λ xs. Nowhere (OccursAt xs needle) 0 (length xs + 1)) (rest_is ms p) never in
+    let all = length (drop p ms) in
+    sym
+    (e
+    ∙ (passed (16 * p) n all (drop p ms) (omega arith) (λ j b. few (drop p ms) needle j n f (g j (omega arith) (omega (arith, b))))
+    ∙ ap (room_in (16 * all + 16 * p) n) (drop_of_length-le (drop p ms) (omega arith))))
+
+-- where the next free granules are
 pub room_skips :
-    (ms : List ℕ) (p s n : ℕ) → 1 ≤ n → s < length (take (length ms - p) (drop p ms)) →
-    Nowhere (Passes (is_byte 0) (take (length ms - p) (drop p ms))) 0 s → room_in 0 n ms ≡ room_in (16 * p) n (drop p ms) →
-    room_in 0 n ms ≡ room_in (16 * (p + s)) n (drop (p + s) ms)
-room_skips ms p s n h i f e =
+    (t : Option ℕ) (ms needle : List ℕ) (p s n : ℕ) → IsFree n needle → OccursAt (take (length ms - p) (drop p ms)) needle s →
+    Nowhere (OccursAt (take (length ms - p) (drop p ms)) needle) 0 s → t ≡ room_in (16 * p) n (drop p ms) →
+    t ≡ room_in (16 * (p + s)) n (drop (p + s) ms)
+room_skips t ms needle p s n f there never e =
     let q = rest_is ms p in
-    let g = subst (λ xs. Nowhere (Passes (is_byte 0) xs) 0 s) q f in
-    let j : s < length (drop p ms) = subst (λ xs. s < length xs) q i in
+    let g = subst (λ xs. Nowhere (OccursAt xs needle) 0 s) q never in
+    let fits = (subst (λ xs. OccursAt xs needle s) q there).fits in
     let o : 16 * s + 16 * p ≡ 16 * (p + s) = omega arith in
     e
-    ∙ (skipped (16 * p) n s (drop p ms) h (omega (arith, j)) g
+    ∙ (passed (16 * p) n s (drop p ms) (omega (arith, fits)) (λ j b. few (drop p ms) needle j n f (g j (omega arith) b))
     ∙ (ap (λ x. room_in x n (drop s (drop p ms))) o ∙ ap (room_in (16 * (p + s)) n) (drop-drop s p ms)))
 
-zero_is : (x : ℕ) → (x == 0) ≡ true → x ≡ 0
-zero_is x e = grind (arith, nat_tests)
-
 pub room_there :
-    (ms : List ℕ) (p s n free : ℕ) → 1 ≤ n → s < length (take (length ms - p) (drop p ms)) →
-    Passes (is_byte 0) (take (length ms - p) (drop p ms)) s → free ≡ min n (free_run (drop (p + s) ms)) → 1 ≤ free
-room_there ms p s n free h i z e =
-    let q = rest_is ms p in
-    let j : s < length (drop p ms) = subst (λ xs. s < length xs) q i in
-    let inside : p + s < length ms = omega (arith, j, length-drop p ms) in
-    let y = subst (λ xs. Passes (is_byte 0) xs s) q z in
-    let m : slice_index ms (p + s) ≡ 0 = sym (get_or-drop p ms s 0) ∙ zero_is (slice_index (drop p ms) s) y in
-    let f : free_run (drop (p + s) ms) ≡ suc (free_run (drop (suc (p + s)) ms)) =
+    (ms needle : List ℕ) (p s n free : ℕ) → 1 ≤ n → IsFree n needle → OccursAt (take (length ms - p) (drop p ms)) needle s →
+    free ≡ min n (free_run (drop (p + s) ms)) → 1 ≤ free
+room_there ms needle p s n free h f there e =
+    let some = f.some in
+    let there = subst (λ xs. OccursAt xs needle s) (rest_is ms p) there in
+    let fits = there.fits in
+    let first : s + 0 ≡ s = omega arith in
+    let inside : p + s < length ms = omega (arith, fits, some, length-drop p ms) in
+    let m : slice_index ms (p + s) ≡ 0 =
+    sym (get_or-drop p ms s 0) ∙ (sym (ap (slice_index (drop p ms)) first) ∙ (there.reads 0 (omega (arith, some)) ∙ f.free 0))
+    in
+    let r : free_run (drop (p + s) ms) ≡ suc (free_run (drop (suc (p + s)) ms)) =
     ap free_run (drop-cons ms (p + s) 0 inside) ∙ ap (λ x. free_run (x ∷ drop (suc (p + s)) ms)) m
     in
-    omega (arith, e, f, h)
+    omega (arith, e, r, h)
 
 pub room_some :
-    (ms : List ℕ) (at n free : ℕ) → 1 ≤ n → free ≡ min n (free_run (drop at ms)) → free ≡ n →
-    room_in 0 n ms ≡ room_in (16 * at) n (drop at ms) → Some (16 * at) ≡ room_in 0 n ms
-room_some ms at n free h e f r = sym (r ∙ enough (16 * at) n (drop at ms) h (omega (arith, e, f)))
+    (t : Option ℕ) (ms : List ℕ) (at n free : ℕ) → 1 ≤ n → free ≡ min n (free_run (drop at ms)) → free ≡ n →
+    t ≡ room_in (16 * at) n (drop at ms) → Some (16 * at) ≡ t
+room_some t ms at n free h e f r = sym (r ∙ enough (16 * at) n (drop at ms) h (omega (arith, e, f)))
 
 pub room_on :
-    (ms : List ℕ) (at n free : ℕ) → free ≡ min n (free_run (drop at ms)) → free ≢ n →
-    room_in 0 n ms ≡ room_in (16 * at) n (drop at ms) →
-    room_in 0 n ms ≡ room_in (16 * (at + free)) n (drop (at + free) ms)
-room_on ms at n free e f r =
+    (t : Option ℕ) (ms : List ℕ) (at n free : ℕ) → free ≡ min n (free_run (drop at ms)) → free ≢ n →
+    t ≡ room_in (16 * at) n (drop at ms) → t ≡ room_in (16 * (at + free)) n (drop (at + free) ms)
+room_on t ms at n free e f r =
     let few : free < n = grind (arith, e, f) in
     let o : 16 * free + 16 * at ≡ 16 * (at + free) = omega arith in
     r
     ∙ (too_few (16 * at) n free (drop at ms) (omega (arith, e, few)) few
     ∙ (ap (λ x. room_in x n (drop free (drop at ms))) o ∙ ap (room_in (16 * (at + free)) n) (drop-drop free at ms)))
+
+-- the first free granule
+pub room_first :
+    (ms : List ℕ) (n s : ℕ) → 1 ≤ n → s < length ms → Nowhere (Passes (is_byte 0) ms) 0 s → room_in 0 n ms ≡ room_in (16 * s) n (drop s ms)
+room_first ms n s h i f =
+    let e : 16 * s + 0 ≡ 16 * s = omega arith in
+    skipped 0 n s ms h (omega (arith, i)) f ∙ ap (λ x. room_in x n (drop s ms)) e
 
 -- ---- runs that are written
 

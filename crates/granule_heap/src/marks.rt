@@ -5,7 +5,10 @@ ghost use Rattle.area_keeper.specs.KeptAreas.{with_part};
 ghost use Rattle.granule_keeper.specs.Marks.{insides, free_run, room_in, with_run, without_run, used};
 ghost use Rattle.granule_heap.specs.Places.{begins_at};
 
-use memchr::memchr;
+use memchr::{memchr, memmem};
+
+/// So many free granules are looked for at once.
+const FREE: [u8; 32] = [0; 32];
 
 /// The first place from which on so many granules are free.
 pub fn room(marks: &[u8], number: usize) -> Option<usize>
@@ -13,8 +16,26 @@ pub fn room(marks: &[u8], number: usize) -> Option<usize>
     ensures room { option_map (λ place. 16 * place) result ≡ room_in 0 number marks.now }
     ensures inside { IfSome result (λ place. place + number ≤ length marks.now) }
 {
-    let mut place = 0;
-    while let Some(skipped) = memchr(0, &marks[place..]) {
+    let Some(start) = memchr(0, marks) else {
+        return None;
+    };
+    let free = free_at(marks, start, number);
+    if free == number {
+        return Some(start);
+    }
+    room_behind(marks, start + free, number)
+}
+
+/// The same from a place on. Gaps that are too small are passed many marks at a time.
+fn room_behind(marks: &[u8], from: usize, number: usize) -> Option<usize>
+    requires some { 1 ≤ number }
+    requires from { from ≤ length marks.now }
+    ensures room { option_map (λ place. 16 * place) result ≡ room_in (16 * from) number (drop from marks.now) }
+    ensures inside { IfSome result (λ place. place + number ≤ length marks.now) }
+{
+    let wanted = &FREE[..number.min(FREE.len())];
+    let mut place = from;
+    while let Some(skipped) = memmem::find(&marks[place..], wanted) {
         let start = place + skipped;
         let free = free_at(marks, start, number);
         if free == number {

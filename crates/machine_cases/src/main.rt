@@ -5,6 +5,7 @@
 mod images;
 mod numbers;
 mod programs;
+mod random;
 mod runs;
 mod words;
 
@@ -36,6 +37,8 @@ fn main(rt: HostRuntime) -> Result<()> {
             tell(&rt, subject, line)?;
         }
     }
+    println!(rt; "== random")?;
+    random::tell_random(&rt)?;
     println!(rt; "== others")?;
     images::tell_small_tables(&rt)?;
     runs::tell_other_notices(&rt)

@@ -1,9 +1,7 @@
 pub mod Bounding
 pub mod Boxes
-pub mod Having
 pub mod Lists
 pub mod Parting
 pub mod Places
 pub mod Recording
 pub mod Running
-pub mod Stepping

@@ -1,8 +1,8 @@
 -- Elements as a run of addresses.
-use Rattle.std.proofs.Common.{◌≡◌, ℕ, zero, suc, ◌+◌, ◌-◌, ◌*◌, ◌^◌, ◌<◌, ◌≤◌, ℤ, Bool, true, false, List, [], ◌∷◌, ◌++◌, length, map, take, drop, get_or, Option, Some, None, Result, Ok, Err, refl, sym, ap, ap₂, subst, ◌∙◌, arith, mul-le-mul_left}
+use Rattle.std.proofs.Common.{◌≡◌, ℕ, zero, suc, ◌+◌, ◌-◌, ◌*◌, ◌^◌, ◌<◌, ◌≤◌, ℤ, Bool, true, false, List, [], ◌∷◌, ◌++◌, length, map, take, drop, get_or, min, Option, Some, None, Result, Ok, Err, refl, sym, ap, ap₂, subst, ◌∙◌, arith, mul-le-mul_left}
 use Rattle.std.specs.Prelude.{◌&&◌, if◌then◌else◌}
 use Rattle.std.specs.List.{list_all, range_with_len}
-use Rattle.std.proofs.lemmas.List.{drop_all, drop_more, drop-map, length-map, length-take-le, map-append, take-append-drop}
+use Rattle.std.proofs.lemmas.List.{drop_all, drop_min, drop_more, drop-map, length-map, length-take-le, map-append, take-append-drop}
 use Rattle.std.proofs.lemmas.List.FromFn.{length-map-range_with_len}
 use Rattle.pli_typing.specs.Signatures.{Bounds, Leaf, LeafKind, Fixed, Character, Varying, Bit, Pointer, Offset, Area, capped, element_count, leaf_bytes}
 use Rattle.pli_types.specs.View.{pair_of}
@@ -29,7 +29,6 @@ use Rattle.pli_aggregates.specs.Storing.{written_at}
 use Rattle.pli_aggregates.proofs.Boxes.{alike_place, all_where, first_fails, none_fails, not_reached, place_apart, reached, run_standing, within_apart}
 use Rattle.pli_aggregates.proofs.Lists.{all_alike, both, not_first}
 use Rattle.pli_aggregates.proofs.Places.{as_many_subscripts}
-use Rattle.pli_aggregates.proofs.Stepping.{within_at}
 use Rattle.pli_values.proofs.Parts.{with_none}
 
 -- ---- addresses of a run
@@ -64,6 +63,11 @@ standing_within bytes end at step n h = within_from bytes end at step 0 n (λ s.
   where
     none : (k : ℕ) → k - 1 ≡ 0 + k - 1
     none k = omega arith
+
+within_at : (bytes end : ℕ) (as' : List ℕ) (i : ℕ) → AreWithin bytes end as' → i < length as' → get_or as' i 0 + bytes ≤ end
+within_at bytes end [] i w h = absurd (omega (arith, h))
+within_at bytes end (a ∷ as') zero w h = w.0
+within_at bytes end (a ∷ as') (suc i) w h = within_at bytes end as' i w.1 (omega (arith, h))
 
 pub inside_at : (bytes end at step n i : ℕ) → AreWithin bytes end (standing at step n) → i < n → at + step * i + bytes ≤ end
 inside_at bytes end at step n i w h =
@@ -271,3 +275,8 @@ none_at (a ∷ as') m = ap (written_at [] as') (with_none a m) ∙ none_at as' m
 
 pub none_stored : (kind : LeafKind) (v : BasicValue) (as' m : List ℕ) → leaf_bytes kind ≡ 0 → m ≡ written_at (kept_bytes kind v) as' m
 none_stored kind v as' m e = sym (ap (λ bs. written_at bs as' m) (no_bytes kind v e) ∙ none_at as' m)
+
+-- ---- bounds that are left
+
+pub shorter : (n : ℕ) (bounds : List Held) → drop (min n (length bounds)) bounds ≡ drop n bounds
+shorter n bounds = drop_min n bounds

@@ -1,6 +1,5 @@
 -- Leaves of generations that were found, and the elements that they have.
-use Rattle.std.specs.Prelude.{◌≡◌, ℕ, ◌+◌, ℤ, Bool, true, false, ◌&&◌, List, ◌++◌, drop, length, map, Option, Some, None, Result, Ok, Err, Vec}
-use Rattle.std.specs.declared.alloc.Global.{Global}
+use Rattle.std.specs.Prelude.{◌≡◌, ℕ, ◌+◌, ℤ, Bool, ◌&&◌, List, ◌++◌, drop, length, Option, Some, None, Result, Ok, Err}
 use Rattle.std.specs.List.{list_all}
 use Rattle.pli_typing.specs.Signatures.{Leaf, leaf_bytes}
 use Rattle.pli_meaning.specs.Contents.{Shape, is_within, leaves_with}
@@ -13,7 +12,6 @@ use Rattle.pli_answering.specs.declared.reply.Refusal.TheVariants as F
 use Rattle.pli_signatures.specs.View.{leaf_in_force}
 use Rattle.pli_signatures.specs.Whole.{leaf_in}
 use Rattle.pli_aggregates.specs.declared.part.PlacedLeaf.{PlacedLeaf}
-use Rattle.pli_aggregates.specs.Elements.{AreWithin, stands_in}
 
 -- ---- leaves
 
@@ -39,17 +37,6 @@ subscripts_left l given = all_subscripts (drop (length given) l.bounds)
 -- whether a leaf as it was allocated has these elements in full
 abbrev pub has_all : (allocated in_force : Leaf) → (given : List ℤ) → List (List ℤ) → Bool
 has_all l k given = list_all (λ is. kind_holds l.kind k.kind && is_within l.bounds (given ++ is))
-
-pub record StandAt (p : PlacedLeaf) (given : List ℤ) (addresses : List ℕ) : Type 0 where
-  pub there : has_all (leaf_in_force p.place.allocated) (leaf_in_force p.in_force) given (subscripts_left (leaf_in_force p.in_force) given) ≡ true
-  pub stand : addresses ≡ map (λ is. stands_in p.place.base (leaf_in_force p.place.allocated) (given ++ is)) (subscripts_left (leaf_in_force p.in_force) given)
-  pub within : AreWithin p.place.bytes p.place.end addresses
-
-abbrev pub HasElements : PlacedLeaf → (given : List ℤ) → Result (Option (Vec ℕ Global)) Refusal → Type 0
-HasElements p given (Ok None) = has_all (leaf_in_force p.place.allocated) (leaf_in_force p.in_force) given (subscripts_left (leaf_in_force p.in_force) given) ≡ false
-HasElements p given (Ok (Some v)) = StandAt p given v.items
-HasElements p given (Err F.Memory) = Unit {0}
-HasElements p given (Err F.Bad) = ⊥
 
 -- a generation that is the aggregate's, with a leaf of it
 pub record IsReady (c : Call) (a : Aggregate) (f : Found) (leaf : ℕ) (p : PlacedLeaf) : Type 0 where

@@ -27,7 +27,7 @@ fn ends_within(inner: Bounds, outer: Bounds) -> bool
 }
 
 /// Whether two leaves have the same bounds.
-fn same_bounds(left: &[Bounds], right: &[Bounds]) -> bool
+pub fn same_bounds(left: &[Bounds], right: &[Bounds]) -> bool
     ensures { result ≡ C.same_bounds (map pair_of left.now) (map pair_of right.now) }
 {
     if left.len() != right.len() {

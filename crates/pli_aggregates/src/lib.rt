@@ -1,7 +1,7 @@
 // The services of aggregates, as far as they stand: a scalar that is stored into each element of an array.
 #![tactic(auto)]
 
-mod bounds;
+pub mod bounds;
 pub mod elements;
 pub mod part;
 pub mod record;

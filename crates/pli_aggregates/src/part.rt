@@ -1,13 +1,12 @@
 // Leaves of generations that were found, and the elements that they have.
 
-ghost use Rattle.std.specs.Prelude.{◌≡◌, ◌+◌, ℕ, ℤ, List, Ok, drop, MatchOption, ⊤};
+ghost use Rattle.std.specs.Prelude.{◌≡◌, ◌+◌, ℕ, drop, MatchOption, ⊤};
 ghost use Rattle.pli_typing.specs.Signatures.{capped};
 ghost use Rattle.pli_meaning.specs.Streaming as streaming;
 ghost use Rattle.pli_serving.specs.Templates.{shape_at};
-ghost use Rattle.pli_signatures.specs.View.{kind_of, leaf_in_force};
+ghost use Rattle.pli_signatures.specs.View.{kind_of};
 ghost use Rattle.pli_storage.specs.Findings.{found_of};
-ghost use Rattle.pli_aggregates.specs.Elements.{AreElements, AreStanding};
-ghost use Rattle.pli_aggregates.specs.Parts.{HasElements, IsPlaced, subscripts_left};
+ghost use Rattle.pli_aggregates.specs.Parts.{IsPlaced};
 
 use crate::elements::LeafPlace;
 use crate::record::Aggregate;
@@ -83,46 +82,9 @@ pub fn placed_leaf(
 }
 
 /// The bounds behind so many, none where there aren't more.
-#[tactic(auto, using(crate::proofs::Having::shorter))]
+#[tactic(auto, using(crate::proofs::Running::shorter))]
 pub fn behind<'a>(bounds: &'a [Bounds], count: usize) -> &'a [Bounds]
     ensures { result.now ≡ drop count bounds.now }
 {
     &bounds[count.min(bounds.len())..]
-}
-
-impl PlacedLeaf {
-    /// Elements that stand at these addresses, none where the leaf doesn't hold the values in force.
-    fn kept(&self, addresses: Vec<usize>) -> Option<Vec<usize>>
-        ensures { (given : List ℤ) → (subscripts : List (List ℤ)) → subscripts ≡ subscripts_left (leaf_in_force self.now.in_force) given → AreStanding self.now.place given subscripts addresses.items → HasElements self.now given (Ok result) }
-    {
-        if addresses.is_empty() {
-            return Some(addresses);
-        }
-        if kind_holds(self.place.allocated.kind, self.in_force.kind) {
-            return Some(addresses);
-        }
-        None
-    }
-
-    /// The same where all may not be within the bounds.
-    #[tactic(auto, using(crate::proofs::Having::not_within))]
-    fn kept_if(&self, found: Option<Vec<usize>>) -> Option<Vec<usize>>
-        ensures { (given : List ℤ) → (subscripts : List (List ℤ)) → subscripts ≡ subscripts_left (leaf_in_force self.now.in_force) given → AreElements self.now.place given subscripts (Ok found) → HasElements self.now given (Ok result) }
-    {
-        match found {
-            Some(addresses) => self.kept(addresses),
-            None => None,
-        }
-    }
-
-    /// Where the elements stand that have these subscripts given, none where the leaf doesn't have all of them in full.
-    pub fn elements(&self, alloc: Global, given: &[i32]) -> Result<Option<Vec<usize>>, Refusal>
-        ensures { HasElements self.now given.now result }
-    {
-        let left = behind(self.in_force.bounds.as_slice(), given.len());
-        match self.place.elements(alloc, given, left) {
-            Ok(found) => Ok(self.kept_if(found)),
-            Err(_) => Err(Refusal::Memory),
-        }
-    }
 }

@@ -1,2 +1,3 @@
 pub mod RowPieces
 mod CodeRows
+mod CountRows

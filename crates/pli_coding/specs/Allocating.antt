@@ -1,5 +1,5 @@
 -- ALLOCATE and FREE.
-use Rattle.std.specs.Prelude.{ℕ, suc, ◌+◌, max, ℤ, List, [], ◌∷◌, ◌++◌, Option, Some, None, if◌then◌else◌}
+use Rattle.std.specs.Prelude.{ℕ, suc, ◌+◌, max, ℤ, List, [], ◌∷◌, ◌++◌, Option, Some, None, unwrap_or, if◌then◌else◌}
 use Rattle.rv_meaning.specs.declared.instr.Register.{Register}
 use Rattle.rv_meaning.specs.declared.instr.BranchTest.TheVariants as Test
 use Rattle.pli_language.specs.declared.condition.Condition.TheVariants as C
@@ -11,8 +11,8 @@ use Rattle.pli_coding.specs.Instructions.{small, number, load_word, store_word, 
 use Rattle.pli_coding.specs.Frames.{words_place}
 use Rattle.pli_coding.specs.Environments.{Environment, declaration_of, Taken, with_words}
 use Rattle.pli_coding.specs.Arithmetic.{raised}
-use Rattle.pli_coding.specs.Locating.{DataNumber, own_place, needs_number_word, number_loaded, based_number, controlled_number, waiting_name}
-use Rattle.pli_coding.specs.Expressions.{frame_given, pointer_code}
+use Rattle.pli_coding.specs.Locating.{NamePlace, FrameName, DataNumber, own_place, where_standing, name_offset, needs_number_word, number_loaded, based_number, controlled_number, waiting_name}
+use Rattle.pli_coding.specs.Expressions.{frame_given, standing_in, standing_name, pointer_code}
 use Rattle.pli_coding.specs.Temporaries.{pointer_words, reference_words}
 use Rattle.pli_coding.specs.Storing.{area_name, word_stored, name_stored}
 use Rattle.pli_coding.specs.Extents.{refer_amount, initial_code}
@@ -53,7 +53,7 @@ abbrev pub amounts_code : Environment → Taken → (line : ℕ) → Y.Variable 
 amounts_code e t line v =
     amounts_found e t line v (declaration_of e v) (declaration_of e v).evaluations ++ both_kept t
 
--- ---- ALLOCATE of a BASED variable: behind the two words its name waits, until its locator is set
+-- ---- ALLOCATE of a BASED variable: behind the two words its name waits, until its locator is set, unless that holds it at once
 
 abbrev pub behind_amounts : Taken → Taken
 behind_amounts t = with_words 2 t
@@ -62,12 +62,17 @@ abbrev pub area_or_heap : Environment → Register → Taken → Option Y.Variab
 area_or_heap e r t None = small r 0 ∷ []
 area_or_heap e r t (Some area) = area_name e r t area
 
-abbrev pub placing_asked : Environment → Taken → Y.Variable → Option Y.Variable → Code
-placing_asked e t v area =
+-- where the service writes the name: into the POINTER variable that is set, where that stands, or into words of the frame
+abbrev pub name_target : Environment → Taken → Y.LocatorTarget → NamePlace
+name_target e t (Y.SetPointer r) = unwrap_or (standing_in e r) (FrameName e.level (waiting_name t))
+name_target e t (Y.SetOffset r area) = FrameName e.level (waiting_name t)
+
+abbrev pub placing_asked : Environment → Taken → Y.Variable → Option Y.Variable → NamePlace → Code
+placing_asked e t v area name =
     area_or_heap e a0 t area
     ++ (load_word a1 frame_register (allocated_number t)
     ++ (load_word a2 frame_register (allocated_extent t)
-    ++ (initial_code a3 (declaration_of e v) ++ (own_place e a4 (waiting_name (behind_amounts t)) ++ service 10))))
+    ++ (initial_code a3 (declaration_of e v) ++ (name_offset e a4 name ++ service 10))))
 
 -- AREA, and behind its unit the placing is tried again, an act; the heap has no such condition
 abbrev pub placing_tried : (placing : Code) → Option Y.Variable → Code
@@ -80,7 +85,7 @@ abbrev pub placing_code : (placing : Code) → Option Y.Variable → Code
 placing_code placing area = placing ++ skip_where Test.Equal a1 zero_register (placing_tried placing area)
 
 abbrev pub locator_set : Environment → Taken → Y.LocatorTarget → Code
-locator_set e t (Y.SetPointer r) = name_stored e t r
+locator_set e t (Y.SetPointer r) = where_standing (standing_in e r) (λ name. []) (name_stored e t r)
 locator_set e t (Y.SetOffset r area) =
     own_place e a0 (waiting_name t)
     ++ (area_name e a1 t area ++ (small a3 1 ∷ (tested_service 14 ++ word_stored e (with_words 4 t) r)))
@@ -88,7 +93,8 @@ locator_set e t (Y.SetOffset r area) =
 abbrev pub based_code : Environment → Taken → (line : ℕ) → Y.Variable → Option Y.Variable → Y.LocatorTarget → Code
 based_code e t line v area target =
     amounts_code e t line v
-    ++ (placing_code (placing_asked e t v area) area ++ locator_set e (behind_amounts t) target)
+    ++ (placing_code (placing_asked e t v area (name_target e (behind_amounts t) target)) area
+    ++ locator_set e (behind_amounts t) target)
 
 -- ---- ALLOCATE of a CONTROLLED variable
 
@@ -108,11 +114,17 @@ allocations_code e t line (a ∷ as') = allocation_code e t line a ++ allocation
 
 -- ---- FREE
 
+-- the generation whose name stands there
+abbrev pub generation_freed : Environment → Taken → NamePlace → Y.Variable → Option Y.Variable → Code
+generation_freed e t name v area =
+    name_offset e a0 name
+    ++ (number_loaded e a1 (based_number e v (declaration_of e v)) ++ (area_or_heap e a2 t area ++ tested_service 11))
+
 abbrev pub freeing_code : Environment → Taken → Y.Freeing → Code
 freeing_code e t (Y.FreeBased v locator area) =
-    pointer_code e t locator
-    ++ (own_place e a0 (waiting_name t)
-    ++ (number_loaded e a1 (based_number e v (declaration_of e v)) ++ (area_or_heap e a2 t area ++ tested_service 11)))
+    where_standing (standing_name e locator)
+    (λ name. generation_freed e t name v area)
+    (pointer_code e t locator ++ generation_freed e t (FrameName e.level (waiting_name t)) v area)
 freeing_code e t (Y.FreeControlled v) = number a0 (controlled_number e v) ++ service 17
 
 abbrev pub freeings_code : Environment → Taken → List Y.Freeing → Code

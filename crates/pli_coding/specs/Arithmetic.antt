@@ -1,9 +1,10 @@
 -- Operators on numbers and bits: a right operand in a0 and a left one in u1 come to a result in a0. A raise saves what is there
 -- as a temporary, since its on-unit may return.
-use Rattle.std.specs.Prelude.{ℕ, ◌-◌, pos, Bool, true, false, nat_lt, [], ◌∷◌, ◌++◌, if◌then◌else◌}
+use Rattle.std.specs.Prelude.{ℕ, ◌-◌, ℤ, pos, Bool, true, false, nat_lt, int_lt, [], ◌∷◌, ◌++◌, if◌then◌else◌}
 use Rattle.rv_meaning.specs.declared.instr.RegisterOp.TheVariants as Op
 use Rattle.rv_meaning.specs.declared.instr.ImmediateOp.TheVariants as Imm
 use Rattle.rv_meaning.specs.declared.instr.ShiftOp.TheVariants as Shift
+use Rattle.rv_meaning.specs.declared.instr.BranchTest.{BranchTest}
 use Rattle.rv_meaning.specs.declared.instr.BranchTest.TheVariants as Test
 use Rattle.pli_language.specs.declared.condition.Condition.{Condition}
 use Rattle.pli_language.specs.declared.condition.Condition.TheVariants as C
@@ -12,7 +13,7 @@ use Rattle.pli_meaning.specs.Codes.{fixed_overflow_code, zero_divide_code}
 use Rattle.pli_meaning.specs.Numbers.{operator_precision}
 use Rattle.pli_coding.specs.Registers.{zero_register, a0, a1, u1, u2, u3, u4}
 use Rattle.pli_coding.specs.Assembly.{Item, CallTo, RaiseCondition, Code}
-use Rattle.pli_coding.specs.Instructions.{immediate, shift, registers, add, subtract, move, small, lowest_number, skip_where, choice}
+use Rattle.pli_coding.specs.Instructions.{immediate, shift, registers, add, subtract, move, small, plus, lowest_number, skip_where, choice}
 use Rattle.pli_coding.specs.Environments.{Taken, save, fetch}
 
 -- ---- raises
@@ -45,6 +46,14 @@ sum_code t =
     ∷ immediate Imm.SetLess u4 a0 (pos 0)
     ∷ move a0 u2
     ∷ skip_where Test.Equal u3 u4 (overflow_raised t)
+
+-- how a sum with a constant stands to its left operand unless it overflows
+abbrev pub order_of_sum : (constant : ℤ) → BranchTest
+order_of_sum z = if int_lt z (pos 0) then Test.Less else Test.GreaterOrEqual
+
+-- a constant added to the value in a0
+abbrev pub constant_added : Taken → ℤ → Code
+constant_added t z = move u1 a0 ∷ (plus a0 u1 z ++ skip_where (order_of_sum z) a0 u1 (overflow_raised t))
 
 -- a left operand below the difference where the right one isn't negative, or the other way round
 abbrev pub difference_code : Taken → Code

@@ -1,5 +1,5 @@
 -- How blocks are entered and left: their frames, parameters and variables.
-use Rattle.std.specs.Prelude.{ℕ, zero, suc, ◌+◌, ◌*◌, ℤ, pos, neg_ℤ, max, min, Bool, true, false, List, [], ◌∷◌, ◌++◌, Option, Some, None, slice_get, if◌then◌else◌}
+use Rattle.std.specs.Prelude.{ℕ, zero, suc, ◌+◌, ◌*◌, ℤ, pos, neg_ℤ, max, min, List, [], ◌∷◌, ◌++◌, Option, Some, None, slice_get, if◌then◌else◌}
 use Rattle.rv_meaning.specs.declared.instr.Register.{Register}
 use Rattle.rv_meaning.specs.declared.instr.BranchTest.TheVariants as Test
 use Rattle.pli_typing.specs.TypedTree as Y
@@ -25,11 +25,12 @@ abbrev pub registers_restored : (n left : ℕ) → Code
 registers_restored n zero = []
 registers_restored n (suc left) = load_word (held n) frame_register (saved_register n) ++ registers_restored (suc n) left
 
-abbrev pub all_saved : Register → Code
-all_saved frame = store_word frame return_register return_address ++ registers_saved frame 0 7
+-- where its code goes on, and the first so many of these registers
+abbrev pub all_saved : Register → (held : ℕ) → Code
+all_saved frame held = store_word frame return_register return_address ++ registers_saved frame 0 held
 
-abbrev pub all_restored : Code
-all_restored = load_word return_register frame_register return_address ++ registers_restored 0 7
+abbrev pub all_restored : (held : ℕ) → Code
+all_restored held = load_word return_register frame_register return_address ++ registers_restored 0 held
 
 -- the display of the frame in a0, up to a level, and that frame itself
 abbrev pub display_copied : (n left : ℕ) → Code
@@ -41,16 +42,16 @@ abbrev pub display_made : (level : ℕ) → Code
 display_made zero = []
 display_made (suc outer) = display_copied 0 outer
 
--- what is saved in a frame: in one that is called or raised all registers that hold temporaries
-abbrev pub saved_if : Bool → Code
-saved_if true = all_saved u0
-saved_if false = []
+-- what is saved in a frame: in one that is called or raised so many registers that hold temporaries
+abbrev pub saved_if : (saved : Option ℕ) → Code
+saved_if None = []
+saved_if (Some held) = all_saved u0 held
 
 -- a new frame above the temporaries of its block; the frame of the block around it is in a0
-abbrev pub frame_begun : (words level parameters : ℕ) → (is_called : Bool) → Code
-frame_begun words level parameters is_called =
+abbrev pub frame_begun : (words level parameters : ℕ) → (saved : Option ℕ) → Code
+frame_begun words level parameters saved =
     plus u0 stack_register (pos (temporary_bytes words))
-    ++ (saved_if is_called
+    ++ (saved_if saved
     ++ (store_word u0 frame_register frame_below
     ++ (load_word u1 frame_register lower_top
     ++ (move frame_register u0

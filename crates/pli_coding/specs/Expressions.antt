@@ -1,6 +1,6 @@
 -- The code of expressions. A number, a bit or an OFFSET value comes in a0, a text on top of the text stack, and a POINTER value in
 -- the four words of the frame behind the temporaries in use.
-use Rattle.std.specs.Prelude.{ℕ, zero, suc, ◌+◌, ◌*◌, ℤ, pos, negsuc, ◌+ℤ◌, ◌-ℤ◌, Bool, true, false, not, List, [], ◌∷◌, ◌++◌, length, slice_get, unwrap_or, if◌then◌else◌}
+use Rattle.std.specs.Prelude.{ℕ, zero, suc, ◌+◌, ◌*◌, ℤ, pos, negsuc, ◌+ℤ◌, ◌-ℤ◌, Bool, true, false, not, ◌&&◌, List, [], ◌∷◌, ◌++◌, length, slice_get, unwrap_or, if◌then◌else◌, Option, Some, None, is_some}
 use Rattle.rv_meaning.specs.declared.instr.Register.{Register}
 use Rattle.rv_meaning.specs.declared.instr.RegisterOp.TheVariants as Op
 use Rattle.rv_meaning.specs.declared.instr.ImmediateOp.TheVariants as Imm
@@ -12,7 +12,7 @@ use Rattle.pli_coding.specs.Instructions.{immediate, registers, subtract, move, 
 use Rattle.pli_coding.specs.Frames.{buffer_lower, buffer_upper, are_constant, words_place, word_in}
 use Rattle.pli_coding.specs.Environments.{Environment, Taken, with_words, with_number, save, fetch}
 use Rattle.pli_coding.specs.Arithmetic.{calculated_code, fitted_code, divided_code, signed_code, absolute_code, count_checked, sign_code, modulo_code, extreme_code, negated_code, combined_code, equal_code, compared_code}
-use Rattle.pli_coding.specs.Locating.{frame_found, frame_in, own_place, Located, located, name_offset, number_loaded, controlled_number, class_found, behind_locator, waiting_name, leaf_number, is_direct, is_referred, refer_read, leaf_found, bound_loaded, Address, address_of, reached, loaded, name_copied, in_own_frame, text_pushed}
+use Rattle.pli_coding.specs.Locating.{frame_found, frame_in, own_place, Located, located, name_offset, number_loaded, controlled_number, class_found, behind_locator, waiting_name, leaf_number, is_direct, is_referred, refer_read, leaf_found, bound_loaded, is_simple, are_simple, Address, address_of, reached, loaded, name_copied, in_own_frame, text_pushed, NamePlace, FrameName, based_located, based_reached, direct_name, where_standing, own_name}
 
 -- ---- references
 
@@ -38,9 +38,32 @@ name_checked e l place is_referred =
     name_offset e a0 l.name
     ++ (number_loaded e a1 l.number ++ (own_place e a2 place ++ (tested_service 9 ++ refer_checked e l is_referred)))
 
+-- a POINTER variable that is reached without code, and without subscripts, holds its name at a constant place
+abbrev pub standing_in : Environment → Y.Reference → Option NamePlace
+standing_in e (Y.Referring v Y.NotLocated part Y.NoNumber) =
+    if is_direct e v then Some (direct_name e v v.class part.first) else None
+standing_in e _ = None
+
+abbrev pub standing_name : Environment → Y.Pointer → Option NamePlace
+standing_name e (Y.PointerIn r) = standing_in e r
+standing_name e _ = None
+
+-- the locator's own place: while simple subscripts are evaluated, nothing changes
+abbrev pub standing_behind : Environment → Y.Pointer → Y.Numbers → Option NamePlace
+standing_behind e p subscripts = if are_simple e subscripts then standing_name e p else None
+
+abbrev pub standing_locator : Environment → Y.Locator → Option NamePlace
+standing_locator e Y.NotLocated = None
+standing_locator e (Y.LocatedBy p) = standing_name e p
+
 abbrev pub name_written : Environment → Taken → Y.Variable → Y.Part → (place : ℤ) → Code
 name_written e t v part place =
     class_found e t v v.class ++ name_checked e (located e t v) place (is_referred e v part)
+
+-- the offset in an area of a name that stands there, or 110
+abbrev pub name_to_offset : Environment → Taken → NamePlace → Y.Variable → Code
+name_to_offset e t name area =
+    name_offset e a0 name ++ (name_offset e a1 (located e t area).name ++ (small a3 1 ∷ tested_service 14))
 
 -- ---- bounds
 
@@ -109,6 +132,32 @@ names_differ left right =
 
 abbrev pub names_compared : (equal : Bool) → (left right : ℤ) → Code
 names_compared equal left right = names_differ left right ++ (move u1 zero_register ∷ move a0 u0 ∷ equal_code equal)
+
+-- a name and the null name, bits of u0
+abbrev pub null_differs : (place : ℤ) → (n : ℕ) → Code
+null_differs place n = load_word u1 frame_register (place +ℤ pos (4 * n)) ++ registers Op.Or u0 u0 u1 ∷ []
+
+abbrev pub null_compared : (equal : Bool) → (place : ℤ) → Code
+null_compared equal place =
+    small u0 0
+    ∷ (null_differs place 0 ++ (null_differs place 1 ++ (null_differs place 2 ++ (null_differs place 3
+    ++ (move u1 zero_register ∷ move a0 u0 ∷ equal_code equal)))))
+
+abbrev pub is_null : Y.Pointer → Bool
+is_null Y.NullPointer = true
+is_null _ = false
+
+-- an operand that stands in the running frame needs no code
+abbrev pub where_waiting : Option ℤ → Code → Code
+where_waiting (Some place) code = []
+where_waiting None code = code
+
+abbrev pub own_standing : Environment → Y.Pointer → Option ℤ
+own_standing e p = own_name e (standing_name e p)
+
+-- nor does a left one that nothing changes while the right one is evaluated
+abbrev pub left_standing : Environment → (left right : Y.Pointer) → Option ℤ
+left_standing e left right = if is_some (standing_name e right) then own_standing e left else None
 
 -- ---- lists of arguments: 6 words each, a name or value in four, a number or a text's length, and 1 for a copy
 
@@ -260,45 +309,61 @@ abbrev mutual
   bit_code e t (Y.BitsCompared comparison left right) =
       bit_code e t left ++ (save a0 t ++ (bit_code e (with_number t) right ++ (fetch u1 t ++ compared_code comparison)))
   bit_code e t (Y.PointersCompared equal left right) =
-      pointer_code e t left
-      ++ (pointer_code e (with_words 4 t) right ++ names_compared equal (waiting_name t) (waiting_name (with_words 4 t)))
+      if is_null right then
+      where_waiting (own_standing e left) (pointer_to e t (waiting_name t) left)
+      ++ null_compared equal (unwrap_or (own_standing e left) (waiting_name t))
+      else
+      where_waiting (left_standing e left right) (pointer_to e t (waiting_name t) left)
+      ++ (where_waiting (own_standing e right) (pointer_to e (with_words 4 t) (waiting_name (with_words 4 t)) right)
+      ++ names_compared equal
+      (unwrap_or (left_standing e left right) (waiting_name t))
+      (unwrap_or (own_standing e right) (waiting_name (with_words 4 t))))
   bit_code e t (Y.OffsetsCompared equal left right) =
       offset_code e t left ++ (save a0 t ++ (offset_code e (with_number t) right ++ (fetch u1 t ++ equal_code equal)))
 
-  pub pointer_code : Environment → Taken → Y.Pointer → Code
-  pointer_code e t Y.NullPointer = null_name (waiting_name t)
-  pointer_code e t (Y.PointerIn r) = reference_code e t r ++ name_copied (address_in e r) (in_own_frame (waiting_name t))
-  pointer_code e t (Y.PointerFrom c) =
-      call_code e t c ++ name_copied (record { register = a0; displacement = pos 0 }) (in_own_frame (waiting_name t))
-  pointer_code e t (Y.AddressOf (Y.Referring v locator part subscripts)) =
-      locator_code e t locator ++ name_written e t v part (waiting_name t)
-  pointer_code e t (Y.PointerInto x area) =
+  -- into a place of the running frame, which is written last
+  pub pointer_to : Environment → Taken → (place : ℤ) → Y.Pointer → Code
+  pointer_to e t place Y.NullPointer = null_name place
+  pointer_to e t place (Y.PointerIn r) = reference_code e t r ++ name_copied (address_in e r) (in_own_frame place)
+  pointer_to e t place (Y.PointerFrom c) =
+      call_code e t c ++ name_copied (record { register = a0; displacement = pos 0 }) (in_own_frame place)
+  pointer_to e t place (Y.AddressOf (Y.Referring v locator part subscripts)) =
+      where_standing (standing_locator e locator)
+      (λ name. name_checked e (based_located e v name) place (is_referred e v part))
+      (locator_code e t locator ++ name_written e t v part place)
+  pointer_to e t place (Y.PointerInto x area) =
       offset_code e t x
-      ++ (name_offset e a1 (located e t area).name ++ (own_place e a2 (waiting_name t) ++ (small a3 0 ∷ service 14)))
+      ++ (name_offset e a1 (located e t area).name ++ (own_place e a2 place ++ (small a3 0 ∷ service 14)))
 
   pub offset_code : Environment → Taken → Y.Offset → Code
   offset_code e t Y.NullOffset = constant a0 (negsuc 0)
   offset_code e t (Y.OffsetIn r) = reference_code e t r ++ loaded (type_in e r) a0 (address_in e r)
   offset_code e t (Y.OffsetFrom c) = call_code e t c
   offset_code e t (Y.OffsetInto x area) =
-      pointer_code e t x
-      ++ (own_place e a0 (waiting_name t) ++ (name_offset e a1 (located e t area).name ++ (small a3 1 ∷ tested_service 14)))
+      where_standing (standing_name e x)
+      (λ name. name_to_offset e t name area)
+      (pointer_to e t (waiting_name t) x ++ name_to_offset e t (FrameName e.level (waiting_name t)) area)
 
   -- the locator, then the subscripts, then the checks
   pub reference_code : Environment → Taken → Y.Reference → Code
-  reference_code e t (Y.Referring v locator part subscripts) =
-      locator_code e t locator
-      ++ (subscripts_code e (behind_locator v t) subscripts ++ reached e t (behind_locator v t) v part (given_in subscripts))
+  reference_code e t (Y.Referring v Y.NotLocated part subscripts) =
+      subscripts_code e (behind_locator v t) subscripts ++ reached e t (behind_locator v t) v part subscripts
+  reference_code e t (Y.Referring v (Y.LocatedBy p) part subscripts) =
+      where_standing (standing_behind e p subscripts)
+      (λ name. subscripts_code e t subscripts ++ based_reached e name t v part subscripts)
+      (pointer_to e t (waiting_name t) p
+      ++ (subscripts_code e (behind_locator v t) subscripts ++ reached e t (behind_locator v t) v part subscripts))
 
   pub locator_code : Environment → Taken → Y.Locator → Code
   locator_code e t Y.NotLocated = []
-  locator_code e t (Y.LocatedBy p) = pointer_code e t p
+  locator_code e t (Y.LocatedBy p) = pointer_to e t (waiting_name t) p
 
-  -- each waits
+  -- each waits, up to where all that are left are simple
   pub subscripts_code : Environment → Taken → Y.Numbers → Code
   subscripts_code e t Y.NoNumber = []
   subscripts_code e t (Y.NumberThen first rest) =
-      number_code e t first ++ (save a0 t ++ subscripts_code e (with_number t) rest)
+      if is_simple e first && are_simple e rest then []
+      else number_code e t first ++ (save a0 t ++ subscripts_code e (with_number t) rest)
 
   pub asked_code : Environment → Taken → Y.Reference → BoundAsked → (dimension : ℕ) → Code
   asked_code e t (Y.Referring v locator part subscripts) asked dimension =
@@ -317,13 +382,17 @@ abbrev mutual
   argument_code e t l n (Y.ByReference (Y.Referring v locator part subscripts)) =
       locator_code e t locator ++ by_reference e t l n v part
   argument_code e t l n (Y.ByCopy type v) = stored_code e t v ++ (value_to_argument t l n v ++ is_copy l n)
-  argument_code e t l n (Y.ByOffsetInParameter p parameter) = pointer_code e t p ++ (name_to_argument t l n ++ is_copy l n)
-  argument_code e t l n (Y.ByOffsetInAutomatic p) = pointer_code e t p ++ (name_to_argument t l n ++ is_copy l n)
+  argument_code e t l n (Y.ByOffsetInParameter p parameter) = pointer_to e t (waiting_name t) p ++ (name_to_argument t l n ++ is_copy l n)
+  argument_code e t l n (Y.ByOffsetInAutomatic p) = pointer_to e t (waiting_name t) p ++ (name_to_argument t l n ++ is_copy l n)
 
   -- a value of the kind that is due
   pub stored_code : Environment → Taken → Y.Stored → Code
   stored_code e t (Y.StoredNumber precision x) = number_code e t x ++ fitted_code t precision
   stored_code e t (Y.StoredText x) = text_code e t x
   stored_code e t (Y.StoredBit x) = bit_code e t x
-  stored_code e t (Y.StoredPointer x) = pointer_code e t x
+  stored_code e t (Y.StoredPointer x) = pointer_to e t (waiting_name t) x
   stored_code e t (Y.StoredOffset x) = offset_code e t x
+
+-- into the words behind the temporaries in use
+abbrev pub pointer_code : Environment → Taken → Y.Pointer → Code
+pointer_code e t p = pointer_to e t (waiting_name t) p

@@ -1,6 +1,6 @@
 -- Where the elements of variables are: a name and a signature's number, the leaf that lives there, and the element at subscripts.
 -- What is AUTOMATIC or STATIC and of constant size is reached without a service.
-use Rattle.std.specs.Prelude.{ℕ, zero, suc, ◌+◌, ◌*◌, ◌^◌, ◌-◌, ℤ, pos, negsuc, neg_ℤ, ◌+ℤ◌, ◌-ℤ◌, Bool, true, false, not, ◌&&◌, ◌||◌, ◌==◌, nat_le, List, [], ◌∷◌, ◌++◌, length, take, is_some, slice_get, unwrap_or, if◌then◌else◌}
+use Rattle.std.specs.Prelude.{ℕ, zero, suc, ◌+◌, ◌*◌, ◌^◌, ◌-◌, ℤ, pos, negsuc, neg_ℤ, ◌+ℤ◌, ◌-ℤ◌, Bool, true, false, not, ◌&&◌, ◌||◌, ◌==◌, nat_le, List, [], ◌∷◌, ◌++◌, length, take, Option, Some, None, is_some, slice_get, unwrap_or, if◌then◌else◌}
 use Rattle.std.specs.List.{list_all}
 use Rattle.rv_meaning.specs.declared.instr.Instr.TheVariants as I
 use Rattle.rv_meaning.specs.declared.instr.LoadKind.TheVariants as Load
@@ -41,13 +41,14 @@ own_place e r place = frame_offset e e.level r place
 
 -- ---- names, and numbers of signatures
 
--- where a name stands: in the frame at a level, or in static data
+-- where a name stands: in the frame at a level, or in static data, or so many bytes behind the place of a datum
 abbrev pub place_behind : ℕ → ℤ → ℤ
 place_behind n z = z +ℤ pos n
 
 pub data NamePlace : Type 0 where
   FrameName : (level : ℕ) → (place : ℤ) → NamePlace
   DataName : Datum → NamePlace
+  NameInData : Datum → (place : ℕ) → NamePlace
 
 -- a constant, a word of a frame, or a word of static data
 pub data NumberPlace : Type 0 where
@@ -136,9 +137,14 @@ located_by_class e t v d Y.ControlledClass =
 abbrev pub located : Environment → Taken → Y.Variable → Located
 located e t v = located_by_class e t v (declaration_of e v) v.class
 
+-- a BASED variable whose name stands there
+abbrev pub based_located : Environment → Y.Variable → NamePlace → Located
+based_located e v name = record { name = name; number = based_number e v (declaration_of e v) }
+
 abbrev pub name_offset : Environment → Register → NamePlace → Code
 name_offset e r (FrameName level place) = frame_offset e level r place
 name_offset e r (DataName d) = OffsetOf r (DataPlace d) ∷ []
+name_offset e r (NameInData d place) = OffsetOf r (DataPlace d) ∷ plus r r (pos place)
 
 -- the word at an offset, by way of the base in another register
 abbrev pub data_word : Register → Register → Datum → Code
@@ -259,6 +265,57 @@ refer_if e l is_wanted false = move u3 a0 ∷ []
 abbrev pub leaf_found : Environment → Located → (leaf : ℕ) → (is_wanted is_referred : Bool) → Code
 leaf_found e l leaf is_wanted is_referred = leaf_resolved e l leaf is_wanted ++ refer_if e l is_wanted is_referred
 
+-- ---- variables at constant places
+
+-- an element's address: a register, and a displacement
+pub record Address : Type 0 where
+  pub register : Register
+  pub displacement : ℤ
+
+-- their base, found by way of a register
+abbrev pub direct_base : Environment → Register → Y.Variable → Y.StorageClass → Code
+direct_base e r v Y.StaticClass =
+    BaseIn r ∷ OffsetOf u0 (DataPlace (static_datum e v.block v.index (declaration_of e v))) ∷ add r r u0 ∷ []
+direct_base e r v _ = frame_found e v.level r
+
+abbrev pub direct_register : Environment → Register → Y.Variable → Y.StorageClass → Register
+direct_register e r v Y.StaticClass = r
+direct_register e r v _ = frame_in e v.level r
+
+abbrev pub direct_place : Environment → Y.Variable → Y.StorageClass → (leaf : ℕ) → ℕ
+direct_place e v Y.StaticClass leaf = name_bytes + leaf_place (declaration_of e v) leaf
+direct_place e v _ leaf =
+    automatic_place e.parts e.program v.block v.level v.index + name_bytes + leaf_place (declaration_of e v) leaf
+
+-- a number, bit or OFFSET value
+abbrev pub loaded : Y.LeafType → Register → Address → Code
+loaded (Y.FixedLeaf p) rd a =
+    displaced (λ r z. I.Load (if nat_le p 15 then Load.Half else Load.Word) rd r z) a.register a.displacement
+loaded Y.BitLeaf rd a = displaced (λ r z. I.Load Load.ByteUnsigned rd r z) a.register a.displacement
+loaded _ rd a = load_word rd a.register a.displacement
+
+-- ---- simple numbers: constants, and variables at constant places. Each comes into a register by itself, and changes no other but u0.
+
+abbrev pub is_simple : Environment → Y.Number → Bool
+is_simple e (Y.NumberConstant n) = true
+is_simple e (Y.NumberIn (Y.Referring v Y.NotLocated part Y.NoNumber)) = is_direct e v
+is_simple e _ = false
+
+abbrev pub are_simple : Environment → Y.Numbers → Bool
+are_simple e Y.NoNumber = true
+are_simple e (Y.NumberThen first rest) = is_simple e first && are_simple e rest
+
+abbrev pub variable_loaded : Environment → Register → Y.Variable → Y.Part → Code
+variable_loaded e r v part =
+    direct_base e r v v.class
+    ++ loaded (leaf_number e v part.first).type r
+    (record { register = direct_register e r v v.class; displacement = pos (direct_place e v v.class part.first) })
+
+abbrev pub simple_loaded : Environment → Register → Y.Number → Code
+simple_loaded e r (Y.NumberConstant n) = number r n
+simple_loaded e r (Y.NumberIn (Y.Referring v locator part subscripts)) = variable_loaded e r v part
+simple_loaded e r _ = []
+
 -- ---- subscripts
 
 -- a bound, constant or from the buffer
@@ -268,7 +325,7 @@ bound_loaded r _ place = load_word r frame_register place
 
 -- less the lower bound
 abbrev pub less_lower : Y.Extent → (place : ℤ) → Code
-less_lower (Y.ConstantExtent z) place = plus u1 u1 (neg_ℤ z)
+less_lower (Y.ConstantExtent z) place = if same_int z (pos 0) then [] else plus u1 u1 (neg_ℤ z)
 less_lower _ place = load_word u2 frame_register place ++ subtract u1 u1 u2 ∷ []
 
 -- the distance of the bounds
@@ -280,10 +337,15 @@ range_loaded b dimension = range_between b.lower b.upper
     range_between l u =
         bound_loaded u2 u (buffer_upper dimension) ++ (bound_loaded u0 l (buffer_lower dimension) ++ subtract u2 u2 u0 ∷ [])
 
--- u4 becomes the place among the elements of one more dimension
+-- the place among the elements of the dimensions so far makes room in u1 for the next subscript
+abbrev pub place_kept : (dimension : ℕ) → Code
+place_kept zero = []
+place_kept (suc n) = move u4 u1 ∷ []
+
+-- the distance in u1 becomes the place among the elements of one more dimension
 abbrev pub counted_in : (dimension : ℕ) → Code
-counted_in zero = move u4 u1 ∷ []
-counted_in (suc n) = immediate Imm.Add u2 u2 (pos 1) ∷ registers Op.Multiply u4 u4 u2 ∷ add u4 u4 u1 ∷ []
+counted_in zero = []
+counted_in (suc n) = immediate Imm.Add u2 u2 (pos 1) ∷ registers Op.Multiply u4 u4 u2 ∷ add u1 u4 u1 ∷ []
 
 -- a subscript, in u1, lies within its bounds (102)
 abbrev pub subscript_counted : (dimension : ℕ) → Y.Bounds → Code
@@ -292,26 +354,32 @@ subscript_counted dimension b =
     ++ (range_loaded b dimension
     ++ (skip_where Test.GreaterOrEqualUnsigned u2 u1 (error_raised subscript_code) ++ counted_in dimension))
 
--- the place of an element among those of its leaf, row by row, from subscripts that wait
-abbrev pub subscripts_counted : Taken → (dimension given : ℕ) → List Y.Bounds → Code
-subscripts_counted t dimension zero bounds = []
-subscripts_counted t dimension (suc given) [] = []
-subscripts_counted t dimension (suc given) (b ∷ bs) =
-    fetch u1 t ++ (subscript_counted dimension b ++ subscripts_counted (with_number t) (suc dimension) given bs)
+-- a subscript comes into u1. It waits, unless it and all behind it are simple.
+abbrev pub subscript_given : Environment → Taken → Y.Number → (behind : Y.Numbers) → Code
+subscript_given e t x behind = if is_simple e x && are_simple e behind then simple_loaded e u1 x else fetch u1 t
+
+-- the place of an element among those of its leaf, row by row, in u1
+abbrev pub subscripts_counted : Environment → Taken → (dimension : ℕ) → (subscripts : Y.Numbers) → List Y.Bounds → Code
+subscripts_counted e t dimension Y.NoNumber bounds = []
+subscripts_counted e t dimension (Y.NumberThen first rest) [] = []
+subscripts_counted e t dimension (Y.NumberThen first rest) (b ∷ bs) =
+    place_kept dimension
+    ++ (subscript_given e t first rest
+    ++ (subscript_counted dimension b ++ subscripts_counted e (with_number t) (suc dimension) rest bs))
 
 -- ---- elements
 
--- u4 times a constant
+-- the place in u1 times a constant, in u4
 abbrev pub times_constant : ℕ → Code
 times_constant n =
-    if n == 4 then shift Shift.Left u4 u4 2 ∷ []
-    else number u2 n ++ registers Op.Multiply u4 u4 u2 ∷ []
+    if n == 4 then shift Shift.Left u4 u1 2 ∷ []
+    else number u2 n ++ registers Op.Multiply u4 u1 u2 ∷ []
 
--- u4 times a size from the buffer, with so many bytes more, rounded up to 4
+-- times a size from the buffer, with so many bytes more, rounded up to 4
 abbrev pub times_size : (more : ℕ) → Code
 times_size more =
     load_word u2 frame_register buffer_size
-    ++ (immediate Imm.Add u2 u2 (pos (more + 3)) ∷ immediate Imm.And u2 u2 (negsuc 3) ∷ registers Op.Multiply u4 u4 u2 ∷ [])
+    ++ (immediate Imm.Add u2 u2 (pos (more + 3)) ∷ immediate Imm.And u2 u2 (negsuc 3) ∷ registers Op.Multiply u4 u1 u2 ∷ [])
 
 -- the distance of an element from the first one
 abbrev pub times_stride : Y.LeafType → Code
@@ -320,31 +388,12 @@ times_stride (Y.VaryingLeaf e) = if is_constant e then times_constant (rounded_u
 times_stride type = times_constant (rounded_up 4 (leaf_bytes (kind_of [] type)))
 
 -- u3, or what stands in a register, and the element's distance
-abbrev pub element_added : Register → Y.LeafType → (given : ℕ) → Code
-element_added r type zero = []
-element_added r type (suc n) = times_stride type ++ add u3 r u4 ∷ []
-
--- an element's address: a register, and a displacement
-pub record Address : Type 0 where
-  pub register : Register
-  pub displacement : ℤ
-
-abbrev pub direct_base : Environment → Y.Variable → Y.StorageClass → Code
-direct_base e v Y.StaticClass =
-    BaseIn u3 ∷ OffsetOf u0 (DataPlace (static_datum e v.block v.index (declaration_of e v))) ∷ add u3 u3 u0 ∷ []
-direct_base e v _ = frame_found e v.level u3
-
-abbrev pub direct_register : Environment → Y.Variable → Y.StorageClass → Register
-direct_register e v Y.StaticClass = u3
-direct_register e v _ = frame_in e v.level u3
-
-abbrev pub direct_place : Environment → Y.Variable → Y.StorageClass → (leaf : ℕ) → ℕ
-direct_place e v Y.StaticClass leaf = name_bytes + leaf_place (declaration_of e v) leaf
-direct_place e v _ leaf =
-    automatic_place e.parts e.program v.block v.level v.index + name_bytes + leaf_place (declaration_of e v) leaf
+abbrev pub element_added : Register → Y.LeafType → (subscripts : Y.Numbers) → Code
+element_added r type Y.NoNumber = []
+element_added r type (Y.NumberThen first rest) = times_stride type ++ add u3 r u4 ∷ []
 
 abbrev pub register_of : Environment → Y.Variable → (given : ℕ) → Register
-register_of e v zero = if is_direct e v then direct_register e v v.class else u3
+register_of e v zero = if is_direct e v then direct_register e u3 v v.class else u3
 register_of e v (suc n) = u3
 
 abbrev pub place_of : Environment → Y.Variable → (leaf : ℕ) → ℕ
@@ -354,30 +403,51 @@ place_of e v leaf = if is_direct e v then direct_place e v v.class leaf else 0
 abbrev pub address_of : Environment → Y.Variable → Y.Part → (given : ℕ) → Address
 address_of e v part given = record { register = register_of e v given; displacement = pos (place_of e v part.first) }
 
-abbrev pub direct_reached : Environment → Taken → Y.Variable → Y.Leaf → (given : ℕ) → Code
-direct_reached e t v l given =
-    subscripts_counted t 0 given l.bounds
-    ++ (direct_base e v v.class ++ element_added (direct_register e v v.class) l.type given)
+abbrev pub direct_reached : Environment → Taken → Y.Variable → Y.Leaf → (subscripts : Y.Numbers) → Code
+direct_reached e t v l subscripts =
+    subscripts_counted e t 0 subscripts l.bounds
+    ++ (direct_base e u3 v v.class ++ element_added (direct_register e u3 v v.class) l.type subscripts)
 
-abbrev pub found_reached : Environment → (found t : Taken) → Y.Variable → Y.Part → Y.Leaf → (given : ℕ) → Code
-found_reached e found t v part l given =
-    class_found e found v v.class
-    ++ (leaf_found e (located e found v) part.first (needs_buffer l) (is_referred e v part)
-    ++ (subscripts_counted t 0 given l.bounds ++ (BaseIn u0 ∷ add u3 u3 u0 ∷ element_added u3 l.type given)))
+-- an element of a generation whose name stands somewhere
+abbrev pub leaf_reached : Environment → Located → Taken → Y.Variable → Y.Part → Y.Leaf → (subscripts : Y.Numbers) → Code
+leaf_reached e at t v part l subscripts =
+    leaf_found e at part.first (needs_buffer l) (is_referred e v part)
+    ++ (subscripts_counted e t 0 subscripts l.bounds ++ (BaseIn u0 ∷ add u3 u3 u0 ∷ element_added u3 l.type subscripts))
 
--- behind a locator, which waits where `found` says, and so many subscripts, which wait where t says: an element's address
-abbrev pub reached : Environment → (found t : Taken) → Y.Variable → Y.Part → (given : ℕ) → Code
-reached e found t v part given =
-    if is_direct e v then direct_reached e t v (leaf_number e v part.first) given
-    else found_reached e found t v part (leaf_number e v part.first) given
+abbrev pub found_reached : Environment → (found t : Taken) → Y.Variable → Y.Part → Y.Leaf → (subscripts : Y.Numbers) → Code
+found_reached e found t v part l subscripts =
+    class_found e found v v.class ++ leaf_reached e (located e found v) t v part l subscripts
 
--- ---- loads and stores of numbers, bits and OFFSET values
+-- behind a locator, which waits where `found` says, and subscripts, which wait where t says: an element's address
+abbrev pub reached : Environment → (found t : Taken) → Y.Variable → Y.Part → (subscripts : Y.Numbers) → Code
+reached e found t v part subscripts =
+    if is_direct e v then direct_reached e t v (leaf_number e v part.first) subscripts
+    else found_reached e found t v part (leaf_number e v part.first) subscripts
 
-abbrev pub loaded : Y.LeafType → Register → Address → Code
-loaded (Y.FixedLeaf p) rd a =
-    displaced (λ r z. I.Load (if nat_le p 15 then Load.Half else Load.Word) rd r z) a.register a.displacement
-loaded Y.BitLeaf rd a = displaced (λ r z. I.Load Load.ByteUnsigned rd r z) a.register a.displacement
-loaded _ rd a = load_word rd a.register a.displacement
+-- ---- names in POINTER variables
+
+-- where the name in a leaf stands, of a variable whose data has a constant place
+abbrev pub direct_name : Environment → Y.Variable → Y.StorageClass → (leaf : ℕ) → NamePlace
+direct_name e v Y.StaticClass leaf =
+    NameInData (static_datum e v.block v.index (declaration_of e v)) (direct_place e v Y.StaticClass leaf)
+direct_name e v class leaf = FrameName v.level (pos (direct_place e v class leaf))
+
+-- an element of a BASED variable whose name stands there
+abbrev pub based_reached : Environment → NamePlace → Taken → Y.Variable → Y.Part → (subscripts : Y.Numbers) → Code
+based_reached e name t v part subscripts =
+    leaf_reached e (based_located e v name) t v part (leaf_number e v part.first) subscripts
+
+-- code for a name that stands, or else other code
+abbrev pub where_standing : Option NamePlace → (NamePlace → Code) → Code → Code
+where_standing (Some name) at otherwise = at name
+where_standing None at otherwise = otherwise
+
+-- the place of such a name in the running frame
+abbrev pub own_name : Environment → Option NamePlace → Option ℤ
+own_name e (Some (FrameName level place)) = if level == e.level then Some place else None
+own_name e _ = None
+
+-- ---- stores of numbers, bits and OFFSET values
 
 abbrev pub stored : Y.LeafType → Register → Address → Code
 stored (Y.FixedLeaf p) value a =

@@ -1,24 +1,23 @@
 -- The code of procedures, and of the routines that evaluate the extents of variables which ALLOCATE makes.
-use Rattle.std.specs.Prelude.{ℕ, suc, ◌==◌, pos, Bool, true, false, List, [], ◌∷◌, ◌++◌, length, Option, Some, None, if◌then◌else◌}
+use Rattle.std.specs.Prelude.{ℕ, suc, ◌==◌, min, pos, Bool, true, false, List, [], ◌∷◌, ◌++◌, length, Option, Some, None, if◌then◌else◌}
 use Rattle.rv_meaning.specs.declared.instr.Instr.TheVariants as I
-use Rattle.rv_meaning.specs.declared.instr.BranchTest.TheVariants as Test
 use Rattle.pli_typing.specs.TypedTree as Y
 use Rattle.pli_meaning.specs.Codes.{no_value_code}
 use Rattle.pli_meaning.specs.DeclaredShapes.{variables_of_block}
-use Rattle.pli_coding.specs.Registers.{zero_register, return_register, frame_register, a0, a1, a2, a3, u0, u1, u5}
+use Rattle.pli_coding.specs.Registers.{held_registers, zero_register, return_register, frame_register, a0, a1, a2, a3, u5}
 use Rattle.pli_coding.specs.Assembly.{Plain, ProcedureEntry, ReturnPlace, ExtentRoutine, Mark, Code}
-use Rattle.pli_coding.specs.Instructions.{move, small, number, plus, load_word, skip_where, service, error_raised}
-use Rattle.pli_coding.specs.Frames.{frame_below, own_offset, result}
+use Rattle.pli_coding.specs.Instructions.{move, small, number, plus, load_word, service, error_raised}
+use Rattle.pli_coding.specs.Frames.{result}
 use Rattle.pli_coding.specs.Environments.{BlockPlace, BlockOwner, Environment, in_frame, owned_by, none_taken}
 use Rattle.pli_coding.specs.Extents.{number_word, extents_code, refer_amount, extents_words}
 use Rattle.pli_coding.specs.Allocating.{act_code}
 use Rattle.pli_coding.specs.Entries.{all_restored, frame_begun, frame_ended, block_entered, block_left, parameters_given, arguments_copied, variables_code}
-use Rattle.pli_coding.specs.Statements.{block_words, stmts_words, stmts_code}
+use Rattle.pli_coding.specs.Statements.{block_words, block_held, stmts_words, stmts_code}
 
 -- back to the caller
-abbrev pub frame_returned : (words : ℕ) → Code
-frame_returned words =
-    all_restored ++ (frame_ended words ++ Plain (I.JumpRegister zero_register return_register (pos 0)) ∷ [])
+abbrev pub frame_returned : (words held : ℕ) → Code
+frame_returned words held =
+    all_restored held ++ (frame_ended words ++ Plain (I.JumpRegister zero_register return_register (pos 0)) ∷ [])
 
 -- the end of the run
 abbrev pub finish_code : Code
@@ -38,20 +37,13 @@ is_main program block = is_first program.procedures
         is_block : Y.Block → Bool
         is_block (Y.BlockOf head body) = head.number == block
 
--- in the frame that the start of the image made the run is finished
-abbrev pub finished_if_first : Environment → Code
-finished_if_first e =
-    load_word u0 frame_register frame_below
-    ++ (load_word u0 u0 own_offset
-    ++ (number u1 e.parts.stack_start ++ skip_where Test.NotEqual u0 u1 finish_code))
-
--- a function has no end without a value (112), but the main procedure where it isn't called
+-- a function has no end without a value (112), but the main procedure, which no reference calls
 abbrev pub no_value : (line : ℕ) → Code
 no_value line = number a0 line ++ (small a1 1 ∷ (service 1 ++ error_raised no_value_code))
 
 abbrev pub end_reached : Environment → Y.BlockHead → Option Y.LeafType → Code
 end_reached e head None = []
-end_reached e head (Some type) = (if is_main e.program head.number then finished_if_first e else []) ++ no_value head.line
+end_reached e head (Some type) = if is_main e.program head.number then finish_code else no_value head.line
 
 -- what a function leaves: a number in a0, the address of a name in a0, or the top text
 abbrev pub left_with : Option Y.LeafType → Code
@@ -65,23 +57,25 @@ abbrev pub procedure_environment : Y.BlockHead → Environment → Environment
 procedure_environment head e =
     owned_by (BlockOwner (record { number = head.number; level = head.level })) (in_frame head.number head.level e)
 
-abbrev pub procedure_begun : Environment → Y.BlockHead → (words : ℕ) → List ℕ → Code
-procedure_begun e head words parameters =
-    frame_begun words head.level (length parameters) true
+abbrev pub procedure_begun : Environment → Y.BlockHead → (words held : ℕ) → List ℕ → Code
+procedure_begun e head words held parameters =
+    frame_begun words head.level (length parameters) (Some held)
     ++ (move u5 a1
     ∷ (parameters_given head.level 0 parameters
     ++ (move a3 a2 ∷ (block_entered 0 head.line ++ (arguments_copied e parameters ++ (variables_code e head.line ++ act_code head.line))))))
 
-abbrev pub procedure_ended : Environment → Y.BlockHead → (words : ℕ) → Option Y.LeafType → Code
-procedure_ended e head words type =
-    end_reached e head type ++ (Mark (ReturnPlace head.number) ∷ (left_with type ++ frame_returned words))
+abbrev pub procedure_ended : Environment → Y.BlockHead → (words held : ℕ) → Option Y.LeafType → Code
+procedure_ended e head words held type =
+    end_reached e head type ++ (Mark (ReturnPlace head.number) ∷ (left_with type ++ frame_returned words held))
+
+abbrev pub procedure_with : Environment → Y.BlockHead → Y.Stmts → (words held : ℕ) → List ℕ → Option Y.LeafType → Code
+procedure_with e head body words held parameters type =
+    Mark (ProcedureEntry head.number)
+    ∷ (procedure_begun e head words held parameters ++ (stmts_code e none_taken body ++ procedure_ended e head words held type))
 
 abbrev pub procedure_in : Environment → Y.BlockHead → Y.Stmts → List ℕ → Option Y.LeafType → Code
 procedure_in e head body parameters type =
-    Mark (ProcedureEntry head.number)
-    ∷ (procedure_begun e head (block_words e head.number (stmts_words body)) parameters
-    ++ (stmts_code e none_taken body
-    ++ procedure_ended e head (block_words e head.number (stmts_words body)) type))
+    procedure_with e head body (block_words e head.number (stmts_words body)) (block_held e head.number body) parameters type
 
 abbrev pub procedure_of_block : Environment → Y.Block → List ℕ → Option Y.LeafType → Code
 procedure_of_block e (Y.BlockOf head body) parameters type =
@@ -97,8 +91,11 @@ procedures_code e (p ∷ ps) = procedure_of_block e p.block p.parameters p.resul
 abbrev pub routine_words : Y.DeclaredVariable → ℕ
 routine_words d = extents_words d
 
+abbrev pub routine_held : Y.DeclaredVariable → ℕ
+routine_held d = min held_registers (routine_words d)
+
 abbrev pub routine_begun : Environment → Y.DeclaredVariable → Code
-routine_begun e d = frame_begun (routine_words d) e.level 0 true
+routine_begun e d = frame_begun (routine_words d) e.level 0 (Some (routine_held d))
 
 abbrev pub amounts_given : Y.DeclaredVariable → Code
 amounts_given d = refer_amount none_taken d.leaves d.refer ++ load_word a0 frame_register (number_word none_taken)
@@ -106,7 +103,7 @@ amounts_given d = refer_amount none_taken d.leaves d.refer ++ load_word a0 frame
 abbrev pub routine_code : Environment → (index : ℕ) → Y.DeclaredVariable → Code
 routine_code e index d =
     Mark (ExtentRoutine e.block index)
-    ∷ (routine_begun e d ++ (extents_code e none_taken d ++ (amounts_given d ++ frame_returned (routine_words d))))
+    ∷ (routine_begun e d ++ (extents_code e none_taken d ++ (amounts_given d ++ frame_returned (routine_words d) (routine_held d))))
 
 abbrev pub has_routine : Y.StorageClass → Bool
 has_routine Y.BasedClass = true

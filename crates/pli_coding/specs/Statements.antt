@@ -1,5 +1,5 @@
 -- The code of statements, with the blocks that stand among them. Each begins with its act, which sets its line.
-use Rattle.std.specs.Prelude.{ℕ, suc, ◌+◌, ◌==◌, max, ℤ, pos, true, false, List, [], ◌∷◌, ◌++◌, map, Option, Some, None, if◌then◌else◌}
+use Rattle.std.specs.Prelude.{ℕ, suc, ◌+◌, ◌==◌, max, ℤ, pos, int_lt, Bool, true, false, List, [], ◌∷◌, ◌++◌, map, Option, Some, None, if◌then◌else◌, min}
 use Rattle.rv_meaning.specs.declared.instr.Instr.TheVariants as I
 use Rattle.rv_meaning.specs.declared.instr.RegisterOp.TheVariants as Op
 use Rattle.rv_meaning.specs.declared.instr.BranchTest.TheVariants as Test
@@ -7,18 +7,18 @@ use Rattle.pli_language.specs.declared.condition.Condition.{Condition}
 use Rattle.pli_language.specs.declared.condition.Condition.TheVariants as C
 use Rattle.pli_typing.specs.TypedTree as Y
 use Rattle.pli_meaning.specs.Codes.{code_signalled}
-use Rattle.pli_meaning.specs.Numbers.{operator_precision}
+use Rattle.pli_meaning.specs.Numbers.{operator_precision, signed_result}
 use Rattle.pli_meaning.specs.DeclaredShapes.{variables_of_block}
-use Rattle.pli_coding.specs.Registers.{zero_register, stack_register, frame_register, a0, a1, a2, u0, u1, u2, u3}
+use Rattle.pli_coding.specs.Registers.{held_registers, zero_register, stack_register, frame_register, a0, a1, a2, u0, u1, u2, u3}
 use Rattle.pli_coding.specs.Assembly.{Item, Plain, BaseIn, LabelPlace, ReturnPlace, Mark, OffsetAhead, JumpTo, JumpAhead, JumpBack, Code, size_of}
 use Rattle.pli_coding.specs.Instructions.{registers, add, move, small, number, plus, load_word, store_word, skip_where, service, tested_service, error_raised}
 use Rattle.pli_coding.specs.Frames.{own_offset, result, display, frame_end, words_place}
 use Rattle.pli_coding.specs.Environments.{Owner, BlockOwner, UnitOwner, Environment, in_frame, owned_by, block_around, Taken, none_taken, with_words}
-use Rattle.pli_coding.specs.Arithmetic.{condition_number, raised, sum_code, fitted_code}
+use Rattle.pli_coding.specs.Arithmetic.{condition_number, raised, sum_code, constant_added, fitted_code}
 use Rattle.pli_coding.specs.Locating.{frame_found, frame_in, waiting_name, Address, loaded, name_copied, in_own_frame, text_pushed, length_loaded}
 use Rattle.pli_coding.specs.Expressions.{type_in, address_in, number_code, text_code, bit_code, reference_code, call_code, stored_code}
 use Rattle.pli_coding.specs.Temporaries.{number_words, bit_words, reference_words, call_words, stored_words}
-use Rattle.pli_coding.specs.Storing.{word_stored, top_stored, assigned_code, elements_code, aggregate_code, area_code', emptied_code, assigned_words, elements_words, aggregate_words}
+use Rattle.pli_coding.specs.Storing.{word_stored, top_stored, assignment_code, elements_code, aggregate_code, area_code', emptied_code, assigned_words, elements_words, aggregate_words}
 use Rattle.pli_coding.specs.Allocating.{act_code, allocations_code, freeings_code, allocations_words, freeings_words}
 use Rattle.pli_coding.specs.Streams.{as_text, put_code, get_code, value_words, put_words, get_words}
 use Rattle.pli_coding.specs.Entries.{registers_restored, frame_begun, frame_ended, entered_without_texts, block_left, variables_code, variables_words}
@@ -38,7 +38,12 @@ while_met test body =
     test ++ if_met (body ++ JumpBack (size_of test + (3 + size_of body)) ∷ [])
 
 -- ---- DO with a variable that counts: its limit and its step stand in two words as long as the turns go on, and its start in a
--- third one until it is assigned
+-- third one until it is assigned. A step that is a constant stands in the code, and its word has nothing.
+
+abbrev pub constant_step : Y.Number → Option ℤ
+constant_step (Y.NumberConstant n) = Some (pos n)
+constant_step (Y.Signed sign (Y.NumberConstant n)) = Some (signed_result sign (pos n))
+constant_step _ = None
 
 abbrev pub limit_place : Taken → ℤ
 limit_place t = words_place t.words 1
@@ -66,8 +71,12 @@ abbrev pub limit_code : Environment → Taken → Option Y.Number → Code
 limit_code e t None = []
 limit_code e t (Some x) = number_code e (before_turns t) x ++ store_word frame_register a0 (limit_place t)
 
+abbrev pub step_kept : Environment → Taken → Y.Number → (constant : Option ℤ) → Code
+step_kept e t x None = number_code e (before_turns t) x ++ store_word frame_register a0 (step_place t)
+step_kept e t x (Some z) = []
+
 abbrev pub step_code : Environment → Taken → Y.Number → Code
-step_code e t x = number_code e (before_turns t) x ++ store_word frame_register a0 (step_place t)
+step_code e t x = step_kept e t x (constant_step x)
 
 abbrev pub start_loaded : Taken → Code
 start_loaded t = load_word a0 frame_register (start_place t)
@@ -99,27 +108,38 @@ abbrev pub counter_converted : Taken → Y.Counter → Code
 counter_converted t (Y.NumberCounter precision r) = fitted_code (in_turns t) precision
 counter_converted t (Y.TextCounter r) = as_text operator_precision
 
--- the next value, with the line of the DO
-abbrev pub stepped_code : Environment → Taken → Y.Counter → (line : ℕ) → Code
-stepped_code e t counter line =
-    number a0 line
-    ++ (small a1 1
-    ∷ (service 1
-    ++ (counter_read e t counter
-    ++ (move u1 a0 ∷ (load_word a0 frame_register (step_place t) ++ (sum_code (in_turns t) ++ counter_converted t counter))))))
+-- the step and the value in a0
+abbrev pub step_added : Taken → (step : Option ℤ) → Code
+step_added t None = move u1 a0 ∷ (load_word a0 frame_register (step_place t) ++ sum_code (in_turns t))
+step_added t (Some z) = constant_added (in_turns t) z
 
--- past so many words where the value in a0 has passed the limit: above it, with a negative step below it
-abbrev pub limit_tested : Taken → (behind : ℕ) → Code
-limit_tested t behind =
-    load_word u1 frame_register (limit_place t)
-    ++ (load_word u2 frame_register (step_place t)
+-- the next value, with the line of the DO
+abbrev pub stepped_code : Environment → Taken → Y.Counter → (step : Option ℤ) → (line : ℕ) → Code
+stepped_code e t counter step line =
+    number a0 line
+    ++ (small a1 1 ∷ (service 1 ++ (counter_read e t counter ++ (step_added t step ++ counter_converted t counter))))
+
+-- past so many words where a0 is above u1, or where turns go down and it is below u1
+abbrev pub passed : (falls : Bool) → (behind : ℕ) → Code
+passed true behind = skip_where Test.GreaterOrEqual a0 u1 (JumpAhead behind ∷ [])
+passed false behind = skip_where Test.GreaterOrEqual u1 a0 (JumpAhead behind ∷ [])
+
+-- the same by the step
+abbrev pub passed_by : Taken → (step : Option ℤ) → (behind : ℕ) → Code
+passed_by t None behind =
+    load_word u2 frame_register (step_place t)
     ++ (registers Op.SetLess u3 u1 a0
     ∷ (skip_where Test.GreaterOrEqual u2 zero_register (registers Op.SetLess u3 a0 u1 ∷ [])
-    ++ skip_where Test.Equal u3 zero_register (JumpAhead behind ∷ []))))
+    ++ skip_where Test.Equal u3 zero_register (JumpAhead behind ∷ [])))
+passed_by t (Some z) behind = passed (int_lt z (pos 0)) behind
 
-abbrev pub limit_kept : Environment → Taken → Y.Counter → Option Y.Number → (behind : ℕ) → Code
-limit_kept e t counter None behind = []
-limit_kept e t counter (Some x) behind = counter_read e t counter ++ limit_tested t behind
+-- past so many words where the value in a0 has passed the limit
+abbrev pub limit_tested : Taken → (step : Option ℤ) → (behind : ℕ) → Code
+limit_tested t step behind = load_word u1 frame_register (limit_place t) ++ passed_by t step behind
+
+abbrev pub limit_kept : Environment → Taken → Y.Counter → Option Y.Number → (step : Option ℤ) → (behind : ℕ) → Code
+limit_kept e t counter None step behind = []
+limit_kept e t counter (Some x) step behind = counter_read e t counter ++ limit_tested t step behind
 
 abbrev pub while_kept : Environment → Taken → Option Y.Bit → (behind : ℕ) → Code
 while_kept e t None behind = []
@@ -151,14 +171,14 @@ turns_code u =
     ++ (u.condition (words_behind_condition u) ++ (u.body ++ (u.stepped ++ JumpBack (words_back u) ∷ []))))
 
 -- the value in a0, or the top text, is assigned; then comes the act of the test
-abbrev pub turn_of : Environment → Taken → Y.Counter → Option Y.Number → Option Y.Bit → (line : ℕ) → (body : Code) → Turn
-turn_of e t counter limit condition line body =
+abbrev pub turn_of : Environment → Taken → Y.Counter → Option Y.Number → (step : Option ℤ) → Option Y.Bit → (line : ℕ) → (body : Code) → Turn
+turn_of e t counter limit step condition line body =
     record {
       begun = counter_stored e t counter ++ act_code line;
-      limit = limit_kept e t counter limit;
+      limit = limit_kept e t counter limit step;
       condition = while_kept e t condition;
       body = body;
-      stepped = stepped_code e t counter line;
+      stepped = stepped_code e t counter step line;
     }
 
 abbrev pub count_begun : Environment → Taken → Y.Counter → Y.Value → Option Y.Number → Y.Number → Code
@@ -250,7 +270,7 @@ begin_environment head e = in_frame head.number head.level e
 abbrev pub begin_code : Environment → Y.BlockHead → (words : ℕ) → (body : Code) → Code
 begin_code e head words body =
     move a0 frame_register
-    ∷ (frame_begun words head.level 0 false
+    ∷ (frame_begun words head.level 0 None
     ++ (entered_without_texts 1 head.line
     ++ (variables_code (begin_environment head e) head.line ++ (body ++ (block_left 0 ++ frame_ended words)))))
 
@@ -275,18 +295,18 @@ unit_mark head Y.SimpleUnit = []
 unit_mark head _ = Mark (ReturnPlace head.number) ∷ []
 
 -- a unit goes on where its raise said, with its condition's code in a1
-abbrev pub unit_left : (words : ℕ) → Code
-unit_left words =
+abbrev pub unit_left : (words held : ℕ) → Code
+unit_left words held =
     service 31
-    ++ (registers_restored 0 7
+    ++ (registers_restored 0 held
     ++ (frame_ended words ++ (BaseIn u0 ∷ add u0 u0 a0 ∷ Plain (I.JumpRegister zero_register u0 (pos 0)) ∷ [])))
 
-abbrev pub unit_code : Environment → Y.BlockHead → (words : ℕ) → (body : Code) → Code
-unit_code e head words body =
-    frame_begun words head.level 0 true
+abbrev pub unit_code : Environment → Y.BlockHead → (words held : ℕ) → (body : Code) → Code
+unit_code e head words held body =
+    frame_begun words head.level 0 (Some held)
     ++ (entered_without_texts 2 head.line
     ++ (unit_variables (unit_environment head e) head head.kind
-    ++ (act_code head.line ++ (body ++ (unit_mark head head.kind ++ unit_left words)))))
+    ++ (act_code head.line ++ (body ++ (unit_mark head head.kind ++ unit_left words held)))))
 
 -- ---- words that statements take; a block among them has a frame of its own
 
@@ -332,6 +352,42 @@ abbrev mutual
   stmts_words (Y.EndOfList labels) = 0
   stmts_words (Y.StmtThen labels first rest) = max (stmt_words first) (stmts_words rest)
 
+-- ---- registers that procedures and on-units save. A block's code writes no more of them than its temporaries take words, since each
+-- number counts among these; BEGIN blocks save none. A GOTO ends frames without restoring what they saved: where one may come to a
+-- label, all are saved.
+
+abbrev pub labels_held : List (List ℕ) → ℕ
+labels_held [] = 0
+labels_held (l ∷ ls) = held_registers
+
+-- for what stands in a frame beside its own temporaries
+abbrev mutual
+  pub stmt_held : Y.Program → Y.Stmt → ℕ
+  stmt_held program (Y.If condition unit line) = stmt_held program unit
+  stmt_held program (Y.IfElse condition unit otherwise line) = max (stmt_held program unit) (stmt_held program otherwise)
+  stmt_held program (Y.Do body line) = stmts_held program body
+  stmt_held program (Y.DoWhile condition body line) = stmts_held program body
+  stmt_held program (Y.DoOnce variable start condition body line) = stmts_held program body
+  stmt_held program (Y.DoCount counter start limit step condition body line) = stmts_held program body
+  stmt_held program (Y.Begin (Y.BlockOf head body)) =
+      max (max (variables_words (variables_of_block program head.number)) (stmts_words body)) (stmts_held program body)
+  stmt_held program _ = 0
+
+  pub stmts_held : Y.Program → Y.Stmts → ℕ
+  stmts_held program (Y.EndOfList labels) = labels_held labels
+  stmts_held program (Y.StmtThen labels first rest) =
+      max (labels_held labels) (max (stmt_held program first) (stmts_held program rest))
+
+-- the first so many registers, of a frame with so many words for temporaries
+abbrev pub held_with : Y.Program → (words : ℕ) → Y.Stmts → ℕ
+held_with program words body = min held_registers (max words (stmts_held program body))
+
+abbrev pub block_held : Environment → (block : ℕ) → Y.Stmts → ℕ
+block_held e block body = held_with e.program (block_words e block (stmts_words body)) body
+
+abbrev pub unit_held : Environment → Y.BlockHead → Y.BlockKind → Y.Stmts → ℕ
+unit_held e head kind body = held_with e.program (unit_words e head kind (stmts_words body)) body
+
 -- ---- statements
 
 abbrev pub marked : (block : ℕ) → List (List ℕ) → Code
@@ -340,7 +396,7 @@ marked block labels = map (λ l. Mark (LabelPlace block l)) labels
 abbrev mutual
   pub stmt_code : Environment → Taken → Y.Stmt → Code
   stmt_code e t (Y.Null line) = act_code line
-  stmt_code e t (Y.Assign target source line) = act_code line ++ assigned_code e t target source
+  stmt_code e t (Y.Assign target source line) = act_code line ++ assignment_code e t target source
   stmt_code e t (Y.AssignElements target source line) = act_code line ++ elements_code e t target source
   stmt_code e t (Y.AssignAggregate target source line) = act_code line ++ aggregate_code e t target source
   stmt_code e t (Y.AssignArea target source line) = act_code line ++ area_code' e t target source
@@ -352,11 +408,11 @@ abbrev mutual
   stmt_code e t (Y.DoWhile condition body line) =
       act_code line ++ while_met (act_code line ++ bit_code e t condition) (stmts_code e t body)
   stmt_code e t (Y.DoOnce variable start condition body line) =
-      act_code line ++ (assigned_code e t variable start ++ once_code e t condition line (stmts_code e t body))
+      act_code line ++ (assignment_code e t variable start ++ once_code e t condition line (stmts_code e t body))
   stmt_code e t (Y.DoCount counter start limit step condition body line) =
       act_code line
       ++ (count_begun e t counter start limit step
-      ++ turns_code (turn_of e t counter limit condition line (stmts_code e (in_turns t) body)))
+      ++ turns_code (turn_of e t counter limit (constant_step step) condition line (stmts_code e (in_turns t) body)))
   stmt_code e t (Y.Begin (Y.BlockOf head body)) =
       act_code head.line
       ++ begin_code e head (block_words e head.number (stmts_words body)) (stmts_code (begin_environment head e) none_taken body)
@@ -364,7 +420,8 @@ abbrev mutual
   stmt_code e t (Y.OnUnit c (Y.BlockOf head body) line) =
       act_code line
       ++ unit_established c
-      (unit_code e head (unit_words e head head.kind (stmts_words body)) (stmts_code (unit_environment head e) none_taken body))
+      (unit_code e head (unit_words e head head.kind (stmts_words body)) (unit_held e head head.kind body)
+      (stmts_code (unit_environment head e) none_taken body))
   stmt_code e t (Y.CallProcedure call line) = act_code line ++ call_code e t call
   stmt_code e t (Y.Return line) = act_code line ++ returned_by e 0 e.owner
   stmt_code e t (Y.ReturnValue type source line) = act_code line ++ (stored_code e t source ++ value_returned e t type)

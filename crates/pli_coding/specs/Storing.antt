@@ -1,25 +1,32 @@
--- Values into storage: scalars, arrays, aggregates and areas. A value waits while its target is reached.
-use Rattle.std.specs.Prelude.{ℕ, zero, suc, ◌+◌, Bool, true, false, ℤ, max, [], ◌∷◌, ◌++◌, if◌then◌else◌}
+-- Values into storage: scalars, arrays, aggregates and areas. A value waits while its target is reached, or stays where it is.
+use Rattle.std.specs.Prelude.{ℕ, ◌+◌, Bool, true, false, not, ◌&&◌, ℤ, max, [], ◌∷◌, ◌++◌, Option, Some, None, if◌then◌else◌}
 use Rattle.rv_meaning.specs.declared.instr.BranchTest.TheVariants as Test
 use Rattle.rv_meaning.specs.declared.instr.Register.{Register}
 use Rattle.pli_language.specs.declared.condition.Condition.TheVariants as C
 use Rattle.pli_typing.specs.TypedTree as Y
 use Rattle.pli_meaning.specs.Codes.{area_code}
-use Rattle.pli_coding.specs.Registers.{zero_register, frame_register, a0, a1, a2, a3, a4, u4}
+use Rattle.pli_coding.specs.Registers.{zero_register, frame_register, a0, a1, a2, a3, a4, u1}
 use Rattle.pli_coding.specs.Assembly.{Code}
 use Rattle.pli_coding.specs.Instructions.{small, number, store_word, skip_where, service, tested_service}
 use Rattle.pli_coding.specs.Frames.{word_in}
 use Rattle.pli_coding.specs.Environments.{Environment, Taken, with_words, with_number, save, fetch}
 use Rattle.pli_coding.specs.Arithmetic.{raised}
-use Rattle.pli_coding.specs.Locating.{own_place, Located, located, name_offset, number_loaded, class_found, behind_locator, waiting_name, leaf_number, is_direct, is_referred, leaf_found, needs_buffer, subscripts_counted, stored, name_copied, in_own_frame, text_stored}
-use Rattle.pli_coding.specs.Expressions.{given_in, type_in, address_in, reference_code, locator_code, subscripts_code, stored_code}
+use Rattle.pli_coding.specs.Locating.{own_place, Located, located, name_offset, number_loaded, class_found, behind_locator, waiting_name, leaf_number, is_direct, are_simple, is_referred, leaf_found, needs_buffer, subscripts_counted, stored, name_copied, in_own_frame, text_stored, own_name}
+use Rattle.pli_coding.specs.Expressions.{given_in, type_in, address_in, reference_code, locator_code, subscripts_code, stored_code, standing_in, pointer_code, pointer_to}
 use Rattle.pli_coding.specs.Temporaries.{reference_words, stored_words, located_words}
 
 -- ---- scalars
 
--- a number, bit or OFFSET value in a0
+-- whether a target is reached by code that leaves a0 alone: it stands at a constant place, and its subscripts are simple
+abbrev pub is_near : Environment → Y.Reference → Bool
+is_near e (Y.Referring v Y.NotLocated part subscripts) = is_direct e v && are_simple e subscripts
+is_near e _ = false
+
+-- a number, bit or OFFSET value in a0, which waits unless the target is near
 abbrev pub word_stored : Environment → Taken → Y.Reference → Code
 word_stored e t target =
+    if is_near e target then reference_code e t target ++ stored (type_in e target) a0 (address_in e target)
+    else
     save a0 t ++ (reference_code e (with_number t) target ++ (fetch a0 t ++ stored (type_in e target) a0 (address_in e target)))
 
 -- the top text
@@ -40,6 +47,24 @@ stored_into e t target (Y.StoredOffset x) = word_stored e t target
 
 abbrev pub assigned_code : Environment → Taken → Y.Reference → Y.Stored → Code
 assigned_code e t target source = stored_code e t source ++ stored_into e t target source
+
+-- whether nothing is tested once a name was written
+abbrev pub is_written_last : Environment → Y.Pointer → Bool
+is_written_last e (Y.AddressOf (Y.Referring v locator part subscripts)) = not (is_referred e v part)
+is_written_last e _ = true
+
+-- the place of a POINTER variable of the running frame, where a name may be written at once
+abbrev pub place_assigned : Environment → Y.Reference → Y.Pointer → Option ℤ
+place_assigned e target x = if is_written_last e x then own_name e (standing_in e target) else None
+
+abbrev pub name_assigned : Environment → Taken → Y.Reference → Y.Pointer → Option ℤ → Code
+name_assigned e t target x (Some place) = pointer_to e t place x
+name_assigned e t target x None = pointer_code e t x ++ name_stored e t target
+
+-- an assignment statement
+abbrev pub assignment_code : Environment → Taken → Y.Reference → Y.Stored → Code
+assignment_code e t target (Y.StoredPointer x) = name_assigned e t target x (place_assigned e target x)
+assignment_code e t target source = assigned_code e t target source
 
 -- ---- records of aggregates: where a name stands, its signature's number, the place of the subscripts given, and the extent that
 -- REFER tells, in four words behind the temporaries in use
@@ -73,25 +98,25 @@ aggregate_found e t found v part =
     ++ (leaf_found e (located e found v) part.first (needs_buffer (leaf_number e v part.first)) (is_referred e v part)
     ++ extent_recorded t (is_referred e v part))
 
-abbrev pub subscripts_recorded : Environment → (t waiting : Taken) → Y.Variable → Y.Part → (given : ℕ) → Code
-subscripts_recorded e t waiting v part zero = record_stored t 2 zero_register
-subscripts_recorded e t waiting v part (suc n) =
-    subscripts_counted waiting 0 (suc n) (leaf_number e v part.first).bounds ++ record_stored t 2 u4
+abbrev pub subscripts_recorded : Environment → (t waiting : Taken) → Y.Variable → Y.Part → (subscripts : Y.Numbers) → Code
+subscripts_recorded e t waiting v part Y.NoNumber = record_stored t 2 zero_register
+subscripts_recorded e t waiting v part (Y.NumberThen first rest) =
+    subscripts_counted e waiting 0 (Y.NumberThen first rest) (leaf_number e v part.first).bounds ++ record_stored t 2 u1
 
 abbrev pub name_recorded : Environment → Taken → Located → Code
 name_recorded e t l =
     name_offset e a0 l.name ++ (record_stored t 0 a0 ++ (number_loaded e a0 l.number ++ record_stored t 1 a0))
 
-abbrev pub record_filled : Environment → (t found : Taken) → Y.Variable → Y.Part → (given : ℕ) → Code
-record_filled e t found v part given =
+abbrev pub record_filled : Environment → (t found : Taken) → Y.Variable → Y.Part → (subscripts : Y.Numbers) → Code
+record_filled e t found v part subscripts =
     aggregate_found e t found v part
-    ++ (subscripts_recorded e t (behind_locator v found) v part given ++ name_recorded e t (located e found v))
+    ++ (subscripts_recorded e t (behind_locator v found) v part subscripts ++ name_recorded e t (located e found v))
 
 abbrev pub record_code : Environment → Taken → Y.Reference → Code
 record_code e t (Y.Referring v locator part subscripts) =
     locator_code e (with_words record_words t) locator
     ++ (subscripts_code e (behind_locator v (with_words record_words t)) subscripts
-    ++ record_filled e t (with_words record_words t) v part (given_in subscripts))
+    ++ record_filled e t (with_words record_words t) v part subscripts)
 
 abbrev pub record_given : Environment → Taken → Code
 record_given e t = own_place e a0 (record_place t 0)

@@ -1,6 +1,6 @@
 -- GET and PUT with EDIT. What is written waits while control items are carried out; a format item is asked for by a service that
 -- makes no act before the one that acts.
-use Rattle.std.specs.Prelude.{ℕ, suc, ◌+◌, max, ℤ, pos, negsuc, Bool, true, false, ◌&&◌, ◌||◌, List, [], ◌∷◌, ◌++◌, take, drop, Option, Some, None, if◌then◌else◌}
+use Rattle.std.specs.Prelude.{ℕ, suc, ◌+◌, ◌^◌, max, ℤ, pos, negsuc, Bool, true, false, ◌&&◌, ◌||◌, ◌==◌, nat_lt, List, [], ◌∷◌, ◌++◌, take, drop, Option, Some, None, if◌then◌else◌}
 use Rattle.std.specs.List.{list_any}
 use Rattle.rv_meaning.specs.declared.instr.LoadKind.TheVariants as Load
 use Rattle.rv_meaning.specs.declared.instr.StoreKind.TheVariants as Store
@@ -13,17 +13,19 @@ use Rattle.rv_meaning.specs.declared.image.TableKind.TheVariants as K
 use Rattle.rv_meaning.specs.Tables.{kind_number}
 use Rattle.pli_language.specs.declared.condition.Condition.TheVariants as C
 use Rattle.pli_language.specs.Tree as T
+use Rattle.pli_typing.specs.Signatures.{leaf_bytes, leaf_size, rounded_up}
 use Rattle.pli_typing.specs.TypedTree as Y
 use Rattle.pli_meaning.specs.Codes.{endfile_code}
 use Rattle.pli_meaning.specs.Numbers.{operator_precision}
-use Rattle.pli_coding.specs.Registers.{zero_register, frame_register, a0, a1, a2, a3, a4, a5, u0, u1, u2, u3}
+use Rattle.pli_meaning.specs.DeclaredShapes.{kind_of, leaf_of}
+use Rattle.pli_coding.specs.Registers.{zero_register, frame_register, a0, a1, a2, a3, a4, a5, u0, u1, u2, u3, u4}
 use Rattle.pli_coding.specs.Assembly.{Item, Plain, BaseIn, OffsetOf, DataPlace, JumpAhead, JumpBack, Code, size_of}
-use Rattle.pli_coding.specs.Instructions.{immediate, registers, add, subtract, move, small, number, load_word, store_word, skip_where, choice, repeated_while_zero, service, tested_service, status_tested}
+use Rattle.pli_coding.specs.Instructions.{immediate, registers, add, subtract, move, small, number, plus, load_word, store_word, skip_where, choice, repeated_while_zero, service, tested_service, status_tested}
 use Rattle.pli_coding.specs.Frames.{buffer, buffer_kind, buffer_size, word_in}
 use Rattle.pli_coding.specs.StaticForms.{formats_datum, shape_datum}
 use Rattle.pli_coding.specs.Environments.{Environment, declaration_of, Taken, with_words, with_number, save, fetch}
 use Rattle.pli_coding.specs.Arithmetic.{raised, overflow_raised, fitted_code}
-use Rattle.pli_coding.specs.Locating.{own_place}
+use Rattle.pli_coding.specs.Locating.{own_place, leaf_number, is_direct, direct_base, direct_register, Address, address_of, loaded, stored, text_pushed, text_stored}
 use Rattle.pli_coding.specs.Expressions.{given_in, type_in, number_code, text_code, bit_code}
 use Rattle.pli_coding.specs.Temporaries.{number_words, text_words, bit_words, reference_words}
 use Rattle.pli_coding.specs.Storing.{word_stored, top_stored, behind_record, words_behind_record, record_code, record_given, aggregate_words}
@@ -170,6 +172,40 @@ turns l asked each =
 abbrev pub for_elements : Environment → Elements → Y.Reference → (each : Code) → Code
 for_elements e l r each = elements_begun l ++ turns l (next_asked e l r) each
 
+-- ---- arrays of one kind at constant places: how far the next element stands behind the first waits as a number
+
+-- a word holds how many bytes the elements take; what takes none isn't counted by them
+abbrev pub is_distance : (bytes : ℕ) → Bool
+is_distance bytes = nat_lt 0 bytes && nat_lt bytes (2 ^ 31)
+
+-- all elements stand one behind the other
+abbrev pub are_counted : Environment → Y.Variable → Y.Part → (given : ℕ) → Bool
+are_counted e v part given =
+    is_direct e v
+    && ((part.count == 1) && ((given == 0) && is_distance (leaf_size (leaf_of [] (leaf_number e v part.first)))))
+
+abbrev pub is_counted : Environment → Y.Reference → Bool
+is_counted e (Y.Referring v locator part subscripts) = are_counted e v part (given_in subscripts)
+
+-- that of the next one in u1, and that behind the last one in u2
+abbrev pub distance_counted : Taken → Y.Leaf → Code
+distance_counted t l =
+    fetch u1 t
+    ++ (plus u1 u1 (pos (rounded_up 4 (leaf_bytes (kind_of [] l.type))))
+    ++ (save u1 t ++ number u2 (leaf_size (leaf_of [] l))))
+
+-- code that is done again until these two are equal
+abbrev pub repeated_until_equal : Code → Code
+repeated_until_equal code = code ++ skip_where Test.Equal u1 u2 (JumpBack (size_of code + 1) ∷ [])
+
+-- what is done for each, of which there is one at least
+abbrev pub by_distance : Taken → Y.Leaf → (each : Code) → Code
+by_distance t l each = save zero_register t ++ repeated_until_equal (each ++ distance_counted t l)
+
+-- the element's address
+abbrev pub distance_added : Environment → Taken → Y.Variable → Code
+distance_added e t v = fetch u4 t ++ (direct_base e u3 v v.class ++ add u3 (direct_register e u3 v v.class) u4 ∷ [])
+
 -- ---- by the kind in the buffer
 
 pub record KindCode : Type 0 where
@@ -258,9 +294,30 @@ abbrev pub elements_put : Environment → Elements → T.Formats → Y.Reference
 elements_put e l formats r =
     record_code e l.taken r ++ for_elements e l r (element_put e l formats r)
 
+-- what stands at an address
+abbrev pub element_shown : Taken → T.Formats → Y.LeafType → Address → Code
+element_shown t formats (Y.FixedLeaf p) a = loaded (Y.FixedLeaf p) a0 a ++ (save a0 t ++ number_put t formats (as_text p))
+element_shown t formats (Y.CharacterLeaf x) a = text_pushed (Y.CharacterLeaf x) a ++ text_put formats
+element_shown t formats (Y.VaryingLeaf x) a = text_pushed (Y.VaryingLeaf x) a ++ text_put formats
+element_shown t formats Y.BitLeaf a = loaded Y.BitLeaf a0 a ++ (save a0 t ++ number_put t formats (as_text 0))
+element_shown t formats _ a = []
+
+abbrev pub counted_element_put : Environment → Taken → T.Formats → Y.Variable → Y.Part → Code
+counted_element_put e t formats v part =
+    distance_added e t v
+    ++ element_shown (with_number t) formats (leaf_number e v part.first).type (address_of e v part 1)
+
+abbrev pub counted_put : Environment → Taken → T.Formats → Y.Reference → Code
+counted_put e t formats (Y.Referring v locator part subscripts) =
+    by_distance t (leaf_number e v part.first) (counted_element_put e t formats v part)
+
+abbrev pub aggregate_put : Environment → Taken → T.Formats → Y.Reference → Code
+aggregate_put e t formats r =
+    if is_counted e r then counted_put e t formats r else elements_put e (elements_of t r) formats r
+
 abbrev pub item_put : Environment → Taken → T.Formats → Y.PutItem → Code
 item_put e t formats (Y.PutValue v) = value_put e t formats v
-item_put e t formats (Y.PutAggregate r) = elements_put e (elements_of t r) formats r
+item_put e t formats (Y.PutAggregate r) = aggregate_put e t formats r
 
 abbrev pub items_put : Environment → Taken → T.Formats → List Y.PutItem → Code
 items_put e t formats [] = []
@@ -362,9 +419,39 @@ elements_got e l formats r behind =
     record_code e l.taken r
     ++ for_elements e l r (awaited_before (element_got e l formats r) (size_of (next_counted l) + (2 + behind)))
 
+-- a field as a value in a0, or as the top text
+abbrev pub field_converted : Taken → T.Formats → Y.LeafType → Code
+field_converted t formats (Y.FixedLeaf p) = number_got formats ++ fitted_code t p
+field_converted t formats (Y.CharacterLeaf x) = text_got formats
+field_converted t formats (Y.VaryingLeaf x) = text_got formats
+field_converted t formats Y.BitLeaf = bit_got
+field_converted t formats _ = []
+
+abbrev pub field_kept : Y.LeafType → Address → Code
+field_kept (Y.FixedLeaf p) a = stored (Y.FixedLeaf p) a0 a
+field_kept (Y.CharacterLeaf x) a = text_stored (Y.CharacterLeaf x) a
+field_kept (Y.VaryingLeaf x) a = text_stored (Y.VaryingLeaf x) a
+field_kept Y.BitLeaf a = stored Y.BitLeaf a0 a
+field_kept _ a = []
+
+abbrev pub counted_element_got : Environment → Taken → T.Formats → Y.Variable → Y.Part → Code
+counted_element_got e t formats v part =
+    field_converted (with_number t) formats (leaf_number e v part.first).type
+    ++ (distance_added e t v ++ field_kept (leaf_number e v part.first).type (address_of e v part 1))
+
+abbrev pub counted_got : Environment → Taken → T.Formats → Y.Reference → (behind : ℕ) → Code
+counted_got e t formats (Y.Referring v locator part subscripts) behind =
+    by_distance t (leaf_number e v part.first)
+    (awaited_before (counted_element_got e t formats v part)
+    (size_of (distance_counted t (leaf_number e v part.first)) + (3 + behind)))
+
+abbrev pub aggregate_got : Environment → Taken → T.Formats → Y.Reference → (behind : ℕ) → Code
+aggregate_got e t formats r behind =
+    if is_counted e r then counted_got e t formats r behind else elements_got e (elements_of t r) formats r behind
+
 abbrev pub item_got : Environment → Taken → T.Formats → Y.GetItem → (behind : ℕ) → Code
 item_got e t formats (Y.GetScalar r) behind = awaited_before (field_stored e t formats r (type_in e r)) behind
-item_got e t formats (Y.GetAggregate r) behind = elements_got e (elements_of t r) formats r behind
+item_got e t formats (Y.GetAggregate r) behind = aggregate_got e t formats r behind
 
 abbrev pub items_got : Environment → Taken → T.Formats → (behind : ℕ) → List Y.GetItem → Code
 items_got e t formats behind [] = []
@@ -392,7 +479,7 @@ value_words (Y.TextValue x) = text_words x
 value_words (Y.BitValue x) = max 1 (bit_words x)
 value_words _ = 0
 
--- a record, the number, and up to two that wait
+-- a record, the number, and up to two that wait; what is counted by its distance needs no more than two
 abbrev pub elements_words : Y.Reference → ℕ
 elements_words r = max (aggregate_words r) (words_behind_record r + 4)
 

@@ -13,6 +13,9 @@ use pli_values::source::Source;
 use pli_values::word::word_at;
 use std::alloc::{AllocError, Global};
 
+/// Room is made at once for so many nodes, where there are as many: a count in memory may be any number.
+const MOST_AT_ONCE: usize = 64;
+
 /// How many items are in a node.
 fn items_in(node: Node) -> u32
     ensures { result ≡ items_in node }
@@ -42,7 +45,7 @@ fn nodes_at(
     ensures few { IfOk result (λ o. MatchOption o ⊤ (λ nodes. length nodes.items < 2 ^ 32)) }
 {
     let most = end_of(source);
-    let mut nodes = Vec::new(alloc);
+    let mut nodes = Vec::with_capacity(alloc, MOST_AT_ONCE.min(count as usize))?;
     let mut left = u64::from(count);
     let mut here = at;
     while left > 0 {

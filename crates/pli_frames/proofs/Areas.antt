@@ -1,8 +1,7 @@
 -- Bytes of areas, counted up to the last place of a frame.
-use Rattle.std.proofs.Common.{◌≡◌, ℕ, ◌+◌, ◌*◌, ◌/◌, ◌≤◌, ◌^◌, ℤ, ap, ◌∙◌, sym, arith}
-use Rattle.std.specs.Prelude.{min}
+use Rattle.std.proofs.Common.{◌≡◌, ◌+◌, ◌*◌, ◌/◌, ℤ, arith}
 use Rattle.pli_typing.specs.Signatures.{natural}
-use Rattle.pli_coding.specs.Frames.{capacity_of, last_place}
+use Rattle.pli_coding.specs.Frames.{capacity_of}
 use Rattle.pli_frames.specs.Parts.{parts, stopped}
 
 -- a capacity may be stopped before what its keeper adds is counted

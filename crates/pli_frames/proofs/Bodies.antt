@@ -6,8 +6,6 @@ use Rattle.std.proofs.Math.Seq.{set-append_seam}
 use Rattle.pli_typing.specs.declared.statement.Stmt as S
 use Rattle.pli_typing.specs.declared.statement.Stmts as L
 use Rattle.pli_typing.specs.declared.statement.Procedure.{Procedure}
-use Rattle.pli_typing.specs.declared.statement.Turns.{Turns as TurnsHeld}
-use Rattle.pli_typing.specs.declared.statement.Turns.TheVariants as D
 use Rattle.pli_typing.specs.TypedTree as Y
 use Rattle.pli_typing.specs.SingleStatements.{Turns, OneTurn, CountedTurns, do_statement}
 use Rattle.pli_typing.specs.TypedView.{arguments_of, bit_of, reference_of, stored_of}
@@ -19,7 +17,7 @@ use Rattle.pli_coding.specs.Allocating.{allocations_words, freeings_words}
 use Rattle.pli_coding.specs.Streams.{get_words, put_words}
 use Rattle.pli_coding.specs.Statements.{stmt_words, stmts_words}
 use Rattle.pli_frames.specs.declared.body.BlockWords.{BlockWords as BlockWordsHeld}
-use Rattle.pli_frames.specs.Blocks.{BlockWords, block_words_of, with_words, blocks_in, blocks_among, blocks_of_block, blocks_of}
+use Rattle.pli_frames.specs.Blocks.{BlockWords, block_words_of, with_words, blocks_in, blocks_among, blocks_of}
 use Rattle.pli_frames.specs.Turns.{words_of_turns}
 use Rattle.pli_frames.proofs.Most.{one_more, none_left, shown_from}
 

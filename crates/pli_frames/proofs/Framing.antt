@@ -1,5 +1,5 @@
 -- The frames of all blocks, one after the other, and the numbers of parameters that they ask for.
-use Rattle.std.proofs.Common.{◌≡◌, ◌≤◌, ℕ, zero, suc, ◌+◌, ◌-◌, ◌<◌, Bool, true, false, cond, List, [], ◌∷◌, ◌++◌, map, length, drop, get_or, Option, Some, None, refl, sym, ap, ◌∙◌, append_assoc, append-nil, arith}
+use Rattle.std.proofs.Common.{◌≡◌, ◌≤◌, ℕ, zero, suc, ◌+◌, ◌<◌, Bool, true, false, cond, List, [], ◌∷◌, ◌++◌, map, length, drop, get_or, Option, Some, None, refl, sym, ap, ◌∙◌, append_assoc, append-nil, arith}
 use Rattle.std.specs.Prelude.{nat_eq, ◌==◌, if◌then◌else◌, slice_get, unwrap_or, Vec}
 use Rattle.std.proofs.lemmas.List.{map_push}
 use Rattle.pli_typing.specs.declared.statement.Procedure.{Procedure}
@@ -9,7 +9,7 @@ use Rattle.pli_typing.specs.declared.typed.DeclaredVariable.{DeclaredVariable}
 use Rattle.pli_typing.specs.declared.statement.Typed.{Typed}
 use Rattle.pli_typing.specs.TypedStatementView.{declared_variable_of, procedure_of, program_of}
 use Rattle.pli_meaning.specs.DeclaredShapes.{head_of, procedure_numbered, variables_of_block}
-use Rattle.pli_coding.specs.Frames.{parameters_in, parameters_of_block}
+use Rattle.pli_coding.specs.Frames.{parameters_in}
 use Rattle.pli_frames.specs.declared.body.BlockWords.{BlockWords as BlockWordsHeld}
 use Rattle.pli_frames.specs.declared.frame.BlockFrame.{BlockFrame as BlockFrameHeld}
 use Rattle.pli_frames.specs.Blocks.{block_words_of}

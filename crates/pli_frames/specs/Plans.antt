@@ -1,5 +1,5 @@
 -- The frame of each block of a program: where its variables lie, and how many words its temporaries take.
-use Rattle.std.specs.Prelude.{◌≡◌, ℕ, ◌+◌, ◌==◌, ◌<◌, min, max, List, [], ◌∷◌, map, length, Option, Some, None, slice_get, unwrap_or, if◌then◌else◌}
+use Rattle.std.specs.Prelude.{ℕ, ◌+◌, ◌==◌, min, max, List, [], ◌∷◌, map, length, Option, Some, None, if◌then◌else◌}
 use Rattle.pli_typing.specs.TypedTree as Y
 use Rattle.pli_typing.specs.TypedStatementView.{block_head_of}
 use Rattle.pli_meaning.specs.DeclaredShapes.{variables_of_block, head_of}

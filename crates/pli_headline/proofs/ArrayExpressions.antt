@@ -14,12 +14,11 @@ use Rattle.pli_meaning.specs.Evaluating as V
 use Rattle.pli_serving.specs.ServiceState.{Services}
 use Rattle.pli_coding.specs.Assembly.{Code}
 use Rattle.pli_coding.specs.Environments.{Environment, Taken}
-use Rattle.pli_coding.specs.Expressions.{given_in, number_code, bit_code, subscripts_code}
+use Rattle.pli_coding.specs.Expressions.{given_in, number_code, bit_code}
 use Rattle.pli_coding.specs.Temporaries.{number_words, bit_words, subscripts_words}
 use Rattle.pli_coding.specs.Linking.{Links}
 use Rattle.pli_headline.specs.ProvedSoFar.{Names}
 use Rattle.pli_headline.proofs.Bodies.{Ground}
-use Rattle.pli_headline.proofs.Temporaries.{Temporaries}
 use Rattle.pli_headline.proofs.Calls.{Serving}
 use Rattle.pli_headline.proofs.Raising.{Routines}
 use Rattle.pli_headline.proofs.Scalars.{bit_of, bit_word, fits_wide}
@@ -27,14 +26,6 @@ use Rattle.pli_headline.proofs.Evaluations.{Kind, number_kind, bit_kind, Evaluat
 use Rattle.pli_headline.proofs.Subscripts.{EvaluatesAll}
 use Rattle.pli_headline.proofs.ArrayMeant.{element}
 use Rattle.pli_headline.proofs.ArrayElements.{ArrayScope, ReadAs, element_evaluates}
-
--- each subscript takes a temporary
-pub subscripts_many : (xs : Y.Numbers) → given_in xs ≤ subscripts_words xs
-subscripts_many Y.NoNumber = omega arith
-subscripts_many (Y.NumberThen first rest) =
-    let m = subscripts_many rest in
-    let most = le-max_right (number_words first) (suc (subscripts_words rest)) in
-    omega (arith, m, most)
 
 number_read : (p : ℕ) → ReadAs number_kind (Y.FixedLeaf p) number_in
 number_read p = record { fits = λ z fits. fits_wide (Y.FixedLeaf p) z fits; same = λ z fits. refl }
@@ -52,19 +43,18 @@ words_enough n = let m = le-max_right 0 (0 + n) in omega (arith, m)
 
 -- the subscripts are evaluated before it
 abbrev pub AllEvaluate : Links → List Instr → Ground → Services → State → (k : ℕ) → Environment → Around → Y.Numbers → Type 1
-AllEvaluate links code g v s k e around xs =
-    EvaluatesAll links code g v s k (subscripts_words xs) (given_in xs) (λ taken. subscripts_code e taken xs) (V.numbers around xs)
+AllEvaluate links code g v s k e around xs = EvaluatesAll links code g v s k (subscripts_words xs) e around xs
 
-pub element_number_does : {links : Links} {code : List Instr} {g : Ground} {v : Services} {s : State} {k : ℕ} {e : Environment} (around : Around) {block : Names} {j p : ℕ} {bs : List Bounds} {n : ℕ → ℤ} (routines : Routines links code) (temps : Temporaries g) (serving : Serving k s v around.line) (scope : ArrayScope g e s block j (Y.FixedLeaf p) bs n) (first : Y.Number) (rest : Y.Numbers) → AllEvaluate links code g v s k e around (Y.NumberThen first rest) → suc (given_in rest) ≡ length bs → Evaluates number_kind links code g v s k (number_words (Y.NumberIn (element block j first rest))) (λ taken. number_code e taken (Y.NumberIn (element block j first rest))) (V.number around (Y.NumberIn (element block j first rest)))
+pub element_number_does : {links : Links} {code : List Instr} {g : Ground} {v : Services} {s : State} {k : ℕ} {e : Environment} (around : Around) {block : Names} {j p : ℕ} {bs : List Bounds} {n : ℕ → ℤ} (routines : Routines links code) (serving : Serving k s v around.line) (scope : ArrayScope g e s block j (Y.FixedLeaf p) bs n) (first : Y.Number) (rest : Y.Numbers) → AllEvaluate links code g v s k e around (Y.NumberThen first rest) → suc (given_in rest) ≡ length bs → Evaluates number_kind links code g v s k (number_words (Y.NumberIn (element block j first rest))) (λ taken. number_code e taken (Y.NumberIn (element block j first rest))) (V.number around (Y.NumberIn (element block j first rest)))
 unfolding V.number ◌>>=◌ give
-element_number_does around {p = p} routines temps serving scope first rest all same =
+element_number_does around {p = p} routines serving scope first rest all same =
     let xs = Y.NumberThen first rest in
     evaluates_with (max 0 (0 + subscripts_words xs)) (words_enough (subscripts_words xs))
-    (element_evaluates (number_read p) routines temps scope around (subscripts_words xs) first rest all same (subscripts_many xs) serving)
+    (element_evaluates (number_read p) routines scope around (subscripts_words xs) first rest all same serving)
 
-pub element_bit_does : {links : Links} {code : List Instr} {g : Ground} {v : Services} {s : State} {k : ℕ} {e : Environment} (around : Around) {block : Names} {j : ℕ} {bs : List Bounds} {n : ℕ → ℤ} (routines : Routines links code) (temps : Temporaries g) (serving : Serving k s v around.line) (scope : ArrayScope g e s block j Y.BitLeaf bs n) (first : Y.Number) (rest : Y.Numbers) → AllEvaluate links code g v s k e around (Y.NumberThen first rest) → suc (given_in rest) ≡ length bs → Evaluates bit_kind links code g v s k (bit_words (Y.BitIn (element block j first rest))) (λ taken. bit_code e taken (Y.BitIn (element block j first rest))) (V.bit around (Y.BitIn (element block j first rest)))
+pub element_bit_does : {links : Links} {code : List Instr} {g : Ground} {v : Services} {s : State} {k : ℕ} {e : Environment} (around : Around) {block : Names} {j : ℕ} {bs : List Bounds} {n : ℕ → ℤ} (routines : Routines links code) (serving : Serving k s v around.line) (scope : ArrayScope g e s block j Y.BitLeaf bs n) (first : Y.Number) (rest : Y.Numbers) → AllEvaluate links code g v s k e around (Y.NumberThen first rest) → suc (given_in rest) ≡ length bs → Evaluates bit_kind links code g v s k (bit_words (Y.BitIn (element block j first rest))) (λ taken. bit_code e taken (Y.BitIn (element block j first rest))) (V.bit around (Y.BitIn (element block j first rest)))
 unfolding V.bit ◌>>=◌ give
-element_bit_does around routines temps serving scope first rest all same =
+element_bit_does around routines serving scope first rest all same =
     let xs = Y.NumberThen first rest in
     evaluates_with (max 0 (0 + subscripts_words xs)) (words_enough (subscripts_words xs))
-    (element_evaluates bit_read routines temps scope around (subscripts_words xs) first rest all same (subscripts_many xs) serving)
+    (element_evaluates bit_read routines scope around (subscripts_words xs) first rest all same serving)

@@ -47,11 +47,11 @@ distance_by (pos i) (negsuc l) wi wl e = grind (arith, ints, nat_tests)
 distance_by (negsuc i) (pos l) wi wl e = absurd (cc e)
 distance_by (negsuc i) (negsuc l) wi wl e = grind (arith, ints, nat_tests)
 
-lower_first : (p q : Bool) → p && q ≡ true → p ≡ true
+pub lower_first : (p q : Bool) → p && q ≡ true → p ≡ true
 lower_first true q e = refl
 lower_first false q e = e
 
-upper_second : (p q : Bool) → p && q ≡ true → q ≡ true
+pub upper_second : (p q : Bool) → p && q ≡ true → q ≡ true
 upper_second true q e = e
 upper_second false q e = absurd (cc e)
 
@@ -113,6 +113,9 @@ product_some : (x n : ℕ) → 0 < n → suc x * n ≡ x * n + n → 0 < suc x *
 product_some x n h e = omega (arith, h, e)
 
 -- no dimension is empty
+pub span_some : (b : Bounds) → IsBounds b → 0 < span b
+span_some b is = let spans = span_is b is in omega (arith, spans)
+
 pub count_some : (bs : List Bounds) → AreBounds bs → 0 < element_count bs
 count_some [] are = omega arith
 count_some (b ∷ bs) are =
@@ -187,7 +190,7 @@ same_place (b ∷ bs) (i ∷ is) (j ∷ js) e f g =
     and_true (same_int i j) (same_subscripts is js) (same_distance i j b.lower above above' row)
     (same_place bs is js rest rest' (column_same x x' (element_place bs is) (element_place bs js) m row g))
 
-same_number : (i j : ℤ) → same_int i j ≡ true → i ≡ j
+pub same_number : (i j : ℤ) → same_int i j ≡ true → i ≡ j
 same_number (pos i) (pos j) e = let f : i ≡ j = grind (arith, nat_tests) in ap pos f
 same_number (pos i) (negsuc j) e = absurd (cc e)
 same_number (negsuc i) (pos j) e = absurd (cc e)

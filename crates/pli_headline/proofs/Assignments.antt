@@ -1,5 +1,5 @@
 -- Assignments of numbers and bits to variables of their types.
-use Rattle.std.proofs.Common.{◌≡◌, ℕ, ◌+◌, ◌<◌, ◌≤◌, List, ◌++◌, length, Some, Bool, false, refl, sym, ap, ◌∙◌, subst, arith}
+use Rattle.std.proofs.Common.{◌≡◌, ℕ, ◌+◌, ◌≤◌, List, ◌++◌, length, Some, Bool, sym, ap, ◌∙◌, subst, arith}
 use Rattle.std.specs.Prelude.{ℤ, pos, max, slice_get, ◌==◌}
 use Rattle.std.proofs.Math.Nat.{le-max_left, le-max_right}
 use Rattle.rv_meaning.specs.declared.instr.Instr.{Instr}
@@ -18,12 +18,10 @@ use Rattle.pli_meaning.specs.Evaluating as V
 use Rattle.pli_meaning.specs.Placing as P
 use Rattle.pli_meaning.specs.Executing as M
 use Rattle.pli_serving.specs.ServiceState.{Services}
-use Rattle.pli_coding.specs.Registers.{a0}
 use Rattle.pli_coding.specs.Assembly.{Code, size_of}
 use Rattle.pli_coding.specs.Arithmetic.{fitted_code}
-use Rattle.pli_coding.specs.Environments.{Environment, Taken, is_register_left, with_number, save, fetch}
-use Rattle.pli_coding.specs.Expressions.{number_code, bit_code, type_in, address_in, stored_code}
-use Rattle.pli_coding.specs.Locating as L
+use Rattle.pli_coding.specs.Environments.{Environment, Taken}
+use Rattle.pli_coding.specs.Expressions.{number_code, bit_code, stored_code}
 use Rattle.pli_coding.specs.Storing.{word_stored}
 use Rattle.pli_coding.specs.Temporaries.{number_words, bit_words}
 use Rattle.pli_coding.specs.Linking.{Links}
@@ -31,15 +29,14 @@ use Rattle.pli_headline.specs.ProvedSoFar.{Names, Types, IsProvedNumber, IsProve
 use Rattle.pli_headline.proofs.Engine.{Base, address}
 use Rattle.pli_headline.proofs.Linking.{size_append}
 use Rattle.pli_headline.proofs.Items.{Linked, At}
-use Rattle.pli_headline.proofs.Numbers.{word_small}
 use Rattle.pli_headline.proofs.Bodies.{Ground, Known, reserved_are}
 use Rattle.pli_headline.proofs.Jumps.{front_of, back_of}
-use Rattle.pli_headline.proofs.Temporaries.{Temporaries, Stays, stays_saved, nothing, held_with, words_with, waiting_saved, save_piece}
+use Rattle.pli_headline.proofs.Temporaries.{Stays, stays_same, nothing}
 use Rattle.pli_headline.proofs.Reaching.{write_based}
 use Rattle.pli_headline.proofs.Operators.{valued}
 use Rattle.pli_headline.proofs.Precisions.{fitted_piece}
-use Rattle.pli_headline.proofs.Scalars.{IsNumeric, Values, value_as, Fits, fits_wide, fits_numeric, bit_back, bit_fits, bit_word, store_kind}
-use Rattle.pli_headline.proofs.Variables.{HoldsScalar, whole, own, level_of, data_place, designated_scalar, designated_gives, base_found, scalar_stored, scalar_found, scalar_kept}
+use Rattle.pli_headline.proofs.Scalars.{Values, value_as, Fits, fits_numeric, bit_back, bit_fits, bit_word, store_kind}
+use Rattle.pli_headline.proofs.Variables.{HoldsScalar, whole, own, level_of, data_place, designated_scalar, designated_gives, base_found, scalar_stored, scalar_stored_is}
 use Rattle.pli_headline.proofs.Expressions.{Scope, Setting, number_does, bit_does}
 use Rattle.pli_headline.proofs.Reach.{Family, Aims, Comes, Closed, before_closed, comes_on, onward}
 
@@ -103,40 +100,22 @@ bit_stores {v = v} {s = s} {k = k} {e = e} {around = around} x st is =
 
 -- ---- the store
 
-stored_is : {g : Ground} {s : State} {held : Values} (e : Environment) (taken : Taken) (block : Names) (types : Types) (j : ℕ) {type : Y.LeafType} → slice_get types j ≡ Some (alone type) → IsNumeric type → Scope g e block types s held → word_stored e taken (whole (own block j)) ≡ save a0 taken ++ (base_found e (level_of block j) ++ (fetch a0 taken ++ scalar_stored type e (level_of block j) (data_place e block j)))
-stored_is e taken block types j {type} below scalar scope =
-    let d = scope.declared j below in
-    let written = L.stored (type_in e (whole (own block j))) a0 (address_in e (whole (own block j))) in
-    ap (λ c. save a0 taken ++ (c ++ (fetch a0 taken ++ written))) (scalar_found e (with_number taken) block j type scalar d)
-    ∙ ap (λ c. save a0 taken ++ (base_found e (level_of block j) ++ (fetch a0 taken ++ c))) (scalar_kept e block j type scalar d)
-
 -- a value in a0 is assigned to a variable, with whatever credits there are
-pub stored_piece : {links : Links} {code : List Instr} {i : ℕ} {g : Ground} (g' : Ground) {v : Services} {h t : ℕ → ℕ} {s : State} {aims : Aims (Unit {0})} (closed : Closed code aims) (temps : Temporaries g) (credits : ℕ) (e : Environment) (block : Names) (types : Types) (held : Values) (f : Family) (around : Around) (taken : Taken) (j : ℕ) {type : Y.LeafType} (z : ℤ) (k : ℕ) (below : slice_get types j ≡ Some (alone type)) → (fits : Fits type z) → (is_register_left taken ≡ false → taken.words < g.words) → (scope : Scope g e block types s held) → ((b : Base) (h' : ℕ → ℕ) → reserved_are b g h' ≡ reserved_are b g' h') → ((t' : ℕ → ℕ) (b : Base) (m : List ℕ) → length m ≡ memory_size → g.memory t' b m → g'.memory t' b (store (store_width (store_kind type)) m (scope.base j + data_place e block j) (word z))) → Linked links code i (word_stored e taken (whole (own block j))) → ((b : Base) → At b i (Known g v h t (valued (word z)) b) (f b)) → ((f' : Family) (h' t' : ℕ → ℕ) → Stays taken h t h' t' → ((b : Base) → At b (i + size_of (word_stored e taken (whole (own block j)))) (Known g' v h' t' nothing b) (f' b)) → aims.done (credits + size_of (word_stored e taken (whole (own block j)))) f' v tt (assigned_state s type (scope.holds j below (fits_numeric type z fits)).serial (scope.holds j below (fits_numeric type z fits)).values z)) → Comes code credits f v aims (M.assigned around (whole (own block j)) (value_as type z) k s)
-stored_piece {links = links} {code = code} {i = i} {g = g} g' {v = v} {h = h} {t = t} {s = s} {aims = aims} closed temps credits e block types held f around taken j {type} z k below fits left scope same writes l at goal =
-    let target = whole (own block j) in
+pub stored_piece : {links : Links} {code : List Instr} {i : ℕ} {g : Ground} (g' : Ground) {v : Services} {h t : ℕ → ℕ} {s : State} {aims : Aims (Unit {0})} (closed : Closed code aims) (credits : ℕ) (e : Environment) (block : Names) (types : Types) (held : Values) (f : Family) (around : Around) (taken : Taken) (j : ℕ) {type : Y.LeafType} (z : ℤ) (k : ℕ) (below : slice_get types j ≡ Some (alone type)) → (fits : Fits type z) → (scope : Scope g e block types s held) → ((b : Base) (h' : ℕ → ℕ) → reserved_are b g h' ≡ reserved_are b g' h') → ((t' : ℕ → ℕ) (b : Base) (m : List ℕ) → length m ≡ memory_size → g.memory t' b m → g'.memory t' b (store (store_width (store_kind type)) m (scope.base j + data_place e block j) (word z))) → Linked links code i (word_stored e taken (whole (own block j))) → ((b : Base) → At b i (Known g v h t (valued (word z)) b) (f b)) → ((f' : Family) (h' t' : ℕ → ℕ) → Stays taken h t h' t' → ((b : Base) → At b (i + size_of (word_stored e taken (whole (own block j)))) (Known g' v h' t' nothing b) (f' b)) → aims.done (credits + size_of (word_stored e taken (whole (own block j)))) f' v tt (assigned_state s type (scope.holds j below (fits_numeric type z fits)).serial (scope.holds j below (fits_numeric type z fits)).values z)) → Comes code credits f v aims (M.assigned around (whole (own block j)) (value_as type z) k s)
+stored_piece {links = links} {code = code} {i = i} g' {v = v} {h = h} {t = t} {s = s} {aims = aims} closed credits e block types held f around taken j {type} z k below fits scope same writes l at goal =
     let holds = scope.holds j below (fits_numeric type z fits) in
-    let wide = fits_wide type z fits in
     let place = data_place e block j in
-    let put' = save a0 taken in
-    let back = fetch a0 taken in
-    let last = scalar_stored type e (level_of block j) place in
-    let written = base_found e (level_of block j) ++ (back ++ last) in
-    let eq = stored_is e taken block types j below (fits_numeric type z fits) scope in
+    let written = base_found e (level_of block j) ++ scalar_stored type e (level_of block j) place in
+    let eq = scalar_stored_is e taken block j type (fits_numeric type z fits) (scope.declared j below) in
     let whole_size = ap size_of eq in
     let l1 = subst (Linked links code i) eq l in
-    let l2 = back_of put' written l1 in
-    let e1 = size_append put' written in
-    let there : i + size_of put' + size_of written ≡ i + size_of (word_stored e taken target) = omega (arith, whole_size, e1) in
-    let paid : credits + size_of put' + size_of written ≡ credits + size_of (word_stored e taken target) = omega (arith, whole_size, e1) in
-    let h1 = held_with taken (word z) h in
-    let t1 = words_with taken (word z) t in
+    let there : i + size_of written ≡ i + size_of (word_stored e taken (whole (own block j))) = omega (arith, whole_size) in
+    let paid : credits + size_of written ≡ credits + size_of (word_stored e taken (whole (own block j))) = omega (arith, whole_size) in
     subst (Comes code credits f v aims) (sym (assigned_gives around s j block type (held.numbers j) z k holds))
-    (onward closed (save_piece temps credits f a0 taken (word z) left (word_small z wide) (λ y u. refl) (λ b w' o. o.regs.0) (record { reserved_stay = λ y u. refl; known_stay = λ b y u q. q; set = λ y u. refl }) (front_of put' written l1) at)
+    (onward closed (write_based (level_of block j == e.level) (level_of block j) g' credits f (scope.base j) (store_kind type) (pos place) (scope.base j + place) (word z) (scope.reach j below) (scope.within j below) (scope.places j below) (λ b. same b h) (λ b m len o. writes t b m len o) l1 at)
     (λ f1 at1.
-    onward closed (write_based (level_of block j == e.level) (level_of block j) g' temps (credits + size_of put') f1 taken (scope.base j) (store_kind type) (pos place) (scope.base j + place) (word z) (scope.reach j below) (scope.within j below) (scope.places j below) left (word_small z wide) (waiting_saved taken h t (word z)) (λ b. same b h1) (λ b m len o. writes t1 b m len o) l2 at1)
-    (λ f2 at2.
     record {
       to =
-          subst (λ u. aims.done u f2 v tt (assigned_state s type holds.serial holds.values z)) (sym paid)
-          (goal f2 h1 t1 (stays_saved taken h t (word z)) (λ b. record { pc = (at2 b).pc ∙ ap (address b) there; holds = (at2 b).holds }));
-    })))
+          subst (λ u. aims.done u f1 v tt (assigned_state s type holds.serial holds.values z)) (sym paid)
+          (goal f1 h t (stays_same taken h t) (λ b. record { pc = (at1 b).pc ∙ ap (address b) there; holds = (at1 b).holds }));
+    }))

@@ -1,5 +1,5 @@
 -- A block inside another one begins: its frame is filled, above the temporaries of its own.
-use Rattle.std.proofs.Common.{◌≡◌, ℕ, suc, ◌+◌, ◌*◌, ◌<◌, ◌≤◌, inl, inr, List, [], ◌∷◌, ◌++◌, length, false, refl, ap, ◌∙◌, arith}
+use Rattle.std.proofs.Common.{◌≡◌, ℕ, suc, ◌+◌, ◌*◌, ◌<◌, ◌≤◌, inl, inr, List, [], ◌∷◌, ◌++◌, length, refl, ap, ◌∙◌, arith, None}
 use Rattle.std.specs.Prelude.{pos}
 use Rattle.rv_meaning.specs.declared.instr.Instr.TheVariants as I
 use Rattle.rv_meaning.specs.declared.instr.ImmediateOp.TheVariants as Imm
@@ -97,7 +97,7 @@ raised_piece {e} bl inner n {v = v} {h = h} {t0 = t0} c f l at =
 -- ---- the frame is begun
 
 abbrev pub inner_begun : (words level : ℕ) → Code
-inner_begun words level = move a0 frame_register ∷ frame_begun words level 0 false
+inner_begun words level = move a0 frame_register ∷ frame_begun words level 0 None
 
 pub inner_frame : {e : Environment} {block : Names} {types : Types} (bl : Block e block types) (inner : Inner bl) (n : Values) {links : Links} {code : List Instr} {i : ℕ} {v : Services} {h t0 : ℕ → ℕ} (c : ℕ) (f : Family) → e.level < 100 → 0 < i → Linked links code i (inner_begun inner.words (suc e.level)) → ((b : Base) → At b i (Known (bl.ground n) v h t0 nothing b) (f b)) → Reach code c f v (c + size_of (inner_begun inner.words (suc e.level))) v (λ b w. At b (i + size_of (inner_begun inner.words (suc e.level))) (Known (inner_ground bl inner t0 n) v h unknown nothing b) w)
 inner_frame {e} bl inner n {links} {code} {i} {v} {h} {t0} c f few later l at =

@@ -90,7 +90,7 @@ inner_code_is e head body next none =
     ∙ ap (λ level. inner_begun_at level (max 0 (stmts_words body)) (enter ++ (code ++ inner_ended (max 0 (stmts_words body))))) next
   where
     inner_begun_at : (level words : ℕ) → Code → Code
-    inner_begun_at level words behind = (move a0 frame_register ∷ frame_begun words level 0 false) ++ behind
+    inner_begun_at level words behind = (move a0 frame_register ∷ frame_begun words level 0 None) ++ behind
 
 -- ---- what it does
 

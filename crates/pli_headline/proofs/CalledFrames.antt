@@ -38,6 +38,8 @@ use Rattle.pli_headline.proofs.TextArraysStay.{text_stride, text_within}
 -- where it lies, above the temporaries of the procedure
 pub record Callee {e : Environment} {block : Names} {types : Types} (bl : Block e block types) : Type 0 where
   pub words : ℕ
+  pub held : ℕ
+  pub few : held ≤ 7
   pub at : ℕ
   pub place : at ≡ bl.stack.free + temporary_bytes words
   pub room : at + 164 ≤ 14 * 2 ^ 20
@@ -52,31 +54,31 @@ saved_below {at} {m = m} w p x below s =
       registers = λ j few. load-store_other w 4 m p x (at + (8 + 4 * j)) (inr (omega (arith, below))) ∙ s.registers j few;
     }
 
-pub saved_beside : {at back : ℕ} {h : ℕ → ℕ} {m : List ℕ} (p x : ℕ) → (p ≡ at + 4) ⊎ (at + 36 ≤ p) → Saved at back h 7 m → Saved at back h 7 (store 4 m p x)
-saved_beside {at} {m = m} p x (inl e) s =
+pub saved_beside : {at back count : ℕ} {h : ℕ → ℕ} {m : List ℕ} (p x : ℕ) → count ≤ 7 → (p ≡ at + 4) ⊎ (at + 36 ≤ p) → Saved at back h count m → Saved at back h count (store 4 m p x)
+saved_beside {at} {m = m} p x most (inl e) s =
     record {
       return = load-store_other 4 4 m p x at (inl (omega (arith, e))) ∙ s.return;
       registers = λ j few. load-store_other 4 4 m p x (at + (8 + 4 * j)) (inr (omega (arith, e))) ∙ s.registers j few;
     }
-saved_beside {at} {m = m} p x (inr above) s =
+saved_beside {at} {m = m} p x most (inr above) s =
     record {
       return = load-store_other 4 4 m p x at (inl (omega (arith, above))) ∙ s.return;
-      registers = λ j few. load-store_other 4 4 m p x (at + (8 + 4 * j)) (inl (omega (arith, above, few))) ∙ s.registers j few;
+      registers = λ j few. load-store_other 4 4 m p x (at + (8 + 4 * j)) (inl (omega (arith, above, few, most))) ∙ s.registers j few;
     }
 
 -- what is written behind them
-pub saved_behind : {at back : ℕ} {h : ℕ → ℕ} {m : List ℕ} (w p x : ℕ) → at + 36 ≤ p → Saved at back h 7 m → Saved at back h 7 (store w m p x)
-saved_behind {at} {m = m} w p x above s =
+pub saved_behind : {at back count : ℕ} {h : ℕ → ℕ} {m : List ℕ} (w p x : ℕ) → count ≤ 7 → at + 36 ≤ p → Saved at back h count m → Saved at back h count (store w m p x)
+saved_behind {at} {m = m} w p x most above s =
     record {
       return = load-store_other w 4 m p x at (inl (omega (arith, above))) ∙ s.return;
-      registers = λ j few. load-store_other w 4 m p x (at + (8 + 4 * j)) (inl (omega (arith, above, few))) ∙ s.registers j few;
+      registers = λ j few. load-store_other w 4 m p x (at + (8 + 4 * j)) (inl (omega (arith, above, few, most))) ∙ s.registers j few;
     }
 
-pub saved_behind_bytes : {at back : ℕ} {h : ℕ → ℕ} {m : List ℕ} (bytes : List ℕ) (p : ℕ) → p + length bytes ≤ length m → at + 36 ≤ p → Saved at back h 7 m → Saved at back h 7 (with_bytes bytes p m)
-saved_behind_bytes {at} {m = m} bytes p room above s =
+pub saved_behind_bytes : {at back count : ℕ} {h : ℕ → ℕ} {m : List ℕ} (bytes : List ℕ) (p : ℕ) → p + length bytes ≤ length m → count ≤ 7 → at + 36 ≤ p → Saved at back h count m → Saved at back h count (with_bytes bytes p m)
+saved_behind_bytes {at} {m = m} bytes p room most above s =
     record {
       return = load-with_other 4 bytes m p at room (inl (omega (arith, above))) ∙ s.return;
-      registers = λ j few. load-with_other 4 bytes m p (at + (8 + 4 * j)) room (inl (omega (arith, above, few))) ∙ s.registers j few;
+      registers = λ j few. load-with_other 4 bytes m p (at + (8 + 4 * j)) room (inl (omega (arith, above, few, most))) ∙ s.registers j few;
     }
 
 pub saved_beside_text : {at back count : ℕ} {h : ℕ → ℕ} {m : List ℕ} (bytes : List ℕ) (p : ℕ) → p + length bytes ≤ length m → p + length bytes ≤ at → Saved at back h count m → Saved at back h count (with_bytes bytes p m)
@@ -90,7 +92,7 @@ saved_beside_text {at} {m = m} bytes p room below s =
 
 -- what stands for the caller, and what is saved
 abbrev pub AroundCall : {e : Environment} {block : Names} {types : Types} (bl : Block e block types) → Callee bl → (back : Base → ℕ) → (h0 t0 : ℕ → ℕ) → Values → Base → List ℕ → Type 0
-AroundCall bl callee back h0 t0 n b m = (bl.ground n).memory t0 b m × Saved callee.at (back b) h0 7 m
+AroundCall bl callee back h0 t0 n b m = (bl.ground n).memory t0 b m × Saved callee.at (back b) h0 callee.held m
 
 abbrev pub called_ground : {e : Environment} {block : Names} {types : Types} (bl : Block e block types) → Callee bl → (back : Base → ℕ) → (h0 t0 : ℕ → ℕ) → Values → Ground
 called_ground bl callee back h0 t0 n =
@@ -302,14 +304,14 @@ called_block_as {e} bl callee back h0 t0 owner kind head next o c seen =
         above = omega arith;
         over = omega (arith, lowest, above);
         keeps = λ n t b m w p x over o. record {
-          kept = (bl.stack.keeps n t0 b m w p x (omega (arith, above, over)) o.kept.0, saved_behind w p x (omega (arith, over)) o.kept.1);
+          kept = (bl.stack.keeps n t0 b m w p x (omega (arith, above, over)) o.kept.0, saved_behind w p x callee.few (omega (arith, over)) o.kept.1);
           below = load-store_other w 4 m p x (callee.at + 4) (inl (omega (arith, over))) ∙ o.below;
           own = load-store_other w 4 m p x (callee.at + 36) (inl (omega (arith, over))) ∙ o.own;
           shown = λ i h. load-store_other w 4 m p x (callee.at + (144 + 4 * i)) (inl (omega (arith, over, h))) ∙ o.shown i h;
           temporaries = λ i h known. load-store_other w 4 m p x (callee.at - 4 * suc i) (inl (omega (arith, over, above, h))) ∙ o.temporaries i h known;
         };
         keeps_bytes = λ n t b m bytes p over room o. record {
-          kept = (bl.stack.keeps_bytes n t0 b m bytes p (omega (arith, above, over)) room o.kept.0, saved_behind_bytes bytes p room (omega (arith, over)) o.kept.1);
+          kept = (bl.stack.keeps_bytes n t0 b m bytes p (omega (arith, above, over)) room o.kept.0, saved_behind_bytes bytes p room callee.few (omega (arith, over)) o.kept.1);
           below = load-with_other 4 bytes m p (callee.at + 4) room (inl (omega (arith, over))) ∙ o.below;
           own = load-with_other 4 bytes m p (callee.at + 36) room (inl (omega (arith, over))) ∙ o.own;
           shown = λ i h. load-with_other 4 bytes m p (callee.at + (144 + 4 * i)) room (inl (omega (arith, over, h))) ∙ o.shown i h;

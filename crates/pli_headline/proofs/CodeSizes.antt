@@ -14,9 +14,8 @@ use Rattle.pli_coding.specs.Instructions.{is_immediate, small, constant, number,
 use Rattle.pli_coding.specs.Frames.{words_place}
 use Rattle.pli_coding.specs.Environments.{Environment, Taken, is_register_left, with_number, save, fetch}
 use Rattle.pli_coding.specs.Arithmetic.{raised, overflow_raised, calculated_code, signed_code, fitted_code}
-use Rattle.pli_coding.specs.Expressions.{number_code, type_in, address_in}
+use Rattle.pli_coding.specs.Expressions.{number_code}
 use Rattle.pli_coding.specs.Storing.{word_stored}
-use Rattle.pli_coding.specs.Locating.{stored}
 use Rattle.pli_coding.specs.Streams.{has_fixed, has_text, controls_carried_out, by_item, number_written, text_written, number_put, as_text, item_put, items_put, edit_begun, edit_ended, put_pair, put_pairs}
 use Rattle.pli_coding.specs.Allocating.{act_code}
 use Rattle.pli_coding.specs.Statements.{stmt_code, stmts_code, marked}
@@ -24,7 +23,7 @@ use Rattle.pli_headline.specs.ProvedSoFar.{main_names}
 use Rattle.pli_headline.specs.FirstForms.{plain_number, AreNumbers, IsFirstReference, IsFirstOperator, IsFirstNumber, IsFirstItem, AreFirstItems, AreFirstPairs, IsFirstStatement, AreFirstStatements}
 use Rattle.pli_headline.proofs.Linking.{size_append}
 use Rattle.pli_headline.proofs.FirstForms.{number_at}
-use Rattle.pli_headline.proofs.Variables.{outermost, own, whole, data_place, number_loaded, scalar_found, scalar_kept}
+use Rattle.pli_headline.proofs.Variables.{outermost, data_place, number_loaded, scalar_stored_is}
 
 -- ---- nodes
 
@@ -206,17 +205,12 @@ fitted_most t precision e = subst (λ p. size_of (fitted_code t p) ≤ 0) (sym e
 target_most : (e : Environment) (t : Taken) (block count : ℕ) (r : Y.Reference) → HasPlain e block count → IsFirstReference block count r → size_of (word_stored (outermost e) t r) ≤ 9
 target_most e t block count r has is =
     let d = declared_plain e block count is.index has is.declared in
-    let saved = saved_most a0 t in
-    let fetched = fetched_most a0 t in
     let place : ℤ = pos (data_place e (main_names e.program block) is.index) in
     let n = store_most frame_register a0 place in
-    let s1 = size_append (save a0 t) ([] ++ (fetch a0 t ++ store_word frame_register a0 place)) in
-    let s2 = size_append (fetch a0 t) (store_word frame_register a0 place) in
-    let same : word_stored (outermost e) t r ≡ save a0 t ++ ([] ++ (fetch a0 t ++ store_word frame_register a0 place)) =
+    let same : word_stored (outermost e) t r ≡ store_word frame_register a0 place =
     ap (λ q. word_stored (outermost e) t q) is.is
-    ∙ ap (λ c. save a0 t ++ (c ++ (fetch a0 t ++ stored (type_in (outermost e) (whole (own (main_names e.program block) is.index))) a0 (address_in (outermost e) (whole (own (main_names e.program block) is.index)))))) (scalar_found (outermost e) (with_number t) (main_names e.program block) is.index (Y.FixedLeaf 31) tt ([], d))
-    ∙ ap (λ c. save a0 t ++ ([] ++ (fetch a0 t ++ c))) (scalar_kept (outermost e) (main_names e.program block) is.index (Y.FixedLeaf 31) tt ([], d)) in
-    subst (λ c. size_of c ≤ 9) (sym same) (omega (arith, saved, fetched, n, s1, s2))
+    ∙ scalar_stored_is (outermost e) t (main_names e.program block) is.index (Y.FixedLeaf 31) tt ([], d) in
+    subst (λ c. size_of c ≤ 9) (sym same) (omega (arith, n))
 
 pub statement_most : (e : Environment) (t : Taken) (block count : ℕ) (x : Y.Stmt) → HasPlain e block count → IsFirstStatement block count x → size_of (stmt_code (outermost e) t x) ≤ 40 * stmt_nodes x
 statement_most e t block count (Y.Null line) has is = let a = act_most line in omega (arith, a)

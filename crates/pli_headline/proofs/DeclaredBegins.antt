@@ -1,5 +1,5 @@
 -- Begin blocks that declare variables: they are entered, their variables are made one behind the other, their statements run, and they are left.
-use Rattle.std.proofs.Common.{◌≡◌, ℕ, zero, suc, ◌+◌, ◌*◌, ◌^◌, ◌<◌, ◌≤◌, inl, inr, List, [], ◌∷◌, ◌++◌, length, Option, true, false, refl, sym, ap, ◌∙◌, subst, arith}
+use Rattle.std.proofs.Common.{◌≡◌, ℕ, zero, suc, ◌+◌, ◌*◌, ◌^◌, ◌<◌, ◌≤◌, inl, inr, List, [], ◌∷◌, ◌++◌, length, Option, true, false, refl, sym, ap, ◌∙◌, subst, arith, None}
 use Rattle.std.specs.Prelude.{max, min, nat_lt, slice_get, if◌then◌else◌}
 use Rattle.std.proofs.lemmas.Bool.{ltb-true}
 use Rattle.rv_meaning.specs.declared.instr.Instr.{Instr}
@@ -168,7 +168,7 @@ declaring_code_is e head body next are =
     ∙ ap (λ c. inner_begun_at (suc e.level) words (enter ++ c)) (sym (code_joined made code (inner_ended words)))
   where
     inner_begun_at : (level words : ℕ) → Code → Code
-    inner_begun_at level words behind = (move a0 frame_register ∷ frame_begun words level 0 false) ++ behind
+    inner_begun_at level words behind = (move a0 frame_register ∷ frame_begun words level 0 None) ++ behind
 
 -- ---- what it does
 

@@ -33,7 +33,7 @@ use Rattle.pli_headline.proofs.Expressions.{Setting, subscripts_do}
 use Rattle.pli_headline.proofs.Assignments.{Stores, number_stores, bit_stores}
 use Rattle.pli_headline.proofs.ArrayPlaces.{count_some}
 use Rattle.pli_headline.proofs.ArrayMeant.{element, designated_element, element_state}
-use Rattle.pli_headline.proofs.ArrayExpressions.{AllEvaluate, subscripts_many}
+use Rattle.pli_headline.proofs.ArrayExpressions.{AllEvaluate}
 use Rattle.pli_headline.proofs.ArrayAssignments.{element_assigned_piece}
 use Rattle.pli_headline.proofs.ArrayScopes.{IsArrayAt, with_element_of, array_scope}
 use Rattle.pli_headline.proofs.ArrayStates.{scalar_apart, scalar_beside, text_beside, arrays_after}
@@ -83,7 +83,7 @@ element_assign_does {e} {block} {types} bl links code routines around j {type} b
           let mine = all1.arrays j type b bs below in
           let on = bl.arrays j type b bs below in
           element_assigned_piece (λ z p. bl.ground (with_element_of n j p z)) closed routines.raises (bl.temps n) (array_scope on n mine (bl.reaches n j below.0)) f1 here bl.taken k due (subscripts_words (Y.NumberThen first rest)) first rest source
-          (stores _ s1 k n all1 serving1) into (subscripts _ s1 k n all1 serving1) (ap (λ m. suc m) many) (subscripts_many (Y.NumberThen first rest)) (omega (arith, room, w)) (omega (arith, some, w)) serving1
+          (stores _ s1 k n all1 serving1) into (subscripts _ s1 k n all1 serving1) (ap (λ m. suc m) many) (omega (arith, room, w)) (omega (arith, some, w)) serving1
           (λ z p base h'. bl.same n (with_element_of n j p z) base h')
           (λ z p fits' inside t' base m len o. on.writes n p z inside (mine.fits p inside) fits' t' base m len o)
           (back_of front behind l) at1

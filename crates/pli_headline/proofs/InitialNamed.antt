@@ -1,5 +1,5 @@
 -- The variables of a program that is proved begin with what INITIAL gives: their code names it, and service 7 reads it.
-use Rattle.std.proofs.Common.{◌≡◌, ℕ, zero, suc, ◌+◌, ◌<◌, inr, List, [], ◌∷◌, ◌++◌, length, Option, Some, None, true, refl, sym, subst, arith, ◌^◌}
+use Rattle.std.proofs.Common.{◌≡◌, ℕ, zero, suc, ◌+◌, ◌<◌, inr, List, [], ◌∷◌, ◌++◌, length, Option, Some, None, refl, sym, subst, arith, ◌^◌}
 use Rattle.pli_typing.specs.TypedTree as Y
 use Rattle.pli_meaning.specs.DeclaredShapes.{variables_of_block}
 use Rattle.pli_meaning.specs.Pictures.{first_bytes}
@@ -9,7 +9,7 @@ use Rattle.pli_coding.specs.Frames.{automatic_place}
 use Rattle.pli_coding.specs.SignatureTable.{table_of}
 use Rattle.pli_coding.specs.Allocating.{act_code}
 use Rattle.pli_coding.specs.Entries.{frame_begun, variables_made, variables_code}
-use Rattle.pli_coding.specs.Statements.{block_words, stmts_words, stmts_code}
+use Rattle.pli_coding.specs.Statements.{block_words, stmts_words, stmts_code, block_held}
 use Rattle.pli_coding.specs.Procedures.{procedure_ended, procedure_in, procedures_code, routines_code}
 use Rattle.pli_coding.specs.Linking.{links_of}
 use Rattle.pli_coding.specs.Images.{environment_of, start_code, raise_code, code_of, linked_code, picture_of}
@@ -77,11 +77,12 @@ program_named program block line body (Some d) alone named =
     let mine = main_environment program block in
     let head = main_head block line in
     let words = block_words mine block (stmts_words body) in
-    let fb = frame_begun words 0 0 true in
+    let held = block_held mine block body in
+    let fb = frame_begun words 0 0 (Some held) in
     let ec = entry_code line in
     let vars = variables_code mine line in
     let ac = act_code line in
-    let behind = stmts_code mine none_taken body ++ procedure_ended mine head words None in
+    let behind = stmts_code mine none_taken body ++ procedure_ended mine head words held None in
     let begun = is_named_back d fb (ec ++ (vars ++ ac)) (is_named_back d ec (vars ++ ac) (is_named_front d vars ac named)) in
     let inside = inr (is_named_front d (fb ++ (ec ++ (vars ++ ac))) behind begun) in
     let only = is_named_front d (procedure_in mine head body [] None) (procedures_code e alone.others) inside in

@@ -19,7 +19,7 @@ use Rattle.pli_coding.specs.Frames.{temporary_bytes, words_place}
 use Rattle.pli_coding.specs.Images.{blocks_among, blocks_of, place_of_head, environment_of}
 use Rattle.pli_coding.specs.Linking.{Links}
 use Rattle.pli_coding.specs.Procedures.{procedure_environment, procedure_in}
-use Rattle.pli_coding.specs.Statements.{stmt_code, stmts_code, stmts_words}
+use Rattle.pli_coding.specs.Statements.{stmt_code, stmts_code, stmts_words, held_with}
 use Rattle.pli_headline.specs.Headline.{parts}
 use Rattle.pli_headline.specs.ProvedSoFar.{Names, Types, types_of, main_labels, main_outer, AllJumpAround, is_number, number_times, AllOnce, IsCallable, IsInner, AreInner, main_names}
 use Rattle.pli_headline.proofs.Numbers.{below_small}
@@ -48,6 +48,7 @@ use Rattle.pli_headline.proofs.ProvedStatements.{Calls, Signals, body_does}
 use Rattle.pli_headline.proofs.UnitStanding.{Tells}
 use Rattle.pli_headline.proofs.InnerUnits.{Done, fewer_signals, signals_with}
 use Rattle.pli_headline.proofs.PlainInside.{declare_plain}
+use Rattle.pli_headline.proofs.HeldRegisters.{held_few}
 
 -- ---- the statements of a procedure that is called
 
@@ -125,9 +126,10 @@ one_does program block line body alone {all} {called} {procedure} q can {links} 
     let words = max 0 (stmts_words q.body) in
     let small' = can.few in
     let low : words ≤ 800 = most 0 (stmts_words q.body) 800 (omega arith) (omega (arith, small')) in
-    let callee : Callee bl = record { words = words; at = bl.stack.free + temporary_bytes words; place = refl; room = omega (arith, low, space, deep); outer = λ j kind at. refl } in
+    let held = held_with program words q.body in
+    let callee : Callee bl = record { words = words; held = held; few = held_few program words q.body; at = bl.stack.free + temporary_bytes words; place = refl; room = omega (arith, low, space, deep); outer = λ j kind at. refl } in
     let makes = called_makes bl callee head q.level block (main_labels program.procedures) has standing.known (main_plain program q.head.number standing.known.plain) (omega (arith, small', low, space, deep)) (omega (arith, small')) in
-    let stands : StandsAt links code e head words q.body = record {
+    let stands : StandsAt links code e head words held q.body = record {
       entry = at;
       placed = l.has.0 (eq-eqb head.number head.number refl) once;
       behind = later;

@@ -1,12 +1,10 @@
 -- The words for temporaries of a procedure and of a block inside it are together fewer than the words of its code.
-use Rattle.std.proofs.Common.{◌≡◌, ℕ, suc, ◌+◌, ◌-◌, ◌≤◌, [], ◌∷◌, ◌++◌, None, false, arith, Option, Some}
+use Rattle.std.proofs.Common.{◌≡◌, ℕ, suc, ◌+◌, ◌-◌, ◌≤◌, [], ◌∷◌, ◌++◌, None, arith, Option, Some}
 use Rattle.std.specs.Prelude.{max}
 use Rattle.std.proofs.lemmas.Bool.Decides.{nat_tests}
 use Rattle.pli_typing.specs.TypedTree as Y
 use Rattle.pli_meaning.specs.DeclaredShapes.{variables_of_block}
-use Rattle.pli_coding.specs.Registers.{a0, frame_register}
 use Rattle.pli_coding.specs.Assembly.{Code, size_of, JumpAhead, JumpBack}
-use Rattle.pli_coding.specs.Instructions.{store_word}
 use Rattle.pli_coding.specs.Environments.{Environment, Taken, none_taken}
 use Rattle.pli_coding.specs.Arithmetic.{fitted_code}
 use Rattle.pli_coding.specs.Expressions.{number_code, bit_code, text_code}
@@ -18,10 +16,10 @@ use Rattle.pli_headline.specs.ProvedSoFar.{Names, Types, ArePlain, IsProvedState
 use Rattle.pli_coding.specs.Procedures.{procedure_begun, procedure_ended, procedure_in}
 use Rattle.pli_headline.proofs.Linking.{size_append}
 use Rattle.pli_coding.specs.Entries.{frame_begun, frame_ended, block_left, entered_without_texts, variables_code}
-use Rattle.pli_coding.specs.Statements.{begin_environment, begin_code, if_met, while_met, block_words, stmt_code, stmts_code, stmt_words, stmts_words, marked, once_code, bit_if, in_turns, before_turns, number_if, start_code, limit_code, step_code, started_code, step_place, turn_of, turns_code, words_back, words_behind_limit, words_behind_condition, limit_kept, while_kept, stepped_code}
+use Rattle.pli_coding.specs.Statements.{begin_environment, begin_code, if_met, while_met, block_words, stmt_code, stmts_code, stmt_words, stmts_words, marked, once_code, bit_if, in_turns, number_if, start_code, limit_code, constant_step, step_code, started_code, turn_of, turns_code, words_back, words_behind_limit, words_behind_condition, limit_kept, while_kept, stepped_code, block_held}
 use Rattle.pli_headline.proofs.Variables.{HasTypes}
 use Rattle.pli_headline.proofs.DeclaredNames.{named_in, has_in}
-use Rattle.pli_headline.proofs.Sizes.{most, number_size, bit_size, text_size, act_size, met_size', once_size, limit_words_size, condition_words_size, statement_size, no_variable_words, target_size, start_words_size, text_target_size}
+use Rattle.pli_headline.proofs.Sizes.{most, number_size, bit_size, text_size, act_size, met_size', once_size, limit_words_size, step_words_size, condition_words_size, statement_size, no_variable_words, target_size, start_words_size, text_target_size}
 use Rattle.pli_coding.specs.Streams.{value_words}
 use Rattle.pli_headline.proofs.PlainInside.{DeclaresPlain, DeclarePlain}
 
@@ -34,10 +32,10 @@ with_most a c d n h i = grind (arith, nat_tests)
 both_most : (a b c d n : ℕ) → a + c ≤ n → b + d ≤ n → a + d ≤ n → b + c ≤ n → max a b + max c d ≤ n
 both_most a b c d n h i j k = grind (arith, nat_tests)
 
-once_both : (e : Environment) (t : Taken) (block : Names) (types : Types) (condition : Option Y.Bit) (line : ℕ) (c : Code) → IsProvedBitIf block types condition → bit_if condition + size_of c ≤ size_of (once_code e t condition line c)
-once_both e t block types None line c is = omega arith
-once_both e t block types (Some x) line c is =
-    let n = bit_size e t block types x is in
+once_both : (e : Environment) (t : Taken) (block : Names) (types : Types) (has : HasTypes e block types) (condition : Option Y.Bit) (line : ℕ) (c : Code) → IsProvedBitIf block types condition → bit_if condition + size_of c ≤ size_of (once_code e t condition line c)
+once_both e t block types has None line c is = omega arith
+once_both e t block types has (Some x) line c is =
+    let n = bit_size e t block types has x is in
     let four = act_size line in
     let s1 = size_append (act_code line) (bit_code e t x ++ if_met c) in
     let s2 = size_append (bit_code e t x) (if_met c) in
@@ -93,7 +91,7 @@ mutual
       omega (arith, m, s1, s2, s4, s5)
   inside_size e t block types named has (Y.DoOnce target (Y.StoredNumber precision x) condition body line) is bare =
       let m = all_inside_size e t block types named has body is.1.1.0 bare in
-      let both = once_both e t block types condition line (stmts_code e t body) is.1.0 in
+      let both = once_both e t block types has condition line (stmts_code e t body) is.1.0 in
       let code = number_code e t x in
       let fitted = fitted_code t precision in
       let into = stored_into e t target (Y.StoredNumber precision x) in
@@ -103,7 +101,7 @@ mutual
       omega (arith, m, both, s1, s2)
   inside_size e t block types named has (Y.DoOnce target (Y.StoredBit x) condition body line) is bare =
       let m = all_inside_size e t block types named has body is.1.1.0 bare in
-      let both = once_both e t block types condition line (stmts_code e t body) is.1.0 in
+      let both = once_both e t block types has condition line (stmts_code e t body) is.1.0 in
       let code = bit_code e t x in
       let into = stored_into e t target (Y.StoredBit x) in
       let rest = once_code e t condition line (stmts_code e t body) in
@@ -112,7 +110,7 @@ mutual
       omega (arith, m, both, s1, s2)
   inside_size e t block types named has (Y.DoOnce target (Y.StoredText x) condition body line) is bare =
       let m = all_inside_size e t block types named has body is.1.1.0 bare in
-      let both = once_both e t block types condition line (stmts_code e t body) is.1.0 in
+      let both = once_both e t block types has condition line (stmts_code e t body) is.1.0 in
       let code = text_code e t x in
       let into = stored_into e t target (Y.StoredText x) in
       let rest = once_code e t condition line (stmts_code e t body) in
@@ -123,14 +121,14 @@ mutual
       let counter = Y.NumberCounter precision target in
       let m = all_inside_size e (in_turns t) block types named has body is.1.1.1.0 bare in
       let c = stmts_code e (in_turns t) body in
-      let u = turn_of e t counter limit condition line c in
+      let u = turn_of e t counter limit (constant_step step) condition line c in
       let c0 = start_code e t start in
       let c1 = limit_code e t limit in
       let c2 = step_code e t step in
       let c3 = started_code t counter start in
-      let lim = limit_kept e t counter limit (words_behind_limit u) in
+      let lim = limit_kept e t counter limit (constant_step step) (words_behind_limit u) in
       let con = while_kept e t condition (words_behind_condition u) in
-      let rest = stepped_code e t counter line ++ JumpBack (words_back u) ∷ [] in
+      let rest = stepped_code e t counter (constant_step step) line ++ JumpBack (words_back u) ∷ [] in
       let s1 = size_append (act_code line) ((c0 ++ (c1 ++ (c2 ++ c3))) ++ turns_code u) in
       let s2 = size_append (c0 ++ (c1 ++ (c2 ++ c3))) (turns_code u) in
       let s8 = size_append u.begun (lim ++ (con ++ (c ++ rest))) in
@@ -145,7 +143,7 @@ mutual
       let ended = block_left 0 ++ frame_ended words in
       let made = variables_code e' head.line in
       let enter = entered_without_texts 1 head.line in
-      let frame = frame_begun words head.level 0 false in
+      let frame = frame_begun words head.level 0 None in
       let m = statements_inner e' none_taken (names_in block types head (variables_of_block block.program head.number)) (types_in types (variables_of_block block.program head.number)) (named_in block types head (variables_of_block block.program head.number) named) (has_in e block types head named bare.0 has) body is.1.1 bare.1 in
       let s1 = size_append (act_code head.line) (begin_code e head words c) in
       let s2 = size_append frame (enter ++ (made ++ (c ++ ended))) in
@@ -197,7 +195,7 @@ mutual
   statement_inner e t block types named has (Y.If condition unit line) is bare =
       let test = bit_code e t condition in
       let c = stmt_code e t unit in
-      let n = bit_size e t block types condition is.0 in
+      let n = bit_size e t block types has condition is.0 in
       let m = statement_inner e t block types named has unit is.1.0 bare in
       let s1 = size_append (act_code line) (test ++ if_met c) in
       let s2 = size_append test (if_met c) in
@@ -208,7 +206,7 @@ mutual
       let c = stmt_code e t unit in
       let d = stmt_code e t otherwise in
       let over = JumpAhead (size_of d) ∷ [] in
-      let n = bit_size e t block types condition is.0 in
+      let n = bit_size e t block types has condition is.0 in
       let m1 = statement_inner e t block types named has unit is.1.0 bare.0 in
       let m2 = statement_inner e t block types named has otherwise is.1.1.0 bare.1 in
       let s1 = size_append (act_code line) (test ++ (if_met (c ++ over) ++ d)) in
@@ -229,7 +227,7 @@ mutual
       let c = stmts_code e t body in
       let tested = act_code line ++ test in
       let back = JumpBack (size_of tested + (3 + size_of c)) ∷ [] in
-      let n = bit_size e t block types condition is.0 in
+      let n = bit_size e t block types has condition is.0 in
       let m = statements_inner e t block types named has body is.1.0 bare in
       let s1 = size_append (act_code line) (while_met tested c) in
       let s2 = size_append tested (if_met (c ++ back)) in
@@ -238,10 +236,10 @@ mutual
       let s5 = size_append c back in
       most_more _ _ _ _ (omega (arith, n, m, s1, s2, s3, s4, s5)) (omega (arith, m, s1, s2, s4, s5))
   statement_inner e t block types named has (Y.DoOnce target (Y.StoredNumber precision x) condition body line) is bare =
-      let z : reference_words target ≤ size_of (stored_into e t target (Y.StoredNumber precision x)) = target_size e t block types (Y.FixedLeaf precision) target is.0.0 in
-      let n = number_size e t block types x is.0.1 in
+      let z : reference_words target ≤ size_of (stored_into e t target (Y.StoredNumber precision x)) = target_size e t block types has (Y.FixedLeaf precision) tt target is.0.0 in
+      let n = number_size e t block types has x is.0.1 in
       let m = statements_inner e t block types named has body is.1.1.0 bare in
-      let o = once_size e t block types condition line (stmts_code e t body) is.1.0 in
+      let o = once_size e t block types has condition line (stmts_code e t body) is.1.0 in
       let four = act_size line in
       let code = number_code e t x in
       let fitted = fitted_code t precision in
@@ -251,16 +249,16 @@ mutual
       let s2 = size_append ((code ++ fitted) ++ into) rest in
       let s3 = size_append (code ++ fitted) into in
       let s4 = size_append code fitted in
-      let both = once_both e t block types condition line (stmts_code e t body) is.1.0 in
+      let both = once_both e t block types has condition line (stmts_code e t body) is.1.0 in
       let o1 = o.1 in
       most_more _ _ _ _
       (most_more _ _ _ _ (most_more _ _ _ _ (omega (arith, m, o1, four, s1, s2)) (omega (arith, n, m, o1, s1, s2, s3, s4))) (omega (arith, z, four, m, o1, s1, s2, s3)))
       (most_more _ _ _ _ (omega (arith, both, m, s1, s2)) (omega (arith, m, o1, s1, s2)))
   statement_inner e t block types named has (Y.DoOnce target (Y.StoredBit x) condition body line) is bare =
-      let z : reference_words target ≤ size_of (stored_into e t target (Y.StoredBit x)) = target_size e t block types Y.BitLeaf target is.0.0 in
-      let n = bit_size e t block types x is.0.1 in
+      let z : reference_words target ≤ size_of (stored_into e t target (Y.StoredBit x)) = target_size e t block types has Y.BitLeaf tt target is.0.0 in
+      let n = bit_size e t block types has x is.0.1 in
       let m = statements_inner e t block types named has body is.1.1.0 bare in
-      let o = once_size e t block types condition line (stmts_code e t body) is.1.0 in
+      let o = once_size e t block types has condition line (stmts_code e t body) is.1.0 in
       let four = act_size line in
       let code = bit_code e t x in
       let into = stored_into e t target (Y.StoredBit x) in
@@ -268,16 +266,16 @@ mutual
       let s1 = size_append (act_code line) ((code ++ into) ++ rest) in
       let s2 = size_append (code ++ into) rest in
       let s3 = size_append code into in
-      let both = once_both e t block types condition line (stmts_code e t body) is.1.0 in
+      let both = once_both e t block types has condition line (stmts_code e t body) is.1.0 in
       let o1 = o.1 in
       most_more _ _ _ _
       (most_more _ _ _ _ (omega (arith, n, m, o1, s1, s2, s3)) (omega (arith, z, four, m, o1, s1, s2, s3)))
       (most_more _ _ _ _ (omega (arith, both, m, s1, s2)) (omega (arith, m, o1, s1, s2)))
   statement_inner e t block types named has (Y.DoOnce target (Y.StoredText x) condition body line) is bare =
-      let z : reference_words target ≤ size_of (stored_into e t target (Y.StoredText x)) = text_target_size e t block types target is.0.0 in
-      let n = text_size e t block types x is.0.1 in
+      let z : reference_words target ≤ size_of (stored_into e t target (Y.StoredText x)) = text_target_size e t block types has target is.0.0 in
+      let n = text_size e t block types has x is.0.1 in
       let m = statements_inner e t block types named has body is.1.1.0 bare in
-      let o = once_size e t block types condition line (stmts_code e t body) is.1.0 in
+      let o = once_size e t block types has condition line (stmts_code e t body) is.1.0 in
       let four = act_size line in
       let code = text_code e t x in
       let into = stored_into e t target (Y.StoredText x) in
@@ -285,35 +283,34 @@ mutual
       let s1 = size_append (act_code line) ((code ++ into) ++ rest) in
       let s2 = size_append (code ++ into) rest in
       let s3 = size_append code into in
-      let both = once_both e t block types condition line (stmts_code e t body) is.1.0 in
+      let both = once_both e t block types has condition line (stmts_code e t body) is.1.0 in
       let o1 = o.1 in
       most_more _ _ _ _
       (most_more _ _ _ _ (omega (arith, n, m, o1, s1, s2, s3)) (omega (arith, z, four, m, o1, s1, s2, s3)))
       (most_more _ _ _ _ (omega (arith, both, m, s1, s2)) (omega (arith, m, o1, s1, s2)))
   statement_inner e t block types named has (Y.DoCount (Y.NumberCounter precision target) start limit step condition body line) is bare =
       let counter = Y.NumberCounter precision target in
-      let z = target_size e (in_turns t) block types (Y.FixedLeaf precision) target is.0.0 in
-      let n0 = start_words_size e t block types start is.0.1 in
-      let n1 = limit_words_size e t block types limit is.1.0.0 in
-      let n2 = number_size e (before_turns t) block types step is.1.0.1 in
+      let z = target_size e (in_turns t) block types has (Y.FixedLeaf precision) tt target is.0.0 in
+      let n0 = start_words_size e t block types has start is.0.1 in
+      let n1 = limit_words_size e t block types has limit is.1.0.0 in
+      let n2 = step_words_size e t block types has step is.1.0.1 in
       let c = stmts_code e (in_turns t) body in
-      let u = turn_of e t counter limit condition line c in
-      let n3 = condition_words_size e t block types condition (words_behind_condition u) is.1.1.0 in
+      let u = turn_of e t counter limit (constant_step step) condition line c in
+      let n3 = condition_words_size e t block types has condition (words_behind_condition u) is.1.1.0 in
       let n4 = statements_inner e (in_turns t) block types named has body is.1.1.1.0 bare in
       let four = act_size line in
       let c0 = start_code e t start in
       let c1 = limit_code e t limit in
       let c2 = step_code e t step in
       let c3 = started_code t counter start in
-      let lim = limit_kept e t counter limit (words_behind_limit u) in
+      let lim = limit_kept e t counter limit (constant_step step) (words_behind_limit u) in
       let con = while_kept e t condition (words_behind_condition u) in
-      let rest = stepped_code e t counter line ++ JumpBack (words_back u) ∷ [] in
+      let rest = stepped_code e t counter (constant_step step) line ++ JumpBack (words_back u) ∷ [] in
       let s1 = size_append (act_code line) ((c0 ++ (c1 ++ (c2 ++ c3))) ++ turns_code u) in
       let s2 = size_append (c0 ++ (c1 ++ (c2 ++ c3))) (turns_code u) in
       let s3 = size_append c0 (c1 ++ (c2 ++ c3)) in
       let s4 = size_append c1 (c2 ++ c3) in
       let s5 = size_append c2 c3 in
-      let s7 = size_append (number_code e (before_turns t) step) (store_word frame_register a0 (step_place t)) in
       let s0 = size_append (word_stored e (in_turns t) target) (act_code line) in
       let s8 = size_append u.begun (lim ++ (con ++ (c ++ rest))) in
       let s9 = size_append lim (con ++ (c ++ rest)) in
@@ -321,7 +318,7 @@ mutual
       let s11 = size_append c rest in
       most_more _ _ _ _
       (let a : max (value_words start) (max (number_if limit) (number_words step)) + all_inner_words body ≤ size_of (stmt_code e t (Y.DoCount counter start limit step condition body line)) - 2 =
-      most_more _ _ _ _ (omega (arith, n0, n4, four, s1, s2, s3, s8, s9, s10, s11)) (most_more _ _ _ _ (omega (arith, n1, n4, four, s1, s2, s3, s4, s8, s9, s10, s11)) (omega (arith, n2, n4, four, s1, s2, s3, s4, s5, s7, s8, s9, s10, s11))) in
+      most_more _ _ _ _ (omega (arith, n0, n4, four, s1, s2, s3, s8, s9, s10, s11)) (most_more _ _ _ _ (omega (arith, n1, n4, four, s1, s2, s3, s4, s8, s9, s10, s11)) (omega (arith, n2, n4, four, s1, s2, s3, s4, s5, s8, s9, s10, s11))) in
       omega (arith, a, four, s1))
       (let a : max (suc (reference_words target)) (max (bit_if condition) (stmts_words body)) + all_inner_words body ≤ size_of (stmt_code e t (Y.DoCount counter start limit step condition body line)) - 1 =
       most_more _ _ _ _ (omega (arith, z, four, n4, s0, s1, s2, s8, s9, s10, s11)) (most_more _ _ _ _ (omega (arith, n3, n4, four, s1, s2, s8, s9, s10, s11)) (omega (arith, n4, four, s1, s2, s8, s9, s10, s11))) in
@@ -333,7 +330,7 @@ mutual
       let ended = block_left 0 ++ frame_ended words in
       let made = variables_code e' head.line in
       let enter = entered_without_texts 1 head.line in
-      let frame = frame_begun words head.level 0 false in
+      let frame = frame_begun words head.level 0 None in
       let m = statements_inner e' none_taken (names_in block types head (variables_of_block block.program head.number)) (types_in types (variables_of_block block.program head.number)) (named_in block types head (variables_of_block block.program head.number) named) (has_in e block types head named bare.0 has) body is.1.1 bare.1 in
       let s1 = size_append (act_code head.line) (begin_code e head words c) in
       let s2 = size_append frame (enter ++ (made ++ (c ++ ended))) in
@@ -376,9 +373,10 @@ mutual
 pub procedure_inner : (e : Environment) (head : Y.BlockHead) (block : Names) (types : Types) (body : Y.Stmts) → block.program ≡ e.program → HasTypes e block types → ArePlain (variables_of_block e.program head.number) → AreProvedStatements block types body → DeclarePlain e.program body → block_words e head.number (stmts_words body) + all_inner_words body ≤ size_of (procedure_in e head body [] None)
 procedure_inner e head block types body named has plain are bare =
     let words = block_words e head.number (stmts_words body) in
-    let begun = procedure_begun e head words [] in
+    let held = block_held e head.number body in
+    let begun = procedure_begun e head words held [] in
     let code = stmts_code e none_taken body in
-    let ended = procedure_ended e head words None in
+    let ended = procedure_ended e head words held None in
     let none = no_variable_words (variables_of_block e.program head.number) plain in
     let n = statements_inner e none_taken block types named has body are bare in
     let s1 = size_append begun (code ++ ended) in

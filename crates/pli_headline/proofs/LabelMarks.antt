@@ -7,17 +7,17 @@ use Rattle.pli_typing.specs.TypedTree as Y
 use Rattle.pli_meaning.specs.Control.{Label}
 use Rattle.pli_meaning.specs.DeclaredShapes.{variables_of_block, procedure_numbered, head_of}
 use Rattle.pli_meaning.specs.Executing.{labels_in}
-use Rattle.pli_coding.specs.Registers.{frame_register, stack_register, a0, a1, a2, a3, a4, u0, u5}
+use Rattle.pli_coding.specs.Registers.{frame_register, stack_register, a0, a1, a2, a3, a4, u5}
 use Rattle.pli_coding.specs.Assembly.{Datum, Symbol, ProcedureEntry, ReturnPlace, LabelPlace, RaiseCondition, RaiseError, ErrorEnd}
 use Rattle.pli_coding.specs.Instructions.{move, small, number, plus, load_word, service}
-use Rattle.pli_coding.specs.Frames.{own_offset, temporary_bytes, name_bytes, frame_bytes, last_place, automatic_place, variable_place, parameters_in, first_variable, fixed_size, frame_end, parameters_of_block}
+use Rattle.pli_coding.specs.Frames.{own_offset, name_bytes, frame_bytes, last_place, automatic_place, variable_place, parameters_in, first_variable, fixed_size, frame_end, parameters_of_block}
 use Rattle.pli_coding.specs.Environments.{BlockPlace, Environment, none_taken, last_of_level}
 use Rattle.pli_coding.specs.Locating.{own_place, table_number}
 use Rattle.pli_coding.specs.StaticForms.{initial_datum}
 use Rattle.pli_coding.specs.Extents.{initial_given, initial_code}
 use Rattle.pli_coding.specs.Allocating.{act_code}
 use Rattle.pli_coding.specs.Entries.{frame_begun, block_entered, constant_made, variables_made, variables_code, adjustable_made}
-use Rattle.pli_coding.specs.Statements.{stmts_code, stmts_words, block_words}
+use Rattle.pli_coding.specs.Statements.{stmts_code, stmts_words, block_words, block_held}
 use Rattle.pli_coding.specs.Procedures.{procedure_begun, procedure_ended, procedure_in}
 use Rattle.pli_coding.specs.Images.{blocks_among, blocks_of_procedure, with_blocks, blocks_of, environment_of, raise_code, code_of}
 use Rattle.pli_coding.specs.Linking.{links_of}
@@ -30,11 +30,10 @@ use Rattle.pli_headline.proofs.MainProcedure.{IsAlone, main_head, main_environme
 use Rattle.pli_headline.proofs.Scalars.{by_plain, character, varying}
 use Rattle.pli_headline.proofs.Variables.{outermost, HasTypes}
 use Rattle.pli_headline.proofs.Gotos.{LabelsStand}
-use Rattle.pli_headline.proofs.ProgramSizes.{frame_filled}
 use Rattle.pli_headline.proofs.SymbolsMarked.{symbols_marked, Marks, both_mark, behind, constant_none, load_none, plus_none, act_none}
 use Rattle.pli_headline.proofs.InnerLevels.{IsAmong, InOrder, among_all, among_with, in_order, last_is}
 use Rattle.pli_headline.proofs.Stands.{Stand, all_stands, labels_are, ends_apart, own_units, called_units}
-use Rattle.pli_headline.proofs.StatementMarks.{places_of, statements_mark}
+use Rattle.pli_headline.proofs.StatementMarks.{places_of, statements_mark, called_begun_none}
 use Rattle.pli_headline.proofs.ProcedurePlaces.{entry_behind, entry_times, ends_behind, ends_times}
 use Rattle.pli_headline.proofs.ProcedureMarks.{ended_marks, procedure_symbols, procedures_mark, symbol_times, times_are, labels_before, procedure_times, end_times, others_end}
 use Rattle.pli_headline.proofs.ArrayFrames.{held_constant}
@@ -75,16 +74,15 @@ variables_none e line index (d ∷ ds) are =
     let u = array_variable type (b ∷ bs) i in
     subst (λ q. Marks ((if q then constant_made (outermost e) place u else adjustable_made (outermost e) line place u) ++ rest) []) (sym (held_constant type element (b ∷ bs) i)) (here u)) d are.0
 
-begun_none : (words : ℕ) → Marks (frame_begun words 0 0 true) []
-begun_none words =
-    behind (plus u0 stack_register (pos (temporary_bytes words))) frame_filled [] (plus_none u0 stack_register (pos (temporary_bytes words))) refl
+begun_none : (words held : ℕ) → Marks (frame_begun words 0 0 (Some held)) []
+begun_none words held = called_begun_none words 0 held
 
-prologue_none : (e : Environment) (block line words : ℕ) → ArePlain (variables_of_block e.program e.block) → Marks (procedure_begun (outermost e) (main_head block line) words []) []
-prologue_none e block line words plain =
+prologue_none : (e : Environment) (block line words held : ℕ) → ArePlain (variables_of_block e.program e.block) → Marks (procedure_begun (outermost e) (main_head block line) words held []) []
+prologue_none e block line words held plain =
     let made = variables_code (outermost e) line in
     let act = act_code line in
     let entered = block_entered 0 line in
-    behind (frame_begun words 0 0 true) (move u5 a1 ∷ move a3 a2 ∷ (entered ++ (made ++ act))) [] (begun_none words)
+    behind (frame_begun words 0 0 (Some held)) (move u5 a1 ∷ move a3 a2 ∷ (entered ++ (made ++ act))) [] (begun_none words held)
     (behind entered (made ++ act) [] (behind (number a2 line) (service 4) [] (constant_none a2 (pos line)) refl)
     (behind made act [] (variables_none e line 0 (variables_of_block e.program e.block) plain) (act_none line)))
 
@@ -101,16 +99,17 @@ program_marks : (program : Y.Program) (block line : ℕ) (body : Y.Stmts) → Al
 program_marks program block line body plain all called alone are bare others =
     let e = main_environment program block in
     let words = block_words e block (stmts_words body) in
-    let begun = procedure_begun e (main_head block line) words [] in
+    let held = block_held e block body in
+    let begun = procedure_begun e (main_head block line) words held [] in
     let code = stmts_code e none_taken body in
-    let ended = procedure_ended e (main_head block line) words None in
+    let ended = procedure_ended e (main_head block line) words held None in
     let main = procedure_in e (main_head block line) body [] None in
     let rest = others_code program alone.others in
     let has : HasTypes e (main_names program block) (types_of (variables_of_block program block)) = λ j kind at. declared_at (variables_of_block program block) j (main_plain program block plain) at in
     let ss = places_of (all_stands block body) ++ ReturnPlace block ∷ [] in
     let inside : Marks (begun ++ (code ++ ended)) ss =
-    behind begun (code ++ ended) ss (prologue_none e block line words (main_plain program block plain))
-    (both_mark code ended (places_of (all_stands block body)) (ReturnPlace block ∷ []) (statements_mark e none_taken (main_names program block) (types_of (variables_of_block program block)) body refl has are bare) (ended_marks e (main_head block line) words)) in
+    behind begun (code ++ ended) ss (prologue_none e block line words held (main_plain program block plain))
+    (both_mark code ended (places_of (all_stands block body)) (ReturnPlace block ∷ []) (statements_mark e none_taken (main_names program block) (types_of (variables_of_block program block)) body refl has are bare) (ended_marks e (main_head block line) words held)) in
     ap symbols_marked (code_is program block line body plain alone)
     ∙ behind (start_of block) (raise_code ++ (main ++ rest)) (program_symbols block (all_stands block body) alone.others) refl
     (both_mark raise_code (main ++ rest) (RaiseCondition ∷ RaiseError ∷ ErrorEnd ∷ []) (ProcedureEntry block ∷ (ss ++ procedure_symbols alone.others)) refl

@@ -1,9 +1,10 @@
 -- The main procedure is left: its activation ends, the registers are restored, and the start finishes the run.
-use Rattle.std.proofs.Common.{◌≡◌, ℕ, ◌+◌, ◌^◌, ◌<◌, ◌≤◌, List, [], ◌∷◌, ◌++◌, None, refl, ap, ◌∙◌, arith, lit<}
+use Rattle.std.proofs.Common.{◌≡◌, ℕ, ◌+◌, ◌*◌, ◌^◌, ◌<◌, ◌≤◌, List, [], ◌∷◌, ◌++◌, None, refl, ap, ◌∙◌, arith, lit<, zero, suc}
 use Rattle.std.specs.Prelude.{pos, neg_ℤ, filter, nat_le}
 use Rattle.rv_meaning.specs.declared.instr.Instr.{Instr}
 use Rattle.rv_meaning.specs.declared.instr.Instr.TheVariants as I
 use Rattle.rv_meaning.specs.declared.instr.ImmediateOp.TheVariants as Imm
+use Rattle.rv_meaning.specs.declared.instr.LoadKind.TheVariants as Load
 use Rattle.rv_meaning.specs.Words.{word, sum}
 use Rattle.rv_meaning.specs.Memory.{load}
 use Rattle.pli_meaning.specs.declared.outcome.End.TheVariants as E
@@ -13,12 +14,12 @@ use Rattle.pli_serving.specs.ServiceState as S
 use Rattle.pli_serving.specs.ServiceState.{Services}
 use Rattle.pli_serving.specs.Answers.{Done}
 use Rattle.pli_serving.specs.Blocks as K
-use Rattle.pli_coding.specs.Registers.{zero_register, return_register, stack_register, frame_register, a0, a7}
+use Rattle.pli_coding.specs.Registers.{zero_register, return_register, stack_register, frame_register, a0, a7, held}
 use Rattle.pli_coding.specs.Assembly.{ReturnPlace, Mark, Plain, Code, size_of}
 use Rattle.pli_coding.specs.Instructions.{small, plus, load_word, is_immediate}
-use Rattle.pli_coding.specs.Frames.{frame_below, temporary_bytes}
+use Rattle.pli_coding.specs.Frames.{frame_below, temporary_bytes, return_address, saved_register}
 use Rattle.pli_coding.specs.Environments.{Environment}
-use Rattle.pli_coding.specs.Entries.{all_restored, frame_ended}
+use Rattle.pli_coding.specs.Entries.{all_restored, frame_ended, registers_restored}
 use Rattle.pli_coding.specs.Procedures.{finish_code, procedure_ended}
 use Rattle.pli_coding.specs.Linking.{Links}
 use Rattle.image_runs.specs.Runs.{Whole}
@@ -26,16 +27,19 @@ use Rattle.pli_headline.proofs.Engine.{Base, address, most_code, call_at}
 use Rattle.pli_headline.proofs.Linking.{size_append}
 use Rattle.pli_headline.proofs.Items.{Linked, At, straight}
 use Rattle.pli_headline.proofs.Numbers.{below_small}
-use Rattle.pli_headline.proofs.Bodies.{Regs, displaced_by}
+use Rattle.pli_headline.proofs.Bodies.{Regs, at_place, displaced_by}
 use Rattle.pli_headline.proofs.Jumps.{front_of, back_of, first_of, hop, jump_register}
 use Rattle.pli_headline.proofs.Statements.{Unwound}
 use Rattle.pli_headline.proofs.Calls.{called, Calling, call_done}
 use Rattle.pli_headline.proofs.Raising.{small_is}
 use Rattle.pli_headline.proofs.Finishing.{Bare, finish_piece}
-use Rattle.pli_headline.proofs.Reach.{Family, Reach, Aims, Comes, Closed, onward}
+use Rattle.pli_headline.proofs.Reach.{Family, Reach, Aims, Comes, Closed, onward, stay, reach_then, reached, reached_holds}
 use Rattle.pli_headline.proofs.MainGround.{Frame, lowest_holds}
 use Rattle.pli_headline.proofs.MainProcedure.{main_head}
 use Rattle.pli_headline.proofs.Prologue.{over_word}
+use Rattle.rv_meaning.specs.Machine.{written}
+use Rattle.pli_headline.proofs.SavedRegisters.{frame_place}
+use Rattle.pli_headline.proofs.Reaching.{reach_moved}
 
 -- ---- service 5
 
@@ -90,39 +94,58 @@ left_piece {code = code} {i = i} {v = v} c f a g e l at =
     call_done c g v v' (λ b. (g b).machine.memory) (λ b. 0) (λ b. (g b).machine.registers 11) (λ b. Returning f v' (in_frame f) b) (omega arith) calling
     (λ b. let o = (at b).holds in record { services = refl; regs = o.regs.1.1; resumes = o.resumes })
 
-restored_piece : {links : Links} {code : List Instr} {i : ℕ} {v : Services} (c : ℕ) (f : Frame) (g : Family) → Linked links code i all_restored → ((b : Base) → At b i (Returning f v (in_frame f) b) (g b)) → Reach code c g v (c + 8) v (λ b w. At b (i + 8) (Returning f v (restored_in f) b) w)
-restored_piece {v = v} c f g l at =
-    straight c g v v (λ b w. Returning f v (restored_in f) b w) l (omega arith) (λ b. (at b).pc)
+others_stay : (n : ℕ) → n < 7 → (f : Frame) (b : Base) (y : ℕ → ℕ) (u : ℕ) → Regs (restored_in f b) y → Regs (restored_in f b) (written y (held n).index u)
+others_stay (zero) l f b y u k = k
+others_stay (suc zero) l f b y u k = k
+others_stay (suc (suc zero)) l f b y u k = k
+others_stay (suc (suc (suc zero))) l f b y u k = k
+others_stay (suc (suc (suc (suc zero)))) l f b y u k = k
+others_stay (suc (suc (suc (suc (suc zero))))) l f b y u k = k
+others_stay (suc (suc (suc (suc (suc (suc zero)))))) l f b y u k = k
+others_stay (suc (suc (suc (suc (suc (suc (suc n))))))) l f b y u k = absurd (omega (arith, l))
+
+more_restored : (left n : ℕ) {links : Links} {code : List Instr} {i : ℕ} {v : Services} (c : ℕ) (f : Frame) (g : Family) → n + left ≤ 7 → Linked links code i (registers_restored n left) → ((b : Base) → At b i (Returning f v (restored_in f) b) (g b)) → Reach code c g v (c + size_of (registers_restored n left)) v (λ b w. At b (i + size_of (registers_restored n left)) (Returning f v (restored_in f) b) w)
+more_restored zero n {code = code} {i = i} {v = v} c f g all l at =
+    reach_moved (omega arith) (omega arith) (stay code c g v (λ b w. At b i (Returning f v (restored_in f) b) w) at)
+more_restored (suc left) n {v = v} c f g all l at =
+    let first = load_word (held n) frame_register (saved_register n) in
+    let rest = registers_restored (suc n) left in
+    let size = size_append first rest in
+    let few : n < 7 = omega (arith, all) in
+    let above = f.above_statics in
+    let inside = f.inside in
+    let place = frame_place f.at (8 + 4 * n) f.whole (omega (arith, above)) (omega (arith, inside)) (omega arith) (omega (arith, few)) in
+    let r1 = displaced_by (is_immediate (saved_register n)) c g (λ q d. I.Load Load.Word (held n) q d) frame_register (saved_register n) (λ b. b.at + f.at) (Returning f v (restored_in f)) (Returning f v (restored_in f)) place.small'
+    (λ b. let v' = b.valid.1 in omega (arith, v', inside))
+    (λ y u. refl)
+    (λ b. (at b).holds.regs.1.0)
+    (omega arith)
+    (record {
+      does = λ b j w q d k e. (
+        at_place b place _ e,
+        record { services = k.services; regs = others_stay n few f b w.machine.registers _ k.regs; resumes = k.resumes },
+      );
+      lost = λ b w u i' k. record { services = k.services; regs = k.regs; resumes = k.resumes };
+    })
+    (front_of first rest l) at in
+    let r2 = more_restored left (suc n) (c + size_of first) f (reached r1) (omega (arith, all)) (back_of first rest l) (reached_holds r1) in
+    reach_moved (omega (arith, size)) (omega (arith, size)) (reach_then r1 r2)
+
+restored_piece : {links : Links} {code : List Instr} {i : ℕ} {v : Services} (c : ℕ) (f : Frame) (held' : ℕ) (g : Family) → held' ≤ 7 → Linked links code i (all_restored held') → ((b : Base) → At b i (Returning f v (in_frame f) b) (g b)) → Reach code c g v (c + size_of (all_restored held')) v (λ b w. At b (i + size_of (all_restored held')) (Returning f v (restored_in f) b) w)
+restored_piece {v = v} c f held' g few l at =
+    let first = load_word return_register frame_register return_address in
+    let rest = registers_restored 0 held' in
+    let size = size_append first rest in
+    let r1 = straight c g v v (λ b w. Returning f v (restored_in f) b w) (front_of first rest l) (omega arith) (λ b. (at b).pc)
     (λ b.
     let o = (at b).holds in
-    let e = o.regs.0 in
     let m = (g b).machine.memory in
-    let x = (g b).machine.registers 8 in
     let same : f.at + 0 ≡ f.at = omega arith in (
-      over_word f b x 0 refl (omega arith) e,
-      (
-        over_word f b x 8 refl (omega arith) e,
-        (
-          over_word f b x 12 refl (omega arith) e,
-          (
-            over_word f b x 16 refl (omega arith) e,
-            (
-              over_word f b x 20 refl (omega arith) e,
-              (
-                over_word f b x 24 refl (omega arith) e,
-                (
-                  over_word f b x 28 refl (omega arith) e,
-                  (
-                    over_word f b x 32 refl (omega arith) e,
-                    record { services = o.services; regs = (ap (load 4 m) same ∙ o.resumes, o.regs); resumes = o.resumes },
-                  ),
-                ),
-              ),
-            ),
-          ),
-        ),
-      ),
-    ))
+      over_word f b ((g b).machine.registers 8) 0 refl (omega arith) o.regs.0,
+      record { services = o.services; regs = (ap (load 4 m) same ∙ o.resumes, o.regs); resumes = o.resumes },
+    )) in
+    let r2 = more_restored held' 0 (c + size_of first) f (reached r1) (omega (arith, few)) (back_of first rest l) (reached_holds r1) in
+    reach_moved (omega (arith, size)) (omega (arith, size)) (reach_then r1 r2)
 
 -- the stack's register takes what it will, and is not asked any more
 lowered_piece : {links : Links} {code : List Instr} {i : ℕ} {v : Services} (c : ℕ) (f : Frame) (n : ℕ) (g : Family) → n < 2 ^ 24 → Linked links code i (plus stack_register frame_register (neg_ℤ (pos n))) → ((b : Base) → At b i (Returning f v (restored_in f) b) (g b)) → Reach code c g v (c + size_of (plus stack_register frame_register (neg_ℤ (pos n)))) v (λ b w. At b (i + size_of (plus stack_register frame_register (neg_ℤ (pos n)))) (Returning f v (restored_in f) b) w)
@@ -152,36 +175,38 @@ returned_piece {code = code} {i = i} {v = v} c f g near l at =
 
 -- ---- from the end of the statements to the end of the run
 
-pub leaving_piece : {X : Type 0} {links : Links} {code : List Instr} {i : ℕ} {v : Services} {aims : Aims X} (closed : Closed code aims) (e : Environment) (block line words : ℕ) (f : Frame) (g : Family) (s : State) (k : ℕ) (a : S.Activation) → temporary_bytes words < 2 ^ 24 → f.resume ≤ most_code → Linked links code i (procedure_ended e (main_head block line) words None) → Linked links code f.resume finish_code → v.world ≡ s.world → v.world.end ≡ E.Running → v.world.acts ≤ k → k + 1 < 2 ^ 64 → v.activations ≡ a ∷ [] → ((b : Base) → At b i (Unwound f.at (lowest_holds f) v b) (g b)) → Comes code i g v aims (finish {R = X} E.Finished k s)
-leaving_piece {code = code} {i = i} {v = v} closed e block line words f g s k a few near l finish' same running allowed fits only at =
+pub leaving_piece : {X : Type 0} {links : Links} {code : List Instr} {i : ℕ} {v : Services} {aims : Aims X} (closed : Closed code aims) (e : Environment) (block line words held' : ℕ) (f : Frame) (g : Family) (s : State) (k : ℕ) (a : S.Activation) → held' ≤ 7 → temporary_bytes words < 2 ^ 24 → f.resume ≤ most_code → Linked links code i (procedure_ended e (main_head block line) words held' None) → Linked links code f.resume finish_code → v.world ≡ s.world → v.world.end ≡ E.Running → v.world.acts ≤ k → k + 1 < 2 ^ 64 → v.activations ≡ a ∷ [] → ((b : Base) → At b i (Unwound f.at (lowest_holds f) v b) (g b)) → Comes code i g v aims (finish {R = X} E.Finished k s)
+leaving_piece {code = code} {i = i} {v = v} closed e block line words held' f g s k a most few near l finish' same running allowed fits only at =
     let v' = left_services v a in
     let ps = plus stack_register frame_register (neg_ℤ (pos (temporary_bytes words))) in
     let ended = frame_ended words ++ jump_back in
+    let restored = all_restored held' in
+    let r = size_of restored in
     let asked = leave_asked block in
-    let l1 = back_of asked (Plain I.Ecall ∷ (all_restored ++ ended)) l in
-    let l2 = back_of (Plain I.Ecall ∷ []) (all_restored ++ ended) l1 in
-    let l3 = back_of all_restored ended l2 in
+    let l1 = back_of asked (Plain I.Ecall ∷ (restored ++ ended)) l in
+    let l2 = back_of (Plain I.Ecall ∷ []) (restored ++ ended) l1 in
+    let l3 = back_of restored ended l2 in
     let l4 = front_of (frame_ended words) jump_back l3 in
     let l5 = back_of ps (load_word frame_register frame_register frame_below) l4 in
     let l6 = back_of (frame_ended words) jump_back l3 in
     let size = size_append ps (load_word frame_register frame_register frame_below) in
-    let here : i + 2 + 1 + 8 + size_of ps + 1 ≡ i + 2 + 1 + 8 + size_of (frame_ended words) = omega (arith, size) in
+    let here : i + 2 + 1 + r + size_of ps + 1 ≡ i + 2 + 1 + r + size_of (frame_ended words) = omega (arith, size) in
     let room = l6.inside in
-    let r1 = straight i g v v (λ b w. Returning f v (λ b'. (17, 5) ∷ (10, 0) ∷ in_frame f b') b w) (front_of asked (Plain I.Ecall ∷ (all_restored ++ ended)) l) (omega arith) (λ b. (at b).pc)
+    let r1 = straight i g v v (λ b w. Returning f v (λ b'. (17, 5) ∷ (10, 0) ∷ in_frame f b') b w) (front_of asked (Plain I.Ecall ∷ (restored ++ ended)) l) (omega arith) (λ b. (at b).pc)
     (λ b. let o = (at b).holds in let z = o.regs.1.0 in record {
       services = o.services;
       regs = (small_is _ 5 z (lit< tt), (small_is _ 0 z (lit< tt), o.regs));
       resumes = o.memory.0;
     }) in
     onward closed r1 (λ g1 at1.
-    onward closed (left_piece (i + 2) f a g1 only (first_of (Plain I.Ecall) (all_restored ++ ended) l1) at1) (λ g2 at2.
-    onward closed (restored_piece (i + 2 + 1) f g2 (front_of all_restored ended l2) at2) (λ g3 at3.
-    onward closed (lowered_piece (i + 2 + 1 + 8) f (temporary_bytes words) g3 few (front_of ps (load_word frame_register frame_register frame_below) l4) at3) (λ g4 at4.
-    let r5 = straight (i + 2 + 1 + 8 + size_of ps) g4 v' v' (λ b w. Bare v' ((1, address b f.resume) ∷ (0, 0) ∷ []) w) l5 (omega arith) (λ b. (at4 b).pc)
+    onward closed (left_piece (i + 2) f a g1 only (first_of (Plain I.Ecall) (restored ++ ended) l1) at1) (λ g2 at2.
+    onward closed (restored_piece (i + 2 + 1) f held' g2 most (front_of restored ended l2) at2) (λ g3 at3.
+    onward closed (lowered_piece (i + 2 + 1 + r) f (temporary_bytes words) g3 few (front_of ps (load_word frame_register frame_register frame_below) l4) at3) (λ g4 at4.
+    let r5 = straight (i + 2 + 1 + r + size_of ps) g4 v' v' (λ b w. Bare v' ((1, address b f.resume) ∷ (0, 0) ∷ []) w) l5 (omega arith) (λ b. (at4 b).pc)
     (λ b. let o = (at4 b).holds in (
       over_word f b ((g4 b).machine.registers 8) 4 refl (omega arith) o.regs.1.0,
       record { services = o.services; regs = (o.regs.0, (o.regs.1.1.0, tt)) },
     )) in
     onward closed r5 (λ g5 at5.
-    onward closed (returned_piece (i + 2 + 1 + 8 + size_of ps + 1) f g5 near l6 (λ b. record { pc = (at5 b).pc ∙ ap (address b) here; holds = (at5 b).holds })) (λ g6 at6.
-    finish_piece closed (i + 2 + 1 + 8 + size_of ps + 1 + 1) g6 s k (omega (arith, room, size)) finish' same running allowed fits at6))))))
+    onward closed (returned_piece (i + 2 + 1 + r + size_of ps + 1) f g5 near l6 (λ b. record { pc = (at5 b).pc ∙ ap (address b) here; holds = (at5 b).holds })) (λ g6 at6.
+    finish_piece closed (i + 2 + 1 + r + size_of ps + 1 + 1) g6 s k (omega (arith, room, size)) finish' same running allowed fits at6))))))

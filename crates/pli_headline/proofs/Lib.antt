@@ -14,6 +14,7 @@ pub mod Jumps
 pub mod Temporaries
 pub mod Reaching
 pub mod SavedRegisters
+pub mod HeldRegisters
 pub mod Activations
 pub mod OuterBlocks
 pub mod Asides
@@ -163,6 +164,8 @@ pub mod Putting
 pub mod Waiting
 pub mod Ifs
 pub mod Limits
+pub mod ConstantSums
+pub mod ConstantSteps
 pub mod Counters
 pub mod Credits
 pub mod Turnings

@@ -1,5 +1,5 @@
 -- The frame of the main procedure is filled: what stands in memory then.
-use Rattle.std.proofs.Common.{◌≡◌, ℕ, suc, ◌+◌, ◌-◌, ◌*◌, ◌%◌, ◌^◌, ◌<◌, ◌≤◌, inl, inr, List, length, refl, ap, ◌∙◌, arith}
+use Rattle.std.proofs.Common.{◌≡◌, ℕ, suc, ◌+◌, ◌-◌, ◌*◌, ◌%◌, ◌^◌, ◌<◌, ◌≤◌, inl, inr, List, length, refl, ◌∙◌, arith}
 use Rattle.std.specs.Prelude.{pos, slice_index}
 use Rattle.rv_meaning.specs.Memory.{load, store}
 use Rattle.rv_meaning.specs.Machine.{memory_size}
@@ -65,64 +65,30 @@ pub record WordIs (m : List ℕ) (q v : ℕ) : Type 0 where
 pub word_under : {m : List ℕ} {q v : ℕ} (p x : ℕ) → q + 4 ≤ p → WordIs m q v → WordIs (store 4 m p x) q v
 word_under {m} {q} p x h o = record { is = load-store_other 4 4 m p x q (inl h) ∙ o.is }
 
--- ---- the frame's words: registers, the frame below, the top of the lower stack and the frame's own offset
+-- ---- the frame's words: the frame below, the top of the lower stack and the frame's own offset
 
-abbrev pub saved_in : List ℕ → (at : ℕ) → (ℕ → ℕ) → List ℕ
-saved_in m at x =
-    store 4 (store 4 (store 4 (store 4 (store 4 (store 4 (store 4 (store 4 m (at + 0) (x 1)) (at + 8) (x 9)) (at + 12) (x 18)) (at + 16) (x 19)) (at + 20) (x 20)) (at + 24) (x 21)) (at + 28) (x 22)) (at + 32) (x 23)
+-- behind what is saved
+abbrev pub filled_in : List ℕ → (at y top own : ℕ) → List ℕ
+filled_in m at y top own =
+    store 4 (store 4 (store 4 m (at + 4) y) (at + 40) top) (at + 36) own
 
-abbrev pub filled_in : List ℕ → (at : ℕ) → (ℕ → ℕ) → (top own : ℕ) → List ℕ
-filled_in m at x top own =
-    store 4 (store 4 (store 4 (saved_in m at x) (at + 4) (x 8)) (at + 40) top) (at + 36) own
+pub filled_keeps : {m0 m : List ℕ} (at y top own : ℕ) → Kept at m0 m → Kept at m0 (filled_in m at y top own)
+filled_keeps at y top own kept =
+    kept_store (at + 36) own (omega arith) (kept_store (at + 40) top (omega arith) (kept_store (at + 4) y (omega arith) kept))
 
-pub filled_keeps : (m : List ℕ) (at : ℕ) (x : ℕ → ℕ) (top own : ℕ) → Kept at m (filled_in m at x top own)
-filled_keeps m at x top own =
-    kept_store (at + 36) own (omega arith)
-    (kept_store (at + 40) top (omega arith)
-    (kept_store (at + 4) (x 8) (omega arith)
-    (kept_store (at + 32) (x 23) (omega arith)
-    (kept_store (at + 28) (x 22) (omega arith)
-    (kept_store (at + 24) (x 21) (omega arith)
-    (kept_store (at + 20) (x 20) (omega arith)
-    (kept_store (at + 16) (x 19) (omega arith)
-    (kept_store (at + 12) (x 18) (omega arith)
-    (kept_store (at + 8) (x 9) (omega arith)
-    (kept_store (at + 0) (x 1) (omega arith) (kept_same at m)))))))))))
-
-filled_return : (m : List ℕ) (at : ℕ) (x : ℕ → ℕ) (top own : ℕ) → x 1 < 2 ^ 32 → at + 4 ≤ length m → WordIs (filled_in m at x top own) at (x 1)
-filled_return m at x top own small' inside =
-    let same : at ≡ at + 0 = omega arith in
+filled_return : (m : List ℕ) (at y top own back : ℕ) → load 4 m at ≡ back → WordIs (filled_in m at y top own) at back
+filled_return m at y top own back is =
     word_under (at + 36) own (omega arith)
-    (word_under (at + 40) top (omega arith)
-    (word_under (at + 4) (x 8) (omega arith)
-    (word_under (at + 32) (x 23) (omega arith)
-    (word_under (at + 28) (x 22) (omega arith)
-    (word_under (at + 24) (x 21) (omega arith)
-    (word_under (at + 20) (x 20) (omega arith)
-    (word_under (at + 16) (x 19) (omega arith)
-    (word_under (at + 12) (x 18) (omega arith)
-    (word_under (at + 8) (x 9) (omega arith)
-    (record { is = ap (load 4 (store 4 m (at + 0) (x 1))) same ∙ load-store_same 4 m (at + 0) (x 1) small' (omega (arith, inside)) }))))))))))
+    (word_under (at + 40) top (omega arith) (word_under (at + 4) y (omega arith) (record { is = is })))
 
-filled_below : (m : List ℕ) (at : ℕ) (x : ℕ → ℕ) (top own : ℕ) → x 8 < 2 ^ 32 → at + 8 ≤ length (saved_in m at x) → WordIs (filled_in m at x top own) (at + 4) (x 8)
-filled_below m at x top own small' inside =
+filled_below : (m : List ℕ) (at y top own : ℕ) → y < 2 ^ 32 → at + 8 ≤ length m → WordIs (filled_in m at y top own) (at + 4) y
+filled_below m at y top own small' inside =
     word_under (at + 36) own (omega arith)
-    (word_under (at + 40) top (omega arith) (record { is = load-store_same 4 (saved_in m at x) (at + 4) (x 8) small' (omega (arith, inside)) }))
+    (word_under (at + 40) top (omega arith) (record { is = load-store_same 4 m (at + 4) y small' (omega (arith, inside)) }))
 
-filled_own : (m : List ℕ) (at : ℕ) (x : ℕ → ℕ) (top own : ℕ) → own < 2 ^ 32 → at + 40 ≤ length (store 4 (store 4 (saved_in m at x) (at + 4) (x 8)) (at + 40) top) → load 4 (filled_in m at x top own) (at + 36) ≡ own
-filled_own m at x top own small' inside =
-    load-store_same 4 (store 4 (store 4 (saved_in m at x) (at + 4) (x 8)) (at + 40) top) (at + 36) own small' (omega (arith, inside))
-
-saved_length : (m : List ℕ) (at : ℕ) (x : ℕ → ℕ) → length (saved_in m at x) ≡ length m
-saved_length m at x =
-    (kept_store {at = at} {m = m} (at + 32) (x 23) (omega arith)
-    (kept_store (at + 28) (x 22) (omega arith)
-    (kept_store (at + 24) (x 21) (omega arith)
-    (kept_store (at + 20) (x 20) (omega arith)
-    (kept_store (at + 16) (x 19) (omega arith)
-    (kept_store (at + 12) (x 18) (omega arith)
-    (kept_store (at + 8) (x 9) (omega arith)
-    (kept_store (at + 0) (x 1) (omega arith) (kept_same at m))))))))).bytes
+filled_own : (m : List ℕ) (at y top own : ℕ) → own < 2 ^ 32 → at + 40 ≤ length (store 4 (store 4 m (at + 4) y) (at + 40) top) → load 4 (filled_in m at y top own) (at + 36) ≡ own
+filled_own m at y top own small' inside =
+    load-store_same 4 (store 4 (store 4 m (at + 4) y) (at + 40) top) (at + 36) own small' (omega (arith, inside))
 
 -- ---- what stands then
 
@@ -140,24 +106,22 @@ start_words first q above =
     load-store_other 4 4 (store 4 first (statics_end + 36) statics_end) (statics_end + 40) (14 * 2 ^ 20) q (inr (omega (arith, above)))
     ∙ load-store_other 4 4 first (statics_end + 36) statics_end q (inr (omega (arith, above)))
 
--- a frame without variables, where the registers hold what they do at the entry
-pub frame_stands : (f : Frame) (first : List ℕ) (b : Base) (x : ℕ → ℕ) (top own : ℕ) → f.count ≡ 0 → f.resume ≤ most_code → length first ≡ memory_size → x 1 ≡ address b f.resume → x 8 ≡ b.at + statics_end → own ≡ f.at → Stands f first (λ j. Counted (pos 0)) (first_words first f.at) b (filled_in (start_memory first) f.at x top own)
-frame_stands f first b x top own none near len ra below mine =
-    let m = start_memory first in
+-- a frame without variables, where the place to return to is saved already
+pub frame_stands : (f : Frame) (first m : List ℕ) (b : Base) (y top own : ℕ) → f.count ≡ 0 → length first ≡ memory_size → Kept f.at (start_memory first) m → load 4 m f.at ≡ address b f.resume → y ≡ b.at + statics_end → own ≡ f.at → Stands f first (λ j. Counted (pos 0)) (first_words first f.at) b (filled_in m f.at y top own)
+frame_stands f first m b y top own none len kept ra below mine =
     let above = f.above_statics in
     let inside = f.inside in
     let v = b.valid.1 in
-    let long : length m ≡ memory_size = start_length first ∙ len in
-    let saved : length (saved_in m f.at x) ≡ memory_size = saved_length m f.at x ∙ long in
-    let last : length (store 4 (store 4 (saved_in m f.at x) (f.at + 4) (x 8)) (f.at + 40) top) ≡ memory_size = length-store 4 (store 4 (saved_in m f.at x) (f.at + 4) (x 8)) (f.at + 40) top ∙ length-store 4 (saved_in m f.at x) (f.at + 4) (x 8) ∙ saved in
-    let keeps = filled_keeps m f.at x top own in
+    let long : length m ≡ memory_size = kept.bytes ∙ start_length first ∙ len in
+    let last : length (store 4 (store 4 m (f.at + 4) y) (f.at + 40) top) ≡ memory_size = length-store 4 (store 4 m (f.at + 4) y) (f.at + 40) top ∙ length-store 4 m (f.at + 4) y ∙ long in
+    let keeps = filled_keeps f.at y top own kept in
     record {
       statics = λ k h. keeps.under k (omega (arith, above, h)) ∙ start_keeps first k h;
-      resumes = (filled_return m f.at x top own (omega (arith, ra, near, v)) (omega (arith, long, inside))).is ∙ ra;
-      below = (filled_below m f.at x top own (omega (arith, below, v)) (omega (arith, saved, inside))).is ∙ below;
-      own = filled_own m f.at x top own (omega (arith, mine, inside)) (omega (arith, last, inside)) ∙ mine;
+      resumes = (filled_return m f.at y top own (address b f.resume) ra).is;
+      below = (filled_below m f.at y top own (omega (arith, below, v)) (omega (arith, long, inside))).is ∙ below;
+      own = filled_own m f.at y top own (omega (arith, mine, inside)) (omega (arith, last, inside)) ∙ mine;
       variables = λ j h. absurd (omega (arith, none, h));
       fits = λ j h. absurd (omega (arith, none, h));
       names = λ j h. absurd (omega (arith, none, h));
-      temporaries = λ j h. load-same 4 (filled_in m f.at x top own) m (f.at - 4 * suc j) (λ k a c. keeps.under k (omega (arith, above, h, c))) ∙ start_words first (f.at - 4 * suc j) (omega (arith, above, h));
+      temporaries = λ j h. load-same 4 (filled_in m f.at y top own) (start_memory first) (f.at - 4 * suc j) (λ k a c. keeps.under k (omega (arith, above, h, c))) ∙ start_words first (f.at - 4 * suc j) (omega (arith, above, h));
     }

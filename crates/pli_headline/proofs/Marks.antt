@@ -20,7 +20,7 @@ use Rattle.pli_headline.proofs.Items.{Linked}
 use Rattle.pli_headline.proofs.Jumps.{front_of, back_of}
 use Rattle.pli_headline.proofs.DataOnce.{static_has, placed_same}
 use Rattle.pli_headline.proofs.Raising.{Routines}
-use Rattle.pli_headline.proofs.MainProcedure.{main_head, IsAlone, main_environment, main_words, main_plain}
+use Rattle.pli_headline.proofs.MainProcedure.{main_head, IsAlone, main_environment, main_words, main_plain, main_held}
 use Rattle.pli_headline.proofs.FirstFrame.{start_of, start_is, start_resume}
 
 -- ---- the code has no other part
@@ -40,9 +40,9 @@ no_routines e (b ∷ bs) are =
 -- behind the mark of its entry
 abbrev pub behind_entry : Y.Program → (block line : ℕ) → Y.Stmts → Code
 behind_entry program block line body =
-    procedure_begun (main_environment program block) (main_head block line) (main_words program block body) []
+    procedure_begun (main_environment program block) (main_head block line) (main_words program block body) (main_held program block body) []
     ++ (stmts_code (main_environment program block) none_taken body
-    ++ procedure_ended (main_environment program block) (main_head block line) (main_words program block body) None)
+    ++ procedure_ended (main_environment program block) (main_head block line) (main_words program block body) (main_held program block body) None)
 
 -- that of the other procedures, in the environment of the whole program
 abbrev pub others_code : Y.Program → List Y.Procedure → Code

@@ -14,7 +14,7 @@ use Rattle.pli_meaning.specs.Executing as M
 use Rattle.pli_coding.specs.Assembly.{Code, size_of}
 use Rattle.pli_coding.specs.Allocating.{act_code}
 use Rattle.pli_coding.specs.Environments.{Environment}
-use Rattle.pli_coding.specs.Storing.{assigned_code}
+use Rattle.pli_coding.specs.Storing.{assignment_code}
 use Rattle.pli_coding.specs.Statements.{once_code, stmt_code, stmts_code, bit_if}
 use Rattle.pli_coding.specs.Linking.{Links}
 use Rattle.pli_headline.specs.ProvedSoFar.{Names, Types, IsProvedBitIf}
@@ -86,7 +86,7 @@ pub once_does : {e : Environment} {block : Names} {types : Types} (bl : Block e 
 unfolding M.list
 once_does {e} bl links code routines around target start condition body line is room fits first inner =
     let a = act_code line in
-    let stored' = assigned_code e bl.taken target start in
+    let stored' = assignment_code e bl.taken target start in
     let c = stmts_code e bl.taken body in
     let rest = once_code e bl.taken condition line c in
     let part = M.list_with around (M.labels_in body) (M.statements around body) in

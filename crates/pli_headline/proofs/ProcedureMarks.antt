@@ -13,8 +13,8 @@ use Rattle.pli_coding.specs.Instructions.{move, number, plus, load_word, service
 use Rattle.pli_coding.specs.Frames.{frame_below, temporary_bytes}
 use Rattle.pli_coding.specs.Environments.{Environment, none_taken}
 use Rattle.pli_coding.specs.Allocating.{act_code}
-use Rattle.pli_coding.specs.Entries.{frame_begun, block_entered, variables_code}
-use Rattle.pli_coding.specs.Statements.{stmts_code, stmts_words, block_words}
+use Rattle.pli_coding.specs.Entries.{frame_begun, block_entered, variables_code, all_restored}
+use Rattle.pli_coding.specs.Statements.{stmts_code, stmts_words, block_words, block_held}
 use Rattle.pli_coding.specs.Procedures.{procedure_environment, procedure_begun, procedure_ended, procedure_in, procedures_code}
 use Rattle.pli_coding.specs.Images.{blocks_of}
 use Rattle.pli_coding.specs.Linking.{marks_from}
@@ -23,30 +23,32 @@ use Rattle.pli_headline.proofs.Linking.{times_marked}
 use Rattle.pli_headline.proofs.SymbolsMarked.{symbols_marked, Marks, both_mark, behind, constant_none, plus_none, act_none}
 use Rattle.pli_headline.proofs.Stands.{Stand, all_stands, labels_among, labels_are, EndsApart, ends_apart, no_units}
 use Rattle.pli_headline.proofs.DeclaredNames.{named_in, has_in}
-use Rattle.pli_headline.proofs.StatementMarks.{places_of, called_begun_none, declared_none, statements_mark}
+use Rattle.pli_headline.proofs.StatementMarks.{places_of, called_begun_none, declared_none, statements_mark, all_restored_none}
 use Rattle.pli_headline.proofs.Variables.{HasTypes}
 use Rattle.pli_headline.proofs.PlainInside.{DeclarePlain, declare_plain}
 use Rattle.pli_headline.proofs.MainProcedure.{main_plain}
 
 -- ---- the code of a procedure
 
-begun_none : (e : Environment) (head : Y.BlockHead) (words : ℕ) → ArePlain (variables_of_block e.program e.block) → Marks (procedure_begun e head words []) []
-begun_none e head words declaring =
+begun_none : (e : Environment) (head : Y.BlockHead) (words held : ℕ) → ArePlain (variables_of_block e.program e.block) → Marks (procedure_begun e head words held []) []
+begun_none e head words held declaring =
     let made = variables_code e head.line in
     let act = act_code head.line in
     let entered = block_entered 0 head.line in
     let nothing : Marks made [] = declared_none e head.line 0 (variables_of_block e.program e.block) declaring in
-    behind (frame_begun words head.level 0 true) (move u5 a1 ∷ move a3 a2 ∷ (entered ++ (made ++ act))) [] (called_begun_none words head.level)
+    behind (frame_begun words head.level 0 (Some held)) (move u5 a1 ∷ move a3 a2 ∷ (entered ++ (made ++ act))) [] (called_begun_none words head.level held)
     (behind entered (made ++ act) [] (behind (number a2 head.line) (service 4) [] (constant_none a2 (pos head.line)) refl)
     (behind made act [] nothing (act_none head.line)))
 
-pub ended_marks : (e : Environment) (head : Y.BlockHead) (words : ℕ) → Marks (procedure_ended e head words None) (ReturnPlace head.number ∷ [])
-ended_marks e head words =
+pub ended_marks : (e : Environment) (head : Y.BlockHead) (words held : ℕ) → Marks (procedure_ended e head words held None) (ReturnPlace head.number ∷ [])
+ended_marks e head words held =
     let z : ℤ = neg_ℤ (pos (temporary_bytes words)) in
     let up = plus stack_register frame_register z in
     let below = load_word frame_register frame_register frame_below in
     let last = Plain (I.JumpRegister zero_register return_register (pos 0)) ∷ [] in
-    ap (λ ss. ReturnPlace head.number ∷ ss) (behind (up ++ below) last [] (behind up below [] (plus_none stack_register frame_register z) refl) refl)
+    ap (λ ss. ReturnPlace head.number ∷ ss)
+    (behind (all_restored held) ((up ++ below) ++ last) [] (all_restored_none held)
+    (behind (up ++ below) last [] (behind up below [] (plus_none stack_register frame_register z) refl) refl))
 
 abbrev pub block_symbols : Y.Block → List Symbol
 block_symbols (Y.BlockOf head body) =
@@ -60,13 +62,14 @@ procedure_marks : (e : Environment) (block : Names) (types : Types) (head : Y.Bl
 procedure_marks e block types head body named has declaring are bare =
     let e' = procedure_environment head e in
     let words = block_words e' head.number (stmts_words body) in
-    let begun = procedure_begun e' head words [] in
+    let held = block_held e' head.number body in
+    let begun = procedure_begun e' head words held [] in
     let code = stmts_code e' none_taken body in
-    let ended = procedure_ended e' head words None in
+    let ended = procedure_ended e' head words held None in
     let ss = places_of (all_stands head.number body) in
     ap (λ us. ProcedureEntry head.number ∷ us)
-    (behind begun (code ++ ended) (ss ++ ReturnPlace head.number ∷ []) (begun_none e' head words declaring)
-    (both_mark code ended ss (ReturnPlace head.number ∷ []) (statements_mark e' none_taken (names_in block types head (variables_of_block block.program head.number)) (types_in types (variables_of_block block.program head.number)) body (named_in block types head (variables_of_block block.program head.number) named) (has_in e block types head named declaring has) are bare) (ended_marks e' head words)))
+    (behind begun (code ++ ended) (ss ++ ReturnPlace head.number ∷ []) (begun_none e' head words held declaring)
+    (both_mark code ended ss (ReturnPlace head.number ∷ []) (statements_mark e' none_taken (names_in block types head (variables_of_block block.program head.number)) (types_in types (variables_of_block block.program head.number)) body (named_in block types head (variables_of_block block.program head.number) named) (has_in e block types head named declaring has) are bare) (ended_marks e' head words held)))
 
 pub procedures_mark : (e : Environment) (block : ℕ) (all : List (ℕ × Label)) (called : List ℕ) (ps : List Y.Procedure) → AllPlain e.program.variables → HasTypes e (main_names e.program block) (types_of (variables_of_block e.program block)) → AreInner e.program block all called ps → Marks (procedures_code e ps) (procedure_symbols ps)
 procedures_mark e block all called [] plain has inner = refl

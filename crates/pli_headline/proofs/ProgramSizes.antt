@@ -1,5 +1,5 @@
 -- The code of a program that is proved is no longer than 40 words for each node of its statements and for each variable, and 100.
-use Rattle.std.proofs.Common.{◌≡◌, ℕ, suc, ◌+◌, ◌*◌, ◌≤◌, List, [], ◌∷◌, ◌++◌, length, None, true, refl, sym, ap, ◌∙◌, subst, arith}
+use Rattle.std.proofs.Common.{◌≡◌, ℕ, suc, ◌+◌, ◌*◌, ◌≤◌, List, [], ◌∷◌, ◌++◌, length, None, refl, sym, ap, ◌∙◌, subst, arith, Some}
 use Rattle.std.specs.Prelude.{ℤ, min, pos, neg_ℤ}
 use Rattle.rv_meaning.specs.declared.instr.Register.{Register}
 use Rattle.rv_meaning.specs.declared.instr.Instr.TheVariants as I
@@ -11,10 +11,10 @@ use Rattle.pli_coding.specs.Instructions.{subtract, move, small, number, load_wo
 use Rattle.pli_coding.specs.Frames.{frame_below, own_offset, lower_top, temporary_bytes, fixed_size, name_bytes, frame_bytes, last_place, automatic_place}
 use Rattle.pli_coding.specs.Environments.{Environment, none_taken}
 use Rattle.pli_coding.specs.Locating.{own_place, table_number}
-use Rattle.pli_coding.specs.Entries.{all_saved, frame_begun, frame_ended, block_entered, constant_made, variables_made, variables_code}
+use Rattle.pli_coding.specs.Entries.{all_saved, frame_begun, frame_ended, block_entered, constant_made, variables_made, variables_code, all_restored}
 use Rattle.pli_coding.specs.Extents.{initial_code}
 use Rattle.pli_coding.specs.Allocating.{act_code}
-use Rattle.pli_coding.specs.Statements.{block_words, stmts_words, stmts_code}
+use Rattle.pli_coding.specs.Statements.{block_words, stmts_words, stmts_code, block_held}
 use Rattle.pli_coding.specs.Procedures.{procedure_begun, procedure_ended, procedure_in}
 use Rattle.pli_coding.specs.Images.{raise_code, code_of, linked_code}
 use Rattle.pli_coding.specs.Linking.{links_of}
@@ -27,6 +27,7 @@ use Rattle.pli_headline.proofs.FirstForms.{all_numbers_plain, block_numbers, pro
 use Rattle.pli_headline.proofs.MainProcedure.{IsAlone, main_head, main_environment, alone_of}
 use Rattle.pli_headline.proofs.Variables.{outermost}
 use Rattle.pli_headline.proofs.CodeSizes.{HasPlain, stmts_nodes, constant_most, load_most, plus_most, act_most, statements_most}
+use Rattle.pli_headline.proofs.HeldRegisters.{held_few, saved_size, restored_size}
 
 -- ---- variables
 
@@ -65,26 +66,27 @@ variables_most e line index (d ∷ ds) are =
 
 -- ---- the procedure
 
--- what a called frame of level 0 keeps, once it is below the stack
+-- what a called frame of level 0 keeps beside registers, once it is below the stack
 abbrev pub frame_filled : Code
 frame_filled =
-    all_saved u0
-    ++ (store_word u0 frame_register frame_below
+    store_word u0 frame_register frame_below
     ++ (load_word u1 frame_register lower_top
     ++ (move frame_register u0
     ∷ (store_word frame_register u1 lower_top
     ++ (BaseIn u1
     ∷ subtract u1 frame_register u1
-    ∷ (store_word frame_register u1 own_offset ++ plus stack_register frame_register (pos (fixed_size 0 0))))))))
+    ∷ (store_word frame_register u1 own_offset ++ plus stack_register frame_register (pos (fixed_size 0 0)))))))
 
 abbrev returned : Code
 returned = Plain (I.JumpRegister zero_register return_register (pos 0)) ∷ []
 
-begun_most : (words : ℕ) → size_of (frame_begun words 0 0 true) ≤ 20
-begun_most words =
+begun_most : (words count : ℕ) → count ≤ 7 → size_of (frame_begun words 0 0 (Some count)) ≤ 20
+begun_most words count few =
     let a = plus_most u0 stack_register (pos (temporary_bytes words)) in
-    let s = size_append (plus u0 stack_register (pos (temporary_bytes words))) frame_filled in
-    omega (arith, a, s)
+    let b = saved_size count few in
+    let s1 = size_append (plus u0 stack_register (pos (temporary_bytes words))) (all_saved u0 count ++ frame_filled) in
+    let s2 = size_append (all_saved u0 count) frame_filled in
+    omega (arith, few, a, b, s1, s2)
 
 entered_most : (line : ℕ) → size_of (block_entered 0 line) ≤ 6
 entered_most line =
@@ -101,17 +103,21 @@ returned_most words =
     let s2 = size_append (plus stack_register frame_register z) below in
     omega (arith, a, s1, s2)
 
-ended_most : (e : Environment) (head : Y.BlockHead) (words : ℕ) → size_of (procedure_ended e head words None) ≤ 16
-ended_most e head words = let a = returned_most words in omega (arith, a)
+ended_most : (e : Environment) (head : Y.BlockHead) (words count : ℕ) → count ≤ 7 → size_of (procedure_ended e head words count None) ≤ 16
+ended_most e head words count few =
+    let a = returned_most words in
+    let b = restored_size count few in
+    let s = size_append (all_restored count) (frame_ended words ++ returned) in
+    omega (arith, few, a, b, s)
 
 -- a procedure at level 0 whose variables are plain
-prologue_most : (e : Environment) (block line count words : ℕ) → e.block ≡ block → HasPlain e block count → size_of (procedure_begun (outermost e) (main_head block line) words []) ≤ 33 + 40 * count
-prologue_most e block line count words at has =
+prologue_most : (e : Environment) (block line count words held : ℕ) → held ≤ 7 → e.block ≡ block → HasPlain e block count → size_of (procedure_begun (outermost e) (main_head block line) words held []) ≤ 33 + 40 * count
+prologue_most e block line count words held few at has =
     let made = variables_code (outermost e) line in
     let act = act_code line in
     let entered = block_entered 0 line in
-    let begun = frame_begun words 0 0 true in
-    let a = begun_most words in
+    let begun = frame_begun words 0 0 (Some held) in
+    let a = begun_most words held few in
     let b = entered_most line in
     let c : size_of made ≤ 40 * count =
     let same : count ≡ length (variables_of_block e.program e.block) = has.1 ∙ ap (λ n. length (variables_of_block e.program n)) (sym at) in
@@ -126,12 +132,14 @@ prologue_most e block line count words at has =
 procedure_most : (e : Environment) (block line count : ℕ) (body : Y.Stmts) → e.block ≡ block → HasPlain e block count → AreFirstStatements block count body → size_of (procedure_in (outermost e) (main_head block line) body [] None) ≤ 49 + (40 * count + 40 * stmts_nodes body)
 procedure_most e block line count body at has are =
     let words = block_words (outermost e) block (stmts_words body) in
-    let begun = procedure_begun (outermost e) (main_head block line) words [] in
+    let held = block_held (outermost e) block body in
+    let few = held_few e.program words body in
+    let begun = procedure_begun (outermost e) (main_head block line) words held [] in
     let code = stmts_code (outermost e) none_taken body in
-    let ended = procedure_ended (outermost e) (main_head block line) words None in
-    let a = prologue_most e block line count words at has in
+    let ended = procedure_ended (outermost e) (main_head block line) words held None in
+    let a = prologue_most e block line count words held few at has in
     let b = statements_most e none_taken block count body has are in
-    let c = ended_most (outermost e) (main_head block line) words in
+    let c = ended_most (outermost e) (main_head block line) words held few in
     let s1 = size_append begun (code ++ ended) in
     let s2 = size_append code ended in
     omega (arith, a, b, c, s1, s2)

@@ -1,4 +1,4 @@
--- A called procedure saves the place to return to, and the registers that hold temporaries, in its frame, and restores them at its end.
+-- A called procedure saves the place to return to, and so many registers that hold temporaries, in its frame, and restores them at its end.
 use Rattle.std.proofs.Common.{◌≡◌, ℕ, zero, suc, ◌+◌, ◌*◌, ◌/◌, ◌%◌, ◌^◌, ◌<◌, ◌≤◌, inl, List, [], ◌∷◌, length, Bool, true, false, refl, sym, ap, ◌∙◌, subst, arith}
 use Rattle.std.specs.Prelude.{pos, slice_set, ◌==◌}
 use Rattle.std.proofs.lemmas.Bool.{eqb-true}
@@ -20,7 +20,7 @@ use Rattle.pli_headline.proofs.Engine.{Base}
 use Rattle.pli_headline.proofs.Linking.{size_append}
 use Rattle.pli_headline.proofs.Items.{Linked, At}
 use Rattle.pli_headline.proofs.Numbers.{above_sum, above_small}
-use Rattle.pli_headline.proofs.Bodies.{Ground, Known, PlaceFrom, IsNear, with', reserved, frame_is, at_place, lose_known, displaced_by, load_piece, store_into}
+use Rattle.pli_headline.proofs.Bodies.{Ground, Known, Regs, Free, PlaceFrom, IsNear, with', reserved, frame_is, at_place, lose_known, displaced_by, load_piece, store_into}
 use Rattle.pli_headline.proofs.Jumps.{front_of, back_of}
 use Rattle.pli_headline.proofs.Temporaries.{nothing, put, held_put, held_is}
 use Rattle.pli_headline.proofs.Reaching.{reach_moved}
@@ -117,22 +117,28 @@ saved_by false m at n j h e len room few below old =
     let less : j < n = grind (arith, nat_tests) in
     load-store_other 4 4 m (at + (8 + 4 * n)) (h n) (at + (8 + 4 * j)) (inl (omega (arith, less))) ∙ old less
 
-more_saved : {g : Ground} {t : ℕ → ℕ} (at base texts : ℕ) (back : Base → ℕ) (h : ℕ → ℕ) → SavingAt g t at → (left n : ℕ) {links : Links} {code : List Instr} {i : ℕ} {v : Services} (c : ℕ) (f : Family) → n + left ≡ 7 → Linked links code i (registers_saved u0 n left) → ((b : Base) → At b i (Known (saved_ground g at back h n) v h t (called_regs at base texts back) b) (f b)) → Reach code c f v (c + size_of (registers_saved u0 n left)) v (λ b w. At b (i + size_of (registers_saved u0 n left)) (Known (saved_ground g at back h 7) v h t (called_regs at base texts back) b) w)
-more_saved {g} {t} at base texts back h s zero n {code = code} {i = i} {v = v} c f all l there =
-    let seven : n ≡ 7 = omega (arith, all) in
+-- what is known of registers meanwhile: where the frame will stand and where it returns to, whatever is far
+pub record Saving (at : ℕ) (back : Base → ℕ) (rs : Base → List (ℕ × ℕ)) : Type 0 where
+  pub frame : (b : Base) (y : ℕ → ℕ) → Regs (rs b) y → y 5 ≡ b.at + at
+  pub return : (b : Base) (y : ℕ → ℕ) → Regs (rs b) y → y 1 ≡ back b
+  pub far : Free rs 31
+
+more_saved : {g : Ground} {t : ℕ → ℕ} (at : ℕ) (back : Base → ℕ) (rs : Base → List (ℕ × ℕ)) → Saving at back rs → (h : ℕ → ℕ) (held' : ℕ) → held' ≤ 7 → SavingAt g t at → (left n : ℕ) {links : Links} {code : List Instr} {i : ℕ} {v : Services} (c : ℕ) (f : Family) → n + left ≡ held' → Linked links code i (registers_saved u0 n left) → ((b : Base) → At b i (Known (saved_ground g at back h n) v h t rs b) (f b)) → Reach code c f v (c + size_of (registers_saved u0 n left)) v (λ b w. At b (i + size_of (registers_saved u0 n left)) (Known (saved_ground g at back h held') v h t rs b) w)
+more_saved {g} {t} at back rs k h held' most s zero n {code = code} {i = i} {v = v} c f all l there =
+    let last : n ≡ held' = omega (arith, all) in
     reach_moved (omega arith) (omega arith)
-    (stay code c f v (λ b w. At b i (Known (saved_ground g at back h 7) v h t (called_regs at base texts back) b) w)
-    (λ b. subst (λ k. At b i (Known (saved_ground g at back h k) v h t (called_regs at base texts back) b) (f b)) seven (there b)))
-more_saved {g} {t} at base texts back h s (suc left) n c f all l there =
+    (stay code c f v (λ b w. At b i (Known (saved_ground g at back h held') v h t rs b) w)
+    (λ b. subst (λ j. At b i (Known (saved_ground g at back h j) v h t rs b) (f b)) last (there b)))
+more_saved {g} {t} at back rs k h held' most s (suc left) n c f all l there =
     let first = store_word u0 (held n) (saved_register n) in
     let rest = registers_saved u0 (suc n) left in
     let size = size_append first rest in
-    let few : n < 7 = omega (arith, all) in
+    let few : n < 7 = omega (arith, all, most) in
     let room = s.room in
     let r1 = store_into (saved_ground g at back h (suc n)) t c f (held n) u0 (saved_register n) at (at + (8 + 4 * n)) (λ b. h n)
     (frame_place at (8 + 4 * n) s.whole s.high s.room (omega arith) (omega (arith, few)))
-    (omega (arith, room)) (λ y u. refl) (λ b w k. k.regs.0) (held_near n few)
-    (λ b w k. held_is n (saved_ground g at back h n) b h w.machine.registers few k.body.registers)
+    (omega (arith, room)) (λ y u. refl) (λ b w o. k.frame b w.machine.registers o.regs) (held_near n few)
+    (λ b w o. held_is n (saved_ground g at back h n) b h w.machine.registers few o.body.registers)
     (λ b. refl)
     (λ b m len o. (
       s.keeps b m (at + (8 + 4 * n)) (h n) (omega arith) o.0,
@@ -141,22 +147,22 @@ more_saved {g} {t} at base texts back h s (suc left) n c f all l there =
         registers = λ j below. saved_by (j == n) m at n j h refl len room few below (o.1.registers j);
       },
     ))
-    (record { reserved_stay = λ y u. refl; known_stay = λ b y u q. q; set = λ y u. refl })
+    k.far
     (front_of first rest l) there in
-    let r2 = more_saved at base texts back h s left (suc n) (c + size_of first) (reached r1) (omega (arith, all)) (back_of first rest l) (reached_holds r1) in
+    let r2 = more_saved at back rs k h held' most s left (suc n) (c + size_of first) (reached r1) (omega (arith, all)) (back_of first rest l) (reached_holds r1) in
     reach_moved (omega (arith, size)) (omega (arith, size)) (reach_then r1 r2)
 
 -- all of them
-pub saved_piece : {g : Ground} {t : ℕ → ℕ} (at base texts : ℕ) (back : Base → ℕ) (h : ℕ → ℕ) → SavingAt g t at → ((b : Base) → back b < 2 ^ 32) → {links : Links} {code : List Instr} {i : ℕ} {v : Services} (c : ℕ) (f : Family) → Linked links code i (all_saved u0) → ((b : Base) → At b i (Known g v h t (called_regs at base texts back) b) (f b)) → Reach code c f v (c + size_of (all_saved u0)) v (λ b w. At b (i + size_of (all_saved u0)) (Known (saved_ground g at back h 7) v h t (called_regs at base texts back) b) w)
-saved_piece {g} {t} at base texts back h s fits c f l there =
+pub saved_piece : {g : Ground} {t : ℕ → ℕ} (at : ℕ) (back : Base → ℕ) (rs : Base → List (ℕ × ℕ)) → Saving at back rs → (h : ℕ → ℕ) (held' : ℕ) → held' ≤ 7 → SavingAt g t at → ((b : Base) → back b < 2 ^ 32) → {links : Links} {code : List Instr} {i : ℕ} {v : Services} (c : ℕ) (f : Family) → Linked links code i (all_saved u0 held') → ((b : Base) → At b i (Known g v h t rs b) (f b)) → Reach code c f v (c + size_of (all_saved u0 held')) v (λ b w. At b (i + size_of (all_saved u0 held')) (Known (saved_ground g at back h held') v h t rs b) w)
+saved_piece {g} {t} at back rs k h held' most s fits c f l there =
     let first = store_word u0 return_register return_address in
-    let rest = registers_saved u0 0 7 in
+    let rest = registers_saved u0 0 held' in
     let size = size_append first rest in
     let room = s.room in
     let same : at + 0 ≡ at = omega arith in
     let r1 = store_into (saved_ground g at back h 0) t c f return_register u0 return_address at (at + 0) back
     (frame_place at 0 s.whole s.high s.room refl (omega arith))
-    (omega (arith, room)) (λ y u. refl) (λ b w k. k.regs.0) (λ y u. refl) (λ b w k. k.regs.1.1.1.0)
+    (omega (arith, room)) (λ y u. refl) (λ b w o. k.frame b w.machine.registers o.regs) (λ y u. refl) (λ b w o. k.return b w.machine.registers o.regs)
     (λ b. refl)
     (λ b m len o. (
       s.keeps b m (at + 0) (back b) (omega arith) o,
@@ -165,9 +171,9 @@ saved_piece {g} {t} at base texts back h s fits c f l there =
         registers = λ j below. absurd (omega (arith, below));
       },
     ))
-    (record { reserved_stay = λ y u. refl; known_stay = λ b y u q. q; set = λ y u. refl })
+    k.far
     (front_of first rest l) there in
-    let r2 = more_saved at base texts back h s 7 0 (c + size_of first) (reached r1) refl (back_of first rest l) (reached_holds r1) in
+    let r2 = more_saved at back rs k h held' most s held' 0 (c + size_of first) (reached r1) (omega arith) (back_of first rest l) (reached_holds r1) in
     reach_moved (omega (arith, size)) (omega (arith, size)) (reach_then r1 r2)
 
 -- ---- on the way back
@@ -178,12 +184,13 @@ held_again saved n zero h = h
 held_again saved n (suc left) h = held_again saved (suc n) left (put h n (saved n % 2 ^ 32))
 
 -- the frame has what was saved
-pub record SavedIn (g : Ground) (t : ℕ → ℕ) (back : Base → ℕ) (saved : ℕ → ℕ) : Type 0 where
+pub record SavedIn (g : Ground) (t : ℕ → ℕ) (back : Base → ℕ) (saved : ℕ → ℕ) (held' : ℕ) : Type 0 where
+  pub most : held' ≤ 7
   pub high : 7 * 2 ^ 20 ≤ g.frame
   pub room : g.frame + 164 ≤ 15 * 2 ^ 20
-  pub has : (b : Base) (m : List ℕ) → g.memory t b m → Saved g.frame (back b) saved 7 m
+  pub has : (b : Base) (m : List ℕ) → g.memory t b m → Saved g.frame (back b) saved held' m
 
-more_restored : {g : Ground} {t : ℕ → ℕ} (back : Base → ℕ) (saved : ℕ → ℕ) → SavedIn g t back saved → (left n : ℕ) {links : Links} {code : List Instr} {i : ℕ} {v : Services} (h : ℕ → ℕ) (c : ℕ) (f : Family) → n + left ≤ 7 → Linked links code i (registers_restored n left) → ((b : Base) → At b i (Known g v h t (with' 1 back nothing) b) (f b)) → Reach code c f v (c + size_of (registers_restored n left)) v (λ b w. At b (i + size_of (registers_restored n left)) (Known g v (held_again saved n left h) t (with' 1 back nothing) b) w)
+more_restored : {g : Ground} {t : ℕ → ℕ} (back : Base → ℕ) (saved : ℕ → ℕ) {held' : ℕ} → SavedIn g t back saved held' → (left n : ℕ) {links : Links} {code : List Instr} {i : ℕ} {v : Services} (h : ℕ → ℕ) (c : ℕ) (f : Family) → n + left ≤ held' → Linked links code i (registers_restored n left) → ((b : Base) → At b i (Known g v h t (with' 1 back nothing) b) (f b)) → Reach code c f v (c + size_of (registers_restored n left)) v (λ b w. At b (i + size_of (registers_restored n left)) (Known g v (held_again saved n left h) t (with' 1 back nothing) b) w)
 more_restored {g} {t} back saved s zero n {code = code} {i = i} {v = v} h c f all l there =
     reach_moved (omega arith) (omega arith)
     (stay code c f v (λ b w. At b i (Known g v h t (with' 1 back nothing) b) w) there)
@@ -191,7 +198,8 @@ more_restored {g} {t} back saved s (suc left) n {v = v} h c f all l there =
     let first = load_word (held n) frame_register (saved_register n) in
     let rest = registers_restored (suc n) left in
     let size = size_append first rest in
-    let few : n < 7 = omega (arith, all) in
+    let most = s.most in
+    let few : n < 7 = omega (arith, all, most) in
     let place = frame_place g.frame (8 + 4 * n) g.whole s.high s.room (omega arith) (omega (arith, few)) in
     let x = saved n % 2 ^ 32 in
     let room = s.room in
@@ -207,7 +215,7 @@ more_restored {g} {t} back saved s (suc left) n {v = v} h c f all l there =
           body = record {
             services = k.body.services;
             registers =
-                ap (λ u. reserved (written w.machine.registers (held n).index u)) ((s.has b w.machine.memory k.body.memory).registers n few)
+                ap (λ u. reserved (written w.machine.registers (held n).index u)) ((s.has b w.machine.memory k.body.memory).registers n (omega (arith, all)))
                 ∙ held_put n g b h w.machine.registers x few k.body.registers;
             bytes = k.body.bytes;
             memory = k.body.memory;
@@ -222,10 +230,10 @@ more_restored {g} {t} back saved s (suc left) n {v = v} h c f all l there =
     reach_moved (omega (arith, size)) (omega (arith, size)) (reach_then r1 r2)
 
 -- all of them, and the place to return to
-pub restored_piece : {g : Ground} {t : ℕ → ℕ} (back : Base → ℕ) (saved : ℕ → ℕ) → SavedIn g t back saved → {links : Links} {code : List Instr} {i : ℕ} {v : Services} (h : ℕ → ℕ) (c : ℕ) (f : Family) → Linked links code i all_restored → ((b : Base) → At b i (Known g v h t nothing b) (f b)) → Reach code c f v (c + size_of all_restored) v (λ b w. At b (i + size_of all_restored) (Known g v (held_again saved 0 7 h) t (with' 1 back nothing) b) w)
-restored_piece {g} {t} back saved s h c f l there =
+pub restored_piece : {g : Ground} {t : ℕ → ℕ} (back : Base → ℕ) (saved : ℕ → ℕ) {held' : ℕ} → SavedIn g t back saved held' → {links : Links} {code : List Instr} {i : ℕ} {v : Services} (h : ℕ → ℕ) (c : ℕ) (f : Family) → Linked links code i (all_restored held') → ((b : Base) → At b i (Known g v h t nothing b) (f b)) → Reach code c f v (c + size_of (all_restored held')) v (λ b w. At b (i + size_of (all_restored held')) (Known g v (held_again saved 0 held' h) t (with' 1 back nothing) b) w)
+restored_piece {g} {t} back saved {held'} s h c f l there =
     let first = load_word return_register frame_register return_address in
-    let rest = registers_restored 0 7 in
+    let rest = registers_restored 0 held' in
     let size = size_append first rest in
     let same : g.frame + 0 ≡ g.frame = omega arith in
     let r1 = load_piece c f return_register return_address (g.frame + 0) back (frame_place g.frame 0 g.whole s.high s.room refl (omega arith))
@@ -233,5 +241,5 @@ restored_piece {g} {t} back saved s h c f l there =
     (record { reserved_stay = λ y u. refl; known_stay = λ b y u q. q; set = λ y u. refl })
     (record { reserved_stay = λ y u. refl; known_stay = λ b y u q. q; set = λ y u. refl })
     (front_of first rest l) there in
-    let r2 = more_restored back saved s 7 0 h (c + size_of first) (reached r1) (omega arith) (back_of first rest l) (reached_holds r1) in
+    let r2 = more_restored back saved s held' 0 h (c + size_of first) (reached r1) (omega arith) (back_of first rest l) (reached_holds r1) in
     reach_moved (omega (arith, size)) (omega (arith, size)) (reach_then r1 r2)

@@ -1,17 +1,16 @@
 -- A part by what is asked for: the aggregate, its generation, and the subscripts given.
-use Rattle.std.proofs.Common.{◌≡◌, ℕ, zero, suc, ◌+◌, ◌-◌, ◌<◌, ◌≤◌, ℤ, Bool, true, false, List, [], length, map, take, Option, Some, None, Result, Ok, Err, refl, sym, ap, subst, ◌∙◌, arith}
+use Rattle.std.proofs.Common.{◌≡◌, ℕ, zero, suc, ◌-◌, ◌<◌, ◌≤◌, ℤ, Bool, true, false, List, [], length, map, take, Option, Some, None, Result, Ok, Err, refl, sym, ap, subst, ◌∙◌, arith}
 use Rattle.std.specs.Prelude.{Vec, is_some, nat_le, nat_lt, option_map, slice_get, unwrap_or, if◌then◌else◌}
 use Rattle.std.specs.declared.alloc.Global.{Global}
 use Rattle.std.proofs.lemmas.Bool.Decides.{nat_tests}
 use Rattle.std.proofs.lemmas.List.{length-map, take-map}
-use Rattle.pli_typing.specs.Signatures.{Bounds, Leaf, capped}
+use Rattle.pli_typing.specs.Signatures.{Bounds, capped}
 use Rattle.pli_types.specs.Templates.{Template}
 use Rattle.pli_types.specs.View.{pair_of}
 use Rattle.pli_types.specs.declared.signature.Bounds.{Bounds as BoundsHeld}
 use Rattle.pli_meaning.specs.Contents.{Shape, leaves_with}
-use Rattle.pli_meaning.specs.Evaluating.{leaf_at}
 use Rattle.pli_meaning.specs.Unreachable.{unreachable_leaf}
-use Rattle.pli_serving.specs.Aggregates.{Aggregate, PartFound, has_part, part_found, part_of_leaves, subscripts_given, subscripts_of}
+use Rattle.pli_serving.specs.Aggregates.{Aggregate, part_found, part_of_leaves, subscripts_given, subscripts_of}
 use Rattle.pli_serving.specs.Finding.{Call, Found, Finding, FoundAt, NotLiving, NoArea, named}
 use Rattle.pli_serving.specs.Outcomes.{then_found}
 use Rattle.pli_serving.specs.Templates.{shape_at, shape_in}
@@ -22,9 +21,9 @@ use Rattle.pli_signatures.specs.declared.element.LeafInForce.{LeafInForce}
 use Rattle.pli_answering.specs.declared.reply.Refusal.{Refusal}
 use Rattle.pli_answering.specs.declared.reply.Refusal.TheVariants as F
 use Rattle.pli_values.specs.View.{name_of}
-use Rattle.pli_aggregates.specs.Records.{aggregate_shown, found_in, generation_named, record_shown}
+use Rattle.pli_aggregates.specs.Records.{found_in, generation_named, record_shown}
 use Rattle.pli_aggregates.specs.declared.record.Aggregate.{Aggregate as AggregateHeld}
-use Rattle.pli_parts.specs.Found.{IsPart, IsPartIf, designated_from, given_by, part_asked, part_in}
+use Rattle.pli_parts.specs.Found.{IsPartIf, given_by, part_in}
 use Rattle.pli_parts.specs.Leaves.{AreLeavesFound}
 use Rattle.pli_parts.specs.declared.leaf.PartLeaf.{PartLeaf}
 use Rattle.pli_parts.specs.declared.part.PartAsked.{PartAsked}

@@ -1,29 +1,28 @@
--- Values of elements that were gathered in a buffer.
-use Rattle.std.proofs.Common.{◌≡◌, ℕ, zero, suc, ◌+◌, ◌-◌, ◌*◌, ◌<◌, ◌≤◌, Bool, true, false, List, [], ◌∷◌, ◌++◌, length, take, drop, replicate, get_or, map, refl, sym, ap, ap₂, subst, ◌∙◌, arith}
-use Rattle.std.specs.Prelude.{◌==◌, nat_le, slice_index, unwrap_or, if◌then◌else◌}
+-- Values of elements that were copied into a buffer.
+use Rattle.std.proofs.Common.{◌≡◌, ◌⊎◌, inl, inr, ℕ, zero, suc, ◌+◌, ◌-◌, ◌*◌, ◌<◌, ◌≤◌, Bool, true, false, List, [], ◌∷◌, ◌++◌, length, take, drop, replicate, get_or, map, Some, None, refl, sym, ap, ap₂, subst, ◌∙◌, arith, mul-le-mul_left}
+use Rattle.std.specs.Prelude.{◌&&◌, ◌==◌, nat_le, unwrap_or, if◌then◌else◌}
 use Rattle.std.specs.Int.{w16, cast_signed}
-use Rattle.std.specs.List.{flat_map, list_all, range_with_len}
+use Rattle.std.specs.List.{list_all, range_with_len}
 use Rattle.std.proofs.lemmas.Bool.Decides.{nat_tests}
-use Rattle.std.proofs.lemmas.List.{drop_all, drop-append-le, drop-drop, drop-take, drop_at, get_or-drop, get_or-take, length-append, length-drop, length-replicate, length-take-le, take-append-le, take-take, take_at, take_all, length-map}
+use Rattle.std.proofs.lemmas.List.{drop-append-le, drop-drop, drop-take, drop_all, drop_more, get_or-drop, get_or-take, length-append, length-drop, length-replicate, length-take-le, take-append-le, take-take}
 use Rattle.rv_meaning.specs.Memory.{load}
 use Rattle.rv_meaning.specs.Words.{signed}
 use Rattle.pli_typing.specs.Signatures.{Bounds, LeafKind, Fixed, Character, Varying, Bit, Pointer, Offset, Area, leaf_bytes, element_count}
 use Rattle.pli_meaning.specs.BasicValues.{BasicNumber, BasicText, BasicBit, BasicPointer, BasicOffset}
 use Rattle.pli_meaning.specs.Unreachable.{unreachable_name}
-use Rattle.pli_serving.specs.Bytes.{bytes_at, name_at, name_of, offset_of}
+use Rattle.pli_serving.specs.Bytes.{bytes_at, name_of, offset_of}
 use Rattle.pli_serving.specs.AggregateServices.{taken_bytes}
 use Rattle.pli_serving.specs.Values.{element_size, value_at}
-use Rattle.pli_aggregates.specs.Elements.{AreWithin}
+use Rattle.pli_aggregates.specs.Runs.{standing}
+use Rattle.pli_aggregates.specs.declared.runs.Run.{Run}
+use Rattle.pli_aggregates.proofs.Lists.{both, first_of_both, map_map, second_of_both}
+use Rattle.pli_aggregates.proofs.Places.{by_place}
 use Rattle.pli_entries.specs.Kept.{elements_in}
-use Rattle.pli_parts.specs.Buffers.{gathered, gathered_element, is_in_element}
-use Rattle.pli_parts.proofs.Lists.{first_of_both, second_of_both}
-use Rattle.pli_parts.proofs.Places.{by_place}
+use Rattle.pli_parts.specs.Buffers.{AreSame, IsCopied, IsCopiedOf, IsGathered, are_short, is_in_element, longest}
+use Rattle.pli_aggregates.specs.Elements.{AreWithin}
+use Rattle.pli_aggregates.proofs.Running.{got_standing, length_standing}
 
 -- ---- the same bytes are the same value
-
--- bytes that stand in two memories alike
-abbrev pub AreSame : (count a : ℕ) → List ℕ → (b : ℕ) → List ℕ → Type 0
-AreSame count a m b x = bytes_at count a m ≡ bytes_at count b x
 
 same_byte : (count a : ℕ) (m : List ℕ) (b : ℕ) (x : List ℕ) → AreSame count a m b x → (i : ℕ) → i < count → get_or m (a + i) 0 ≡ get_or x (b + i) 0
 same_byte count a m b x e i h =
@@ -76,78 +75,164 @@ same_value Pointer a m b x e h =
 same_value Offset a m b x e h = ap (λ n. BasicOffset (offset_of n)) (load_first 4 4 a m b x e (omega arith))
 same_value (Area n) a m b x e h = refl
 
--- ---- elements one behind the other
+-- ---- bytes that were copied
 
-pub bytes_within : (kind : LeafKind) → leaf_bytes kind ≤ element_size kind
-bytes_within kind = omega arith
+pub copied_same : (bytes size at n p : ℕ) (m buffer zeros : List ℕ) → p < n → buffer ≡ bytes_at (size * (n - 1) + bytes) at m ++ zeros → at + (size * (n - 1) + bytes) ≤ length m
+    → AreSame bytes (at + size * p) m (size * p) buffer
+copied_same bytes size at n p m buffer zeros h e w =
+    let whole = size * (n - 1) + bytes in
+    let rest = whole - size * p in
+    let low : size * p ≤ size * (n - 1) = mul-le-mul_left size (omega (arith, h)) in
+    let parts : whole ≡ size * p + rest = omega (arith, low) in
+    let enough : bytes ≤ rest = omega (arith, low) in
+    let front = bytes_at whole at m in
+    let left = length-drop at m in
+    let long : length front ≡ whole = length-take-le whole (drop at m) (omega (arith, left, w)) in
+    let behind : drop (size * p) front ≡ take rest (drop (at + size * p) m) =
+    ap (λ k. drop (size * p) (take k (drop at m))) parts ∙ drop-take (size * p) rest (drop at m) ∙ ap (take rest) (drop-drop (size * p) at m) in
+    let some : bytes ≤ length (drop (size * p) front) = omega (arith, length-drop (size * p) front, long, low) in
+    sym
+    (ap (bytes_at bytes (size * p)) e
+    ∙ ap (take bytes) (drop-append-le (size * p) front zeros (omega (arith, long, low)))
+    ∙ take-append-le bytes (drop (size * p) front) zeros some
+    ∙ ap (take bytes) behind
+    ∙ take-take bytes rest (drop (at + size * p) m) enough)
 
-pub length_gathered : (kind : LeafKind) (m : List ℕ) (a : ℕ) → a + leaf_bytes kind ≤ length m → length (gathered_element kind m a) ≡ element_size kind
-length_gathered kind m a h =
-    let part : length (bytes_at (leaf_bytes kind) a m) ≡ leaf_bytes kind = length-take-le (leaf_bytes kind) (drop a m) (rest (leaf_bytes kind) (length-drop a m)) in
-    let size = bytes_within kind in
-    length-append (bytes_at (leaf_bytes kind) a m) (replicate (element_size kind - leaf_bytes kind) 0)
-    ∙ ap₂ (λ j k. j + k) part (length-replicate (element_size kind - leaf_bytes kind) 0)
-    ∙ whole (leaf_bytes kind) (element_size kind) size
+pub copied_length : (bytes size at n zeros : ℕ) (m buffer : List ℕ) → 0 < n → bytes ≤ size → zeros ≡ size - bytes → buffer ≡ bytes_at (size * (n - 1) + bytes) at m ++ replicate zeros 0 → at + (size * (n - 1) + bytes) ≤ length m → length buffer ≡ size * n
+copied_length bytes size at n zeros m buffer some low z e w =
+    let whole = size * (n - 1) + bytes in
+    let left = length-drop at m in
+    let long : length (bytes_at whole at m) ≡ whole = length-take-le whole (drop at m) (omega (arith, left, w)) in
+    let behind : length (replicate {A = ℕ} zeros 0) ≡ zeros = length-replicate {A = ℕ} zeros 0 in
+    let both : length buffer ≡ length (bytes_at whole at m) + length (replicate zeros 0) = ap length e ∙ length-append (bytes_at whole at m) (replicate zeros 0) in
+    let last : size * (n - 1) + size ≡ size * n = more n some in
+    omega (arith, both, long, behind, z, low, last)
   where
-    rest : (n : ℕ) → length (drop a m) ≡ length m - a → leaf_bytes kind ≤ length (drop a m)
-    rest n e = omega (arith, e, h)
+    more : (n : ℕ) → 0 < n → size * (n - 1) + size ≡ size * n
+    more zero h = absurd (omega (arith, h))
+    more (suc k) h = let e : suc k - 1 ≡ k = omega arith in let f : size * suc k ≡ size * k + size = omega arith in ap (λ j. size * j + size) e ∙ sym f
 
-    whole : (n size : ℕ) → n ≤ size → n + (size - n) ≡ size
-    whole n size h = omega (arith, h)
+-- ---- values by the places of a buffer
 
--- the buffer from an element on
-pub from_element : (kind : LeafKind) (m : List ℕ) (addresses : List ℕ) (j : ℕ) → AreWithin (leaf_bytes kind) (length m) addresses → drop (element_size kind * j) (gathered kind m addresses) ≡ gathered kind m (drop j addresses)
-from_element kind m addresses zero w =
-    let none : element_size kind * 0 ≡ 0 = omega arith in
-    ap (λ n. drop n (gathered kind m addresses)) none
-from_element kind m [] (suc j) w = drop_all (element_size kind * suc j) [] (omega arith)
-from_element kind m (a ∷ as') (suc j) w =
-    let size = element_size kind in
-    let one = gathered_element kind m a in
-    let l : length one ≡ size = length_gathered kind m a w.0 in
-    let more : size * suc j ≡ size + size * j = omega arith in
-    ap (λ n. drop n (one ++ gathered kind m as')) more
-    ∙ sym (drop-drop (size * j) size (one ++ gathered kind m as'))
-    ∙ ap (drop (size * j)) (drop_at one (gathered kind m as') size l)
-    ∙ from_element kind m as' j w.1
+values_from : (kind : LeafKind) (m buffer : List ℕ) (r : Run) (n first count : ℕ) → IsCopiedOf kind m r n buffer → first + count ≤ n → list_all (is_in_element kind m) (map (λ k. r.at + r.step * k) (range_with_len first count)) ≡ true
+    → map (λ k. taken_bytes kind (value_at kind (element_size kind * k) buffer)) (range_with_len first count) ≡ map (λ k. taken_bytes kind (value_at kind (r.at + r.step * k) m)) (range_with_len first count)
+values_from kind m buffer r n first zero same h fit = refl
+values_from kind m buffer r n first (suc count) same h fit =
+    let here = r.at + r.step * first in
+    let more = map (λ k. r.at + r.step * k) (range_with_len (first + 1) count) in
+    ap₂ (λ v vs. v ∷ vs)
+    (ap (taken_bytes kind) (sym (same_value kind here m (element_size kind * first) buffer (same first (omega (arith, h))) (first_of_both (is_in_element kind m here) (list_all (is_in_element kind m) more) fit))))
+    (values_from kind m buffer r n (first + 1) count same (omega (arith, h)) (second_of_both (is_in_element kind m here) (list_all (is_in_element kind m) more) fit))
 
-first_bytes : (kind : LeafKind) (m : List ℕ) (a : ℕ) (more : List ℕ) → a + leaf_bytes kind ≤ length m → take (leaf_bytes kind) (gathered_element kind m a ++ more) ≡ bytes_at (leaf_bytes kind) a m
-first_bytes kind m a more h =
-    let l = length_gathered kind m a h in
-    let size = bytes_within kind in
-    let part : length (bytes_at (leaf_bytes kind) a m) ≡ leaf_bytes kind = length-take-le (leaf_bytes kind) (drop a m) (rest (length-drop a m)) in
-    take-append-le (leaf_bytes kind) (gathered_element kind m a) more (omega (arith, l, size))
-    ∙ take_at (bytes_at (leaf_bytes kind) a m) (replicate (element_size kind - leaf_bytes kind) 0) (leaf_bytes kind) part
+pub gathered_elements : (kind : LeafKind) (bounds : List Bounds) (m buffer : List ℕ) (r : Run) → IsGathered kind m r (element_count bounds) buffer
+    → elements_in kind bounds buffer ≡ map (λ a. taken_bytes kind (value_at kind a m)) (standing r.at r.step (element_count bounds))
+gathered_elements kind bounds m buffer r g =
+    let n = element_count bounds in
+    by_place (λ k. taken_bytes kind (value_at kind (element_size kind * k) buffer)) bounds
+    ∙ values_from kind m buffer r n 0 n g.same (omega arith) g.fit
+    ∙ sym (map_map (λ a. taken_bytes kind (value_at kind a m)) (λ k. r.at + r.step * k) (range_with_len 0 n))
+
+-- ---- texts that are all in their elements
+
+all_true : (kind : LeafKind) (m as' : List ℕ) → ((a : ℕ) → is_in_element kind m a ≡ true) → list_all (is_in_element kind m) as' ≡ true
+all_true kind m [] h = refl
+all_true kind m (a ∷ as') h = both (is_in_element kind m a) (list_all (is_in_element kind m) as') (h a) (all_true kind m as' h)
+
+pub all_in : (kind : LeafKind) (m as' : List ℕ) → None ≡ longest kind → list_all (is_in_element kind m) as' ≡ true
+all_in (Fixed p) m as' h = all_true (Fixed p) m as' (λ a. refl)
+all_in (Character n) m as' h = all_true (Character n) m as' (λ a. refl)
+all_in (Varying n) m as' h = absurd (cc h)
+all_in Bit m as' h = all_true Bit m as' (λ a. refl)
+all_in Pointer m as' h = all_true Pointer m as' (λ a. refl)
+all_in Offset m as' h = all_true Offset m as' (λ a. refl)
+all_in (Area n) m as' h = all_true (Area n) m as' (λ a. refl)
+
+pub is_varying : (kind : LeafKind) (n : ℕ) → Some n ≡ longest kind → kind ≡ Varying n
+is_varying (Fixed p) n h = absurd (cc h)
+is_varying (Character k) n h = absurd (cc h)
+is_varying (Varying k) n h = let e : n ≡ k = cc h in ap Varying (sym e)
+is_varying Bit n h = absurd (cc h)
+is_varying Pointer n h = absurd (cc h)
+is_varying Offset n h = absurd (cc h)
+is_varying (Area k) n h = absurd (cc h)
+
+within_less : (bytes fewer end : ℕ) (as' : List ℕ) → fewer ≤ bytes → AreWithin bytes end as' → AreWithin fewer end as'
+within_less bytes fewer end [] h w = tt
+within_less bytes fewer end (a ∷ as') h w = let first = w.0 in (omega (arith, h, first), within_less bytes fewer end as' h w.1)
+
+pub lengths_within : (kind : LeafKind) (n end : ℕ) (as' : List ℕ) → Some n ≡ longest kind → AreWithin (leaf_bytes kind) end as' → AreWithin 2 end as'
+lengths_within kind n end as' e w = within_less (leaf_bytes kind) 2 end as' (subst (λ k. 2 ≤ leaf_bytes k) (sym (is_varying kind n e)) (omega arith)) w
+
+pub short_so : (kind : LeafKind) (n : ℕ) (m as' : List ℕ) → Some n ≡ longest kind → are_short n m as' ≡ list_all (is_in_element kind m) as'
+short_so kind n m as' e = subst (λ k. are_short n m as' ≡ list_all (is_in_element k m) as') (sym (is_varying kind n e)) refl
+
+-- ---- lengths one after the other
+
+pub next_standing : (at step count n : ℕ) → n < count → drop n (standing at step count) ≡ (at + step * n) ∷ drop (n + 1) (standing at step count)
+next_standing at step count n h =
+    let l = length_standing at step count in
+    drop_more (standing at step count) n 0 (omega (arith, l, h)) ∙ ap (λ a. a ∷ drop (n + 1) (standing at step count)) (got_standing at step count n h)
+
+test_true : (n m : ℕ) → n ≤ m → nat_le n m ≡ true
+test_true n m h = grind (arith, nat_tests)
+
+test_false : (n m : ℕ) → m < n → nat_le n m ≡ false
+test_false n m h = grind (arith, nat_tests)
+
+pub next_short : (most at step count n half : ℕ) (m : List ℕ) → n < count → half ≡ load 2 m (at + step * n) → half ≤ most → are_short most m (drop n (standing at step count)) ≡ are_short most m (drop (n + 1) (standing at step count))
+next_short most at step count n half m h e low =
+    ap (are_short most m) (next_standing at step count n h)
+    ∙ ap (λ t. t && are_short most m (drop (n + 1) (standing at step count))) (test_true (load 2 m (at + step * n)) most (subst (λ k. k ≤ most) e low))
+
+pub not_short : (most at step count n half : ℕ) (m : List ℕ) → n < count → half ≡ load 2 m (at + step * n) → most < half → are_short most m (drop n (standing at step count)) ≡ false
+not_short most at step count n half m h e high =
+    ap (are_short most m) (next_standing at step count n h)
+    ∙ ap (λ t. t && are_short most m (drop (n + 1) (standing at step count))) (test_false (load 2 m (at + step * n)) most (subst (λ k. most < k) e high))
+
+pub all_short : (most at step count n : ℕ) (m : List ℕ) → count ≤ n → are_short most m (drop n (standing at step count)) ≡ true
+all_short most at step count n m h =
+    let l = length_standing at step count in
+    ap (are_short most m) (drop_all n (standing at step count) (omega (arith, l, h)))
+
+-- ---- elements without bytes
+
+pub nothing_gathered : (kind : LeafKind) (m : List ℕ) (r : Run) (n : ℕ) → leaf_bytes kind ≡ 0 → IsGathered kind m r n []
+nothing_gathered kind m r n e =
+    record {
+      same = λ p h. subst (λ k. AreSame k (r.at + r.step * p) m (element_size kind * p) []) (sym e) refl;
+      fit = all_in kind m (standing r.at r.step n) (not_varying kind e);
+    }
   where
-    rest : length (drop a m) ≡ length m - a → leaf_bytes kind ≤ length (drop a m)
-    rest e = omega (arith, e, h)
+    not_varying : (kind : LeafKind) → leaf_bytes kind ≡ 0 → None ≡ longest kind
+    not_varying (Fixed p) e = refl
+    not_varying (Character n) e = refl
+    not_varying (Varying n) e = absurd (omega (arith, e))
+    not_varying Bit e = refl
+    not_varying Pointer e = refl
+    not_varying Offset e = refl
+    not_varying (Area n) e = refl
 
-pub gathered_value : (kind : LeafKind) (m whole : List ℕ) (before : ℕ) (addresses : List ℕ) (a : ℕ) → AreWithin (leaf_bytes kind) (length m) (a ∷ addresses) → is_in_element kind m a ≡ true
-    → drop before whole ≡ gathered kind m (a ∷ addresses) → value_at kind before whole ≡ value_at kind a m
-gathered_value kind m whole before addresses a w t e =
-    sym (same_value kind a m before whole (sym (first_bytes kind m a (gathered kind m addresses) w.0) ∙ ap (take (leaf_bytes kind)) (sym e)) t)
+-- ---- as code copies them
 
--- all values of a buffer, by the places of its elements
-values_from : (kind : LeafKind) (m whole : List ℕ) (first : ℕ) (addresses : List ℕ) → AreWithin (leaf_bytes kind) (length m) addresses → list_all (is_in_element kind m) addresses ≡ true → drop (element_size kind * first) whole ≡ gathered kind m addresses
-    → map (λ n. taken_bytes kind (value_at kind (element_size kind * n) whole)) (range_with_len first (length addresses)) ≡ map (λ a. taken_bytes kind (value_at kind a m)) addresses
-values_from kind m whole first [] w t e = refl
-values_from kind m whole first (a ∷ as') w t e =
+pub copied_so : (kind : LeafKind) (m : List ℕ) (r : Run) (buffer : List ℕ) (long zeros : ℕ) → 0 < r.count → (r.count ≡ 1) ⊎ (r.step ≡ element_size kind) → r.at + r.step * (r.count - 1) + leaf_bytes kind ≤ length m
+    → long ≡ r.step * (r.count - 1) + leaf_bytes kind → zeros ≡ element_size kind - leaf_bytes kind → buffer ≡ take long (drop r.at m) ++ replicate zeros 0 → IsCopied kind m r buffer
+copied_so kind m r buffer long zeros some even w l z e =
     let size = element_size kind in
-    let l : length (gathered_element kind m a) ≡ size = length_gathered kind m a w.0 in
-    let next : size * first + size ≡ size * (first + 1) = omega arith in
-    let rest : drop (size * (first + 1)) whole ≡ gathered kind m as' = ap (λ n. drop n whole) (sym next) ∙ sym (drop-drop size (size * first) whole) ∙ ap (drop size) e ∙ drop_at (gathered_element kind m a) (gathered kind m as') size l in
-    ap₂ (λ v vs. v ∷ vs) (ap (taken_bytes kind) (gathered_value kind m whole (size * first) as' a w (first_of_both (is_in_element kind m a) (list_all (is_in_element kind m) as') t) e))
-    (values_from kind m whole (first + 1) as' w.1 (second_of_both (is_in_element kind m a) (list_all (is_in_element kind m) as') t) rest)
+    let bytes = leaf_bytes kind in
+    let n = r.count in
+    let low : bytes ≤ size = omega arith in
+    let same : r.step * (n - 1) ≡ size * (n - 1) = last even in
+    let whole : buffer ≡ bytes_at (size * (n - 1) + bytes) r.at m ++ replicate zeros 0 = e ∙ ap (λ k. bytes_at k r.at m ++ replicate zeros 0) (l ∙ ap (λ k. k + bytes) same) in
+    let inside : r.at + (size * (n - 1) + bytes) ≤ length m = omega (arith, w, same) in
+    record {
+      same = λ p h. subst (λ k. AreSame bytes (r.at + k) m (size * p) buffer) (sym (place even p h)) (copied_same bytes size r.at n p m buffer (replicate zeros 0) h whole inside);
+      long = copied_length bytes size r.at n zeros m buffer some low z whole inside;
+    }
+  where
+    last : (r.count ≡ 1) ⊎ (r.step ≡ element_size kind) → r.step * (r.count - 1) ≡ element_size kind * (r.count - 1)
+    last (inl one) = let none : r.count - 1 ≡ 0 = omega (arith, one) in let e : r.step * 0 ≡ element_size kind * 0 = omega arith in ap (λ k. r.step * k) none ∙ e ∙ ap (λ k. element_size kind * k) (sym none)
+    last (inr step) = ap (λ s. s * (r.count - 1)) step
 
-pub gathered_elements : (kind : LeafKind) (bounds : List Bounds) (m : List ℕ) (addresses : List ℕ) → AreWithin (leaf_bytes kind) (length m) addresses → list_all (is_in_element kind m) addresses ≡ true → length addresses ≡ element_count bounds
-    → elements_in kind bounds (gathered kind m addresses) ≡ map (λ a. taken_bytes kind (value_at kind a m)) addresses
-gathered_elements kind bounds m addresses w t many =
-    let none : element_size kind * 0 ≡ 0 = omega arith in
-    by_place (λ n. taken_bytes kind (value_at kind (element_size kind * n) (gathered kind m addresses))) bounds
-    ∙ ap (λ n. map (λ n. taken_bytes kind (value_at kind (element_size kind * n) (gathered kind m addresses))) (range_with_len 0 n)) (sym many)
-    ∙ values_from kind m (gathered kind m addresses) 0 addresses w t (ap (λ n. drop n (gathered kind m addresses)) none)
-
-pub within_at : (bytes end : ℕ) (addresses : List ℕ) (i : ℕ) → AreWithin bytes end addresses → i < length addresses → get_or addresses i 0 + bytes ≤ end
-within_at bytes end [] i w h = absurd (omega (arith, h))
-within_at bytes end (a ∷ as') zero w h = w.0
-within_at bytes end (a ∷ as') (suc i) w h = within_at bytes end as' i w.1 (omega (arith, h))
+    place : (r.count ≡ 1) ⊎ (r.step ≡ element_size kind) → (p : ℕ) → p < r.count → r.step * p ≡ element_size kind * p
+    place (inl one) p h = let none : p ≡ 0 = omega (arith, one, h) in let e : r.step * 0 ≡ element_size kind * 0 = omega arith in ap (λ k. r.step * k) none ∙ e ∙ ap (λ k. element_size kind * k) (sym none)
+    place (inr step) p h = ap (λ s. s * p) step

@@ -1,9 +1,8 @@
 pub mod Asked
 pub mod Elements
-pub mod Lists
+pub mod Moving
 pub mod Parts
 pub mod Placed
-pub mod Places
 pub mod Puts
 pub mod Rereading
 pub mod RoundTrips

@@ -1,26 +1,27 @@
 -- Leaves of a generation, by what is placed and held of them.
-use Rattle.std.proofs.Common.{◌≡◌, ℕ, zero, suc, ◌+◌, ◌<◌, ◌≤◌, ℤ, Bool, true, false, List, [], ◌∷◌, ◌++◌, length, drop, map, Option, Some, None, Result, Ok, Err, refl, sym, ap, ap₂, subst, ◌∙◌, arith}
+use Rattle.std.proofs.Common.{◌≡◌, ℕ, zero, suc, ◌<◌, ◌≤◌, ℤ, true, false, List, [], ◌∷◌, ◌++◌, length, drop, map, Option, Some, None, Result, Ok, Err, refl, sym, ap, ap₂, subst, ◌∙◌, arith}
 use Rattle.std.specs.Prelude.{MatchOption, nat_lt, slice_get, unwrap_or}
 use Rattle.std.proofs.lemmas.Bool.Decides.{nat_tests}
-use Rattle.pli_typing.specs.Signatures.{Leaf, leaf_bytes}
+use Rattle.pli_typing.specs.Signatures.{Leaf, element_count, leaf_bytes}
 use Rattle.pli_types.specs.View.{pair_of}
 use Rattle.pli_meaning.specs.Contents.{Shape, leaves_with}
 use Rattle.pli_meaning.specs.Evaluating.{leaf_at}
 use Rattle.pli_meaning.specs.Unreachable.{unreachable_leaf}
 use Rattle.pli_serving.specs.Aggregates.{element_at}
 use Rattle.pli_serving.specs.Finding.{Found}
-use Rattle.pli_serving.specs.Values.{leaf_place}
 use Rattle.pli_signatures.specs.View.{kind_of, leaf_in_force}
 use Rattle.pli_signatures.specs.Whole.{leaf_in}
 use Rattle.pli_answering.specs.declared.reply.Refusal.{Refusal}
 use Rattle.pli_answering.specs.declared.reply.Refusal.TheVariants as F
 use Rattle.pli_aggregates.specs.declared.part.PlacedLeaf.{PlacedLeaf}
 use Rattle.pli_aggregates.specs.Elements.{AreWithin, stands_in}
-use Rattle.pli_aggregates.specs.Parts.{IsLeafOf, IsPlaced, StandAt, has_all, subscripts_left}
+use Rattle.pli_aggregates.specs.Parts.{IsLeafOf, IsPlaced, has_all, subscripts_left}
+use Rattle.pli_aggregates.specs.Standing.{count_left}
+use Rattle.pli_aggregates.specs.Runs.{standing}
 use Rattle.pli_aggregates.proofs.Parting.{as_many, got_past}
 use Rattle.pli_parts.specs.Leaves.{IsHeldIf, IsHeldOf, IsLeafFound, IsPartLeaf, has_leaf, is_leaf_there}
 use Rattle.pli_parts.specs.declared.leaf.PartLeaf.{PartLeaf}
-use Rattle.pli_parts.proofs.Lists.{both, not_first, not_second}
+use Rattle.pli_aggregates.proofs.Lists.{both, not_first, not_second}
 
 below_test : (n many : ℕ) → n < many → nat_lt n many ≡ true
 below_test n many h = grind (arith, nat_tests)
@@ -57,6 +58,7 @@ held_some s z f given leaf end p l i h =
     let many = as_many z s in
     let below = got_below (leaves_with z s) leaf (leaf_in_force p.in_force) i.in_force in
     let kind : (leaf_in_force p.in_force).kind ≡ (leaf_at s z leaf).kind = ap (λ (x : Leaf). x.kind) k in
+    let left : element_count (map pair_of l.bounds.items) ≡ count_left (leaf_in_force p.in_force) given = ap element_count h.bounds in
     let places : map (λ is. stands_in p.place.base (leaf_in_force p.place.allocated) (given ++ is)) (subscripts_left (leaf_in_force p.in_force) given) ≡ map (λ is. element_at s f (leaf, given ++ is)) (subscripts_left (leaf_at s z leaf) given) =
     ap₂ (λ (base : ℕ) (x : Leaf). map (λ is. stands_in base x (given ++ is)) (subscripts_left (leaf_in_force p.in_force) given)) (i.base s refl) had
     ∙ ap (λ (y : Leaf). map (λ is. element_at s f (leaf, given ++ is)) (subscripts_left y given)) k in
@@ -65,8 +67,11 @@ held_some s z f given leaf end p l i h =
           (sym (ap₂ (λ x y. has_all x y given (subscripts_left y given)) had k) ∙ h.stand.there);
       kind = ap kind_of h.kind ∙ kind;
       bounds = h.bounds ∙ ap (λ (x : Leaf). drop (length given) x.bounds) k;
-      stand = h.stand.stand ∙ places;
-      within = subst (λ n. AreWithin (leaf_bytes (leaf_at s z leaf).kind) n l.addresses.items) i.end (subst (λ n. AreWithin n p.place.end l.addresses.items) (i.bytes ∙ ap leaf_bytes kind) h.stand.within);
+      stand = ap (standing l.run.at l.run.step) left ∙ h.stand.stand ∙ places;
+      within = subst (λ n. AreWithin (leaf_bytes (leaf_at s z leaf).kind) end (standing l.run.at l.run.step n)) (sym left)
+          (subst (λ n. AreWithin (leaf_bytes (leaf_at s z leaf).kind) n (standing l.run.at l.run.step (count_left (leaf_in_force p.in_force) given))) i.end
+          (subst (λ n. AreWithin n p.place.end (standing l.run.at l.run.step (count_left (leaf_in_force p.in_force) given))) (i.bytes ∙ ap leaf_bytes kind) h.stand.within));
+      counted = λ some. h.stand.exact (subst (λ n. 0 < n) (sym (i.bytes ∙ ap leaf_bytes kind)) some) ∙ sym left;
     }
 
 held_found : (s : Shape) (z : ℤ) (f : Found) (given : List ℤ) (leaf end : ℕ) (p : PlacedLeaf) (r : Result (Option PartLeaf) Refusal) → IsLeafOf (Some s) z leaf f end p → IsHeldIf p given r → IsLeafFound s z f given end leaf r

@@ -1,23 +1,18 @@
 -- What is put into a part, leaf by leaf.
-use Rattle.std.proofs.Common.{◌≡◌, ℕ, zero, suc, ◌+◌, ◌*◌, ◌<◌, ◌≤◌, ℤ, Bool, true, false, List, [], ◌∷◌, ◌++◌, length, take, drop, get_or, map, Option, Some, None, refl, sym, ap, ap₂, subst, ◌∙◌, arith, zip, min, ◌≢◌, mul-le-mul_left}
-use Rattle.std.specs.Prelude.{◌&&◌, nat_le, nat_lt, slice_get, unwrap_or}
-use Rattle.std.specs.Ordering.{is_eq, int_cmp}
-use Rattle.std.specs.List.{list_all, range_with_len}
+use Rattle.std.proofs.Common.{◌≡◌, ℕ, zero, suc, ◌+◌, ◌*◌, ◌<◌, ◌≤◌, ℤ, Bool, true, false, List, [], ◌∷◌, ◌++◌, length, take, drop, get_or, map, refl, sym, ap, ap₂, subst, ◌∙◌, arith, zip, min, ◌≢◌, mul-le-mul_left}
+use Rattle.std.specs.Prelude.{◌&&◌, ◌||◌, ◌==◌, nat_le, nat_lt, slice_get, unwrap_or}
+use Rattle.std.specs.List.{range_with_len}
 use Rattle.std.proofs.lemmas.Bool.Decides.{nat_tests}
 use Rattle.std.proofs.lemmas.List.{drop_all, drop_more}
-use Rattle.pli_typing.specs.Signatures.{Bounds, Leaf, LeafKind, element_count}
-use Rattle.pli_types.specs.View.{pair_of}
-use Rattle.pli_meaning.specs.BasicValues.{BasicValue}
-use Rattle.pli_meaning.specs.Contents.{Shape, element_place, leaves_with, same_bounds, same_int}
-use Rattle.pli_meaning.specs.Evaluating.{Designated, leaf_at}
-use Rattle.pli_meaning.specs.Placing.{all_same_bounds, bounds_left, part_bounds}
-use Rattle.pli_meaning.specs.StreamOrder.{Element}
+use Rattle.pli_typing.specs.Signatures.{Bounds, Leaf, LeafKind, leaf_bytes}
+use Rattle.pli_meaning.specs.Contents.{Shape, element_place, leaves_with, same_bounds}
+use Rattle.pli_meaning.specs.Evaluating.{leaf_at}
+use Rattle.pli_meaning.specs.Placing.{all_same_bounds, bounds_left}
 use Rattle.pli_meaning.specs.Unreachable.{unreachable_leaf}
 use Rattle.pli_serving.specs.Aggregates.{Aggregate, PartFound, element_at, leaf_elements}
-use Rattle.pli_serving.specs.AggregateServices.{Store, goes_into, kind_of_nth, leaves_go_into, stored_in, stores_of, taken_bytes, taken_value}
+use Rattle.pli_serving.specs.AggregateServices.{Store, goes_into, leaves_go_into, stored_in, stores_of, taken_bytes, taken_value}
 use Rattle.pli_serving.specs.Bytes.{with_bytes}
 use Rattle.pli_serving.specs.Finding.{Call, Found}
-use Rattle.pli_serving.specs.ServiceState as S
 use Rattle.pli_serving.specs.Stored.{kept_bytes}
 use Rattle.pli_serving.specs.Values.{all_subscripts, element_size, value_at}
 use Rattle.pli_signatures.specs.View.{kind_of}
@@ -25,12 +20,15 @@ use Rattle.pli_aggregates.specs.Parts.{subscripts_left}
 use Rattle.pli_entries.specs.Kept.{elements_in, leaf_of}
 use Rattle.pli_parts.specs.Found.{designated_from}
 use Rattle.pli_parts.specs.Leaves.{ArePartLeaves, IsPartLeaf, has_leaf}
+use Rattle.pli_values.proofs.Parts.{with_none}
+use Rattle.pli_aggregates.proofs.Running.{no_bytes}
+use Rattle.pli_parts.specs.Leaves.{addresses_of}
 use Rattle.pli_parts.specs.Putting.{are_whole, bounds_of, bounds_taken, elements_put, go_into, is_whole, leaf_put, leaves_put, value_again}
 use Rattle.pli_parts.specs.declared.leaf.PartLeaf.{PartLeaf}
 use Rattle.pli_entries.specs.declared.taken.TakenLeaf.{TakenLeaf}
-use Rattle.pli_types.specs.declared.signature.Bounds.{Bounds as Held}
-use Rattle.pli_parts.proofs.Lists.{first_of_both, map_map, not_second, second_of_both}
-use Rattle.pli_parts.proofs.Places.{as_many_subscripts, by_place}
+use Rattle.pli_aggregates.proofs.Bounding.{equal_bounds}
+use Rattle.pli_aggregates.proofs.Lists.{first_of_both, map_map, not_second, second_of_both}
+use Rattle.pli_aggregates.proofs.Places.{as_many_subscripts, by_place}
 
 next_place : (first n : ℕ) → suc (first + n) ≡ first + suc n
 next_place first n = omega arith
@@ -71,22 +69,6 @@ kinds_known c a f end first count n is (l ∷ ls) (t ∷ ts) p e =
     (kinds_known c a f end first count (suc n) is ls ts (subst (λ leaf. ArePartLeaves a.shape a.extent f is end leaf ls) (next_place first n) p.1) (omega (arith, e)))
 
 -- ---- the same bounds
-
-same_number : (x y : ℤ) → same_int x y ≡ true → x ≡ y
-same_number x y e = grind (arith)
-
-pub equal_bounds : (xs ys : List Bounds) → same_bounds xs ys ≡ true → xs ≡ ys
-equal_bounds [] [] e = refl
-equal_bounds [] (y ∷ ys) e = cc
-equal_bounds (x ∷ xs) [] e = cc
-equal_bounds (x ∷ xs) (y ∷ ys) e =
-    let rest = second_of_both (same_int x.lower y.lower) (same_int x.upper y.upper && same_bounds xs ys) e in
-    let lower = same_number x.lower y.lower (first_of_both (same_int x.lower y.lower) (same_int x.upper y.upper && same_bounds xs ys) e) in
-    let upper = same_number x.upper y.upper (first_of_both (same_int x.upper y.upper) (same_bounds xs ys) rest) in
-    ap₂ (λ (b : Bounds) bs. b ∷ bs) (ap₂ pair lower upper) (equal_bounds xs ys (second_of_both (same_int x.upper y.upper) (same_bounds xs ys) rest))
-  where
-    pair : ℤ → ℤ → Bounds
-    pair l u = record { lower = l; upper = u }
 
 pub as_many_bounds : (xs ys : List (List Bounds)) → all_same_bounds xs ys ≡ true → length xs ≡ length ys
 as_many_bounds [] [] e = refl
@@ -161,12 +143,6 @@ no_more (l ∷ ls) [] (suc n) h = go_nowhere (drop n ls)
 no_more (l ∷ ls) (t ∷ ts) zero h = absurd (omega (arith, h))
 no_more (l ∷ ls) (t ∷ ts) (suc n) h = no_more ls ts n (omega (arith, h))
 
-pub uneven_bounds : (xs ys : List Held) → length xs ≢ length ys → false ≡ same_bounds (map pair_of xs) (map pair_of ys)
-uneven_bounds [] [] h = absurd (h refl)
-uneven_bounds [] (y ∷ ys) h = refl
-uneven_bounds (x ∷ xs) [] h = refl
-uneven_bounds (x ∷ xs) (y ∷ ys) h = sym (not_second (same_int x.lower y.lower) (same_int x.upper y.upper && same_bounds (map pair_of xs) (map pair_of ys)) (not_second (same_int x.upper y.upper) (same_bounds (map pair_of xs) (map pair_of ys)) (sym (uneven_bounds xs ys (λ e. h (ap suc e))))))
-
 pub uneven_leaves : (ls : List PartLeaf) (ts : List TakenLeaf) → length ls ≢ length ts → false ≡ all_same_bounds (map bounds_of ls) (map bounds_taken ts)
 uneven_leaves [] [] h = absurd (h refl)
 uneven_leaves [] (t ∷ ts) h = refl
@@ -212,11 +188,10 @@ whole_at (k ∷ ls) [] n l t w h g e f = absurd (omega (arith, g))
 whole_at (k ∷ ls) (s ∷ ts) zero l t w h g e f = ap₂ is_whole e f ∙ first_of_both (is_whole k s) (are_whole ls ts) w
 whole_at (k ∷ ls) (s ∷ ts) (suc n) l t w h g e f = whole_at ls ts n l t (second_of_both (is_whole k s) (are_whole ls ts) w) (omega (arith, h)) (omega (arith, g)) e f
 
-pub room_for : (size place count bytes : ℕ) → place < count → nat_le (size * count) bytes ≡ true → size * place + size ≤ bytes
-room_for size place count bytes h e =
+pub room_for : (size place count bytes : ℕ) → place < count → size * count ≤ bytes → size * place + size ≤ bytes
+room_for size place count bytes h all =
     let next : size * (place + 1) ≤ size * count = mul-le-mul_left size (omega (arith, h)) in
     let more : size * (place + 1) ≡ size * place + size = omega arith in
-    let all : size * count ≤ bytes = grind (arith, nat_tests) in
     omega (arith, next, more, all)
 
 pub one_more_element : (target source : LeafKind) (bytes : List ℕ) (n a : ℕ) (addresses m : List ℕ) → n < length addresses → a ≡ get_or addresses n 0
@@ -228,3 +203,20 @@ one_more_element target source bytes n a addresses m h e =
 
 pub no_more_elements : (target source : LeafKind) (bytes : List ℕ) (n : ℕ) (addresses m : List ℕ) → length addresses ≤ n → elements_put target source bytes n (drop n addresses) m ≡ m
 no_more_elements target source bytes n addresses m h = ap (λ as'. elements_put target source bytes n as' m) (drop_all n addresses h)
+
+-- a leaf without bytes keeps nothing
+none_put : (target source : LeafKind) (bytes : List ℕ) (n : ℕ) (addresses m : List ℕ) → leaf_bytes target ≡ 0 → elements_put target source bytes n addresses m ≡ m
+none_put target source bytes n [] m e = refl
+none_put target source bytes n (a ∷ as') m e =
+    ap (elements_put target source bytes (suc n) as') (ap (λ bs. with_bytes bs a m) (no_bytes target (value_again source bytes n) e) ∙ with_none a m)
+    ∙ none_put target source bytes (suc n) as' m e
+
+pub no_leaf_put : (l : PartLeaf) (t : TakenLeaf) (m : List ℕ) → leaf_bytes (kind_of l.kind) ≡ 0 → m ≡ leaf_put l t m
+no_leaf_put l t m e = sym (none_put (kind_of l.kind) (kind_of t.kind) t.bytes.items 0 (addresses_of l) m e)
+
+pub whole_bytes : (l : PartLeaf) (t : TakenLeaf) → 0 < leaf_bytes (kind_of l.kind) → is_whole l t ≡ true → element_size (kind_of t.kind) * l.run.count ≤ length t.bytes.items
+whole_bytes l t some w = go (leaf_bytes (kind_of l.kind)) some w
+  where
+    go : (n : ℕ) → 0 < n → (n == 0 || nat_le (element_size (kind_of t.kind) * l.run.count) (length t.bytes.items)) ≡ true → element_size (kind_of t.kind) * l.run.count ≤ length t.bytes.items
+    go zero s e = absurd (omega (arith, s))
+    go (suc n) s e = grind (arith, nat_tests, e)

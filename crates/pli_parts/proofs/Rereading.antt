@@ -1,12 +1,12 @@
 -- Values that were taken are read again as they were.
-use Rattle.std.proofs.Common.{◌≡◌, ℕ, ◌^◌, ◌<◌, ◌≤◌, Bool, true, false, List, Option, Some, None, refl, sym, ap, ◌∙◌, arith}
+use Rattle.std.proofs.Common.{◌≡◌, ℕ, ◌^◌, ◌<◌, ◌≤◌, Bool, true, false, List, Some, None, sym, ap, ◌∙◌, arith}
 use Rattle.std.specs.Prelude.{◌==◌, nat_le, unwrap_or, if◌then◌else◌}
 use Rattle.std.specs.Int.{w16, cast_signed}
 use Rattle.std.proofs.lemmas.Bool.Decides.{nat_tests}
 use Rattle.rv_meaning.specs.Memory.{load}
 use Rattle.rv_meaning.specs.Words.{signed, word}
-use Rattle.pli_typing.specs.Signatures.{LeafKind, Fixed, Character, Varying, Bit, Pointer, Offset, Area}
-use Rattle.pli_meaning.specs.BasicValues.{BasicValue, BasicNumber, BasicText, BasicBit, BasicPointer, BasicOffset, Name, NullName}
+use Rattle.pli_typing.specs.Signatures.{Fixed, Bit, Pointer, Offset}
+use Rattle.pli_meaning.specs.BasicValues.{BasicValue, BasicNumber, BasicBit, BasicPointer, BasicOffset, Name, NullName}
 use Rattle.pli_meaning.specs.Unreachable.{unreachable_name}
 use Rattle.pli_serving.specs.Bytes.{name_at, number_bytes, offset_of}
 use Rattle.pli_serving.specs.Values.{value_at}

@@ -1,7 +1,7 @@
 -- Values that were taken as bytes, and are read again.
-use Rattle.std.proofs.Common.{◌≡◌, ℕ, zero, suc, ◌+◌, ◌-◌, ◌*◌, ◌/◌, ◌%◌, ◌^◌, ◌<◌, ◌≤◌, ℤ, Bool, true, false, List, [], ◌∷◌, ◌++◌, Some, None, refl, sym, ap, ap₂, ◌∙◌, arith, append-nil}
-use Rattle.std.specs.Prelude.{◌==◌, nat_le, nat_lt, slice_index, if◌then◌else◌, unwrap_or}
-use Rattle.std.specs.Int.{w16, w32, cast_signed, cast_unsigned}
+use Rattle.std.proofs.Common.{◌≡◌, ℕ, zero, suc, ◌+◌, ◌*◌, ◌/◌, ◌%◌, ◌^◌, ◌<◌, Bool, true, false, List, [], ◌∷◌, ◌++◌, Some, None, refl, sym, ap, ap₂, ◌∙◌, arith, append-nil}
+use Rattle.std.specs.Prelude.{◌==◌, slice_index, if◌then◌else◌}
+use Rattle.std.specs.Int.{w16, w32, cast_signed}
 use Rattle.std.proofs.lemmas.Bool.Decides.{nat_tests}
 use Rattle.std.proofs.lemmas.Int.{of_z-to_z}
 use Rattle.std.proofs.lemmas.Nat.{div_below}
@@ -52,6 +52,9 @@ bit_again false = refl
 by_offset : (w : ℕ) (t : Bool) → (w == null_offset) ≡ t → offset_word (if t then None else Some w) ≡ w
 by_offset w true e = grind (arith, nat_tests, e)
 by_offset w false e = refl
+
+pub same_offset : (w : ℕ) → offset_word (offset_of w) ≡ w
+same_offset w = by_offset w (w == null_offset) refl
 
 pub offset_again : (w : ℕ) → w < 2 ^ 32 → offset_of (load 4 (number_bytes 4 (offset_word (offset_of w))) 0) ≡ offset_of w
 offset_again w l = ap (λ k. offset_of (load 4 (number_bytes 4 k) 0)) (by_offset w (w == null_offset) refl) ∙ ap offset_of (loaded_alone 4 w (omega (arith, l)))

@@ -1,15 +1,15 @@
 -- Service 40 by the leaves of its part.
-use Rattle.std.proofs.Common.{◌≡◌, ℕ, zero, suc, ◌+◌, ℤ, Bool, true, false, List, [], ◌∷◌, length, map, take, drop, Option, Some, None, Ok, ◌≤◌, refl, sym, ap, ap₂, subst, ◌∙◌, arith}
-use Rattle.std.specs.Prelude.{◌==◌, ◌&&◌, MatchOption, Vec, option_map, ⊤, if◌then◌else◌}
+use Rattle.std.proofs.Common.{◌≡◌, ℕ, suc, ◌+◌, ℤ, Bool, true, false, List, [], ◌∷◌, length, map, take, drop, Option, Some, None, Ok, ◌≤◌, refl, sym, ap, ap₂, subst, ◌∙◌, arith}
+use Rattle.std.specs.Prelude.{◌==◌, MatchOption, Vec, option_map, ⊤, if◌then◌else◌}
 use Rattle.std.specs.declared.alloc.Global.{Global}
 use Rattle.std.specs.List.{list_all, range_with_len}
-use Rattle.pli_typing.specs.Signatures.{Bounds, Leaf}
-use Rattle.pli_meaning.specs.Contents.{Shape, last_refers, leaves_refer, leaves_with}
+use Rattle.pli_typing.specs.Signatures.{Leaf}
+use Rattle.pli_meaning.specs.Contents.{last_refers, leaves_refer, leaves_with}
 use Rattle.pli_meaning.specs.Codes.{shape_code}
 use Rattle.pli_meaning.specs.Evaluating.{Designated}
 use Rattle.pli_meaning.specs.Placing.{all_same_bounds, bounds_left, part_bounds}
-use Rattle.pli_serving.specs.Aggregates.{Aggregate, PartFound, aggregate_at, leaf_numbers, part_of_leaves}
-use Rattle.pli_serving.specs.AggregateServices.{aggregate_served, assigned_by, goes_into, kind_of_nth, leaves_go_into, leaves_put as put_leaves, part_put, part_taken, stored_in, stores_of, taken_leaf}
+use Rattle.pli_serving.specs.Aggregates.{PartFound, aggregate_at, leaf_numbers, part_of_leaves}
+use Rattle.pli_serving.specs.AggregateServices.{aggregate_served, assigned_by, goes_into, kind_of_nth, leaves_go_into, part_put, part_taken, stored_in, stores_of, taken_leaf}
 use Rattle.pli_serving.specs.Answers.{Answer, Done, Bad}
 use Rattle.pli_serving.specs.Finding.{Call}
 use Rattle.pli_serving.specs.Outcomes.{answering, bad_unless, becoming, or_bad, pushed, then_found, with_entries}
@@ -24,7 +24,7 @@ use Rattle.pli_parts.specs.Taking.{have_values, leaf_taken}
 use Rattle.pli_parts.specs.declared.leaf.PartLeaf.{PartLeaf}
 use Rattle.pli_entries.specs.declared.taken.TakenLeaf.{TakenLeaf}
 use Rattle.pli_parts.specs.declared.part.PartAsked.{PartAsked}
-use Rattle.pli_parts.proofs.Lists.{map_map}
+use Rattle.pli_aggregates.proofs.Lists.{map_map}
 use Rattle.pli_parts.proofs.Puts.{all_stored, as_many_bounds, bounds_known, kinds_known}
 use Rattle.pli_parts.proofs.Takes.{all_have_values, all_readable, all_taken}
 

@@ -1,11 +1,11 @@
 -- What is taken of a part, leaf by leaf.
-use Rattle.std.proofs.Common.{◌≡◌, ℕ, zero, suc, ◌+◌, ◌<◌, ◌≤◌, drop, get_or, ℤ, Bool, true, false, List, [], ◌∷◌, ◌++◌, length, map, refl, sym, ap, ap₂, subst, ◌∙◌, arith}
+use Rattle.std.proofs.Common.{◌≡◌, ℕ, zero, suc, ◌+◌, ◌<◌, ◌≤◌, get_or, ℤ, true, List, [], ◌∷◌, ◌++◌, length, map, refl, sym, ap, ap₂, subst, ◌∙◌, arith}
 use Rattle.std.specs.Prelude.{◌&&◌}
 use Rattle.std.specs.List.{list_all, range_with_len}
 use Rattle.pli_typing.specs.Signatures.{Bounds, Leaf, LeafKind, element_count, leaf_bytes}
 use Rattle.pli_types.specs.View.{pair_of}
-use Rattle.pli_meaning.specs.Contents.{Shape, is_within, leaves_with}
-use Rattle.pli_meaning.specs.Evaluating.{Designated, leaf_at}
+use Rattle.pli_meaning.specs.Contents.{Shape, is_within}
+use Rattle.pli_meaning.specs.Evaluating.{leaf_at}
 use Rattle.pli_meaning.specs.Placing.{elements_of}
 use Rattle.pli_meaning.specs.Streaming.{kind_holds}
 use Rattle.pli_serving.specs.Aggregates.{Aggregate, element_at}
@@ -15,17 +15,17 @@ use Rattle.pli_serving.specs.ServiceState as S
 use Rattle.pli_serving.specs.Values.{value_at}
 use Rattle.pli_signatures.specs.View.{kind_of}
 use Rattle.pli_aggregates.specs.Elements.{AreWithin}
+use Rattle.pli_aggregates.specs.Standing.{CountsAs}
 use Rattle.pli_aggregates.specs.Parts.{subscripts_left}
 use Rattle.pli_entries.specs.Kept.{elements_in, leaf_of}
 use Rattle.pli_parts.specs.Buffers.{IsGathered}
 use Rattle.pli_parts.specs.Found.{designated_from}
-use Rattle.pli_parts.specs.Leaves.{ArePartLeaves, AreReadable, IsPartLeaf, IsReadable, has_leaf}
+use Rattle.pli_parts.specs.Leaves.{ArePartLeaves, AreReadable, IsPartLeaf, IsReadable, addresses_of, has_leaf}
 use Rattle.pli_parts.specs.Taking.{have_values, leaf_taken}
 use Rattle.pli_parts.specs.declared.leaf.PartLeaf.{PartLeaf}
 use Rattle.pli_entries.specs.declared.taken.TakenLeaf.{TakenLeaf}
 use Rattle.pli_parts.proofs.Elements.{gathered_elements}
-use Rattle.pli_parts.proofs.Lists.{first_of_both, map_map, map_where, second_of_both}
-use Rattle.pli_parts.proofs.Places.{as_many_subscripts}
+use Rattle.pli_aggregates.proofs.Lists.{first_of_both, map_map, map_where, second_of_both}
 use Rattle.pli_parts.proofs.Seeing.{leaves_alike, seen_so}
 
 abbrev taken_by : LeafKind → List Bounds → List (List ℕ) → S.TakenLeaf
@@ -46,7 +46,7 @@ pub taken_so : (c : Call) (a : Aggregate) (f : Found) (end first count n : ℕ) 
 taken_so c a f end first count n is l i =
     let leaf = first + n in
     let k : Leaf = leaf_at a.shape a.extent leaf in
-    let elements = λ (kind : LeafKind). map (λ b. taken_bytes kind (value_at kind b c.memory)) l.addresses.items in
+    let elements = λ (kind : LeafKind). map (λ b. taken_bytes kind (value_at kind b c.memory)) (addresses_of l) in
     let values : elements k.kind ≡ map (λ js. taken_bytes k.kind (elements_of (designated_from c a f first count is) n js)) (subscripts_left k is) =
     ap (map (λ b. taken_bytes k.kind (value_at k.kind b c.memory))) i.stand
     ∙ (map_map (λ b. taken_bytes k.kind (value_at k.kind b c.memory)) (λ js. element_at a.shape f (leaf, is ++ js)) (subscripts_left k is)
@@ -73,12 +73,12 @@ all_have_values c a f end first count n is (l ∷ ls) p =
 
 -- ---- as code holds it
 
-pub leaf_gathered : (l : PartLeaf) (t : TakenLeaf) (m : List ℕ) → t.kind ≡ l.kind → t.bounds.items ≡ l.bounds.items → IsGathered (kind_of l.kind) m l.addresses.items t.bytes.items → IsReadable (length m) l → leaf_of t ≡ leaf_taken m l
-leaf_gathered l t m k b g r =
+pub leaf_gathered : (l : PartLeaf) (t : TakenLeaf) (m : List ℕ) → t.kind ≡ l.kind → t.bounds.items ≡ l.bounds.items → IsGathered (kind_of l.kind) m l.run (element_count (map pair_of l.bounds.items)) t.bytes.items → leaf_of t ≡ leaf_taken m l
+leaf_gathered l t m k b g =
     let kind = kind_of l.kind in
     let bounds = map pair_of l.bounds.items in
     ap₂ (λ x bs. taken_by (kind_of x) (map pair_of bs) (elements_in (kind_of x) (map pair_of bs) t.bytes.items)) k b
-    ∙ ap (taken_by kind bounds) (ap (elements_in kind bounds) g.elements ∙ gathered_elements kind bounds m l.addresses.items r.within g.fit r.many)
+    ∙ ap (taken_by kind bounds) (gathered_elements kind bounds m t.bytes.items l.run g)
 
 pub readable_at : (end : ℕ) (ls : List PartLeaf) (n : ℕ) (l : PartLeaf) → AreReadable end ls → n < length ls → l ≡ get_or ls n l → IsReadable end l
 readable_at end [] n l r h e = absurd (omega (arith, h))
@@ -94,13 +94,9 @@ within_as bytes end other most (a ∷ as') e h w = let first = w.0 in (omega (ar
 readable : (s : Shape) (z : ℤ) (f : Found) (given : List ℤ) (end leaf most : ℕ) (l : PartLeaf) → end ≤ most → IsPartLeaf s z f given end leaf l → IsReadable most l
 readable s z f given end leaf most l h i =
     record {
-      within = within_as (leaf_bytes (leaf_at s z leaf).kind) end (leaf_bytes (kind_of l.kind)) most l.addresses.items (ap leaf_bytes (sym i.kind)) h i.within;
-      many = ap length i.stand ∙ (mapped (λ is. element_at s f (leaf, given ++ is)) (subscripts_left (leaf_at s z leaf) given) ∙ (as_many_subscripts (drop (length given) (leaf_at s z leaf).bounds) ∙ ap element_count (sym i.bounds)));
+      within = within_as (leaf_bytes (leaf_at s z leaf).kind) end (leaf_bytes (kind_of l.kind)) most (addresses_of l) (ap leaf_bytes (sym i.kind)) h i.within;
+      counted = subst (λ kind. CountsAs kind l.run (element_count (map pair_of l.bounds.items))) (sym i.kind) i.counted;
     }
-  where
-    mapped : {X Y : Type 0} (g : X → Y) (xs : List X) → length (map g xs) ≡ length xs
-    mapped g [] = refl
-    mapped g (x ∷ xs) = ap suc (mapped g xs)
 
 pub all_readable : (s : Shape) (z : ℤ) (f : Found) (given : List ℤ) (end leaf most : ℕ) (ls : List PartLeaf) → end ≤ most → ArePartLeaves s z f given end leaf ls → AreReadable most ls
 all_readable s z f given end leaf most [] h p = tt

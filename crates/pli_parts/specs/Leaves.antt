@@ -7,14 +7,19 @@ use Rattle.pli_meaning.specs.Contents.{Shape}
 use Rattle.pli_meaning.specs.Evaluating.{leaf_at}
 use Rattle.pli_serving.specs.Aggregates.{element_at}
 use Rattle.pli_serving.specs.Finding.{Found}
-use Rattle.pli_serving.specs.Values.{all_subscripts}
 use Rattle.pli_signatures.specs.View.{kind_of, leaf_in_force}
 use Rattle.pli_answering.specs.declared.reply.Refusal.{Refusal}
 use Rattle.pli_answering.specs.declared.reply.Refusal.TheVariants as F
 use Rattle.pli_aggregates.specs.declared.part.PlacedLeaf.{PlacedLeaf}
 use Rattle.pli_aggregates.specs.Elements.{AreWithin}
-use Rattle.pli_aggregates.specs.Parts.{StandAt, has_all, subscripts_left}
+use Rattle.pli_aggregates.specs.Standing.{CountsAs, StandAt}
+use Rattle.pli_aggregates.specs.Runs.{standing}
+use Rattle.pli_aggregates.specs.Parts.{has_all, subscripts_left}
 use Rattle.pli_parts.specs.declared.leaf.PartLeaf.{PartLeaf}
+
+-- where the elements of a leaf stand
+abbrev pub addresses_of : PartLeaf → List ℕ
+addresses_of l = standing l.run.at l.run.step (element_count (map pair_of l.bounds.items))
 
 -- whether a generation has the elements of a leaf behind the subscripts given, and those in full
 abbrev pub has_leaf : Shape → (extent : ℤ) → Found → (given : List ℤ) → (leaf : ℕ) → Bool
@@ -28,8 +33,9 @@ pub record IsPartLeaf (s : Shape) (extent : ℤ) (f : Found) (given : List ℤ) 
   pub there : is_leaf_there s extent f given leaf ≡ true
   pub kind : kind_of l.kind ≡ (leaf_at s extent leaf).kind
   pub bounds : map pair_of l.bounds.items ≡ drop (length given) (leaf_at s extent leaf).bounds
-  pub stand : l.addresses.items ≡ map (λ is. element_at s f (leaf, given ++ is)) (subscripts_left (leaf_at s extent leaf) given)
-  pub within : AreWithin (leaf_bytes (leaf_at s extent leaf).kind) end l.addresses.items
+  pub stand : addresses_of l ≡ map (λ is. element_at s f (leaf, given ++ is)) (subscripts_left (leaf_at s extent leaf) given)
+  pub within : AreWithin (leaf_bytes (leaf_at s extent leaf).kind) end (addresses_of l)
+  pub counted : CountsAs (leaf_at s extent leaf).kind l.run (element_count (map pair_of l.bounds.items))
 
 -- leaves one behind the other, from one on
 abbrev pub ArePartLeaves : Shape → (extent : ℤ) → Found → (given : List ℤ) → (end leaf : ℕ) → List PartLeaf → Type 0
@@ -42,7 +48,7 @@ ArePartLeaves s z f given end leaf (l ∷ ls) = IsPartLeaf s z f given end leaf 
 pub record IsHeldOf (p : PlacedLeaf) (given : List ℤ) (l : PartLeaf) : Type 0 where
   pub kind : l.kind ≡ p.in_force.kind
   pub bounds : map pair_of l.bounds.items ≡ drop (length given) (leaf_in_force p.in_force).bounds
-  pub stand : StandAt p given l.addresses.items
+  pub stand : StandAt p given l.run
 
 abbrev pub IsHeldIf : PlacedLeaf → (given : List ℤ) → Result (Option PartLeaf) Refusal → Type 0
 IsHeldIf p given (Ok None) =
@@ -64,10 +70,10 @@ AreLeavesFound s z f given end first count (Ok (Some v)) = ArePartLeaves s z f g
 AreLeavesFound s z f given end first count (Err F.Memory) = Unit {0}
 AreLeavesFound s z f given end first count (Err F.Bad) = ⊥
 
--- a leaf whose elements are in memory, and as many as its bounds have
+-- a leaf whose elements are in memory, and as many as its bounds have where they have bytes
 pub record IsReadable (end : ℕ) (l : PartLeaf) : Type 0 where
-  pub within : AreWithin (leaf_bytes (kind_of l.kind)) end l.addresses.items
-  pub many : length l.addresses.items ≡ element_count (map pair_of l.bounds.items)
+  pub within : AreWithin (leaf_bytes (kind_of l.kind)) end (addresses_of l)
+  pub counted : CountsAs (kind_of l.kind) l.run (element_count (map pair_of l.bounds.items))
 
 abbrev pub AreReadable : (end : ℕ) → List PartLeaf → Type 0
 AreReadable end [] = Unit {0}

@@ -1,5 +1,5 @@
 -- Service 40, from the place on where the leaves of the part are known.
-use Rattle.std.specs.Prelude.{ℕ, zero, suc, List, ◌∷◌, drop, map, Result, Ok, Err, if◌then◌else◌}
+use Rattle.std.specs.Prelude.{ℕ, zero, suc, List, drop, map, Result, Ok, Err, if◌then◌else◌}
 use Rattle.pli_meaning.specs.Codes.{shape_code}
 use Rattle.pli_meaning.specs.Placing.{all_same_bounds}
 use Rattle.pli_serving.specs.Answers.{Answer, Done}

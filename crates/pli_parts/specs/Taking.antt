@@ -7,6 +7,7 @@ use Rattle.pli_serving.specs.AggregateServices.{goes_into, taken_bytes}
 use Rattle.pli_serving.specs.ServiceState as S
 use Rattle.pli_serving.specs.Values.{value_at}
 use Rattle.pli_signatures.specs.View.{kind_of}
+use Rattle.pli_parts.specs.Leaves.{addresses_of}
 use Rattle.pli_parts.specs.declared.leaf.PartLeaf.{PartLeaf}
 
 abbrev pub leaf_taken : (memory : List ℕ) → PartLeaf → S.TakenLeaf
@@ -14,7 +15,7 @@ leaf_taken m l =
     record {
       kind = kind_of l.kind;
       bounds = map pair_of l.bounds.items;
-      elements = map (λ a. taken_bytes (kind_of l.kind) (value_at (kind_of l.kind) a m)) l.addresses.items;
+      elements = map (λ a. taken_bytes (kind_of l.kind) (value_at (kind_of l.kind) a m)) (addresses_of l);
     }
 
 abbrev pub has_value : LeafKind → Bool

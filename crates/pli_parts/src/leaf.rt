@@ -8,8 +8,9 @@ ghost use Rattle.pli_storage.specs.Findings.{found_of};
 ghost use Rattle.pli_types.specs.View.{pair_of};
 ghost use Rattle.pli_parts.specs.Leaves.{IsHeldIf, IsLeafFound};
 
-use pli_aggregates::part::{PlacedLeaf, placed_leaf};
+use pli_aggregates::part::{PlacedLeaf, behind, placed_leaf};
 use pli_aggregates::record::Aggregate;
+use pli_aggregates::runs::Run;
 use pli_answering::reply::Refusal;
 use pli_signatures::element::ElementKind;
 use pli_storage::finding::Found;
@@ -18,39 +19,31 @@ use pli_types::signature::Bounds;
 use smallvec::SmallVec;
 use std::alloc::{AllocError, Global};
 
-/// A leaf of a part: its kind in force, the bounds behind the subscripts given, and where its elements stand, row by row.
+/// A leaf of a part: its kind in force, the bounds behind the subscripts given, and where its elements stand.
 #[derive(Drop)]
 pub struct PartLeaf {
     pub kind: ElementKind,
     pub bounds: SmallVec<Bounds, 8>,
-    pub addresses: Vec<usize>,
+    pub run: Run,
 }
 
-/// The bounds behind so many, none where there aren't more.
-#[tactic(auto, using(pli_aggregates::proofs::Having::shorter))]
-fn bounds_behind<'a>(bounds: &'a [Bounds], count: usize) -> &'a [Bounds]
-    ensures { result.now ≡ drop count bounds.now }
-{
-    &bounds[count.min(bounds.len())..]
-}
-
-/// A leaf that was placed, with the bounds that are left, and elements at these addresses.
+/// A leaf that was placed, with the bounds that are left, and these elements.
 fn leaf_with(
     alloc: Global,
     placed: &PlacedLeaf,
     given: &[i32],
-    addresses: Vec<usize>,
+    run: Run,
 ) -> Result<PartLeaf, AllocError>
     ensures kind { IfOk result (λ leaf. leaf.kind ≡ placed.now.in_force.kind) }
     ensures bounds { IfOk result (λ leaf. map pair_of leaf.bounds.items ≡ drop (length given.now) (leaf_in_force placed.now.in_force).bounds) }
-    ensures addresses { IfOk result (λ leaf. leaf.addresses.items ≡ addresses.items) }
+    ensures run { IfOk result (λ leaf. leaf.run ≡ run) }
 {
-    let left = bounds_behind(placed.in_force.bounds.as_slice(), given.len());
+    let left = behind(placed.in_force.bounds.as_slice(), given.len());
     let bounds = SmallVec::from_slice(alloc, left)?;
     Ok(PartLeaf {
         kind: placed.in_force.kind,
         bounds,
-        addresses,
+        run,
     })
 }
 
@@ -58,10 +51,10 @@ fn leaf_with(
 fn leaf_held(alloc: Global, placed: &PlacedLeaf, given: &[i32]) -> Result<Option<PartLeaf>, Refusal>
     ensures { IsHeldIf placed.now given.now result }
 {
-    let found = placed.elements(alloc, given)?;
+    let found = placed.run(given)?;
     match found {
-        Some(addresses) => {
-            let leaf = leaf_with(alloc, placed, given, addresses)?;
+        Some(run) => {
+            let leaf = leaf_with(alloc, placed, given, run)?;
             Ok(Some(leaf))
         }
         None => Ok(None),

@@ -1,8 +1,6 @@
 // Whether leaves that were taken match others.
 
 ghost use Rattle.std.specs.Prelude.{◌≡◌, map};
-ghost use Rattle.pli_types.specs.View.{pair_of};
-ghost use Rattle.pli_meaning.specs.Contents as C;
 ghost use Rattle.pli_meaning.specs.Placing as P;
 ghost use Rattle.pli_serving.specs.AggregateServices as A;
 ghost use Rattle.pli_signatures.specs.View.{kind_of};
@@ -10,30 +8,9 @@ ghost use Rattle.pli_parts.specs.Putting as S;
 ghost use Rattle.pli_parts.specs.Putting.{bounds_of, bounds_taken};
 
 use crate::leaf::PartLeaf;
+use pli_aggregates::bounds::same_bounds;
 use pli_entries::taken::TakenLeaf;
 use pli_signatures::element::ElementKind;
-use pli_types::signature::Bounds;
-
-fn same_pair(left: Bounds, right: Bounds) -> bool
-    ensures { result ≡ S.same_pair (pair_of left) (pair_of right) }
-{
-    left.lower == right.lower && left.upper == right.upper
-}
-
-/// Whether two leaves have the same bounds.
-fn same_bounds(left: &[Bounds], right: &[Bounds]) -> bool
-    ensures { result ≡ C.same_bounds (map pair_of left.now) (map pair_of right.now) }
-{
-    if left.len() != right.len() {
-        return false;
-    }
-    for dimension in 0..left.len() {
-        if !same_pair(left[dimension], right[dimension]) {
-            return false;
-        }
-    }
-    true
-}
 
 /// Whether leaves have the bounds of others, one after the other, and are as many.
 pub fn all_same_bounds(leaves: &[PartLeaf], taken: &[TakenLeaf]) -> bool

@@ -55,7 +55,7 @@ fn take_leaf(alloc: Global, memory: &[u8], leaf: &PartLeaf) -> Result<TakenLeaf,
     requires { IsReadable (length memory.now) leaf.now }
     ensures { MatchResult result (λ taken. leaf_of taken ≡ leaf_taken memory.now leaf.now) (λ e. e ≡ Refusal.Memory) }
 {
-    let bytes = gather(alloc, memory, &leaf.addresses, leaf.kind)?;
+    let bytes = gather(alloc, memory, leaf.run, leaf.kind)?;
     let bounds = SmallVec::from_slice(alloc, leaf.bounds.as_slice())?;
     Ok(TakenLeaf {
         kind: leaf.kind,

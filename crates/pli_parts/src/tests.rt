@@ -8,6 +8,7 @@ use crate::taking::take_aggregate;
 use area_heap::chain::Chain;
 use controlled_gens::controlled::Controlled;
 use controlled_gens::roots::Place;
+use pli_aggregates::runs::Run;
 use pli_answering::reply::{Refusal, Reply};
 use pli_entries::entries::Entries;
 use pli_entries::taken::TakenLeaf;
@@ -121,9 +122,12 @@ fn a_part_has_its_elements(rt: HostRuntime) {
     fill(&mut memory);
     match find_part::<Chain>(rt.alloc(), &held, &memory, ASKED) {
         Ok(Some(leaves)) => {
-            assert!(rt;
-                leaves.len() == 1 && leaves[0].addresses.as_slice() == [64, 68, 72].as_slice()
-            );
+            let whole = Run {
+                at: 64,
+                step: 4,
+                count: 3,
+            };
+            assert!(rt; leaves.len() == 1 && leaves[0].run == whole);
         }
         Ok(None) => assert!(rt; false),
         Err(refusal) => assert!(rt; refusal == Refusal::Memory),

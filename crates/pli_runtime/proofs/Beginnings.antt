@@ -1,5 +1,5 @@
 -- Signatures that are filled in, and what holds before the first call.
-use Rattle.std.proofs.Common.{◌≡◌, ◌∙◌, ℕ, zero, suc, reverse, ◌≤◌, ◌^◌, Bool, true, false, List, [], length, map, replicate, Option, Some, None, Result, Ok, Err, refl, sym, slice_get, subst, ap, arith, nat_lt, if◌then◌else◌}
+use Rattle.std.proofs.Common.{◌≡◌, ◌∙◌, ℕ, zero, suc, reverse, ◌≤◌, Bool, true, false, List, [], length, map, replicate, Option, Some, None, Result, Ok, Err, refl, sym, slice_get, subst, ap, arith, nat_lt}
 use Rattle.area_keeper.specs.Keeper.{Keeper}
 use Rattle.std.proofs.lemmas.List.{length-replicate}
 use Rattle.std.proofs.Math.Path.{fun_ext}
@@ -17,9 +17,8 @@ use Rattle.pli_answering.specs.Answering.{Answers}
 use Rattle.pli_answering.specs.declared.reply.Reply.{Reply}
 use Rattle.pli_answering.specs.declared.reply.Reply.TheVariants as R
 use Rattle.pli_answering.specs.declared.reply.Refusal.{Refusal}
-use Rattle.pli_answering.specs.declared.reply.Refusal.TheVariants as F
 use Rattle.pli_making.specs.InUse.{IsCounted}
-use Rattle.pli_serving.specs.Answers.{Answer, Done, Ends, Bad}
+use Rattle.pli_serving.specs.Answers.{Answer, Done, Ends}
 use Rattle.pli_serving.specs.Arguments.{own_signature}
 use Rattle.pli_serving.specs.Finding.{Call}
 use Rattle.pli_serving.specs.Outcomes.{bad_unless, or_bad}

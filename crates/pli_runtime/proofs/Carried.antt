@@ -1,9 +1,9 @@
 -- How the parts of a run's services carry out calls: each answers the call in which its part stands, and leaves the others alone.
-use Rattle.std.proofs.Common.{◌≡◌, ◌∙◌, ℕ, ◌≤◌, ◌^◌, Bool, List, length, Result, Ok, Err, refl, sym, subst, ap, arith}
+use Rattle.std.proofs.Common.{◌≡◌, ◌∙◌, ℕ, ◌≤◌, Bool, List, length, Result, Ok, Err, refl, sym, subst, ap, arith}
 use Rattle.area_keeper.specs.Keeper.{Keeper}
 use Rattle.controlled_gens.specs.Rooted.{livings}
 use Rattle.controlled_gens.specs.declared.controlled.Generation.{Generation}
-use Rattle.pli_serving.specs.Answers.{Answer, Done, Ends, Bad}
+use Rattle.pli_serving.specs.Answers.{Answer, Bad}
 use Rattle.pli_serving.specs.Finding.{Call}
 use Rattle.pli_serving.specs.ServiceState.{Services, Entry}
 use Rattle.pli_answering.specs.Answering.{Answers, Replies}

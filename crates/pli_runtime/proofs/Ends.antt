@@ -1,9 +1,8 @@
 -- Blocks that end: what their services' answers tell of the entries, and how the services carry out their calls.
-use Rattle.std.proofs.Common.{◌≡◌, ℕ, zero, suc, ◌-◌, ◌<◌, ◌≤◌, ◌^◌, Bool, true, false, nat_le, List, [], ◌∷◌, drop, take, length, Option, Some, None, Result, Ok, Err, refl, sym, subst, ap, ◌∙◌, arith, unwrap_or, if◌then◌else◌}
+use Rattle.std.proofs.Common.{◌≡◌, ℕ, zero, suc, ◌<◌, ◌≤◌, ◌^◌, Bool, true, false, nat_le, List, [], ◌∷◌, take, length, Option, Some, None, Ok, Err, refl, sym, subst, ap, ◌∙◌, arith, unwrap_or, if◌then◌else◌}
 use Rattle.std.proofs.lemmas.Bool.{ne_eqb}
 use Rattle.std.proofs.lemmas.Grind.{common_steps}
 use Rattle.std.proofs.lemmas.Bool.Decides.{nat_tests}
-use Rattle.area_keeper.specs.Chain.{chain}
 use Rattle.area_keeper.specs.Keeper.{Keeper}
 use Rattle.controlled_gens.specs.Rooted.{livings}
 use Rattle.pli_answering.specs.Answering.{Replies}
@@ -23,12 +22,11 @@ use Rattle.pli_serving.specs.Outcomes.{or_bad}
 use Rattle.pli_serving.specs.ServiceState.{Activation, AggregateEntry, BlockKind, ProcedureBlock, BeginBlock, OnUnitBlock, EditPlace, Entry, Services, TextEntry}
 use Rattle.pli_storage.specs.Held.{IsLaid}
 use Rattle.pli_storage.specs.declared.held.Held.{Held}
-use Rattle.pli_transmission.specs.Transmitting.{places_of}
 use Rattle.pli_values.specs.declared.layout.Layout.{Layout}
-use Rattle.pli_runtime.proofs.Carried.{laid_in, serves_replied}
+use Rattle.pli_runtime.proofs.Carried.{serves_replied}
 use Rattle.pli_runtime.specs.Ending.{IsBack, IsKept}
 use Rattle.pli_runtime.specs.declared.runtime.Runtime.{Runtime}
-use Rattle.pli_runtime.specs.Running.{call_of, running, IsCarriedOut, IsStanding, Serves}
+use Rattle.pli_runtime.specs.Running.{call_of, running, IsCarriedOut, IsStanding}
 
 -- ---- none of these services ends the run
 

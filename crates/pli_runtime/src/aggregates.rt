@@ -4,7 +4,6 @@ ghost use Rattle.std.specs.Prelude.{◌≡◌, List, drop, if◌then◌else◌, 
 ghost use Rattle.pli_parts.specs.Served.{entries_left};
 ghost use Rattle.pli_serving.specs.ServiceState.{Entry};
 ghost use Rattle.pli_serving.specs.AggregateServices as services;
-ghost use Rattle.pli_serving.specs.Serving.{aggregates_served};
 ghost use Rattle.pli_runtime.specs.Running.{IsCarriedOut, IsStanding};
 
 use crate::runtime::Runtime;
@@ -59,8 +58,7 @@ impl Runtime {
     }
 
     /// 40: with mode 0 a part comes on top of the entries, with 1 the aggregate on top is stored in one.
-    #[inline(never)]
-    fn assign_part<K: AreaKeeper>(
+    fn part_by_mode<K: AreaKeeper>(
         &mut self,
         memory: &mut [u8],
         asked: PartAsked,
@@ -76,28 +74,39 @@ impl Runtime {
         }
     }
 
-    /// 40 and 41; there is no other one.
-    pub(crate) fn aggregates<K: AreaKeeper>(
+    /// 40, by the registers of the call.
+    #[inline(never)]
+    pub(crate) fn assign_part<K: AreaKeeper>(
         &mut self,
         memory: &mut [u8],
-        number: u32,
         registers: &[u32; 32],
     ) -> Result<Reply, Refusal>
         requires { IsStanding K.keeper self.old memory.old }
-        ensures { IsCarriedOut K.keeper (λ c. aggregates_served number c (slice_index registers.now)) self.old memory.old result self.new memory.new }
+        ensures { IsCarriedOut K.keeper (λ c. services.aggregate_served c (slice_index registers.now 10) (slice_index registers.now 11) (slice_index registers.now 12) (slice_index registers.now 13) (slice_index registers.now 14)) self.old memory.old result self.new memory.new }
     {
-        match number {
-            40 => self.assign_part::<K>(memory, part_of(registers), registers[14]),
-            41 => scalar::<K>(
-                self.alloc,
-                &self.held,
-                &mut self.entries,
-                memory,
-                registers[10],
-                registers[11],
-                registers[12],
-            ),
-            _ => Err(Refusal::Bad),
-        }
+        self.part_by_mode::<K>(memory, part_of(registers), registers[14])
+    }
+
+    /// 41: a scalar is stored in each element of an array.
+    #[inline(never)]
+    pub(crate) fn store_scalar<K: AreaKeeper>(
+        &mut self,
+        memory: &mut [u8],
+        at: u32,
+        leaf: u32,
+        value: u32,
+    ) -> Result<Reply, Refusal>
+        requires { IsStanding K.keeper self.old memory.old }
+        ensures { IsCarriedOut K.keeper (λ c. services.scalar_served c at leaf value) self.old memory.old result self.new memory.new }
+    {
+        scalar::<K>(
+            self.alloc,
+            &self.held,
+            &mut self.entries,
+            memory,
+            at,
+            leaf,
+            value,
+        )
     }
 }

@@ -1,10 +1,11 @@
-// Blocks, variables and names: services 4 to 9.
+// Blocks that are entered, variables that are made, and names: services 4, 7 and 8.
 
 ghost use Rattle.std.specs.Prelude.{◌≡◌, ℕ, List, slice_index};
 ghost use Rattle.area_keeper.specs.Keeper.{Keeper};
 ghost use Rattle.pli_serving.specs.Blocks as services;
 ghost use Rattle.pli_serving.specs.ElementService.{of_two_words};
-ghost use Rattle.pli_serving.specs.Serving.{blocks_served, found_served};
+ghost use Rattle.pli_serving.specs.Making.{make_served};
+ghost use Rattle.pli_serving.specs.Serving.{found_served};
 ghost use Rattle.pli_runtime.specs.Running.{IsCarriedOut, IsStanding};
 
 use crate::runtime::Runtime;
@@ -38,7 +39,13 @@ fn making_of(registers: &[u32; 32]) -> Making
 impl Runtime {
     /// 4: a block is entered.
     #[inline(never)]
-    fn enter(&mut self, kind: u32, frame: u32, line: u32, texts: u32) -> Result<Reply, Refusal>
+    pub(crate) fn enter(
+        &mut self,
+        kind: u32,
+        frame: u32,
+        line: u32,
+        texts: u32,
+    ) -> Result<Reply, Refusal>
         ensures { (k : Keeper) → (m : List ℕ) → IsStanding k self.old m → IsCarriedOut k (λ c. services.enter_served c kind frame line texts) self.old m result self.new m }
     {
         let standing = Standing {
@@ -51,7 +58,7 @@ impl Runtime {
 
     /// 8: with mode 0 where a leaf of what a name names begins, with 1 an element of an aggregate.
     #[inline(never)]
-    fn find<K: AreaKeeper>(
+    pub(crate) fn find<K: AreaKeeper>(
         &mut self,
         memory: &mut [u8],
         registers: &[u32; 32],
@@ -75,32 +82,23 @@ impl Runtime {
         }
     }
 
-    /// 4 to 9, or one with a greater number.
-    pub(crate) fn blocks<K: AreaKeeper>(
+    /// 7: a variable is made.
+    #[inline(never)]
+    pub(crate) fn make<K: AreaKeeper>(
         &mut self,
         memory: &mut [u8],
-        number: u32,
         registers: &[u32; 32],
     ) -> Result<Reply, Refusal>
         requires { IsStanding K.keeper self.old memory.old }
-        ensures { IsCarriedOut K.keeper (λ c. blocks_served number c (slice_index registers.now)) self.old memory.old result self.new memory.new }
+        ensures { IsCarriedOut K.keeper (λ c. make_served c (slice_index registers.now 10) (slice_index registers.now 11) (slice_index registers.now 12) (slice_index registers.now 13) (slice_index registers.now 14)) self.old memory.old result self.new memory.new }
     {
-        let (first, second) = (registers[10], registers[11]);
-        match number {
-            4 => self.enter(first, second, registers[12], registers[13]),
-            5 => self.leave(first, second),
-            6 => self.unwind(first, second),
-            7 => make::<K>(
-                &mut self.flow,
-                &mut self.held,
-                &mut self.in_use,
-                self.alloc,
-                memory,
-                making_of(registers),
-            ),
-            8 => self.find::<K>(memory, registers),
-            9 => self.held.address::<K>(memory, first, second, registers[12]),
-            _ => self.areas::<K>(memory, number, registers),
-        }
+        make::<K>(
+            &mut self.flow,
+            &mut self.held,
+            &mut self.in_use,
+            self.alloc,
+            memory,
+            making_of(registers),
+        )
     }
 }

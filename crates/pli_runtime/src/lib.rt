@@ -4,7 +4,6 @@
 mod aggregates;
 mod areas;
 mod blocks;
-mod conditions;
 mod edits;
 mod ending;
 mod run;

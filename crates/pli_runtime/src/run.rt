@@ -1,14 +1,20 @@
-// A call of the services: those of acts, of the end and of signatures, and all others.
+// A call of the services.
 
-ghost use Rattle.std.specs.Prelude.{◌≡◌, slice_index};
+ghost use Rattle.std.specs.Prelude.{◌≡◌, ◌≢◌, slice_index};
 ghost use Rattle.pli_serving.specs.Serving.{served, serves};
 ghost use Rattle.pli_serving.specs.SignatureService.{signature_served};
 ghost use Rattle.pli_runtime.specs.Running.{IsCarriedOut, IsServed, IsStanding};
 
 use crate::runtime::Runtime;
 use area_heap::keeper::AreaKeeper;
+use pli_allocation::popping::pop;
+use pli_allocation::referring::refer;
 use pli_answering::reply::{Refusal, Reply};
 use pli_making::laws::signatures_are_added;
+use pli_pushing::pushing::push;
+
+/// The service of acts.
+const ACT: u32 = 1;
 
 impl Runtime {
     /// 3: a signature with an extent that the run tells.
@@ -29,22 +35,64 @@ impl Runtime {
             .signature::<K>(self.alloc, memory, number, places, lower, upper)
     }
 
-    /// 1 to 3, or one with a greater number.
-    fn acts_or<K: AreaKeeper>(
+    /// All services but acts by their numbers. Each stands apart, so that a call costs one jump and has no frame but its service's.
+    #[inline(never)]
+    fn by_number<K: AreaKeeper>(
         &mut self,
         memory: &mut [u8],
         number: u32,
         registers: &[u32; 32],
     ) -> Result<Reply, Refusal>
-        requires { IsStanding K.keeper self.old memory.old }
+        requires standing { IsStanding K.keeper self.old memory.old }
+        requires no_act { number ≢ 1 }
         ensures { IsCarriedOut K.keeper (λ c. served number c (slice_index registers.now)) self.old memory.old result self.new memory.new }
     {
         let (first, second) = (registers[10], registers[11]);
+        let (third, fourth) = (registers[12], registers[13]);
         match number {
-            1 => self.flow.act(first, second),
             2 => self.flow.end(first, second),
-            3 => self.signature::<K>(memory, first, second, registers[12], registers[13]),
-            _ => self.blocks::<K>(memory, number, registers),
+            3 => self.signature::<K>(memory, first, second, third, fourth),
+            4 => self.enter(first, second, third, fourth),
+            5 => self.leave(first, second),
+            6 => self.unwind(first, second),
+            7 => self.make::<K>(memory, registers),
+            8 => self.find::<K>(memory, registers),
+            9 => self.held.address::<K>(memory, first, second, third),
+            10 => self.allocate::<K>(memory, registers),
+            11 => self.held.free::<K>(memory, first, second, third),
+            12 => self.held.assign::<K>(self.alloc, memory, first, second),
+            13 => self.held.empty::<K>(memory, first, second),
+            14 => self.held.locator::<K>(memory, first, second, third, fourth),
+            15 => refer::<K>(&self.held, self.alloc, memory, first, second, third),
+            16 => push::<K>(&mut self.held, self.alloc, memory, first, second, third),
+            17 => pop::<K>(&mut self.held, memory, first, second),
+            18 => self.held.newest::<K>(memory, first, second),
+            19 => self.held.count(first, second),
+            20 => self.push_text::<K>(memory, first, second, third),
+            21 => self.push_number(first, second),
+            22 => self.join_texts(first),
+            23 => self.cut_text(first, second, third),
+            24 => self.compare_texts(second),
+            25 => self.find_text(first, second),
+            26 => self.text_number(first),
+            27 => self.store_text::<K>(memory, first, second, third),
+            28 => self.flow.establish(first, second),
+            29 => self.flow.revert(first, second),
+            30 => self.flow.raise(first, second, third),
+            31 => self.return_from(),
+            32 => self.flow.retry(first, second),
+            33 => Ok(self.flow.oncode(second)),
+            34 => self.begin_edit::<K>(memory, first, second),
+            35 => self.streams.control(&mut self.flow.shown, second),
+            36 => self.streams.fixed(&mut self.flow.shown, first, second),
+            37 => self
+                .streams
+                .text(&mut self.entries, &mut self.flow.shown, first, second),
+            38 => self.streams.end(first, second),
+            39 => self.streams.skip(&mut self.flow.shown, first, second),
+            40 => self.assign_part::<K>(memory, registers),
+            41 => self.store_scalar::<K>(memory, first, second, third),
+            _ => Err(Refusal::Bad),
         }
     }
 
@@ -65,6 +113,22 @@ impl Runtime {
         ensures standing { IsStanding K.keeper self.new memory.new }
         ensures layout { self.new.held.layout ≡ self.old.held.layout }
     {
-        self.acts_or::<K>(memory, registers[17], registers)
+        self.act_or::<K>(memory, registers[17], registers)
+    }
+
+    /// Acts are the most calls by far, so that their service stands with what calls it.
+    fn act_or<K: AreaKeeper>(
+        &mut self,
+        memory: &mut [u8],
+        number: u32,
+        registers: &[u32; 32],
+    ) -> Result<Reply, Refusal>
+        requires { IsStanding K.keeper self.old memory.old }
+        ensures { IsCarriedOut K.keeper (λ c. served number c (slice_index registers.now)) self.old memory.old result self.new memory.new }
+    {
+        if number == ACT {
+            return self.flow.act(registers[10], registers[11]);
+        }
+        self.by_number::<K>(memory, number, registers)
     }
 }

@@ -1,12 +1,11 @@
 // Texts that wait in expressions: services 20 to 27.
 
-ghost use Rattle.std.specs.Prelude.{◌≡◌, ℕ, List, slice_index};
+ghost use Rattle.std.specs.Prelude.{◌≡◌, ℕ, List};
 ghost use Rattle.area_keeper.specs.Keeper.{Keeper};
 ghost use Rattle.rv_meaning.specs.Words.{word};
 ghost use Rattle.pli_entries.specs.Served.{IsRefusal};
 ghost use Rattle.pli_serving.specs.Answers.{Answer};
 ghost use Rattle.pli_serving.specs.Finding.{Call};
-ghost use Rattle.pli_serving.specs.Serving.{texts_served};
 ghost use Rattle.pli_serving.specs.TextServices as services;
 ghost use Rattle.pli_runtime.specs.Running.{IsCarriedOut, IsStanding, Serves};
 
@@ -57,7 +56,7 @@ fn order_word(order: Ordering) -> u32
 impl Runtime {
     /// 20: the text or bit at an address comes on top.
     #[inline(never)]
-    fn push_text<K: AreaKeeper>(
+    pub(crate) fn push_text<K: AreaKeeper>(
         &mut self,
         memory: &[u8],
         at: u32,
@@ -76,7 +75,7 @@ impl Runtime {
 
     /// 21: a number comes on top, as text; with precision 0 a bit.
     #[inline(never)]
-    fn push_number(&mut self, number: u32, precision: u32) -> Result<Reply, Refusal>
+    pub(crate) fn push_number(&mut self, number: u32, precision: u32) -> Result<Reply, Refusal>
         ensures { (k : Keeper) → (m : List ℕ) → IsStanding k self.old m → IsCarriedOut k (λ c. services.push_number_served c number precision) self.old m result self.new m }
     {
         match self.entries.push_number(number, precision) {
@@ -87,7 +86,7 @@ impl Runtime {
 
     /// 22: the two newest texts become one.
     #[inline(never)]
-    fn join_texts(&mut self, first: u32) -> Result<Reply, Refusal>
+    pub(crate) fn join_texts(&mut self, first: u32) -> Result<Reply, Refusal>
         ensures { (k : Keeper) → (m : List ℕ) → IsStanding k self.old m → IsCarriedOut k (λ c. services.join_served c first) self.old m result self.new m }
     {
         match self.entries.join() {
@@ -98,7 +97,7 @@ impl Runtime {
 
     /// 23: the newest text becomes a part of it.
     #[inline(never)]
-    fn cut_text(&mut self, start: u32, count: u32, mode: u32) -> Result<Reply, Refusal>
+    pub(crate) fn cut_text(&mut self, start: u32, count: u32, mode: u32) -> Result<Reply, Refusal>
         ensures { (k : Keeper) → (m : List ℕ) → IsStanding k self.old m → IsCarriedOut k (λ c. services.cut_served c start count mode) self.old m result self.new m }
     {
         match self.entries.cut(start, count, mode) {
@@ -109,7 +108,7 @@ impl Runtime {
 
     /// 24: how the two newest texts compare.
     #[inline(never)]
-    fn compare_texts(&mut self, second: u32) -> Result<Reply, Refusal>
+    pub(crate) fn compare_texts(&mut self, second: u32) -> Result<Reply, Refusal>
         ensures { (k : Keeper) → (m : List ℕ) → IsStanding k self.old m → IsCarriedOut k (λ c. services.compare_served c second) self.old m result self.new m }
     {
         match self.entries.compare() {
@@ -120,7 +119,7 @@ impl Runtime {
 
     /// 25: where one text stands in another, or what of one isn't in the other.
     #[inline(never)]
-    fn find_text(&mut self, mode: u32, second: u32) -> Result<Reply, Refusal>
+    pub(crate) fn find_text(&mut self, mode: u32, second: u32) -> Result<Reply, Refusal>
         ensures { (k : Keeper) → (m : List ℕ) → IsStanding k self.old m → IsCarriedOut k (λ c. services.find_served c mode second) self.old m result self.new m }
     {
         match self.entries.find(mode) {
@@ -131,7 +130,7 @@ impl Runtime {
 
     /// 26: the number or bit that the newest text stands for.
     #[inline(never)]
-    fn text_number(&mut self, mode: u32) -> Result<Reply, Refusal>
+    pub(crate) fn text_number(&mut self, mode: u32) -> Result<Reply, Refusal>
         ensures { (k : Keeper) → (m : List ℕ) → IsStanding k self.old m → IsCarriedOut k (λ c. services.to_number_served c mode) self.old m result self.new m }
     {
         match self.entries.to_number(mode) {
@@ -142,7 +141,7 @@ impl Runtime {
 
     /// 27: the newest text is stored at an address.
     #[inline(never)]
-    fn store_text<K: AreaKeeper>(
+    pub(crate) fn store_text<K: AreaKeeper>(
         &mut self,
         memory: &mut [u8],
         at: u32,
@@ -158,29 +157,6 @@ impl Runtime {
         match stored {
             Ok(length) => Ok(Reply::Done(length, most)),
             Err(fault) => refused(at, fault),
-        }
-    }
-
-    /// 20 to 27, or one with a greater number.
-    pub(crate) fn texts<K: AreaKeeper>(
-        &mut self,
-        memory: &mut [u8],
-        number: u32,
-        registers: &[u32; 32],
-    ) -> Result<Reply, Refusal>
-        requires { IsStanding K.keeper self.old memory.old }
-        ensures { IsCarriedOut K.keeper (λ c. texts_served number c (slice_index registers.now)) self.old memory.old result self.new memory.new }
-    {
-        match number {
-            20 => self.push_text::<K>(memory, registers[10], registers[11], registers[12]),
-            21 => self.push_number(registers[10], registers[11]),
-            22 => self.join_texts(registers[10]),
-            23 => self.cut_text(registers[10], registers[11], registers[12]),
-            24 => self.compare_texts(registers[11]),
-            25 => self.find_text(registers[10], registers[11]),
-            26 => self.text_number(registers[10]),
-            27 => self.store_text::<K>(memory, registers[10], registers[11], registers[12]),
-            _ => self.conditions::<K>(memory, number, registers),
         }
     }
 }

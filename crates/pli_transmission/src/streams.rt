@@ -125,6 +125,7 @@ impl Streams {
 
     /// 35: a control item that is next is carried out; then what is next is told: 0 a control item, 1 F, 2 A, 3 a data item of GET
     /// with no character left.
+    #[inline(never)]
     pub fn control(&mut self, shown: &mut Shown, second: u32) -> Result<Reply, Refusal>
         ensures { (c : Call) → Answers (λ c. edits.control_served c second) (with_streams shown.old self.old c) result (with_streams shown.new self.new c) }
     {
@@ -136,6 +137,7 @@ impl Streams {
 
     /// 36: F. PUT asks with mode 0 whether the field is wide enough, and writes the number with 1; GET takes the field and tells its
     /// number, or that it is none.
+    #[inline(never)]
     pub fn fixed(&mut self, shown: &mut Shown, first: u32, second: u32) -> Result<Reply, Refusal>
         ensures { (c : Call) → Answers (λ c. edits.fixed_served c first second) (with_streams shown.old self.old c) result (with_streams shown.new self.new c) }
     {
@@ -153,6 +155,7 @@ impl Streams {
 
     /// 37: A. PUT drops and writes the newest text; GET takes the field, which becomes the newest text. Without memory nothing is
     /// shown, but the text or the field may be gone.
+    #[inline(never)]
     pub fn text(
         &mut self,
         entries: &mut Entries,
@@ -177,6 +180,7 @@ impl Streams {
     }
 
     /// 38: the newest place is dropped.
+    #[inline(never)]
     pub fn end(&mut self, first: u32, second: u32) -> Result<Reply, Refusal>
         ensures { (c : Call) → (shown : ShownHeld) → Answers (λ c. edits.edit_end_served c first second) (with_streams shown self.old c) result (with_streams shown self.new c) }
     {
@@ -187,6 +191,7 @@ impl Streams {
     }
 
     /// 39: the SKIP option of GET or PUT: 1 to 1,000 line ends.
+    #[inline(never)]
     pub fn skip(&mut self, shown: &mut Shown, lines: u32, mode: u32) -> Result<Reply, Refusal>
         ensures { (c : Call) → Answers (λ c. edits.skip_served c lines mode) (with_streams shown.old self.old c) result (with_streams shown.new self.new c) }
     {

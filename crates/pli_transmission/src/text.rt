@@ -1,11 +1,11 @@
 // A, texts in fields: service 37.
 
-ghost use Rattle.std.specs.Prelude.{◌≡◌, ◌∷◌, Some, List};
+ghost use Rattle.std.specs.Prelude.{◌≡◌, ◌∷◌, Some, List, MatchResult};
 ghost use Rattle.pli_edit.specs.FormatPlaces.{item_of};
 ghost use Rattle.pli_serving.specs.Edits as edits;
 ghost use Rattle.pli_serving.specs.Edits.{NextItem};
 ghost use Rattle.pli_serving.specs.Finding.{Call};
-ghost use Rattle.pli_serving.specs.ServiceState.{EditPlace};
+ghost use Rattle.pli_serving.specs.ServiceState.{EditPlace, TextEntry};
 ghost use Rattle.pli_transmission.specs.Transmitting.{on_edit, on_entries, text_of, AnswersTaking, IsTopGot, IsTopWritten};
 
 use crate::edit::{Direction, Edit};
@@ -64,15 +64,27 @@ fn put(
     }
 }
 
-/// A field is taken and becomes the newest text.
+/// A field becomes the newest text.
+fn push_field(entries: &mut Entries, field: &[u8]) -> Result<(), Refusal>
+    ensures { MatchResult result (λ _. entries.new ≡ TextEntry field.now ∷ entries.old) (λ e. e ≡ Refusal.Memory) }
+{
+    match entries.push_text(field) {
+        Ok(()) => Ok(()),
+        Err(_) => Err(Refusal::Memory),
+    }
+}
+
+/// A field is taken and becomes the newest text. Where it stands in one line it is pushed as it stands there.
 fn get_top(entries: &mut Entries, input: &mut Input, width: u32) -> Result<(), Refusal>
     ensures { IsTopGot width entries.old input.old result entries.new input.new }
 {
+    if let Some(field) = input.line_field(width) {
+        push_field(entries, field)?;
+        input.pass_line_field(width);
+        return Ok(());
+    }
     match input.get_a(width) {
-        Ok(field) => match entries.push_text(&field) {
-            Ok(()) => Ok(()),
-            Err(_) => Err(Refusal::Memory),
-        },
+        Ok(field) => push_field(entries, &field),
         Err(EditFault::AtEnd) => Err(Refusal::Bad),
         Err(_) => Err(Refusal::Memory),
     }

@@ -1,40 +1,53 @@
 -- Subscripts, one after the other.
-use Rattle.std.proofs.Common.{◌≡◌, ℕ, zero, suc, ◌+◌, ◌<◌, List, [], ◌∷◌, ◌++◌, map, length, drop, take, get_or, refl, sym, ap, ◌∙◌, append_assoc, append-nil, add-one}
-use Rattle.std.specs.Prelude.{min}
-use Rattle.std.proofs.lemmas.List.{take_min}
+use Rattle.std.proofs.Common.{◌≡◌, ℕ, suc, ◌+◌, ◌<◌, List, [], ◌∷◌, ◌++◌, map, length, drop, get_or, refl, sym, ap, ◌∙◌, append_assoc, append-nil, add-one, arith}
+use Rattle.pli_typing.specs.declared.typed.Numbers as Q
 use Rattle.pli_typing.specs.declared.typed.Bounds.{Bounds}
 use Rattle.pli_typing.specs.TypedTree as Y
-use Rattle.pli_typing.specs.TypedView.{bounds_of}
-use Rattle.pli_coding.specs.Registers.{u1}
+use Rattle.pli_typing.specs.TypedView.{bounds_of, number_of, numbers_of}
 use Rattle.pli_coding.specs.Assembly.{Code}
-use Rattle.pli_coding.specs.Environments.{Taken, fetch, with_number}
-use Rattle.pli_coding.specs.Locating.{subscript_counted, subscripts_counted}
-use Rattle.rv_address.specs.Pieces.{all_counted, waiting_counted}
-use Rattle.rv_address.proofs.Declared.{shown_from, take_map}
+use Rattle.pli_coding.specs.Environments.{Environment, Taken, with_number}
+use Rattle.pli_coding.specs.Locating.{place_kept, subscript_given, subscript_counted, subscripts_counted}
+use Rattle.rv_address.specs.Pieces.{dimension_counted, some_counted}
 
-pub no_more : (code target : Code) → code ++ [] ≡ target → code ≡ target
-no_more code target e = sym (append-nil code) ∙ e
+pub counted-End : (e : _) (t : _) (d : _) (bs : _) → subscripts_counted e t d (numbers_of Q.End) bs ≡ []
+unfolding numbers_of
+counted-End e t d bs = refl
 
-pub next_subscript : (xs : List Bounds) (i : ℕ) (x : Bounds) (t next : Taken) (n after : ℕ) (code counted target : Code) → i < length xs → x ≡ get_or xs i x → counted ≡ code ++ waiting_counted t n (bounds_of x) → next ≡ with_number t → after ≡ n + 1
-    → code ++ all_counted t n (map bounds_of (drop i xs)) ≡ target → counted ++ all_counted next after (map bounds_of (drop (i + 1) xs)) ≡ target
-next_subscript xs i x t next n after code counted target h e k w a is =
-    let rest : List Y.Bounds = map bounds_of (drop (i + 1) xs) in
-    let here : Code = waiting_counted t n (bounds_of x) in
-    ap (λ u. u ++ all_counted next after rest) k
-    ∙ ap (λ (s : Taken). (code ++ here) ++ all_counted s after rest) w
-    ∙ ap (λ m. (code ++ here) ++ all_counted (with_number t) m rest) (a ∙ add-one n)
-    ∙ append_assoc code here (all_counted (with_number t) (suc n) rest)
-    ∙ ap (λ bs. code ++ all_counted t n bs) (sym (shown_from bounds_of xs i x h e))
-    ∙ is
+pub counted-More : (e : _) (t : _) (d : _) (a : _) (n : _) (b : _) (ns : _) (bs : _) → subscripts_counted e t d (numbers_of (Q.More' a n b ns)) bs ≡ some_counted e t d (number_of n) (numbers_of ns) bs
+unfolding numbers_of some_counted
+counted-More e t d a n b ns bs = refl
 
--- as many as are given
-counted_given : (t : Taken) (n given : ℕ) (bs : List Y.Bounds) → all_counted t n (take given bs) ≡ subscripts_counted t n given bs
-counted_given t n zero bs = refl
-counted_given t n (suc given) [] = refl
-counted_given t n (suc given) (b ∷ bs) =
-    append_assoc (fetch u1 t) (subscript_counted n b) (all_counted (with_number t) (suc n) (take given bs))
-    ∙ ap (λ u. fetch u1 t ++ (subscript_counted n b ++ u)) (counted_given (with_number t) (suc n) given bs)
+pub ruleset lists = (counted-End, counted-More, append_assoc, append-nil)
 
-pub given_counted : (code after : Code) (t : Taken) (given : ℕ) (xs : List Bounds) → after ≡ code ++ all_counted t 0 (map bounds_of (take (min given (length xs)) xs)) → after ≡ code ++ subscripts_counted t 0 given (map bounds_of xs)
-given_counted code after t given xs e =
-    e ∙ ap (λ bs. code ++ all_counted t 0 (map bounds_of bs)) (take_min given xs) ∙ ap (λ bs. code ++ all_counted t 0 bs) (take_map bounds_of xs given) ∙ ap (λ u. code ++ u) (counted_given t 0 given (map bounds_of xs))
+regrouped : (a b c d : Code) → a ++ (b ++ (c ++ d)) ≡ (a ++ (b ++ c)) ++ d
+regrouped a b c d = ap (λ u. a ++ u) (sym (append_assoc b c d)) ∙ sym (append_assoc a (b ++ c) d)
+
+one_more : (e : Environment) (t : Taken) (d : ℕ) (n : Y.Number) (ns : Y.Numbers) (b : Y.Bounds) (bs : List Y.Bounds) → dimension_counted e t d n ns b ++ subscripts_counted e (with_number t) (d + 1) ns bs ≡ subscripts_counted e t d (Y.NumberThen n ns) (b ∷ bs)
+unfolding dimension_counted
+one_more e t d n ns b bs =
+    let here : Code = place_kept d ++ (subscript_given e t n ns ++ subscript_counted d b) in
+    ap (λ m. here ++ subscripts_counted e (with_number t) m ns bs) (add-one d)
+    ∙ sym (regrouped (place_kept d) (subscript_given e t n ns) (subscript_counted d b) (subscripts_counted e (with_number t) (suc d) ns bs))
+
+pub next_subscript : (e : Environment) (t next : Taken) (d after : ℕ) (n : Y.Number) (ns : Y.Numbers) (xs : List Bounds) (blank : Bounds) (code counted target : Code) → 0 < length xs → counted ≡ code ++ dimension_counted e t d n ns (bounds_of (get_or xs 0 blank)) → next ≡ with_number t → after ≡ d + 1 → target ≡ counted ++ subscripts_counted e next after ns (map bounds_of (drop 1 xs))
+    → target ≡ code ++ some_counted e t d n ns (map bounds_of xs)
+unfolding some_counted
+next_subscript e t next d after n ns [] blank code counted target h c w m is = absurd (omega (arith, h))
+next_subscript e t next d after n ns (x ∷ xs) blank code counted target h c w m is =
+    let rest : List Y.Bounds = map bounds_of xs in
+    let here : Code = dimension_counted e t d n ns (bounds_of x) in
+    is
+    ∙ ap (λ u. u ++ subscripts_counted e next after ns rest) c
+    ∙ ap (λ (s : Taken). (code ++ here) ++ subscripts_counted e s after ns rest) w
+    ∙ ap (λ i. (code ++ here) ++ subscripts_counted e (with_number t) i ns rest) m
+    ∙ append_assoc code here (subscripts_counted e (with_number t) (d + 1) ns rest)
+    ∙ ap (λ u. code ++ u) (one_more e t d n ns (bounds_of x) rest)
+
+pub no_bounds : (e : Environment) (t : Taken) (d : ℕ) (n : Y.Number) (ns : Y.Numbers) (xs : List Bounds) (code : Code) → length xs ≡ 0 → code ≡ code ++ some_counted e t d n ns (map bounds_of xs)
+unfolding some_counted
+no_bounds e t d n ns [] code none = sym (append-nil code)
+no_bounds e t d n ns (x ∷ xs) code none = absurd (omega (arith, none))
+
+pub none_behind : (xs : List Bounds) → length xs ≡ 0 → [] ≡ drop 1 xs
+none_behind [] none = refl
+none_behind (x ∷ xs) none = absurd (omega (arith, none))

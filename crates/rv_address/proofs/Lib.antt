@@ -7,3 +7,4 @@ pub mod Open
 pub mod Placing
 pub mod Summed
 pub mod Tabled
+pub mod Trees

@@ -12,6 +12,7 @@ use Rattle.rv_address.specs.declared.transfer.Address.{Address}
 abbrev pub name_of : NamePlace → L.NamePlace
 name_of (N.Frame level place) = L.FrameName level place
 name_of (N.Static block index bytes) = L.DataName (StaticStorage block index bytes)
+name_of (N.InStatic block index bytes place) = L.NameInData (StaticStorage block index bytes) place
 
 abbrev pub number_of : NumberPlace → L.NumberPlace
 number_of (K.Known n) = L.KnownNumber n

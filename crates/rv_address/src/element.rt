@@ -1,54 +1,56 @@
 // The address of an element behind its locator and its subscripts.
 
-ghost use Rattle.std.specs.Prelude.{◌≡◌, ℕ, suc, ◌+◌, pos, [], ◌++◌, OnOk, IfOk};
+ghost use Rattle.std.specs.Prelude.{◌≡◌, ℕ, suc, pos, [], ◌++◌, OnOk, IfOk};
 ghost use Rattle.pli_typing.specs.Signatures as sizes;
-ghost use Rattle.pli_typing.specs.TypedView.{leaf_of, leaf_type_of, part_of, variable_of};
+ghost use Rattle.pli_typing.specs.TypedView.{leaf_of, leaf_type_of, numbers_of, part_of, variable_of};
 ghost use Rattle.pli_meaning.specs.DeclaredShapes as shapes;
+ghost use Rattle.pli_coding.specs.Environments.{declaration_of};
 ghost use Rattle.pli_coding.specs.Locating as form;
 ghost use Rattle.rv_address.specs.Around.{environment_of, taken_of};
-ghost use Rattle.rv_address.specs.Pieces.{direct_start, found_added, static_base};
-ghost use Rattle.rv_address.specs.Places.{address_of};
+ghost use Rattle.rv_address.specs.Pieces.{found_added, direct_start, static_base};
+ghost use Rattle.rv_address.specs.Places.{address_of, located_of, name_of};
 
+use crate::direct::{direct_base, direct_place, direct_register};
 use crate::environment::Environment;
 use crate::extent::{is_constant, needs_buffer};
-use crate::frame::automatic_place;
 use crate::leaf::{is_direct, leaf_found};
-use crate::located::{class_found, located, static_bytes};
-use crate::names::{frame_found, frame_in};
+use crate::located::{class_found, located, located_at};
+use crate::names::{Located, NamePlace};
+use crate::number::signed;
 use crate::referred::is_referred;
-use crate::size::{element_bytes, leaf_place};
+use crate::size::element_bytes;
 use crate::subscript::subscripts_counted;
 use crate::taken::Taken;
 use crate::transfer::Address;
 use pli_frames::fixed::buffer_size;
-use pli_typing::typed::{Leaf, LeafType, Part, StorageClass, Variable};
+use pli_typing::typed::{Leaf, LeafType, Numbers, Part, Variable};
 use rv_assembly::code::Code;
-use rv_assembly::item::{Datum, Item, Symbol};
+use rv_assembly::item::Item;
 use rv_assembly::registers;
 use rv_meaning::instr::{ImmediateOp, Register, RegisterOp, ShiftOp};
 use std::alloc::AllocError;
 
-/// u4 times a constant.
+/// The place in u1 times a constant, in u4.
 fn times_constant(code: &mut Code, number: u32) -> Result<(), AllocError>
     ensures { OnOk result (code.new ≡ code.old ++ form.times_constant number) }
 {
-    let (place, stride) = (registers::u4(), registers::u2());
+    let (distance, place, stride) = (registers::u4(), registers::u1(), registers::u2());
     if number == 4 {
-        return Ok(code.shift(ShiftOp::Left, place, place, 2)?);
+        return Ok(code.shift(ShiftOp::Left, distance, place, 2)?);
     }
     code.number(stride, number)?;
-    code.registers(RegisterOp::Multiply, place, place, stride)
+    code.registers(RegisterOp::Multiply, distance, place, stride)
 }
 
-/// u4 times a size from the buffer, with so many bytes more, rounded up to 4.
+/// Times a size from the buffer, with so many bytes more, rounded up to 4.
 fn times_size(code: &mut Code, more: u8) -> Result<(), AllocError>
     ensures { OnOk result (code.new ≡ code.old ++ form.times_size more) }
 {
-    let (place, size) = (registers::u4(), registers::u2());
+    let (distance, place, size) = (registers::u4(), registers::u1(), registers::u2());
     code.load_word(size, registers::frame(), buffer_size())?;
     code.immediate(ImmediateOp::Add, size, size, i32::from(more) + 3)?;
     code.immediate(ImmediateOp::And, size, size, -4)?;
-    code.registers(RegisterOp::Multiply, place, place, size)
+    code.registers(RegisterOp::Multiply, distance, place, size)
 }
 
 fn times_element(code: &mut Code, kind: LeafType) -> Result<(), AllocError>
@@ -78,100 +80,22 @@ fn times_stride(code: &mut Code, kind: LeafType) -> Result<(), AllocError>
 }
 
 /// u3, or what stands in a register, and the element's distance.
+#[tactic(auto, using(crate::proofs::Trees::numbers))]
 fn element_added(
     code: &mut Code,
     register: Register,
     kind: LeafType,
-    given: usize,
+    subscripts: &Numbers,
 ) -> Result<(), AllocError>
-    ensures { OnOk result (code.new ≡ code.old ++ form.element_added register (leaf_type_of kind) given) }
+    ensures { OnOk result (code.new ≡ code.old ++ form.element_added register (leaf_type_of kind) (numbers_of subscripts.now)) }
 {
-    if given == 0 {
-        return Ok(());
+    match subscripts {
+        Numbers::End => Ok(()),
+        Numbers::More { .. } => {
+            times_stride(code, kind)?;
+            code.add(registers::u3(), register, registers::u4())
+        }
     }
-    times_stride(code, kind)?;
-    code.add(registers::u3(), register, registers::u4())
-}
-
-fn static_base(
-    code: &mut Code,
-    environment: &Environment,
-    variable: Variable,
-) -> Result<(), AllocError>
-    ensures { OnOk result (code.new ≡ code.old ++ static_base (environment_of environment.now) (variable_of variable)) }
-{
-    let declaration = environment.declaration(variable)?;
-    let bytes = static_bytes(declaration)?;
-    let datum = Datum::StaticStorage {
-        block: variable.block,
-        index: variable.index,
-        bytes,
-    };
-    code.push(Item::BaseIn(registers::u3()))?;
-    code.push(Item::OffsetOf(registers::u0(), Symbol::DataPlace(datum)))?;
-    code.add(registers::u3(), registers::u3(), registers::u0())
-}
-
-/// What finds the base of a variable whose data stands at a constant place.
-fn direct_base(
-    code: &mut Code,
-    environment: &Environment,
-    variable: Variable,
-) -> Result<(), AllocError>
-    ensures { OnOk result (code.new ≡ code.old ++ form.direct_base (environment_of environment.now) (variable_of variable) (variable_of variable).class) }
-{
-    let (level, base) = (variable.level, registers::u3());
-    match variable.class {
-        StorageClass::Automatic => frame_found(code, environment, level, base),
-        StorageClass::Parameter => frame_found(code, environment, level, base),
-        StorageClass::Static => static_base(code, environment, variable),
-        StorageClass::Based => frame_found(code, environment, level, base),
-        StorageClass::Controlled => frame_found(code, environment, level, base),
-    }
-}
-
-fn direct_register(environment: &Environment, variable: Variable) -> Register
-    ensures { result ≡ form.direct_register (environment_of environment.now) (variable_of variable) (variable_of variable).class }
-{
-    let (level, base) = (variable.level, registers::u3());
-    match variable.class {
-        StorageClass::Automatic => frame_in(environment, level, base),
-        StorageClass::Parameter => frame_in(environment, level, base),
-        StorageClass::Static => base,
-        StorageClass::Based => frame_in(environment, level, base),
-        StorageClass::Controlled => frame_in(environment, level, base),
-    }
-}
-
-/// The place of a variable's name behind its base.
-fn direct_start(environment: &Environment, variable: Variable) -> Result<u32, AllocError>
-    ensures { IfOk result (λ n. n ≡ direct_start (environment_of environment.now) (variable_of variable) (variable_of variable).class) }
-{
-    match variable.class {
-        StorageClass::Automatic => automatic_place(environment, variable),
-        StorageClass::Parameter => automatic_place(environment, variable),
-        StorageClass::Static => Ok(0),
-        StorageClass::Based => automatic_place(environment, variable),
-        StorageClass::Controlled => automatic_place(environment, variable),
-    }
-}
-
-/// The place of a leaf behind its variable's base.
-#[tactic(auto, using(crate::proofs::Placing::direct_is))]
-fn direct_place(
-    environment: &Environment,
-    variable: Variable,
-    leaf: usize,
-) -> Result<i32, AllocError>
-    ensures { IfOk result (λ d. d ≡ pos (form.direct_place (environment_of environment.now) (variable_of variable) (variable_of variable).class leaf)) }
-{
-    let start = direct_start(environment, variable)?;
-    let inside = leaf_place(environment.declaration(variable)?, leaf)?;
-    let place = u64::from(start) + 16 + u64::from(inside);
-    if place >= 1 << 31 {
-        return Err(AllocError);
-    }
-    Ok(place as i32)
 }
 
 /// Where the code of a reference leaves an element.
@@ -189,9 +113,9 @@ pub fn address_of(
             displacement: 0,
         });
     }
-    let displacement = direct_place(environment, variable, part.first)?;
+    let displacement = signed(direct_place(environment, variable, part.first)?)?;
     let register = if given == 0 {
-        direct_register(environment, variable)
+        direct_register(environment, registers::u3(), variable)
     } else {
         registers::u3()
     };
@@ -207,23 +131,55 @@ fn direct_reached(
     taken: Taken,
     variable: Variable,
     leaf: &Leaf,
-    given: usize,
+    subscripts: &Numbers,
 ) -> Result<(), AllocError>
-    ensures { OnOk result (code.new ≡ code.old ++ form.direct_reached (environment_of environment.now) (taken_of taken) (variable_of variable) (leaf_of leaf.now) given) }
+    ensures { OnOk result (code.new ≡ code.old ++ form.direct_reached (environment_of environment.now) (taken_of taken) (variable_of variable) (leaf_of leaf.now) (numbers_of subscripts.now)) }
 {
-    subscripts_counted(code, taken, given, &leaf.bounds)?;
-    direct_base(code, environment, variable)?;
-    let register = direct_register(environment, variable);
-    element_added(code, register, leaf.kind, given)
+    let base = registers::u3();
+    subscripts_counted(code, environment, taken, 0, subscripts, &leaf.bounds)?;
+    direct_base(code, environment, base, variable)?;
+    let register = direct_register(environment, base, variable);
+    element_added(code, register, leaf.kind, subscripts)
 }
 
-fn found_added(code: &mut Code, taken: Taken, leaf: &Leaf, given: usize) -> Result<(), AllocError>
-    ensures { OnOk result (code.new ≡ code.old ++ found_added (taken_of taken) (leaf_of leaf.now) given) }
+fn found_added(
+    code: &mut Code,
+    environment: &Environment,
+    taken: Taken,
+    leaf: &Leaf,
+    subscripts: &Numbers,
+) -> Result<(), AllocError>
+    ensures { OnOk result (code.new ≡ code.old ++ found_added (environment_of environment.now) (taken_of taken) (leaf_of leaf.now) (numbers_of subscripts.now)) }
 {
-    subscripts_counted(code, taken, given, &leaf.bounds)?;
+    subscripts_counted(code, environment, taken, 0, subscripts, &leaf.bounds)?;
     code.push(Item::BaseIn(registers::u0()))?;
     code.add(registers::u3(), registers::u3(), registers::u0())?;
-    element_added(code, registers::u3(), leaf.kind, given)
+    element_added(code, registers::u3(), leaf.kind, subscripts)
+}
+
+/// An element of a generation whose name stands somewhere.
+fn leaf_reached(
+    code: &mut Code,
+    environment: &Environment,
+    place: Located,
+    taken: Taken,
+    variable: Variable,
+    part: Part,
+    leaf: &Leaf,
+    subscripts: &Numbers,
+) -> Result<(), AllocError>
+    ensures { OnOk result (code.new ≡ code.old ++ form.leaf_reached (environment_of environment.now) (located_of place) (taken_of taken) (variable_of variable) (part_of part) (leaf_of leaf.now) (numbers_of subscripts.now)) }
+{
+    let may_refer = is_referred(environment, variable, part)?;
+    leaf_found(
+        code,
+        environment,
+        place,
+        part.first,
+        needs_buffer(leaf),
+        may_refer,
+    )?;
+    found_added(code, environment, taken, leaf, subscripts)
 }
 
 fn found_reached(
@@ -234,25 +190,51 @@ fn found_reached(
     variable: Variable,
     part: Part,
     leaf: &Leaf,
-    given: usize,
+    subscripts: &Numbers,
 ) -> Result<(), AllocError>
-    ensures { OnOk result (code.new ≡ code.old ++ form.found_reached (environment_of environment.now) (taken_of found) (taken_of taken) (variable_of variable) (part_of part) (leaf_of leaf.now) given) }
+    ensures { OnOk result (code.new ≡ code.old ++ form.found_reached (environment_of environment.now) (taken_of found) (taken_of taken) (variable_of variable) (part_of part) (leaf_of leaf.now) (numbers_of subscripts.now)) }
 {
     class_found(code, environment, found, variable)?;
     let place = located(environment, found, variable)?;
-    let may_refer = is_referred(environment, variable, part)?;
-    leaf_found(
+    leaf_reached(
         code,
         environment,
         place,
-        part.first,
-        needs_buffer(leaf),
-        may_refer,
-    )?;
-    found_added(code, taken, leaf, given)
+        taken,
+        variable,
+        part,
+        leaf,
+        subscripts,
+    )
 }
 
-/// An element's address, behind a locator, which waits at `found`, and so many subscripts, which wait at `taken`.
+/// An element of a BASED variable whose name stands there.
+pub fn based_reached(
+    code: &mut Code,
+    environment: &Environment,
+    name: NamePlace,
+    taken: Taken,
+    variable: Variable,
+    part: Part,
+    subscripts: &Numbers,
+) -> Result<(), AllocError>
+    ensures { OnOk result (code.new ≡ code.old ++ form.based_reached (environment_of environment.now) (name_of name) (taken_of taken) (variable_of variable) (part_of part) (numbers_of subscripts.now)) }
+{
+    let leaf = environment.leaf(variable, part.first)?;
+    let place = located_at(environment, variable, name)?;
+    leaf_reached(
+        code,
+        environment,
+        place,
+        taken,
+        variable,
+        part,
+        leaf,
+        subscripts,
+    )
+}
+
+/// An element's address, behind a locator, which waits at `found`, and subscripts, which wait at `taken` unless they are simple.
 pub fn reached(
     code: &mut Code,
     environment: &Environment,
@@ -260,14 +242,23 @@ pub fn reached(
     taken: Taken,
     variable: Variable,
     part: Part,
-    given: usize,
+    subscripts: &Numbers,
 ) -> Result<(), AllocError>
-    ensures { OnOk result (code.new ≡ code.old ++ form.reached (environment_of environment.now) (taken_of found) (taken_of taken) (variable_of variable) (part_of part) given) }
+    ensures { OnOk result (code.new ≡ code.old ++ form.reached (environment_of environment.now) (taken_of found) (taken_of taken) (variable_of variable) (part_of part) (numbers_of subscripts.now)) }
 {
     let leaf = environment.leaf(variable, part.first)?;
     if is_direct(environment, variable)? {
-        direct_reached(code, environment, taken, variable, leaf, given)
+        direct_reached(code, environment, taken, variable, leaf, subscripts)
     } else {
-        found_reached(code, environment, found, taken, variable, part, leaf, given)
+        found_reached(
+            code,
+            environment,
+            found,
+            taken,
+            variable,
+            part,
+            leaf,
+            subscripts,
+        )
     }
 }

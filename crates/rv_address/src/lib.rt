@@ -2,6 +2,7 @@
 #![tactic(auto)]
 
 pub mod controlled;
+pub mod direct;
 pub mod element;
 pub mod environment;
 pub mod extent;
@@ -13,6 +14,7 @@ pub mod names;
 pub mod number;
 pub mod referred;
 pub mod signature;
+pub mod simple;
 pub mod size;
 pub mod subscript;
 pub mod taken;

@@ -12,7 +12,7 @@ ghost use Rattle.pli_coding.specs.Locating as form;
 ghost use Rattle.pli_frames.specs.Parts.{parts};
 ghost use Rattle.rv_address.specs.Around.{environment_of, taken_of};
 ghost use Rattle.rv_address.specs.Pieces.{newest_kept};
-ghost use Rattle.rv_address.specs.Places.{located_of, no_variable, number_of};
+ghost use Rattle.rv_address.specs.Places.{located_of, name_of, no_variable, number_of};
 
 use crate::controlled::controlled_number;
 use crate::environment::Environment;
@@ -179,6 +179,18 @@ fn based_located(
         },
         number,
     })
+}
+
+/// A BASED variable whose name stands there.
+pub fn located_at(
+    environment: &Environment,
+    variable: Variable,
+    name: NamePlace,
+) -> Result<Located, AllocError>
+    ensures { IfOk result (λ l. located_of l ≡ form.based_located (environment_of environment.now) (variable_of variable) (name_of name)) }
+{
+    let number = based_number(environment, variable)?;
+    Ok(Located { name, number })
 }
 
 fn controlled_located(environment: &Environment, taken: Taken) -> Result<Located, AllocError>

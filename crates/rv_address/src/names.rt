@@ -1,13 +1,14 @@
 // Frames, and names and numbers of signatures by where they stand.
 
-ghost use Rattle.std.specs.Prelude.{◌≡◌, ◌++◌, OnOk, IfOk};
-ghost use Rattle.pli_coding.specs.Assembly.{DataPlace};
+ghost use Rattle.std.specs.Prelude.{◌≡◌, [], ◌∷◌, ◌++◌, OnOk, IfOk};
+ghost use Rattle.pli_coding.specs.Assembly.{DataPlace, OffsetOf, StaticStorage};
 ghost use Rattle.pli_coding.specs.Locating as form;
 ghost use Rattle.rv_assembly.specs.View.{datum_of};
 ghost use Rattle.rv_address.specs.Around.{environment_of};
 ghost use Rattle.rv_address.specs.Places.{name_of, number_of};
 
 use crate::environment::Environment;
+use crate::number::signed;
 use pli_frames::fixed::{display, own_offset};
 use rv_assembly::code::Code;
 use rv_assembly::item::{Datum, Item, Symbol};
@@ -15,7 +16,7 @@ use rv_assembly::registers;
 use rv_meaning::instr::Register;
 use std::alloc::AllocError;
 
-/// Where a name stands: in the frame at a level, or in the static data of a variable of so many bytes.
+/// Where a name stands: in the frame at a level, or in the static data of a variable of so many bytes, in front or at a place.
 #[derive(Clone, Copy, PartialEq, Eq, Debug)]
 pub enum NamePlace {
     Frame {
@@ -26,6 +27,12 @@ pub enum NamePlace {
         block: usize,
         index: usize,
         bytes: usize,
+    },
+    InStatic {
+        block: usize,
+        index: usize,
+        bytes: usize,
+        place: u32,
     },
 }
 
@@ -102,6 +109,26 @@ pub fn own_place(
     frame_offset(code, environment, environment.level, register, place)
 }
 
+/// The offset of the storage of a STATIC variable of so many bytes.
+fn storage_offset(
+    code: &mut Code,
+    register: Register,
+    block: usize,
+    index: usize,
+    bytes: usize,
+) -> Result<(), AllocError>
+    ensures { OnOk result (code.new ≡ code.old ++ OffsetOf register (DataPlace (StaticStorage block index bytes)) ∷ []) }
+{
+    code.push(Item::OffsetOf(
+        register,
+        Symbol::DataPlace(Datum::StaticStorage {
+            block,
+            index,
+            bytes,
+        }),
+    ))
+}
+
 /// The offset of a name.
 pub fn name_offset(
     code: &mut Code,
@@ -119,14 +146,16 @@ pub fn name_offset(
             block,
             index,
             bytes,
-        } => code.push(Item::OffsetOf(
-            register,
-            Symbol::DataPlace(Datum::StaticStorage {
-                block,
-                index,
-                bytes,
-            }),
-        )),
+        } => storage_offset(code, register, block, index, bytes),
+        NamePlace::InStatic {
+            block,
+            index,
+            bytes,
+            place,
+        } => {
+            storage_offset(code, register, block, index, bytes)?;
+            code.plus(register, register, signed(place)?)
+        }
     }
 }
 

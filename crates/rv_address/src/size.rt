@@ -107,7 +107,7 @@ fn element_count(dimensions: &[Bounds]) -> u64
 
 /// The bytes of a leaf in whole words, for all its elements.
 #[tactic(auto, using(crate::proofs::Capping::of_leaf))]
-fn leaf_size(leaf: &Leaf) -> u64
+pub fn leaf_size(leaf: &Leaf) -> u64
     ensures { result ≡ capped (sizes.leaf_size (shapes.leaf_of [] (leaf_of leaf.now))) }
 {
     let bytes = (leaf_bytes(leaf.kind) + 3) / 4 * 4;

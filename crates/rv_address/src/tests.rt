@@ -9,7 +9,8 @@ use crate::taken::{none_taken, save};
 use crate::transfer::{in_own_frame, loaded, name_copied, stored, text_pushed, text_stored};
 use pli_typing::statement::{Block, BlockHead, BlockKind, Procedure, Stmts, Typed};
 use pli_typing::typed::{
-    Bounds, DeclaredVariable, Extent, Leaf, LeafType, Part, StorageClass, Variable,
+    Bounds, DeclaredVariable, Extent, Leaf, LeafType, Number, Numbers, Part, Reference,
+    StorageClass, Variable,
 };
 use rv_assembly::code::Code;
 use rv_assembly::registers;
@@ -90,8 +91,14 @@ fn named(class: StorageClass, index: usize) -> Variable {
     }
 }
 
-// The words that reach a variable, with so many subscripts.
-fn words(alloc: Global, known: &Known, at: Variable, given: usize) -> Result<usize, AllocError> {
+// The words that reach a variable, with a subscript that waits or without one.
+fn words(
+    alloc: Global,
+    known: &Known,
+    at: Variable,
+    subscripts: &Numbers,
+    given: usize,
+) -> Result<usize, AllocError> {
     let environment = Environment::new(known, &[]);
     let mut code = Code::new(alloc);
     let behind = behind_locator(at, none_taken())?;
@@ -103,7 +110,7 @@ fn words(alloc: Global, known: &Known, at: Variable, given: usize) -> Result<usi
         behind,
         at,
         part,
-        given,
+        subscripts,
     )?;
     let address = address_of(&environment, at, part, given)?;
     loaded(&mut code, LeafType::Fixed(31), registers::a0(), address)?;
@@ -115,22 +122,50 @@ fn variables_are_reached_in_their_words(rt: HostRuntime) -> Result<(), Fail> {
     let typed = program(rt.alloc())?;
     let known = Known::new(rt.alloc(), &typed)?;
     assert_eq!(rt; known.table().len(), 3);
-    let (alloc, class) = (rt.alloc(), StorageClass::Parameter);
-    assert_eq!(rt; words(alloc, &known, named(class, 0), 0)?, 16);
-    assert_eq!(rt;
-        words(alloc, &known, named(StorageClass::Automatic, 1), 0)?,
-        1
-    );
-    assert_eq!(rt; words(alloc, &known, named(StorageClass::Static, 2), 0)?, 6);
-    assert_eq!(rt; words(alloc, &known, named(StorageClass::Based, 3), 0)?, 16);
-    assert_eq!(rt;
-        words(alloc, &known, named(StorageClass::Controlled, 4), 0)?,
-        26
-    );
-    assert_eq!(rt;
-        words(alloc, &known, named(StorageClass::Automatic, 5), 1)?,
-        12
-    );
+    let (alloc, none) = (rt.alloc(), Numbers::End);
+    let parameter = named(StorageClass::Parameter, 0);
+    assert_eq!(rt; words(alloc, &known, parameter, &none, 0)?, 16);
+    let automatic = named(StorageClass::Automatic, 1);
+    assert_eq!(rt; words(alloc, &known, automatic, &none, 0)?, 1);
+    let standing = named(StorageClass::Static, 2);
+    assert_eq!(rt; words(alloc, &known, standing, &none, 0)?, 6);
+    let based = named(StorageClass::Based, 3);
+    assert_eq!(rt; words(alloc, &known, based, &none, 0)?, 16);
+    let controlled = named(StorageClass::Controlled, 4);
+    assert_eq!(rt; words(alloc, &known, controlled, &none, 0)?, 26);
+    Ok(())
+}
+
+fn subscript<'a>(alloc: Global, first: Number<'a>) -> Result<Numbers<'a>, AllocError> {
+    Ok(Numbers::More {
+        first: Box::new(alloc, first)?,
+        rest: Box::new(alloc, Numbers::End)?,
+    })
+}
+
+fn scalar<'a>(alloc: Global, variable: Variable) -> Result<Number<'a>, AllocError> {
+    let reference = Reference::Plain {
+        variable,
+        part: Part { first: 0, count: 1 },
+        subscripts: Numbers::End,
+    };
+    Ok(Number::In(Box::new(alloc, reference)?))
+}
+
+// A subscript that waits, a constant of two words, and variables of one word and of six, before ten words.
+#[test]
+fn elements_are_reached_in_their_words(rt: HostRuntime) -> Result<(), Fail> {
+    let typed = program(rt.alloc())?;
+    let known = Known::new(rt.alloc(), &typed)?;
+    let (alloc, array) = (rt.alloc(), named(StorageClass::Automatic, 5));
+    let waiting = subscript(alloc, Number::OnCode)?;
+    assert_eq!(rt; words(alloc, &known, array, &waiting, 1)?, 11);
+    let constant = subscript(alloc, Number::Constant(5000))?;
+    assert_eq!(rt; words(alloc, &known, array, &constant, 1)?, 12);
+    let near = subscript(alloc, scalar(alloc, named(StorageClass::Automatic, 1))?)?;
+    assert_eq!(rt; words(alloc, &known, array, &near, 1)?, 11);
+    let standing = subscript(alloc, scalar(alloc, named(StorageClass::Static, 2))?)?;
+    assert_eq!(rt; words(alloc, &known, array, &standing, 1)?, 16);
     Ok(())
 }
 

@@ -1,11 +1,13 @@
 // ALLOCATE: generations in an area or in the heap, whose locators are set, and those of CONTROLLED variables.
 
-ghost use Rattle.std.specs.Prelude.{◌≡◌, map, ◌++◌, OnOk};
+ghost use Rattle.std.specs.Prelude.{◌≡◌, map, ◌++◌, OnOk, IfOk};
+ghost use Rattle.pli_language.specs.View.{option_of};
 ghost use Rattle.pli_typing.specs.TypedView.{area_of, reference_of, variable_of};
 ghost use Rattle.pli_typing.specs.TypedStatementView.{allocation_of, target_of};
 ghost use Rattle.pli_coding.specs.Allocating as form;
 ghost use Rattle.rv_address.specs.Around.{environment_of, taken_of};
-ghost use Rattle.rv_allocation.specs.Pieces.{based_made, controlled_made, generation_pushed, locator_told, offset_told};
+ghost use Rattle.rv_address.specs.Places.{name_of};
+ghost use Rattle.rv_allocation.specs.Pieces.{based_made, controlled_made, generation_pushed, locator_told, name_there, offset_told, pointer_set};
 
 use crate::amounts::amounts_code;
 use crate::placing::placing_code;
@@ -14,14 +16,15 @@ use pli_typing::typed::{Allocation, LocatorTarget, Reference, Variable};
 use rv_address::controlled::controlled_number;
 use rv_address::environment::Environment;
 use rv_address::located::waiting_name;
-use rv_address::names::own_place;
+use rv_address::names::{NamePlace, own_place};
 use rv_address::number::count;
 use rv_address::taken::Taken;
 use rv_assembly::code::Code;
 use rv_assembly::registers::{a0, a1, a2, a3};
 use rv_assignment::scalar::{name_stored, word_stored};
 use rv_extent::initial::initial_code;
-use rv_operation::pointer::area_name;
+use rv_operation::pointer::{area_name, waiting_place};
+use rv_operation::standing::standing_in;
 use std::alloc::{AllocError, Global};
 
 /// An act, and the line that is current from now on.
@@ -52,7 +55,58 @@ fn offset_told(
     code.tested_service(14)
 }
 
-/// The locator that ALLOCATE sets, to the name that waits.
+/// Where a name stands, or else waits.
+#[tactic(auto, unfolding(crate::specs::Pieces::name_there))]
+fn name_there(
+    environment: &Environment,
+    taken: Taken,
+    standing: Option<NamePlace>,
+) -> Result<NamePlace, AllocError>
+    ensures { IfOk result (λ n. name_of n ≡ name_there (environment_of environment.now) (taken_of taken) (option_of name_of standing)) }
+{
+    match standing {
+        Some(name) => Ok(name),
+        None => waiting_place(environment, taken),
+    }
+}
+
+/// Where the name of a generation is written: into the POINTER variable that is set, where that stands, or else where it waits.
+#[tactic(auto, using(crate::proofs::Walks::targets))]
+fn name_target(
+    environment: &Environment,
+    taken: Taken,
+    target: &LocatorTarget,
+) -> Result<NamePlace, AllocError>
+    ensures { IfOk result (λ n. name_of n ≡ form.name_target (environment_of environment.now) (taken_of taken) (target_of target.now)) }
+{
+    match target {
+        LocatorTarget::Pointer(reference) => {
+            let standing = standing_in(environment, reference)?;
+            Ok(name_there(environment, taken, standing)?)
+        }
+        LocatorTarget::Offset { .. } => waiting_place(environment, taken),
+    }
+}
+
+/// The POINTER variable that ALLOCATE sets, unless the name stands there already.
+#[tactic(auto, using(crate::proofs::Walks::locators))]
+fn pointer_set(
+    alloc: Global,
+    code: &mut Code,
+    environment: &Environment,
+    taken: Taken,
+    target: &Reference,
+    standing: Option<NamePlace>,
+) -> Result<(), AllocError>
+    ensures { OnOk result (code.new ≡ code.old ++ pointer_set (environment_of environment.now) (taken_of taken) (reference_of target.now) (option_of name_of standing)) }
+{
+    match standing {
+        Some(_) => Ok(()),
+        None => name_stored(alloc, code, environment, taken, target),
+    }
+}
+
+/// The locator that ALLOCATE sets.
 #[tactic(auto, using(crate::proofs::Walks::locators))]
 fn locator_set(
     alloc: Global,
@@ -65,7 +119,8 @@ fn locator_set(
 {
     match target {
         LocatorTarget::Pointer(reference) => {
-            name_stored(alloc, code, environment, taken, reference)
+            let standing = standing_in(environment, reference)?;
+            pointer_set(alloc, code, environment, taken, reference, standing)
         }
         LocatorTarget::Offset { target, area } => {
             offset_told(code, environment, taken, *area)?;
@@ -90,8 +145,10 @@ fn based_code(
     ensures { OnOk result (code.new ≡ code.old ++ based_made (environment_of environment.now) (taken_of taken) line (variable_of variable) (area_of area) (target_of target.now)) }
 {
     amounts_code(code, environment, taken, line, variable)?;
-    placing_code(alloc, code, environment, taken, variable, area)?;
-    locator_set(alloc, code, environment, behind_amounts(taken)?, target)
+    let behind = behind_amounts(taken)?;
+    let name = name_target(environment, behind, target)?;
+    placing_code(alloc, code, environment, taken, variable, area, name)?;
+    locator_set(alloc, code, environment, behind, target)
 }
 
 /// The generation of a CONTROLLED variable, once its amounts wait.

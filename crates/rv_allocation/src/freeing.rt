@@ -1,39 +1,42 @@
 // FREE: generations that locators locate, in an area or anywhere, and the newest ones of CONTROLLED variables.
 
 ghost use Rattle.std.specs.Prelude.{◌≡◌, map, ◌++◌, OnOk};
+ghost use Rattle.pli_language.specs.View.{option_of};
 ghost use Rattle.pli_typing.specs.TypedView.{area_of, pointer_of, variable_of};
 ghost use Rattle.pli_typing.specs.TypedStatementView.{freeing_of};
 ghost use Rattle.pli_coding.specs.Allocating as form;
 ghost use Rattle.rv_address.specs.Around.{environment_of, taken_of};
-ghost use Rattle.rv_allocation.specs.Pieces.{generation_freed, located_freed, newest_freed};
+ghost use Rattle.rv_address.specs.Places.{name_of};
+ghost use Rattle.rv_allocation.specs.Pieces.{generation_ended, located_freed, newest_freed};
 
 use crate::amounts::based_number;
 use crate::placing::area_or_heap;
 use pli_typing::typed::{Freeing, Pointer, Variable};
 use rv_address::controlled::controlled_number;
 use rv_address::environment::Environment;
-use rv_address::located::waiting_name;
-use rv_address::names::{number_loaded, own_place};
+use rv_address::names::{NamePlace, name_offset, number_loaded};
 use rv_address::number::count;
 use rv_address::taken::Taken;
 use rv_assembly::code::Code;
 use rv_assembly::registers::{a0, a1, a2};
 use rv_expr::expression::pointer_code;
+use rv_operation::pointer::waiting_place;
+use rv_operation::standing::standing_name;
 use std::alloc::{AllocError, Global};
 
-/// The generation whose name waits ends.
-#[tactic(auto, unfolding(crate::specs::Pieces::generation_freed))]
-fn generation_freed(
+/// The generation whose name stands there ends.
+#[tactic(auto, unfolding(crate::specs::Pieces::generation_ended))]
+fn generation_ended(
     code: &mut Code,
     environment: &Environment,
     taken: Taken,
+    name: NamePlace,
     variable: Variable,
     area: Option<Variable>,
 ) -> Result<(), AllocError>
-    ensures { OnOk result (code.new ≡ code.old ++ generation_freed (environment_of environment.now) (taken_of taken) (variable_of variable) (area_of area)) }
+    ensures { OnOk result (code.new ≡ code.old ++ generation_ended (environment_of environment.now) (taken_of taken) (name_of name) (variable_of variable) (area_of area)) }
 {
-    let place = waiting_name(taken)?;
-    own_place(code, environment, a0(), place)?;
+    name_offset(code, environment, a0(), name)?;
     let number = based_number(environment, variable)?;
     number_loaded(code, environment, a1(), number)?;
     area_or_heap(code, environment, a2(), taken, area)?;
@@ -55,7 +58,7 @@ fn newest_freed(
 }
 
 /// The generation that a locator locates ends.
-#[tactic(auto, unfolding(crate::specs::Pieces::located_freed))]
+#[tactic(auto, using(crate::proofs::Walks::located))]
 fn located_freed(
     alloc: Global,
     code: &mut Code,
@@ -64,14 +67,21 @@ fn located_freed(
     variable: Variable,
     locator: &Pointer,
     area: Option<Variable>,
+    standing: Option<NamePlace>,
 ) -> Result<(), AllocError>
-    ensures { OnOk result (code.new ≡ code.old ++ located_freed (environment_of environment.now) (taken_of taken) (variable_of variable) (pointer_of locator.now) (area_of area)) }
+    ensures { OnOk result (code.new ≡ code.old ++ located_freed (environment_of environment.now) (taken_of taken) (variable_of variable) (pointer_of locator.now) (area_of area) (option_of name_of standing)) }
 {
-    pointer_code(alloc, code, environment, taken, locator)?;
-    generation_freed(code, environment, taken, variable, area)
+    match standing {
+        Some(name) => generation_ended(code, environment, taken, name, variable, area),
+        None => {
+            pointer_code(alloc, code, environment, taken, locator)?;
+            let name = waiting_place(environment, taken)?;
+            generation_ended(code, environment, taken, name, variable, area)
+        }
+    }
 }
 
-#[tactic(auto, unfolding(crate::specs::Pieces::generation_freed, crate::specs::Pieces::located_freed, crate::specs::Pieces::newest_freed))]
+#[tactic(auto, using(crate::proofs::Walks::one_freed))]
 fn freeing_code(
     alloc: Global,
     code: &mut Code,
@@ -86,8 +96,20 @@ fn freeing_code(
             variable,
             locator,
             area,
-        } => located_freed(alloc, code, environment, taken, *variable, locator, *area),
-        Freeing::Controlled(variable) => newest_freed(code, environment, *variable),
+        } => {
+            let standing = standing_name(environment, locator)?;
+            Ok(located_freed(
+                alloc,
+                code,
+                environment,
+                taken,
+                *variable,
+                locator,
+                *area,
+                standing,
+            )?)
+        }
+        Freeing::Controlled(variable) => Ok(newest_freed(code, environment, *variable)?),
     }
 }
 

@@ -7,14 +7,14 @@ ghost use Rattle.pli_typing.specs.TypedStatementView.{declared_variable_of};
 ghost use Rattle.pli_coding.specs.Assembly.{size_of};
 ghost use Rattle.pli_coding.specs.Allocating as form;
 ghost use Rattle.rv_address.specs.Around.{environment_of, taken_of};
+ghost use Rattle.rv_address.specs.Places.{name_of};
 ghost use Rattle.rv_allocation.specs.Pieces.{area_raised, asked, beginning_asked, placed, tried_again};
 
-use crate::words::{behind_amounts, extent_waiting, number_waiting};
+use crate::words::{extent_waiting, number_waiting};
 use pli_language::condition::Condition;
 use pli_typing::typed::{DeclaredVariable, Variable};
 use rv_address::environment::Environment;
-use rv_address::located::waiting_name;
-use rv_address::names::own_place;
+use rv_address::names::{NamePlace, name_offset};
 use rv_address::taken::Taken;
 use rv_assembly::code::Code;
 use rv_assembly::item::Item;
@@ -41,20 +41,19 @@ pub fn area_or_heap(
     }
 }
 
-/// What the generation begins with, and where its name will stand: then the service is asked.
+/// What the generation begins with, and where its name is written: then the service is asked.
 #[tactic(auto, unfolding(crate::specs::Pieces::beginning_asked))]
 fn beginning_asked(
     alloc: Global,
     code: &mut Code,
     environment: &Environment,
-    taken: Taken,
+    name: NamePlace,
     declaration: &DeclaredVariable,
 ) -> Result<(), AllocError>
-    ensures { OnOk result (code.new ≡ code.old ++ beginning_asked (environment_of environment.now) (taken_of taken) (declared_variable_of declaration.now)) }
+    ensures { OnOk result (code.new ≡ code.old ++ beginning_asked (environment_of environment.now) (name_of name) (declared_variable_of declaration.now)) }
 {
     initial_code(alloc, code, a3(), declaration)?;
-    let place = waiting_name(behind_amounts(taken)?)?;
-    own_place(code, environment, a4(), place)?;
+    name_offset(code, environment, a4(), name)?;
     code.service(10)
 }
 
@@ -66,14 +65,15 @@ fn placing_asked(
     taken: Taken,
     variable: Variable,
     area: Option<Variable>,
+    name: NamePlace,
 ) -> Result<(), AllocError>
-    ensures { OnOk result (code.new ≡ code.old ++ asked (environment_of environment.now) (taken_of taken) (variable_of variable) (area_of area)) }
+    ensures { OnOk result (code.new ≡ code.old ++ asked (environment_of environment.now) (taken_of taken) (variable_of variable) (area_of area) (name_of name)) }
 {
     let declaration = environment.declaration(variable)?;
     area_or_heap(code, environment, a0(), taken, area)?;
     number_waiting(code, a1(), taken)?;
     extent_waiting(code, a2(), taken)?;
-    beginning_asked(alloc, code, environment, taken, declaration)
+    beginning_asked(alloc, code, environment, name, declaration)
 }
 
 /// AREA, and what is current again behind its unit.
@@ -108,11 +108,12 @@ fn placed_in_area(
     taken: Taken,
     variable: Variable,
     area: Variable,
+    name: NamePlace,
 ) -> Result<(), AllocError>
-    ensures { OnOk result (code.new ≡ code.old ++ placed (environment_of environment.now) (taken_of taken) (variable_of variable) (Some (variable_of area))) }
+    ensures { OnOk result (code.new ≡ code.old ++ placed (environment_of environment.now) (taken_of taken) (variable_of variable) (Some (variable_of area)) (name_of name)) }
 {
     let start = code.size();
-    placing_asked(alloc, code, environment, taken, variable, Some(area))?;
+    placing_asked(alloc, code, environment, taken, variable, Some(area), name)?;
     tried_again(code, start)
 }
 
@@ -124,14 +125,15 @@ fn placed_in_heap(
     environment: &Environment,
     taken: Taken,
     variable: Variable,
+    name: NamePlace,
 ) -> Result<(), AllocError>
-    ensures { OnOk result (code.new ≡ code.old ++ placed (environment_of environment.now) (taken_of taken) (variable_of variable) None) }
+    ensures { OnOk result (code.new ≡ code.old ++ placed (environment_of environment.now) (taken_of taken) (variable_of variable) None (name_of name)) }
 {
-    placing_asked(alloc, code, environment, taken, variable, None)?;
+    placing_asked(alloc, code, environment, taken, variable, None, name)?;
     code.status_tested()
 }
 
-/// The generation is placed, and its name waits behind its amounts.
+/// The generation is placed, and its name written.
 pub fn placing_code(
     alloc: Global,
     code: &mut Code,
@@ -139,11 +141,12 @@ pub fn placing_code(
     taken: Taken,
     variable: Variable,
     area: Option<Variable>,
+    name: NamePlace,
 ) -> Result<(), AllocError>
-    ensures { OnOk result (code.new ≡ code.old ++ placed (environment_of environment.now) (taken_of taken) (variable_of variable) (area_of area)) }
+    ensures { OnOk result (code.new ≡ code.old ++ placed (environment_of environment.now) (taken_of taken) (variable_of variable) (area_of area) (name_of name)) }
 {
     match area {
-        Some(area) => placed_in_area(alloc, code, environment, taken, variable, area),
-        None => placed_in_heap(alloc, code, environment, taken, variable),
+        Some(area) => placed_in_area(alloc, code, environment, taken, variable, area, name),
+        None => placed_in_heap(alloc, code, environment, taken, variable, name),
     }
 }

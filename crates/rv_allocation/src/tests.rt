@@ -16,6 +16,7 @@ use rv_address::names::NumberPlace;
 use rv_address::taken::none_taken;
 use rv_assembly::code::Code;
 use rv_assembly::registers::{a0, a1, a2};
+use rv_operation::pointer::waiting_place;
 use std::alloc::{AllocError, Global};
 use std::test::Fail;
 
@@ -108,7 +109,7 @@ fn generations_are_made_in_their_words(rt: HostRuntime) -> Result<(), Fail> {
         area: None,
         target: LocatorTarget::Pointer(plain(1)),
     };
-    assert_eq!(rt; made(rt.alloc(), &known, in_heap)?, 23);
+    assert_eq!(rt; made(rt.alloc(), &known, in_heap)?, 15);
     let in_area = Allocation::Based {
         variable: named(StorageClass::Based, 0),
         area: Some(area()),
@@ -162,7 +163,16 @@ fn amounts_wait_in_their_words(rt: HostRuntime) -> Result<(), Fail> {
     number_waiting(&mut code, a1(), none_taken())?;
     extent_waiting(&mut code, a2(), none_taken())?;
     area_or_heap(&mut code, &environment, a0(), none_taken(), None)?;
-    placing_code(alloc, &mut code, &environment, none_taken(), based, None)?;
+    let name = waiting_place(&environment, behind_amounts(none_taken())?)?;
+    placing_code(
+        alloc,
+        &mut code,
+        &environment,
+        none_taken(),
+        based,
+        None,
+        name,
+    )?;
     assert_eq!(rt; code.size(), 24);
     assert_eq!(rt; based_number(&environment, based)?, NumberPlace::Known(0));
     assert_eq!(rt; behind_amounts(none_taken())?.words, 2);

@@ -1,22 +1,25 @@
 -- Pieces of the code that stores, each under a name of its own.
-use Rattle.std.specs.Prelude.{ℕ, ◌++◌}
+use Rattle.std.specs.Prelude.{◌++◌, ℤ, Bool, not, Option, Some, None}
 use Rattle.rv_meaning.specs.declared.instr.BranchTest.TheVariants as Test
 use Rattle.pli_language.specs.declared.condition.Condition.TheVariants as C
 use Rattle.pli_typing.specs.TypedTree as Y
 use Rattle.pli_meaning.specs.Codes.{area_code}
-use Rattle.pli_coding.specs.Registers.{zero_register, a0, a1, u4}
+use Rattle.pli_coding.specs.Registers.{zero_register, a0, a1, u1}
 use Rattle.pli_coding.specs.Assembly.{Code}
 use Rattle.pli_coding.specs.Instructions.{number, service, skip_where, tested_service}
 use Rattle.pli_coding.specs.Environments.{Environment, Taken, fetch}
 use Rattle.pli_coding.specs.Arithmetic.{raised}
 use Rattle.pli_coding.specs.Locating.{behind_locator, class_found, in_own_frame, is_referred, leaf_found, leaf_number, located, name_copied, needs_buffer, stored, subscripts_counted, text_stored, waiting_name}
-use Rattle.pli_coding.specs.Expressions.{address_in, given_in, subscripts_code, type_in}
+use Rattle.pli_coding.specs.Expressions.{address_in, subscripts_code, type_in, pointer_code, pointer_to}
 use Rattle.pli_coding.specs.Storing.{aggregate_code, aggregate_given, elements_code, extent_recorded, first_leaf, name_stored, record_filled, record_given, record_stored, top_stored, value_given, word_stored}
 
--- ---- what waits, to an element that was reached
+-- ---- to an element that was reached: what is in a0, and what waits
+
+unfoldable pub value_stored : Environment → Y.Reference → Code
+value_stored e r = stored (type_in e r) a0 (address_in e r)
 
 unfoldable pub value_kept : Environment → Taken → Y.Reference → Code
-value_kept e t r = fetch a0 t ++ stored (type_in e r) a0 (address_in e r)
+value_kept e t r = fetch a0 t ++ value_stored e r
 
 unfoldable pub text_kept : Environment → Y.Reference → Code
 text_kept e r = text_stored (type_in e r) (address_in e r)
@@ -24,7 +27,7 @@ text_kept e r = text_stored (type_in e r) (address_in e r)
 unfoldable pub name_kept : Environment → Taken → Y.Reference → Code
 name_kept e t r = name_copied (in_own_frame (waiting_name t)) (address_in e r)
 
--- ---- what waits, to an element
+-- ---- a value, to an element
 
 unfoldable pub word_put : Environment → Taken → Y.Reference → Code
 word_put e t r = word_stored e t r
@@ -35,6 +38,15 @@ top_put e t r = top_stored e t r
 unfoldable pub name_put : Environment → Taken → Y.Reference → Code
 name_put e t r = name_stored e t r
 
+-- ---- a POINTER value, into a place of the running frame, or by way of the words behind the temporaries in use
+
+unfoldable pub tells_no_extent : Environment → Y.Reference → Bool
+tells_no_extent e (Y.Referring v locator part subscripts) = not (is_referred e v part)
+
+unfoldable pub pointer_assigned : Environment → Taken → Y.Reference → Y.Pointer → Option ℤ → Code
+pointer_assigned e t target x (Some place) = pointer_to e t place x
+pointer_assigned e t target x None = pointer_code e t x ++ name_put e t target
+
 -- ---- records
 
 -- of what isn't reached without a service
@@ -44,11 +56,11 @@ found_recorded e t found v part =
     ++ (leaf_found e (located e found v) part.first (needs_buffer (leaf_number e v part.first)) (is_referred e v part)
     ++ extent_recorded t (is_referred e v part))
 
-abbrev pub counted_recorded : (t waiting : Taken) → Y.Leaf → (given : ℕ) → Code
-counted_recorded t waiting l given = subscripts_counted waiting 0 given l.bounds ++ record_stored t 2 u4
+abbrev pub counted_recorded : Environment → (t waiting : Taken) → Y.Leaf → (subscripts : Y.Numbers) → Code
+counted_recorded e t waiting l subscripts = subscripts_counted e waiting 0 subscripts l.bounds ++ record_stored t 2 u1
 
 unfoldable pub record_made : Environment → (t found : Taken) → Y.Variable → Y.Part → Y.Numbers → Code
-record_made e t found v part subscripts = record_filled e t found v part (given_in subscripts)
+record_made e t found v part subscripts = record_filled e t found v part subscripts
 
 -- behind a locator
 unfoldable pub subscripts_made : Environment → (t found : Taken) → Y.Variable → Y.Part → Y.Numbers → Code

@@ -19,10 +19,9 @@ use rv_address::referred::is_referred;
 use rv_address::subscript::subscripts_counted;
 use rv_address::taken::Taken;
 use rv_assembly::code::Code;
-use rv_assembly::registers::{a0, frame, u4, zero};
+use rv_assembly::registers::{a0, frame, u1, zero};
 use rv_expr::expression::{locator_code, subscripts_code};
 use rv_meaning::instr::Register;
-use rv_operation::reference::given_in;
 use std::alloc::{AllocError, Global};
 
 /// The words of a record.
@@ -131,21 +130,22 @@ fn aggregate_found(
     }
 }
 
-/// The place among the elements of a leaf that so many subscripts give, which wait.
+/// The place among the elements of a leaf that subscripts give, which wait unless they are simple.
 fn counted_recorded(
     code: &mut Code,
+    environment: &Environment,
     taken: Taken,
     waiting: Taken,
     leaf: &Leaf,
-    given: usize,
+    subscripts: &Numbers,
 ) -> Result<(), AllocError>
-    ensures { OnOk result (code.new ≡ code.old ++ counted_recorded (taken_of taken) (taken_of waiting) (leaf_of leaf.now) given) }
+    ensures { OnOk result (code.new ≡ code.old ++ counted_recorded (environment_of environment.now) (taken_of taken) (taken_of waiting) (leaf_of leaf.now) (numbers_of subscripts.now)) }
 {
-    subscripts_counted(code, waiting, given, &leaf.bounds)?;
-    record_stored(code, taken, 2, u4())
+    subscripts_counted(code, environment, waiting, 0, subscripts, &leaf.bounds)?;
+    record_stored(code, taken, 2, u1())
 }
 
-#[tactic(auto, using(crate::proofs::Walks::some_given))]
+#[tactic(auto, using(crate::proofs::Walks::given))]
 fn subscripts_recorded(
     code: &mut Code,
     environment: &Environment,
@@ -153,15 +153,17 @@ fn subscripts_recorded(
     waiting: Taken,
     variable: Variable,
     part: Part,
-    given: usize,
+    subscripts: &Numbers,
 ) -> Result<(), AllocError>
-    ensures { OnOk result (code.new ≡ code.old ++ form.subscripts_recorded (environment_of environment.now) (taken_of taken) (taken_of waiting) (variable_of variable) (part_of part) given) }
+    ensures { OnOk result (code.new ≡ code.old ++ form.subscripts_recorded (environment_of environment.now) (taken_of taken) (taken_of waiting) (variable_of variable) (part_of part) (numbers_of subscripts.now)) }
 {
-    if given == 0 {
-        return record_stored(code, taken, 2, zero());
+    match subscripts {
+        Numbers::End => record_stored(code, taken, 2, zero()),
+        Numbers::More { .. } => {
+            let leaf = environment.leaf(variable, part.first)?;
+            counted_recorded(code, environment, taken, waiting, leaf, subscripts)
+        }
     }
-    let leaf = environment.leaf(variable, part.first)?;
-    counted_recorded(code, taken, waiting, leaf, given)
 }
 
 fn name_recorded(
@@ -178,7 +180,7 @@ fn name_recorded(
     record_stored(code, taken, 1, a0())
 }
 
-/// All words of a record, behind a locator, which waits at `found`, and so many subscripts, which wait at `waiting`.
+/// All words of a record, behind a locator, which waits at `found`, and subscripts, which wait at `waiting` unless they are simple.
 fn record_filled(
     code: &mut Code,
     environment: &Environment,
@@ -186,13 +188,21 @@ fn record_filled(
     found: Taken,
     variable: Variable,
     part: Part,
-    given: usize,
+    subscripts: &Numbers,
 ) -> Result<(), AllocError>
-    ensures { OnOk result (code.new ≡ code.old ++ form.record_filled (environment_of environment.now) (taken_of taken) (taken_of found) (variable_of variable) (part_of part) given) }
+    ensures { OnOk result (code.new ≡ code.old ++ form.record_filled (environment_of environment.now) (taken_of taken) (taken_of found) (variable_of variable) (part_of part) (numbers_of subscripts.now)) }
 {
     aggregate_found(code, environment, taken, found, variable, part)?;
     let waiting = behind_locator(variable, found)?;
-    subscripts_recorded(code, environment, taken, waiting, variable, part, given)?;
+    subscripts_recorded(
+        code,
+        environment,
+        taken,
+        waiting,
+        variable,
+        part,
+        subscripts,
+    )?;
     let place = located(environment, found, variable)?;
     name_recorded(code, environment, taken, place)
 }
@@ -211,8 +221,7 @@ fn record_made(
 ) -> Result<(), AllocError>
     ensures { OnOk result (code.new ≡ code.old ++ record_made (environment_of environment.now) (taken_of taken) (taken_of found) (variable_of variable) (part_of part) (numbers_of subscripts.now)) }
 {
-    let given = given_in(subscripts)?;
-    record_filled(code, environment, taken, found, variable, part, given)
+    record_filled(code, environment, taken, found, variable, part, subscripts)
 }
 
 #[tactic(auto, using(crate::proofs::Walks::records))]

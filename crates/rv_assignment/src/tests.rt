@@ -3,7 +3,7 @@
 use crate::aggregate::{aggregate_code, elements_code};
 use crate::area::{area_code, emptied_code};
 use crate::record::{behind_record, record_code, record_given};
-use crate::scalar::{assigned_code, name_stored, stored_into, top_stored, word_stored};
+use crate::scalar::{assignment_code, name_stored, stored_into, top_stored, word_stored};
 use pli_typing::statement::Typed;
 use pli_typing::typed::{
     Bit, Bounds, DeclaredVariable, Extent, Leaf, LeafType, Number, Numbers, Offset, Part, Pointer,
@@ -126,7 +126,7 @@ fn assigned(
 ) -> Result<usize, AllocError> {
     let environment = Environment::new(known, &[]);
     let mut code = Code::new(alloc);
-    assigned_code(alloc, &mut code, &environment, none_taken(), target, source)?;
+    assignment_code(alloc, &mut code, &environment, none_taken(), target, source)?;
     Ok(code.size())
 }
 
@@ -137,17 +137,17 @@ fn values_are_assigned_in_their_words(rt: HostRuntime) -> Result<(), Fail> {
     let alloc = rt.alloc();
     let text = Stored::Text(Text::Constant(b"ab"));
     let bit = Stored::Bit(Bit::Constant(true));
-    assert_eq!(rt; assigned(alloc, &known, &plain(0), &seven())?, 4);
-    assert_eq!(rt; assigned(alloc, &known, &element(alloc)?, &seven())?, 16);
+    assert_eq!(rt; assigned(alloc, &known, &plain(0), &seven())?, 2);
+    assert_eq!(rt; assigned(alloc, &known, &element(alloc)?, &seven())?, 11);
     assert_eq!(rt; assigned(alloc, &known, &plain(2), &text)?, 14);
     assert_eq!(rt;
         assigned(alloc, &known, &plain(3), &Stored::Pointer(Pointer::Null))?,
-        12
+        4
     );
-    assert_eq!(rt; assigned(alloc, &known, &plain(4), &bit)?, 4);
+    assert_eq!(rt; assigned(alloc, &known, &plain(4), &bit)?, 2);
     assert_eq!(rt;
         assigned(alloc, &known, &plain(5), &Stored::Offset(Offset::Null))?,
-        4
+        2
     );
     Ok(())
 }
@@ -168,7 +168,7 @@ fn ready_stored(alloc: Global, known: &Known) -> Result<usize, AllocError> {
 fn values_are_stored_in_their_words(rt: HostRuntime) -> Result<(), Fail> {
     let typed = program(rt.alloc())?;
     let known = Known::new(rt.alloc(), &typed)?;
-    assert_eq!(rt; ready_stored(rt.alloc(), &known)?, 22);
+    assert_eq!(rt; ready_stored(rt.alloc(), &known)?, 18);
     Ok(())
 }
 
@@ -186,7 +186,7 @@ fn records_have_their_words(rt: HostRuntime) -> Result<(), Fail> {
     let known = Known::new(rt.alloc(), &typed)?;
     let alloc = rt.alloc();
     assert_eq!(rt; recorded(alloc, &known, &plain(1))?, 9);
-    assert_eq!(rt; recorded(alloc, &known, &element(alloc)?)?, 19);
+    assert_eq!(rt; recorded(alloc, &known, &element(alloc)?)?, 16);
     assert_eq!(rt; recorded(alloc, &known, &based(alloc)?)?, 25);
     assert_eq!(rt; behind_record(&based(alloc)?, none_taken())?.words, 9);
     Ok(())

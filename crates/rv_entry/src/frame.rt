@@ -44,39 +44,39 @@ fn return_restored(code: &mut Code) -> Result<(), AllocError>
 }
 
 #[tactic(auto, using(crate::proofs::Frames::next_saved, crate::proofs::Frames::all_are_saved))]
-fn registers_saved(code: &mut Code, frame: Register) -> Result<(), AllocError>
-    ensures { OnOk result (code.new ≡ code.old ++ form.registers_saved frame 0 7) }
+fn registers_saved(code: &mut Code, frame: Register, count: u8) -> Result<(), AllocError>
+    ensures { OnOk result (code.new ≡ code.old ++ form.registers_saved frame 0 count) }
 {
-    for n in 0..7 {
+    for n in 0..count {
         register_saved(code, frame, n)?;
     }
     Ok(())
 }
 
-/// The registers that hold temporaries, from the running frame.
+/// The first so many registers that hold temporaries, from the running frame.
 #[tactic(auto, using(crate::proofs::Frames::next_restored, crate::proofs::Frames::all_are_restored))]
-pub fn held_restored(code: &mut Code) -> Result<(), AllocError>
-    ensures { OnOk result (code.new ≡ code.old ++ form.registers_restored 0 7) }
+pub fn held_restored(code: &mut Code, count: u8) -> Result<(), AllocError>
+    ensures { OnOk result (code.new ≡ code.old ++ form.registers_restored 0 count) }
 {
-    for n in 0..7 {
+    for n in 0..count {
         register_restored(code, n)?;
     }
     Ok(())
 }
 
-fn all_saved(code: &mut Code, frame: Register) -> Result<(), AllocError>
-    ensures { OnOk result (code.new ≡ code.old ++ form.all_saved frame) }
+fn all_saved(code: &mut Code, frame: Register, count: u8) -> Result<(), AllocError>
+    ensures { OnOk result (code.new ≡ code.old ++ form.all_saved frame count) }
 {
     return_saved(code, frame)?;
-    registers_saved(code, frame)
+    registers_saved(code, frame, count)
 }
 
-/// All that a frame saved, from the running frame.
-pub fn all_restored(code: &mut Code) -> Result<(), AllocError>
-    ensures { OnOk result (code.new ≡ code.old ++ form.all_restored) }
+/// All that a frame saved, with so many registers that hold temporaries, from the running frame.
+pub fn all_restored(code: &mut Code, count: u8) -> Result<(), AllocError>
+    ensures { OnOk result (code.new ≡ code.old ++ form.all_restored count) }
 {
     return_restored(code)?;
-    held_restored(code)
+    held_restored(code, count)
 }
 
 // ---- the display
@@ -137,13 +137,12 @@ fn display_made(code: &mut Code, level: usize) -> Result<(), AllocError>
 
 // ---- frames
 
-fn saved_if(code: &mut Code, is_called: bool) -> Result<(), AllocError>
-    ensures { OnOk result (code.new ≡ code.old ++ form.saved_if is_called) }
+fn saved_if(code: &mut Code, saved: Option<u8>) -> Result<(), AllocError>
+    ensures { OnOk result (code.new ≡ code.old ++ form.saved_if saved) }
 {
-    if is_called {
-        all_saved(code, u0())
-    } else {
-        Ok(())
+    match saved {
+        None => Ok(()),
+        Some(count) => all_saved(code, u0(), count),
     }
 }
 
@@ -187,19 +186,19 @@ fn stack_raised(code: &mut Code, level: usize, parameters: usize) -> Result<(), 
 }
 
 /// A new frame above the temporaries of its block, which are so many words; the frame of the block around it is in a0. One that is
-/// called or raised saves all registers that hold temporaries.
+/// called or raised saves so many registers that hold temporaries.
 #[tactic(auto, using(crate::proofs::Frames::frames))]
 pub fn frame_begun(
     code: &mut Code,
     words: u32,
     level: usize,
     parameters: usize,
-    is_called: bool,
+    saved: Option<u8>,
 ) -> Result<(), AllocError>
-    ensures { OnOk result (code.new ≡ code.old ++ form.frame_begun words level parameters is_called) }
+    ensures { OnOk result (code.new ≡ code.old ++ form.frame_begun words level parameters saved) }
 {
     frame_placed(code, words)?;
-    saved_if(code, is_called)?;
+    saved_if(code, saved)?;
     frame_linked(code)?;
     display_made(code, level)?;
     frame_measured(code)?;

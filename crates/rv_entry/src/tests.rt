@@ -84,15 +84,19 @@ fn program<'a>(
 #[test]
 fn frames_begin_and_end_in_their_words(rt: HostRuntime) -> Result<(), Fail> {
     let mut code = Code::new(rt.alloc());
-    frame_begun(&mut code, 5, 0, 2, false)?;
+    frame_begun(&mut code, 5, 0, 2, None)?;
     assert_eq!(rt; code.size(), 10);
-    frame_begun(&mut code, 5, 2, 2, true)?;
+    frame_begun(&mut code, 5, 2, 2, Some(7))?;
     assert_eq!(rt; code.size(), 31);
     frame_ended(&mut code, 5)?;
     assert_eq!(rt; code.size(), 33);
-    held_restored(&mut code)?;
-    all_restored(&mut code)?;
+    held_restored(&mut code, 7)?;
+    all_restored(&mut code, 7)?;
     assert_eq!(rt; code.size(), 48);
+    frame_begun(&mut code, 5, 2, 2, Some(2))?;
+    held_restored(&mut code, 1)?;
+    all_restored(&mut code, 2)?;
+    assert_eq!(rt; code.size(), 68);
     Ok(())
 }
 

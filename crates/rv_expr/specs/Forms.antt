@@ -1,12 +1,12 @@
 -- Parts of the code of expressions that several forms share.
-use Rattle.std.specs.Prelude.{◌++◌}
+use Rattle.std.specs.Prelude.{ℤ, Bool, [], ◌++◌, Option, Some, None, unwrap_or, if◌then◌else◌}
 use Rattle.pli_typing.specs.TypedTree as Y
 use Rattle.pli_coding.specs.Registers.{a0, u1}
 use Rattle.pli_coding.specs.Assembly.{Code}
-use Rattle.pli_coding.specs.Environments.{Environment, Taken, with_number, save, fetch}
-use Rattle.pli_coding.specs.Locating.{behind_locator}
-use Rattle.pli_coding.specs.Expressions.{bit_code, locator_code, number_code, subscripts_code}
-use Rattle.rv_operation.specs.Pieces.{element_reached}
+use Rattle.pli_coding.specs.Environments.{Environment, Taken, with_words, with_number, save, fetch}
+use Rattle.pli_coding.specs.Locating.{NamePlace, FrameName, behind_locator, waiting_name}
+use Rattle.pli_coding.specs.Expressions.{bit_code, is_null, left_standing, locator_code, number_code, own_standing, pointer_code, subscripts_code}
+use Rattle.rv_operation.specs.Pieces.{element_reached, name_to_offset, null_compared, part_named, places_compared, standing_named, standing_reached}
 
 -- the left operand in u1 and the right one in a0
 unfoldable pub both_numbers : Environment → Taken → Y.Number → Y.Number → Code
@@ -23,3 +23,38 @@ subscripted e t v part subscripts =
 -- the locator of a reference
 unfoldable pub locator_of : Environment → Taken → Y.Reference → Code
 locator_of e t (Y.Referring v locator part subscripts) = locator_code e t locator
+
+-- an element of a BASED variable behind its locator, whose name stands there, or waits
+unfoldable pub located_reached : Environment → Taken → Y.Pointer → Y.Variable → Y.Part → Y.Numbers → Option NamePlace → Code
+located_reached e t p v part subscripts (Some name) =
+    subscripts_code e t subscripts ++ standing_reached e name t v part subscripts
+located_reached e t p v part subscripts None = pointer_code e t p ++ subscripted e t v part subscripts
+
+-- a name that is compared, where it stands, or waits
+unfoldable pub operand_kept : Environment → Taken → Y.Pointer → Option ℤ → Code
+operand_kept e t p (Some place) = []
+operand_kept e t p None = pointer_code e t p
+
+unfoldable pub null_told : Environment → Taken → (equal : Bool) → Y.Pointer → Option ℤ → Code
+null_told e t equal p place = operand_kept e t p place ++ null_compared equal (unwrap_or place (waiting_name t))
+
+unfoldable pub names_told : Environment → Taken → (equal : Bool) → (left right : Y.Pointer) → (place other : Option ℤ) → Code
+names_told e t equal left right place other =
+    operand_kept e t left place
+    ++ (operand_kept e (with_words 4 t) right other
+    ++ places_compared equal (unwrap_or place (waiting_name t)) (unwrap_or other (waiting_name (with_words 4 t))))
+
+unfoldable pub pointers_compared : Environment → Taken → (equal : Bool) → (left right : Y.Pointer) → Code
+pointers_compared e t equal left right =
+    if is_null right then null_told e t equal left (own_standing e left)
+    else names_told e t equal left right (left_standing e left right) (own_standing e right)
+
+-- ADDR of a reference, where its locator's name stands, or waits
+unfoldable pub address_kept : Environment → Taken → (place : ℤ) → Y.Reference → Option NamePlace → Code
+address_kept e t place r (Some name) = standing_named e name place r
+address_kept e t place r None = locator_of e t r ++ part_named e t place r
+
+-- the offset of a name in an area, where it stands, or waits
+unfoldable pub offset_told : Environment → Taken → Y.Pointer → Y.Variable → Option NamePlace → Code
+offset_told e t p area (Some name) = name_to_offset e t name area
+offset_told e t p area None = pointer_code e t p ++ name_to_offset e t (FrameName e.level (waiting_name t)) area

@@ -2,12 +2,15 @@
 // the four words of the frame behind the temporaries in use.
 
 ghost use Rattle.std.specs.Prelude.{◌≡◌, ◌++◌, OnOk};
+ghost use Rattle.pli_language.specs.View.{option_of};
 ghost use Rattle.pli_typing.specs.TypedTree as Y;
 ghost use Rattle.pli_typing.specs.TypedView.{argument_of, arguments_of, bit_of, extremum_of, number_of, numbers_of, offset_of, part_of, pointer_of, reference_of, stored_of, text_of, variable_of};
 ghost use Rattle.pli_coding.specs.Expressions as form;
 ghost use Rattle.rv_address.specs.Around.{environment_of, taken_of};
+ghost use Rattle.rv_address.specs.Places.{name_of};
 ghost use Rattle.rv_operation.specs.Asked.{list_of};
-ghost use Rattle.rv_expr.specs.Forms.{both_bits, both_numbers, locator_of, subscripted};
+ghost use Rattle.rv_operation.specs.Standing.{place_of};
+ghost use Rattle.rv_expr.specs.Forms.{address_kept, both_bits, both_numbers, located_reached, locator_of, names_told, null_told, offset_told, operand_kept, pointers_compared, subscripted};
 
 use pli_typing::typed::{
     Argument, Arguments, Bit, Callee, Extremum, Number, Numbers, Offset, Part, Pointer, Reference,
@@ -15,7 +18,10 @@ use pli_typing::typed::{
 };
 use rv_address::environment::Environment;
 use rv_address::located::behind_locator;
+use rv_address::names::NamePlace;
+use rv_address::subscript::is_given;
 use rv_address::taken::{Taken, fetch, save};
+use rv_address::transfer::Address;
 use rv_assembly::code::Code;
 use rv_assembly::registers::{a0, u1};
 use rv_operation::argument::{
@@ -28,10 +34,16 @@ use rv_operation::arithmetic::{
 };
 use rv_operation::constant::{bit_constant, generations_counted, number_constant};
 use rv_operation::pointer::{
-    name_to_offset, null_kept, offset_to_name, offsets_compared, result_kept, waiting_compared,
+    name_to_offset, null_compared, null_kept, offset_to_name, offsets_compared, places_compared,
+    result_kept, waiting_address, waiting_place,
 };
 use rv_operation::reference::{
-    BoundAsked, bound_told, element_reached, name_kept, part_named, text_loaded, value_loaded,
+    BoundAsked, bound_told, element_reached, name_kept, part_named, standing_named,
+    standing_reached, text_loaded, value_loaded,
+};
+use rv_operation::standing::{
+    is_null, left_standing, own_standing, place_or_waiting, standing_behind, standing_locator,
+    standing_name,
 };
 use rv_operation::text::{
     bit_pushed, constant_pushed, end_cut, index_found, number_pushed, substring_cut, text_measured,
@@ -308,9 +320,7 @@ pub fn bit_code(
             compared_code(code, *comparison)
         }
         Bit::PointersCompared { equal, left, right } => {
-            pointer_code(alloc, code, environment, taken, left)?;
-            pointer_code(alloc, code, environment, taken.with_words(4)?, right)?;
-            waiting_compared(code, taken, *equal)
+            pointers_compared(alloc, code, environment, taken, *equal, left, right)
         }
         Bit::OffsetsCompared { equal, left, right } => {
             offset_code(alloc, code, environment, taken, left)?;
@@ -340,9 +350,103 @@ fn both_bits(
     fetch(code, u1(), taken)
 }
 
+/// Whether two names are equal, or whether they aren't.
+#[cycle(walk)]
+#[tactic(auto, unfolding(crate::specs::Forms::pointers_compared))]
+fn pointers_compared(
+    alloc: Global,
+    code: &mut Code,
+    environment: &Environment,
+    taken: Taken,
+    equal: bool,
+    left: &Pointer,
+    right: &Pointer,
+) -> Result<(), AllocError>
+    ensures { OnOk result (code.new ≡ code.old ++ pointers_compared (environment_of environment.now) (taken_of taken) equal (pointer_of left.now) (pointer_of right.now)) }
+{
+    if is_null(right) {
+        let place = own_standing(environment, left)?;
+        return null_told(alloc, code, environment, taken, equal, left, place);
+    }
+    let place = left_standing(environment, left, right)?;
+    let other = own_standing(environment, right)?;
+    names_told(
+        alloc,
+        code,
+        environment,
+        taken,
+        equal,
+        left,
+        right,
+        place,
+        other,
+    )
+}
+
+/// Whether a name is null, or whether it isn't.
+#[cycle(walk)]
+#[tactic(auto, using(crate::proofs::Walks::compared))]
+fn null_told(
+    alloc: Global,
+    code: &mut Code,
+    environment: &Environment,
+    taken: Taken,
+    equal: bool,
+    pointer: &Pointer,
+    place: Option<Address>,
+) -> Result<(), AllocError>
+    ensures { OnOk result (code.new ≡ code.old ++ null_told (environment_of environment.now) (taken_of taken) equal (pointer_of pointer.now) (option_of place_of place)) }
+{
+    operand_kept(alloc, code, environment, taken, pointer, place)?;
+    let there = place_or_waiting(taken, place)?;
+    null_compared(code, equal, there)
+}
+
+/// Whether two names are equal, or whether they aren't, each where it stands, or else waits.
+#[cycle(walk)]
+#[tactic(auto, using(crate::proofs::Walks::compared))]
+fn names_told(
+    alloc: Global,
+    code: &mut Code,
+    environment: &Environment,
+    taken: Taken,
+    equal: bool,
+    left: &Pointer,
+    right: &Pointer,
+    place: Option<Address>,
+    other: Option<Address>,
+) -> Result<(), AllocError>
+    ensures { OnOk result (code.new ≡ code.old ++ names_told (environment_of environment.now) (taken_of taken) equal (pointer_of left.now) (pointer_of right.now) (option_of place_of place) (option_of place_of other)) }
+{
+    let behind = taken.with_words(4)?;
+    operand_kept(alloc, code, environment, taken, left, place)?;
+    operand_kept(alloc, code, environment, behind, right, other)?;
+    let first = place_or_waiting(taken, place)?;
+    let second = place_or_waiting(behind, other)?;
+    places_compared(code, equal, first, second)
+}
+
+/// A name that is compared: where it doesn't stand in the frame, in the words behind the temporaries in use.
+#[cycle(walk)]
+#[tactic(auto, using(crate::proofs::Walks::compared))]
+fn operand_kept(
+    alloc: Global,
+    code: &mut Code,
+    environment: &Environment,
+    taken: Taken,
+    pointer: &Pointer,
+    place: Option<Address>,
+) -> Result<(), AllocError>
+    ensures { OnOk result (code.new ≡ code.old ++ operand_kept (environment_of environment.now) (taken_of taken) (pointer_of pointer.now) (option_of place_of place)) }
+{
+    match place {
+        Some(_) => Ok(()),
+        None => pointer_code(alloc, code, environment, taken, pointer),
+    }
+}
+
 /// A POINTER value, in the words behind the temporaries in use.
 #[cycle(walk)]
-#[tactic(auto, using(crate::proofs::Walks::pointers))]
 pub fn pointer_code(
     alloc: Global,
     code: &mut Code,
@@ -352,23 +456,63 @@ pub fn pointer_code(
 ) -> Result<(), AllocError>
     ensures { OnOk result (code.new ≡ code.old ++ form.pointer_code (environment_of environment.now) (taken_of taken) (pointer_of pointer.now)) }
 {
+    let to = waiting_address(taken)?;
+    pointer_to(alloc, code, environment, taken, to, pointer)
+}
+
+/// A POINTER value, into a place of the running frame, which is written last.
+#[cycle(walk)]
+#[tactic(auto, using(crate::proofs::Walks::pointers))]
+pub fn pointer_to(
+    alloc: Global,
+    code: &mut Code,
+    environment: &Environment,
+    taken: Taken,
+    to: Address,
+    pointer: &Pointer,
+) -> Result<(), AllocError>
+    ensures { OnOk result (code.new ≡ code.old ++ form.pointer_to (environment_of environment.now) (taken_of taken) to.displacement (pointer_of pointer.now)) }
+{
     match pointer {
-        Pointer::Null => null_kept(code, taken),
+        Pointer::Null => null_kept(code, to),
         Pointer::In(reference) => {
             reference_code(alloc, code, environment, taken, reference)?;
-            name_kept(code, environment, taken, reference)
+            name_kept(code, environment, to, reference)
         }
         Pointer::From { callee, arguments } => {
             call_code(alloc, code, environment, taken, *callee, arguments)?;
-            result_kept(code, taken)
+            result_kept(code, to)
         }
         Pointer::AddressOf(reference) => {
-            locator_code(alloc, code, environment, taken, reference)?;
-            part_named(code, environment, taken, reference)
+            let standing = standing_locator(environment, reference)?;
+            address_kept(alloc, code, environment, taken, to, reference, standing)
         }
         Pointer::Into { offset, area } => {
             offset_code(alloc, code, environment, taken, offset)?;
-            offset_to_name(code, environment, taken, *area)
+            offset_to_name(code, environment, taken, to, *area)
+        }
+    }
+}
+
+/// ADDR of a reference, where its locator's name stands, or else waits.
+#[cycle(walk)]
+#[tactic(auto, using(crate::proofs::Walks::standing))]
+fn address_kept(
+    alloc: Global,
+    code: &mut Code,
+    environment: &Environment,
+    taken: Taken,
+    to: Address,
+    reference: &Reference,
+    standing: Option<NamePlace>,
+) -> Result<(), AllocError>
+    ensures { OnOk result (code.new ≡ code.old ++ address_kept (environment_of environment.now) (taken_of taken) to.displacement (reference_of reference.now) (option_of name_of standing)) }
+{
+    match standing {
+        Some(name) => standing_named(code, environment, name, to, reference),
+        None => {
+            locator_code(alloc, code, environment, taken, reference)?;
+            part_named(code, environment, taken, to, reference)
         }
     }
 }
@@ -395,8 +539,32 @@ pub fn offset_code(
             call_code(alloc, code, environment, taken, *callee, arguments)
         }
         Offset::Into { pointer, area } => {
+            let standing = standing_name(environment, pointer)?;
+            offset_told(alloc, code, environment, taken, pointer, *area, standing)
+        }
+    }
+}
+
+/// The offset of a name in an area, where it stands, or else waits.
+#[cycle(walk)]
+#[tactic(auto, using(crate::proofs::Walks::standing))]
+fn offset_told(
+    alloc: Global,
+    code: &mut Code,
+    environment: &Environment,
+    taken: Taken,
+    pointer: &Pointer,
+    area: Variable,
+    standing: Option<NamePlace>,
+) -> Result<(), AllocError>
+    ensures { OnOk result (code.new ≡ code.old ++ offset_told (environment_of environment.now) (taken_of taken) (pointer_of pointer.now) (variable_of area) (option_of name_of standing)) }
+{
+    match standing {
+        Some(name) => name_to_offset(code, environment, taken, name, area),
+        None => {
             pointer_code(alloc, code, environment, taken, pointer)?;
-            name_to_offset(code, environment, taken, *area)
+            let name = waiting_place(environment, taken)?;
+            name_to_offset(code, environment, taken, name, area)
         }
     }
 }
@@ -433,16 +601,46 @@ pub fn reference_code(
             part,
             subscripts,
         } => {
-            pointer_code(alloc, code, environment, taken, locator)?;
-            subscripted_code(
+            let standing = standing_behind(environment, locator, subscripts)?;
+            located_reached(
                 alloc,
                 code,
                 environment,
                 taken,
+                locator,
                 *variable,
                 *part,
                 subscripts,
+                standing,
             )
+        }
+    }
+}
+
+/// An element of a BASED variable behind its locator, whose name stands there, or else waits.
+#[cycle(walk)]
+#[tactic(auto, using(crate::proofs::Walks::standing))]
+fn located_reached(
+    alloc: Global,
+    code: &mut Code,
+    environment: &Environment,
+    taken: Taken,
+    locator: &Pointer,
+    variable: Variable,
+    part: Part,
+    subscripts: &Numbers,
+    standing: Option<NamePlace>,
+) -> Result<(), AllocError>
+    ensures { OnOk result (code.new ≡ code.old ++ located_reached (environment_of environment.now) (taken_of taken) (pointer_of locator.now) (variable_of variable) (part_of part) (numbers_of subscripts.now) (option_of name_of standing)) }
+{
+    match standing {
+        Some(name) => {
+            subscripts_code(alloc, code, environment, taken, subscripts)?;
+            standing_reached(code, environment, name, taken, variable, part, subscripts)
+        }
+        None => {
+            pointer_code(alloc, code, environment, taken, locator)?;
+            subscripted_code(alloc, code, environment, taken, variable, part, subscripts)
         }
     }
 }
@@ -494,7 +692,7 @@ pub fn locator_code(
     }
 }
 
-/// Subscripts, each of which waits.
+/// Subscripts, each of which waits, up to where all that are left are simple.
 #[cycle(walk)]
 #[tactic(auto, using(crate::proofs::Walks::subscripts))]
 pub fn subscripts_code(
@@ -509,6 +707,9 @@ pub fn subscripts_code(
     match subscripts {
         Numbers::End => Ok(()),
         Numbers::More { first, rest } => {
+            if is_given(environment, first, rest)? {
+                return Ok(());
+            }
             number_code(alloc, code, environment, taken, first)?;
             save(code, a0(), taken)?;
             subscripts_code(alloc, code, environment, taken.with_number()?, rest)

@@ -1,3 +1,4 @@
+pub mod Distances
 pub mod Leaves
 pub mod Looping
 pub mod Moving

@@ -1,5 +1,5 @@
 -- What an aggregate names.
-use Rattle.std.proofs.Common.{◌≡◌, ℕ, refl, ap, sym, ◌∙◌}
+use Rattle.std.proofs.Common.{◌≡◌, refl}
 use Rattle.pli_typing.specs.declared.typed.Reference as R
 use Rattle.pli_typing.specs.TypedTree as Y
 use Rattle.pli_typing.specs.TypedView.{numbers_of, part_of, reference_of, variable_of}

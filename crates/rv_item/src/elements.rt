@@ -101,7 +101,7 @@ pub fn part_in(reference: &Reference) -> Part
 }
 
 #[tactic(auto, using(crate::proofs::Parts::parts))]
-fn subscript_count(reference: &Reference) -> Result<usize, AllocError>
+pub(crate) fn subscript_count(reference: &Reference) -> Result<usize, AllocError>
     ensures { IfOk result (λ n. n ≡ subscript_count (reference_of reference.now)) }
 {
     match reference {

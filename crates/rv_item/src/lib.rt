@@ -2,6 +2,7 @@
 #![tactic(auto)]
 
 pub mod branch;
+pub mod distance;
 mod element;
 pub mod elements;
 pub mod field;
@@ -10,6 +11,7 @@ mod fitting;
 pub mod kinds;
 pub mod moved;
 pub mod putting;
+pub mod shown;
 pub mod taking;
 pub mod text;
 pub mod turns;

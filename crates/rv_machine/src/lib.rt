@@ -3,16 +3,22 @@
 
 pub mod arithmetic;
 pub mod base;
+mod branching;
+mod constants;
 mod execute;
 mod fast;
 mod forming;
 mod going;
 mod halt;
+mod joining;
 mod leg;
 mod loading;
 pub mod machine;
+mod narrow;
 mod operation;
+mod pairs;
 mod reaching;
 pub mod services;
 mod single;
+mod straight;
 mod turn;

@@ -1,4 +1,6 @@
 pub mod Bounded
+pub mod FramedNames
 pub mod Sizes
+pub mod Stands
 pub mod Walks
 pub mod Weights

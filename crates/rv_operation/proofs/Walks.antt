@@ -4,9 +4,9 @@ use Rattle.pli_typing.specs.declared.typed.Numbers as Q
 use Rattle.pli_typing.specs.declared.typed.Reference as R
 use Rattle.pli_typing.specs.declared.typed.Arguments as J
 use Rattle.pli_typing.specs.TypedView.{variable_of, part_of, numbers_of, reference_of, argument_of, arguments_of}
-use Rattle.pli_coding.specs.Locating.{leaf_number, address_of, waiting_name}
+use Rattle.pli_coding.specs.Locating.{leaf_number, address_of}
 use Rattle.pli_coding.specs.Expressions.{given_in, type_in, address_in, name_written, dimension_code, argument_count, list_words, by_reference, converted_last, all_converted_last, text_count}
-use Rattle.rv_operation.specs.Pieces.{bound_told, part_given, part_named, text_copies}
+use Rattle.rv_operation.specs.Pieces.{based_named, bound_told, part_given, part_named, standing_named, text_copies}
 
 six_more : (n : ℕ) → 6 * suc n ≡ 6 * n + 6
 six_more n = omega arith
@@ -38,13 +38,21 @@ pub given-More : (a : _) (n : _) (b : _) (ns : _) → given_in (numbers_of (Q.Mo
 unfolding numbers_of
 given-More a n b ns = sym (add-one (given_in (numbers_of ns)))
 
-pub named-Plain : (e : _) (t : _) (v : _) (p : _) (ns : _) → part_named e t (reference_of (R.Plain v p ns)) ≡ name_written e t (variable_of v) (part_of p) (waiting_name t)
+pub named-Plain : (e : _) (t : _) (z : _) (v : _) (p : _) (ns : _) → part_named e t z (reference_of (R.Plain v p ns)) ≡ name_written e t (variable_of v) (part_of p) z
 unfolding reference_of part_named
-named-Plain e t v p ns = refl
+named-Plain e t z v p ns = refl
 
-pub named-Located : (e : _) (t : _) (a : _) (l : _) (v : _) (p : _) (ns : _) → part_named e t (reference_of (R.Located' a l v p ns)) ≡ name_written e t (variable_of v) (part_of p) (waiting_name t)
+pub named-Located : (e : _) (t : _) (z : _) (a : _) (l : _) (v : _) (p : _) (ns : _) → part_named e t z (reference_of (R.Located' a l v p ns)) ≡ name_written e t (variable_of v) (part_of p) z
 unfolding reference_of part_named
-named-Located e t a l v p ns = refl
+named-Located e t z a l v p ns = refl
+
+pub standing-Plain : (e : _) (n : _) (z : _) (v : _) (p : _) (ns : _) → standing_named e n z (reference_of (R.Plain v p ns)) ≡ based_named e n z (variable_of v) (part_of p)
+unfolding reference_of standing_named
+standing-Plain e n z v p ns = refl
+
+pub standing-Located : (e : _) (n : _) (z : _) (a : _) (l : _) (v : _) (p : _) (ns : _) → standing_named e n z (reference_of (R.Located' a l v p ns)) ≡ based_named e n z (variable_of v) (part_of p)
+unfolding reference_of standing_named
+standing-Located e n z a l v p ns = refl
 
 pub told-Plain : (e : _) (t : _) (v : _) (p : _) (ns : _) (k : _) (n : _) → bound_told e t (reference_of (R.Plain v p ns)) k n ≡ dimension_code e t (variable_of v) (part_of p) k n
 unfolding reference_of bound_told
@@ -86,6 +94,6 @@ pub texts-More : (a : _) (x : _) (b : _) (xs : _) → text_count (arguments_of (
 unfolding arguments_of
 texts-More a x b xs = turned (text_copies (argument_of x)) (text_count (arguments_of xs))
 
-pub ruleset parts = (type-Plain, type-Located, place-Plain, place-Located, given-End, given-More, named-Plain, named-Located, told-Plain, told-Located, part_given-Plain, part_given-Located)
+pub ruleset parts = (type-Plain, type-Located, place-Plain, place-Located, given-End, given-More, named-Plain, named-Located, standing-Plain, standing-Located, told-Plain, told-Located, part_given-Plain, part_given-Located)
 
 pub ruleset lists = (last-End, last-More, list-End, list-More, texts-End, texts-More, append_assoc, append-nil)

@@ -1,5 +1,5 @@
 -- What is done with operands that were evaluated, each piece under a name of its own: whoever walks over the forms sees the names alone.
-use Rattle.std.specs.Prelude.{ℕ, Bool, true, false, ◌*◌, pos, nat_lt, [], ◌∷◌, ◌++◌, if◌then◌else◌}
+use Rattle.std.specs.Prelude.{ℕ, ℤ, Bool, true, false, ◌*◌, pos, nat_lt, [], ◌∷◌, ◌++◌, if◌then◌else◌}
 use Rattle.rv_meaning.specs.declared.instr.Register.{Register}
 use Rattle.rv_meaning.specs.declared.instr.RegisterOp.TheVariants as Op
 use Rattle.rv_meaning.specs.declared.instr.ImmediateOp.TheVariants as Imm
@@ -9,16 +9,23 @@ use Rattle.pli_coding.specs.Registers.{zero_register, frame_register, a0, a1, a2
 use Rattle.pli_coding.specs.Assembly.{ProcedureEntry, CallTo, Item, Code}
 use Rattle.pli_coding.specs.Instructions.{immediate, load_word, registers, add, move, small, number, plus, store_word, service, tested_service, skip_where}
 use Rattle.pli_coding.specs.Frames.{words_place}
-use Rattle.pli_coding.specs.Environments.{Environment, Taken, fetch, with_words}
-use Rattle.pli_coding.specs.Locating.{Address, controlled_number, in_own_frame, loaded, name_copied, own_place, place_behind, reached, text_pushed, waiting_name}
-use Rattle.pli_coding.specs.Arithmetic.{overflow_raised, quotient_checked, narrowed_code, absolute_bits, compared_code, equal_code, extreme_code}
+use Rattle.pli_coding.specs.Environments.{Environment, Taken, fetch}
+use Rattle.pli_coding.specs.Locating.{Address, controlled_number, in_own_frame, loaded, name_copied, own_place, place_behind, reached, text_pushed, NamePlace, based_located, based_reached, is_referred}
+use Rattle.pli_coding.specs.Arithmetic.{order_of_sum, overflow_raised, quotient_checked, narrowed_code, absolute_bits, compared_code, equal_code, extreme_code}
 use Rattle.pli_coding.specs.Storing.{area_name}
-use Rattle.pli_coding.specs.Expressions.{ArgumentList, BoundAsked, address_in, all_converted_last, argument_stored, by_reference, dimension_code, entered, frame_given, given_in, is_text, name_written, names_compared as compared_in_frame, null_name, text_count, type_in}
+use Rattle.pli_coding.specs.Expressions.{ArgumentList, BoundAsked, address_in, all_converted_last, argument_stored, by_reference, dimension_code, entered, frame_given, is_text, name_written, names_compared as compared_in_frame, null_name, text_count, type_in, name_checked, name_to_offset as found_to_offset, null_compared as null_in_frame}
 
 -- ---- arithmetic
 
 abbrev pub right_sign : Item
 right_sign = immediate Imm.SetLess u4 a0 (pos 0)
+
+-- a left operand in u1, and its sum with a constant in a0
+unfoldable pub constant_summed : ℤ → Code
+constant_summed z = move u1 a0 ∷ plus a0 u1 z
+
+unfoldable pub constant_checked : Taken → ℤ → Code
+constant_checked t z = skip_where (order_of_sum z) a0 u1 (overflow_raised t)
 
 abbrev pub divided_checked : Taken → Code
 divided_checked t = registers Op.Divide u2 u1 a0 ∷ quotient_checked t
@@ -103,12 +110,25 @@ names_differ left right =
 abbrev pub names_compared : (equal : Bool) → (left right : Address) → Code
 names_compared equal left right = names_differ left right ++ (move u1 zero_register ∷ move a0 u0 ∷ equal_code equal)
 
-unfoldable pub null_kept : Taken → Code
-null_kept t = null_name (waiting_name t)
+unfoldable pub null_kept : (place : ℤ) → Code
+null_kept place = null_name place
 
--- of two names that wait, one behind the other
-unfoldable pub waiting_compared : Taken → (equal : Bool) → Code
-waiting_compared t equal = compared_in_frame equal (waiting_name t) (waiting_name (with_words 4 t))
+-- of two names in the running frame
+unfoldable pub places_compared : (equal : Bool) → (left right : ℤ) → Code
+places_compared equal left right = compared_in_frame equal left right
+
+-- whether a name is null, bits of u0
+abbrev pub null_differs : Address → (n : ℕ) → Code
+null_differs from n = word_loaded u1 from n ++ registers Op.Or u0 u0 u1 ∷ []
+
+abbrev pub name_null : (equal : Bool) → Address → Code
+name_null equal from =
+    small u0 0
+    ∷ (null_differs from 0 ++ (null_differs from 1 ++ (null_differs from 2 ++ (null_differs from 3
+    ++ (move u1 zero_register ∷ move a0 u0 ∷ equal_code equal)))))
+
+unfoldable pub null_compared : (equal : Bool) → (place : ℤ) → Code
+null_compared equal place = null_in_frame equal place
 
 -- of the offset that waits and the one in a0
 unfoldable pub offsets_compared : Taken → (equal : Bool) → Code
@@ -118,15 +138,15 @@ offsets_compared t equal = fetch u1 t ++ equal_code equal
 abbrev pub at_result : Address
 at_result = record { register = a0; displacement = pos 0 }
 
-unfoldable pub result_kept : Taken → Code
-result_kept t = name_copied at_result (in_own_frame (waiting_name t))
+unfoldable pub result_kept : (place : ℤ) → Code
+result_kept place = name_copied at_result (in_own_frame place)
 
--- the name of the offset in a0, and the offset of the name that waits, in an area
-unfoldable pub offset_to_name : Environment → Taken → Y.Variable → Code
-offset_to_name e t area = area_name e a1 t area ++ (own_place e a2 (waiting_name t) ++ (small a3 0 ∷ service 14))
+-- the name of the offset in a0, and the offset of the name that stands there, in an area
+unfoldable pub offset_to_name : Environment → Taken → (place : ℤ) → Y.Variable → Code
+offset_to_name e t place area = area_name e a1 t area ++ (own_place e a2 place ++ (small a3 0 ∷ service 14))
 
-unfoldable pub name_to_offset : Environment → Taken → Y.Variable → Code
-name_to_offset e t area = own_place e a0 (waiting_name t) ++ (area_name e a1 t area ++ (small a3 1 ∷ tested_service 14))
+unfoldable pub name_to_offset : Environment → Taken → NamePlace → Y.Variable → Code
+name_to_offset e t name area = found_to_offset e t name area
 
 -- ---- references
 
@@ -136,14 +156,25 @@ value_loaded e r = loaded (type_in e r) a0 (address_in e r)
 unfoldable pub text_loaded : Environment → Y.Reference → Code
 text_loaded e r = text_pushed (type_in e r) (address_in e r)
 
-unfoldable pub name_kept : Environment → Taken → Y.Reference → Code
-name_kept e t r = name_copied (address_in e r) (in_own_frame (waiting_name t))
+unfoldable pub name_kept : Environment → (place : ℤ) → Y.Reference → Code
+name_kept e place r = name_copied (address_in e r) (in_own_frame place)
 
 unfoldable pub element_reached : Environment → (found t : Taken) → Y.Variable → Y.Part → Y.Numbers → Code
-element_reached e found t v part subscripts = reached e found t v part (given_in subscripts)
+element_reached e found t v part subscripts = reached e found t v part subscripts
 
-unfoldable pub part_named : Environment → Taken → Y.Reference → Code
-part_named e t (Y.Referring v locator part subscripts) = name_written e t v part (waiting_name t)
+-- an element of a BASED variable whose name stands there
+unfoldable pub standing_reached : Environment → NamePlace → Taken → Y.Variable → Y.Part → Y.Numbers → Code
+standing_reached e name t v part subscripts = based_reached e name t v part subscripts
+
+unfoldable pub part_named : Environment → Taken → (place : ℤ) → Y.Reference → Code
+part_named e t place (Y.Referring v locator part subscripts) = name_written e t v part place
+
+-- of a BASED variable whose name stands there
+abbrev pub based_named : Environment → NamePlace → (place : ℤ) → Y.Variable → Y.Part → Code
+based_named e name place v part = name_checked e (based_located e v name) place (is_referred e v part)
+
+unfoldable pub standing_named : Environment → NamePlace → (place : ℤ) → Y.Reference → Code
+standing_named e name place (Y.Referring v locator part subscripts) = based_named e name place v part
 
 unfoldable pub bound_told : Environment → Taken → Y.Reference → BoundAsked → (dimension : ℕ) → Code
 bound_told e t (Y.Referring v locator part subscripts) asked dimension = dimension_code e t v part asked dimension

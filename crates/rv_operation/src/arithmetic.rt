@@ -5,10 +5,11 @@ ghost use Rattle.pli_typing.specs.TypedView.{arithmetic_of, bit_operator_of, com
 ghost use Rattle.pli_coding.specs.Instructions.{skip_where};
 ghost use Rattle.pli_coding.specs.Arithmetic as form;
 ghost use Rattle.rv_address.specs.Around.{taken_of};
-ghost use Rattle.rv_operation.specs.Pieces.{divided_checked, divided_fitted, extreme_kept, narrow_checked, remainder_mended, right_sign};
+ghost use Rattle.rv_operation.specs.Pieces.{constant_checked, constant_summed, divided_checked, divided_fitted, extreme_kept, narrow_checked, remainder_mended, right_sign};
 
 use pli_language::condition::Condition;
 use pli_typing::typed::{ArithmeticOperator, BitOperator, Comparison, Extremum, Sign};
+use rv_address::number::plus;
 use rv_address::taken::{Taken, fetch, save};
 use rv_assembly::code::Code;
 use rv_assembly::item::{Item, Symbol};
@@ -91,6 +92,42 @@ fn sum_code(code: &mut Code, taken: Taken) -> Result<(), AllocError>
     right_sign(code)?;
     code.copy(a0(), u2())?;
     overflow_unless(code, BranchTest::Equal, u3(), u4(), taken)
+}
+
+/// How a sum with a constant stands to its left operand unless it overflows.
+fn order_of_sum(constant: i128) -> BranchTest
+    ensures { result ≡ form.order_of_sum constant }
+{
+    if constant < 0 {
+        BranchTest::Less
+    } else {
+        BranchTest::GreaterOrEqual
+    }
+}
+
+/// The value in a0 in u1, and its sum with a constant in a0.
+#[tactic(auto, unfolding(crate::specs::Pieces::constant_summed))]
+fn constant_summed(code: &mut Code, constant: i128) -> Result<(), AllocError>
+    ensures { OnOk result (code.new ≡ code.old ++ constant_summed constant) }
+{
+    code.copy(u1(), a0())?;
+    plus(code, a0(), u1(), constant)
+}
+
+/// FIXEDOVERFLOW unless such a sum stands to its left operand as it must.
+#[tactic(auto, unfolding(crate::specs::Pieces::constant_checked))]
+fn constant_checked(code: &mut Code, taken: Taken, constant: i128) -> Result<(), AllocError>
+    ensures { OnOk result (code.new ≡ code.old ++ constant_checked (taken_of taken) constant) }
+{
+    overflow_unless(code, order_of_sum(constant), a0(), u1(), taken)
+}
+
+/// A constant added to the value in a0.
+pub fn constant_added(code: &mut Code, taken: Taken, constant: i128) -> Result<(), AllocError>
+    ensures { OnOk result (code.new ≡ code.old ++ form.constant_added (taken_of taken) constant) }
+{
+    constant_summed(code, constant)?;
+    Ok(constant_checked(code, taken, constant)?)
 }
 
 fn difference_code(code: &mut Code, taken: Taken) -> Result<(), AllocError>

@@ -6,4 +6,5 @@ pub mod arithmetic;
 pub mod constant;
 pub mod pointer;
 pub mod reference;
+pub mod standing;
 pub mod text;

@@ -2,17 +2,17 @@
 
 ghost use Rattle.std.specs.Prelude.{◌≡◌, ◌++◌, OnOk, IfOk};
 ghost use Rattle.pli_typing.specs.TypedView.{variable_of};
-ghost use Rattle.pli_coding.specs.Locating.{in_own_frame, waiting_name};
+ghost use Rattle.pli_coding.specs.Locating.{FrameName, in_own_frame, own_place, waiting_name};
 ghost use Rattle.pli_coding.specs.Storing.{area_name};
 ghost use Rattle.rv_address.specs.Around.{environment_of, taken_of};
-ghost use Rattle.rv_address.specs.Places.{address_of};
-ghost use Rattle.rv_operation.specs.Pieces.{at_result, name_nulled, name_to_offset, names_compared, names_differ, null_kept, offset_to_name, offsets_compared, result_kept, waiting_compared, word_loaded, word_nulled, words_differ};
+ghost use Rattle.rv_address.specs.Places.{address_of, name_of};
+ghost use Rattle.rv_operation.specs.Pieces.{at_result, name_null, name_nulled, name_to_offset, names_compared, names_differ, null_compared, null_differs, null_kept, offset_to_name, offsets_compared, places_compared, result_kept, word_loaded, word_nulled, words_differ};
 
 use crate::arithmetic::equal_code;
 use pli_typing::typed::Variable;
 use rv_address::environment::Environment;
 use rv_address::located::{located, waiting_name};
-use rv_address::names::{name_offset, own_place};
+use rv_address::names::{NamePlace, name_offset, own_place};
 use rv_address::number::behind;
 use rv_address::taken::{Taken, fetch};
 use rv_address::transfer::{Address, in_own_frame, name_copied};
@@ -46,13 +46,23 @@ pub fn waiting_address(taken: Taken) -> Result<Address, AllocError>
     Ok(in_own_frame(place))
 }
 
-/// NULL, to the words behind the temporaries in use.
-#[tactic(auto, unfolding(crate::specs::Pieces::null_kept))]
-pub fn null_kept(code: &mut Code, taken: Taken) -> Result<(), AllocError>
-    ensures { OnOk result (code.new ≡ code.old ++ null_kept (taken_of taken)) }
+/// The place of an address, in the running frame.
+pub(crate) fn framed(address: Address) -> Address
+    ensures { address_of result ≡ in_own_frame address.displacement }
 {
-    let to = waiting_address(taken)?;
-    name_nulled(code, to)
+    Address {
+        register: frame(),
+        displacement: address.displacement,
+    }
+}
+
+/// NULL, to a place of the running frame.
+#[tactic(auto, using(crate::proofs::FramedNames::null_framed))]
+pub fn null_kept(code: &mut Code, to: Address) -> Result<(), AllocError>
+    ensures { OnOk result (code.new ≡ code.old ++ null_kept to.displacement) }
+{
+    let place = framed(to);
+    name_nulled(code, place)
 }
 
 // ---- comparisons
@@ -100,14 +110,49 @@ fn names_compared(
     equal_code(code, equal)
 }
 
-/// Whether the name that waits and the one behind it are equal, or whether they aren't.
-#[tactic(auto, unfolding(crate::specs::Pieces::waiting_compared))]
-pub fn waiting_compared(code: &mut Code, taken: Taken, equal: bool) -> Result<(), AllocError>
-    ensures { OnOk result (code.new ≡ code.old ++ waiting_compared (taken_of taken) equal) }
+/// Whether the names at two places of the running frame are equal, or whether they aren't.
+#[tactic(auto, using(crate::proofs::FramedNames::both_framed))]
+pub fn places_compared(
+    code: &mut Code,
+    equal: bool,
+    left: Address,
+    right: Address,
+) -> Result<(), AllocError>
+    ensures { OnOk result (code.new ≡ code.old ++ places_compared equal left.displacement right.displacement) }
 {
-    let left = waiting_address(taken)?;
-    let right = waiting_address(taken.with_words(4)?)?;
-    names_compared(code, equal, left, right)
+    let first = framed(left);
+    let second = framed(right);
+    names_compared(code, equal, first, second)
+}
+
+/// The nth word of a name, among bits of u0.
+fn null_differs(code: &mut Code, from: Address, n: u8) -> Result<(), AllocError>
+    ensures { OnOk result (code.new ≡ code.old ++ null_differs (address_of from) n) }
+{
+    word_loaded(code, u1(), from, n)?;
+    code.registers(RegisterOp::Or, u0(), u0(), u1())
+}
+
+fn name_null(code: &mut Code, equal: bool, from: Address) -> Result<(), AllocError>
+    ensures { OnOk result (code.new ≡ code.old ++ name_null equal (address_of from)) }
+{
+    code.small(u0(), 0)?;
+    null_differs(code, from, 0)?;
+    null_differs(code, from, 1)?;
+    null_differs(code, from, 2)?;
+    null_differs(code, from, 3)?;
+    code.copy(u1(), zero())?;
+    code.copy(a0(), u0())?;
+    equal_code(code, equal)
+}
+
+/// Whether the name at a place of the running frame is null, or whether it isn't.
+#[tactic(auto, using(crate::proofs::FramedNames::null_told))]
+pub fn null_compared(code: &mut Code, equal: bool, from: Address) -> Result<(), AllocError>
+    ensures { OnOk result (code.new ≡ code.old ++ null_compared equal from.displacement) }
+{
+    let place = framed(from);
+    name_null(code, equal, place)
 }
 
 /// Whether the offset that waits and the one in a0 are equal, or whether they aren't.
@@ -131,13 +176,14 @@ fn at_result() -> Address
     }
 }
 
-/// A function's name, to the words behind the temporaries in use.
-#[tactic(auto, unfolding(crate::specs::Pieces::result_kept))]
-pub fn result_kept(code: &mut Code, taken: Taken) -> Result<(), AllocError>
-    ensures { OnOk result (code.new ≡ code.old ++ result_kept (taken_of taken)) }
+/// A function's name, to a place of the running frame.
+#[tactic(auto, using(crate::proofs::FramedNames::result_framed))]
+pub fn result_kept(code: &mut Code, to: Address) -> Result<(), AllocError>
+    ensures { OnOk result (code.new ≡ code.old ++ result_kept to.displacement) }
 {
-    let to = waiting_address(taken)?;
-    name_copied(code, at_result(), to)
+    let from = at_result();
+    let place = framed(to);
+    name_copied(code, from, place)
 }
 
 /// The offset of an area's name.
@@ -154,35 +200,58 @@ pub fn area_name(
     name_offset(code, environment, register, found.name)
 }
 
-/// POINTER: the name of the offset in a0, to the words behind the temporaries in use.
+/// The offset of an address in the running frame.
+pub(crate) fn address_given(
+    code: &mut Code,
+    environment: &Environment,
+    register: Register,
+    to: Address,
+) -> Result<(), AllocError>
+    ensures { OnOk result (code.new ≡ code.old ++ own_place (environment_of environment.now) register to.displacement) }
+{
+    own_place(code, environment, register, to.displacement)
+}
+
+/// POINTER: the name of the offset in a0, to a place of the running frame.
 #[tactic(auto, unfolding(crate::specs::Pieces::offset_to_name))]
 pub fn offset_to_name(
     code: &mut Code,
     environment: &Environment,
     taken: Taken,
+    to: Address,
     area: Variable,
 ) -> Result<(), AllocError>
-    ensures { OnOk result (code.new ≡ code.old ++ offset_to_name (environment_of environment.now) (taken_of taken) (variable_of area)) }
+    ensures { OnOk result (code.new ≡ code.old ++ offset_to_name (environment_of environment.now) (taken_of taken) to.displacement (variable_of area)) }
 {
     area_name(code, environment, a1(), taken, area)?;
-    let place = waiting_name(taken)?;
-    own_place(code, environment, a2(), place)?;
+    address_given(code, environment, a2(), to)?;
     code.small(a3(), 0)?;
     code.service(14)
 }
 
-/// OFFSET: that of the name that waits, in a0.
+/// Where the name in the words behind the temporaries in use stands.
+pub fn waiting_place(environment: &Environment, taken: Taken) -> Result<NamePlace, AllocError>
+    ensures { IfOk result (λ n. name_of n ≡ FrameName (environment_of environment.now).level (waiting_name (taken_of taken))) }
+{
+    let place = waiting_name(taken)?;
+    Ok(NamePlace::Frame {
+        level: environment.level,
+        place,
+    })
+}
+
+/// OFFSET: that of the name that stands there, in a0.
 #[tactic(auto, unfolding(crate::specs::Pieces::name_to_offset))]
 pub fn name_to_offset(
     code: &mut Code,
     environment: &Environment,
     taken: Taken,
+    name: NamePlace,
     area: Variable,
 ) -> Result<(), AllocError>
-    ensures { OnOk result (code.new ≡ code.old ++ name_to_offset (environment_of environment.now) (taken_of taken) (variable_of area)) }
+    ensures { OnOk result (code.new ≡ code.old ++ name_to_offset (environment_of environment.now) (taken_of taken) (name_of name) (variable_of area)) }
 {
-    let place = waiting_name(taken)?;
-    own_place(code, environment, a0(), place)?;
+    name_offset(code, environment, a0(), name)?;
     area_name(code, environment, a1(), taken, area)?;
     code.small(a3(), 1)?;
     code.tested_service(14)

@@ -4,29 +4,29 @@ ghost use Rattle.std.specs.Prelude.{◌≡◌, suc, ◌+◌, map, ◌++◌, OnOk
 ghost use Rattle.pli_meaning.specs.Numbers.{is_of_precision};
 ghost use Rattle.pli_typing.specs.TypedView.{bounds_of, extent_of, leaf_of, leaf_type_of, numbers_of, part_of, reference_of, variable_of};
 ghost use Rattle.pli_coding.specs.Expressions as form;
-ghost use Rattle.pli_coding.specs.Locating.{leaf_number, own_place, waiting_name};
+ghost use Rattle.pli_coding.specs.Locating.{leaf_number};
 ghost use Rattle.rv_address.specs.Around.{environment_of, taken_of};
-ghost use Rattle.rv_address.specs.Places.{address_of, located_of};
+ghost use Rattle.rv_address.specs.Places.{address_of, located_of, name_of};
 ghost use Rattle.rv_operation.specs.Asked.{asked_of};
-ghost use Rattle.rv_operation.specs.Pieces.{bound_told, element_reached, name_kept, part_named, text_loaded, value_loaded};
+ghost use Rattle.rv_operation.specs.Pieces.{based_named, bound_told, element_reached, name_kept, part_named, standing_named, standing_reached, text_loaded, value_loaded};
 
 use crate::arithmetic::count_checked;
-use crate::pointer::waiting_address;
+use crate::pointer::{address_given, framed};
 use pli_frames::fixed::{buffer_lower, buffer_upper};
 use pli_typing::typed::{Bounds, Extent, LeafType, Numbers, Part, Reference, Variable};
-use rv_address::element::{address_of, reached};
+use rv_address::element::{address_of, based_reached, reached};
 use rv_address::environment::Environment;
 use rv_address::extent::are_constant;
 use rv_address::leaf::{is_direct, leaf_found, refer_read};
-use rv_address::located::{class_found, located};
-use rv_address::names::{Located, name_offset, number_loaded, own_place};
+use rv_address::located::{class_found, located, located_at};
+use rv_address::names::{Located, NamePlace, name_offset, number_loaded};
 use rv_address::referred::is_referred;
 use rv_address::subscript::bound_loaded;
 use rv_address::taken::Taken;
 use rv_address::transfer::{Address, loaded, name_copied, text_pushed};
 use rv_assembly::code::Code;
 use rv_assembly::registers::{a0, a1, a2, u1};
-use rv_meaning::instr::{ImmediateOp, Register};
+use rv_meaning::instr::ImmediateOp;
 use std::alloc::AllocError;
 
 /// How many subscripts are given.
@@ -113,19 +113,19 @@ pub fn text_loaded(
     text_pushed(code, kind, address)
 }
 
-/// The name in a POINTER variable that was reached, to the words behind the temporaries in use.
-#[tactic(auto, unfolding(crate::specs::Pieces::name_kept))]
+/// The name in a POINTER variable that was reached, to a place of the running frame.
+#[tactic(auto, using(crate::proofs::FramedNames::name_framed))]
 pub fn name_kept(
     code: &mut Code,
     environment: &Environment,
-    taken: Taken,
+    to: Address,
     reference: &Reference,
 ) -> Result<(), AllocError>
-    ensures { OnOk result (code.new ≡ code.old ++ name_kept (environment_of environment.now) (taken_of taken) (reference_of reference.now)) }
+    ensures { OnOk result (code.new ≡ code.old ++ name_kept (environment_of environment.now) to.displacement (reference_of reference.now)) }
 {
     let from = address_in(environment, reference)?;
-    let to = waiting_address(taken)?;
-    name_copied(code, from, to)
+    let place = framed(to);
+    name_copied(code, from, place)
 }
 
 /// An element's address, behind a locator and subscripts.
@@ -141,8 +141,23 @@ pub fn element_reached(
 ) -> Result<(), AllocError>
     ensures { OnOk result (code.new ≡ code.old ++ element_reached (environment_of environment.now) (taken_of found) (taken_of taken) (variable_of variable) (part_of part) (numbers_of subscripts.now)) }
 {
-    let given = given_in(subscripts)?;
-    reached(code, environment, found, taken, variable, part, given)
+    reached(code, environment, found, taken, variable, part, subscripts)
+}
+
+/// An element of a BASED variable whose name stands there, behind subscripts.
+#[tactic(auto, unfolding(crate::specs::Pieces::standing_reached))]
+pub fn standing_reached(
+    code: &mut Code,
+    environment: &Environment,
+    name: NamePlace,
+    taken: Taken,
+    variable: Variable,
+    part: Part,
+    subscripts: &Numbers,
+) -> Result<(), AllocError>
+    ensures { OnOk result (code.new ≡ code.old ++ standing_reached (environment_of environment.now) (name_of name) (taken_of taken) (variable_of variable) (part_of part) (numbers_of subscripts.now)) }
+{
+    based_reached(code, environment, name, taken, variable, part, subscripts)
 }
 
 // ---- names
@@ -160,18 +175,6 @@ fn refer_checked(
     } else {
         Ok(())
     }
-}
-
-/// The offset of an address in the running frame.
-fn address_given(
-    code: &mut Code,
-    environment: &Environment,
-    register: Register,
-    to: Address,
-) -> Result<(), AllocError>
-    ensures { OnOk result (code.new ≡ code.old ++ own_place (environment_of environment.now) register to.displacement) }
-{
-    own_place(code, environment, register, to.displacement)
 }
 
 /// A name is found to live, and is written to an address in the frame; REFER tells what may be.
@@ -208,35 +211,59 @@ pub fn name_written(
     name_checked(code, environment, found, to, may_refer)
 }
 
-fn part_waiting(
-    code: &mut Code,
-    environment: &Environment,
-    taken: Taken,
-    variable: Variable,
-    part: Part,
-) -> Result<(), AllocError>
-    ensures { OnOk result (code.new ≡ code.old ++ form.name_written (environment_of environment.now) (taken_of taken) (variable_of variable) (part_of part) (waiting_name (taken_of taken))) }
-{
-    let to = waiting_address(taken)?;
-    name_written(code, environment, taken, variable, part, to)
-}
-
-/// ADDR of a reference, behind its locator, to the words behind the temporaries in use.
+/// ADDR of a reference, behind its locator, to a place of the running frame.
 #[tactic(auto, using(crate::proofs::Walks::parts))]
 pub fn part_named(
     code: &mut Code,
     environment: &Environment,
     taken: Taken,
+    to: Address,
     reference: &Reference,
 ) -> Result<(), AllocError>
-    ensures { OnOk result (code.new ≡ code.old ++ part_named (environment_of environment.now) (taken_of taken) (reference_of reference.now)) }
+    ensures { OnOk result (code.new ≡ code.old ++ part_named (environment_of environment.now) (taken_of taken) to.displacement (reference_of reference.now)) }
 {
     match reference {
         Reference::Plain { variable, part, .. } => {
-            part_waiting(code, environment, taken, *variable, *part)
+            name_written(code, environment, taken, *variable, *part, to)
         }
         Reference::Located { variable, part, .. } => {
-            part_waiting(code, environment, taken, *variable, *part)
+            name_written(code, environment, taken, *variable, *part, to)
+        }
+    }
+}
+
+fn based_named(
+    code: &mut Code,
+    environment: &Environment,
+    name: NamePlace,
+    to: Address,
+    variable: Variable,
+    part: Part,
+) -> Result<(), AllocError>
+    ensures { OnOk result (code.new ≡ code.old ++ based_named (environment_of environment.now) (name_of name) to.displacement (variable_of variable) (part_of part)) }
+{
+    let found = located_at(environment, variable, name)?;
+    let may_refer = is_referred(environment, variable, part)?;
+    name_checked(code, environment, found, to, may_refer)
+}
+
+/// ADDR of a reference whose locator's name stands there.
+#[tactic(auto, using(crate::proofs::Walks::parts))]
+pub fn standing_named(
+    code: &mut Code,
+    environment: &Environment,
+    name: NamePlace,
+    to: Address,
+    reference: &Reference,
+) -> Result<(), AllocError>
+    ensures { OnOk result (code.new ≡ code.old ++ standing_named (environment_of environment.now) (name_of name) to.displacement (reference_of reference.now)) }
+{
+    match reference {
+        Reference::Plain { variable, part, .. } => {
+            based_named(code, environment, name, to, *variable, *part)
+        }
+        Reference::Located { variable, part, .. } => {
+            based_named(code, environment, name, to, *variable, *part)
         }
     }
 }

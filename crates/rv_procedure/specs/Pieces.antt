@@ -1,35 +1,23 @@
 -- Pieces of procedures and of routines.
-use Rattle.std.specs.Prelude.{ℕ, true, List, [], ◌∷◌, ◌++◌, Option, if◌then◌else◌}
-use Rattle.rv_meaning.specs.declared.instr.BranchTest.TheVariants as Test
+use Rattle.std.specs.Prelude.{ℕ, min, List, [], ◌∷◌, ◌++◌, Option, Some, if◌then◌else◌}
 use Rattle.pli_typing.specs.TypedTree as Y
 use Rattle.pli_meaning.specs.DeclaredShapes.{variables_of_block}
-use Rattle.pli_coding.specs.Registers.{frame_register, a1, a2, a3, u0, u1, u5}
+use Rattle.pli_coding.specs.Registers.{held_registers, a1, a2, a3, u5}
 use Rattle.pli_coding.specs.Assembly.{ProcedureEntry, ExtentRoutine, Mark, Code}
-use Rattle.pli_coding.specs.Instructions.{move, number, load_word, skip_where}
-use Rattle.pli_coding.specs.Frames.{frame_below, own_offset}
+use Rattle.pli_coding.specs.Instructions.{move}
 use Rattle.pli_coding.specs.Environments.{BlockPlace, Environment, none_taken}
 use Rattle.pli_coding.specs.Extents.{extents_code}
 use Rattle.pli_coding.specs.Entries.{frame_begun}
 use Rattle.pli_coding.specs.Statements.{stmts_code}
 use Rattle.pli_coding.specs.Procedures.{amounts_given, finish_code, frame_returned, is_main, no_value, procedure_begun, procedure_ended, routine_environment, routine_if, routines_of_block}
-use Rattle.pli_frames.specs.Parts.{parts}
 use Rattle.rv_start.specs.Pieces.{declared_at}
 
 -- ---- the end of a function
 
-abbrev pub finished_if_first : Code
-finished_if_first =
-    load_word u0 frame_register frame_below
-    ++ (load_word u0 u0 own_offset
-    ++ (number u1 parts.stack_start ++ skip_where Test.NotEqual u0 u1 finish_code))
-
-abbrev pub finished_if_main : Environment → (block : ℕ) → Code
-finished_if_main e block = if is_main e.program block then finished_if_first else []
-
 abbrev pub value_missing : Environment → Y.BlockHead → Code
-value_missing e head = finished_if_main e head.number ++ no_value head.line
+value_missing e head = if is_main e.program head.number then finish_code else no_value head.line
 
--- ---- a procedure whose temporaries are so many words
+-- ---- a procedure whose temporaries are so many words, and which saves so many registers
 
 abbrev pub list_taken : Code
 list_taken = move u5 a1 ∷ []
@@ -37,10 +25,10 @@ list_taken = move u5 a1 ∷ []
 abbrev pub texts_counted : Code
 texts_counted = move a3 a2 ∷ []
 
-unfoldable pub procedure_with : Environment → Y.BlockHead → Y.Stmts → (words : ℕ) → List ℕ → Option Y.LeafType → Code
-procedure_with e head body words parameters type =
+unfoldable pub procedure_with : Environment → Y.BlockHead → Y.Stmts → (words held : ℕ) → List ℕ → Option Y.LeafType → Code
+procedure_with e head body words held parameters type =
     Mark (ProcedureEntry head.number)
-    ∷ (procedure_begun e head words parameters ++ (stmts_code e none_taken body ++ procedure_ended e head words type))
+    ∷ (procedure_begun e head words held parameters ++ (stmts_code e none_taken body ++ procedure_ended e head words held type))
 
 -- ---- the routine of a variable by its place
 
@@ -53,7 +41,8 @@ routine_marked block index = Mark (ExtentRoutine block index) ∷ []
 unfoldable pub routine_with : Environment → (index words : ℕ) → Y.DeclaredVariable → Code
 routine_with e index words d =
     routine_marked e.block index
-    ++ (frame_begun words e.level 0 true ++ (extents_at e index ++ (amounts_given d ++ frame_returned words)))
+    ++ (frame_begun words e.level 0 (Some (min held_registers words))
+    ++ (extents_at e index ++ (amounts_given d ++ frame_returned words (min held_registers words))))
 
 unfoldable pub routine_at : Environment → (index : ℕ) → Code
 routine_at e index = routine_if e index (declared_at e e.block index) (declared_at e e.block index).evaluations

@@ -7,31 +7,27 @@ ghost use Rattle.pli_typing.specs.TypedView.{leaf_type_of};
 ghost use Rattle.pli_typing.specs.TypedStatementView.{block_head_of, program_of};
 ghost use Rattle.pli_coding.specs.Procedures as form;
 ghost use Rattle.rv_address.specs.Around.{environment_of};
-ghost use Rattle.rv_procedure.specs.Pieces.{finished_if_first, finished_if_main, value_missing};
+ghost use Rattle.rv_procedure.specs.Pieces.{value_missing};
 
-use pli_frames::fixed::{frame_below, own_offset};
 use pli_typing::statement::{BlockHead, Typed};
 use pli_typing::typed::LeafType;
 use rv_address::environment::Environment;
 use rv_assembly::code::Code;
-use rv_assembly::registers::{a0, a1, frame, return_register, u0, u1, zero};
+use rv_assembly::registers::{a0, a1, frame, return_register, zero};
 use rv_entry::block::block_left;
 use rv_entry::frame::{all_restored, frame_ended};
-use rv_meaning::instr::{BranchTest, Instr};
+use rv_meaning::instr::Instr;
 use rv_start::finish::finish_code;
 use std::alloc::AllocError;
-
-/// Where the first frame begins.
-const STACK_START: u32 = 7 << 20;
 
 /// The place of a function's result in its frame.
 const RESULT: i32 = 48;
 
-/// Back to the caller, from a frame whose block's temporaries are so many words.
-pub fn frame_returned(code: &mut Code, words: u32) -> Result<(), AllocError>
-    ensures { OnOk result (code.new ≡ code.old ++ form.frame_returned words) }
+/// Back to the caller, from a frame whose block's temporaries are so many words, and which saved so many registers.
+pub fn frame_returned(code: &mut Code, words: u32, held: u8) -> Result<(), AllocError>
+    ensures { OnOk result (code.new ≡ code.old ++ form.frame_returned words held) }
 {
-    all_restored(code)?;
+    all_restored(code, held)?;
     frame_ended(code, words)?;
     code.plain(Instr::JumpRegister {
         rd: zero(),
@@ -54,20 +50,6 @@ fn is_main(typed: &Typed, block: usize) -> bool
     main.block.head.number == block
 }
 
-/// In the frame that the start of the image made the run is finished.
-#[tactic(auto, using(rv_assembly::proofs::Patching::patching))]
-fn finished_if_first(code: &mut Code) -> Result<(), AllocError>
-    ensures { OnOk result (code.new ≡ code.old ++ finished_if_first) }
-{
-    code.load_word(u0(), frame(), frame_below())?;
-    code.load_word(u0(), u0(), own_offset())?;
-    code.number(u1(), STACK_START)?;
-    let place = code.keep_branch()?;
-    finish_code(code)?;
-    code.skip_where(place, BranchTest::NotEqual, u0(), u1());
-    Ok(())
-}
-
 fn no_value(code: &mut Code, line: u32) -> Result<(), AllocError>
     ensures { OnOk result (code.new ≡ code.old ++ form.no_value line) }
 {
@@ -77,20 +59,6 @@ fn no_value(code: &mut Code, line: u32) -> Result<(), AllocError>
     code.error_raised(112)
 }
 
-fn finished_if_main(
-    code: &mut Code,
-    environment: &Environment,
-    block: usize,
-) -> Result<(), AllocError>
-    ensures { OnOk result (code.new ≡ code.old ++ finished_if_main (environment_of environment.now) block) }
-{
-    if is_main(environment.known.typed, block) {
-        finished_if_first(code)
-    } else {
-        Ok(())
-    }
-}
-
 fn value_missing(
     code: &mut Code,
     environment: &Environment,
@@ -98,11 +66,14 @@ fn value_missing(
 ) -> Result<(), AllocError>
     ensures { OnOk result (code.new ≡ code.old ++ value_missing (environment_of environment.now) (block_head_of head)) }
 {
-    finished_if_main(code, environment, head.number)?;
-    no_value(code, head.line)
+    if is_main(environment.known.typed, head.number) {
+        finish_code(code)
+    } else {
+        no_value(code, head.line)
+    }
 }
 
-/// A function has no end without a value, but the main procedure where it isn't called.
+/// A function has no end without a value, but the main procedure, which no reference calls.
 pub fn end_reached(
     code: &mut Code,
     environment: &Environment,

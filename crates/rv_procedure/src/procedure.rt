@@ -22,6 +22,7 @@ use rv_entry::block::block_entered;
 use rv_entry::frame::frame_begun;
 use rv_entry::parameter::{arguments_copied, parameters_given};
 use rv_entry::variable::variables_code;
+use rv_statement::held::held_with;
 use rv_statement::statement::stmts_code;
 use rv_statement::words::block_words;
 use std::alloc::{AllocError, Global};
@@ -61,11 +62,12 @@ fn procedure_begun(
     environment: &Environment,
     head: BlockHead,
     words: u32,
+    held: u8,
     parameters: &[usize],
 ) -> Result<(), AllocError>
-    ensures { OnOk result (code.new ≡ code.old ++ form.procedure_begun (environment_of environment.now) (block_head_of head) words parameters.now) }
+    ensures { OnOk result (code.new ≡ code.old ++ form.procedure_begun (environment_of environment.now) (block_head_of head) words held parameters.now) }
 {
-    frame_begun(code, words, head.level, parameters.len(), true)?;
+    frame_begun(code, words, head.level, parameters.len(), Some(held))?;
     list_taken(code)?;
     parameters_given(code, head.level, parameters)?;
     texts_counted(code)?;
@@ -80,17 +82,18 @@ fn procedure_ended(
     environment: &Environment,
     head: BlockHead,
     words: u32,
+    held: u8,
     kind: Option<LeafType>,
 ) -> Result<(), AllocError>
-    ensures { OnOk result (code.new ≡ code.old ++ form.procedure_ended (environment_of environment.now) (block_head_of head) words (option_of leaf_type_of kind)) }
+    ensures { OnOk result (code.new ≡ code.old ++ form.procedure_ended (environment_of environment.now) (block_head_of head) words held (option_of leaf_type_of kind)) }
 {
     end_reached(code, environment, head, kind)?;
     code.push(Item::Mark(Symbol::ReturnPlace { block: head.number }))?;
     left_with(code, kind)?;
-    frame_returned(code, words)
+    frame_returned(code, words, held)
 }
 
-/// A procedure whose temporaries are so many words.
+/// A procedure whose temporaries are so many words, and which saves so many registers.
 #[tactic(auto, unfolding(crate::specs::Pieces::procedure_with))]
 fn procedure_with(
     alloc: Global,
@@ -98,12 +101,21 @@ fn procedure_with(
     environment: &Environment,
     procedure: &Procedure,
     words: u32,
+    held: u8,
 ) -> Result<(), AllocError>
-    ensures { OnOk result (code.new ≡ code.old ++ procedure_with (environment_of environment.now) (block_head_of procedure.now.block.head) (stmts_of procedure.now.block.body) words (procedure_of procedure.now).parameters (procedure_of procedure.now).result) }
+    ensures { OnOk result (code.new ≡ code.old ++ procedure_with (environment_of environment.now) (block_head_of procedure.now.block.head) (stmts_of procedure.now.block.body) words held (procedure_of procedure.now).parameters (procedure_of procedure.now).result) }
 {
     let head = procedure.block.head;
     code.push(Item::Mark(Symbol::ProcedureEntry { block: head.number }))?;
-    procedure_begun(alloc, code, environment, head, words, &procedure.parameters)?;
+    procedure_begun(
+        alloc,
+        code,
+        environment,
+        head,
+        words,
+        held,
+        &procedure.parameters,
+    )?;
     stmts_code(
         alloc,
         code,
@@ -111,7 +123,7 @@ fn procedure_with(
         none_taken(),
         &procedure.block.body,
     )?;
-    procedure_ended(code, environment, head, words, procedure.result)
+    procedure_ended(code, environment, head, words, held, procedure.result)
 }
 
 fn procedure_of_block(
@@ -125,7 +137,8 @@ fn procedure_of_block(
     let head = procedure.block.head;
     let inner = procedure_environment(*environment, head);
     let words = block_words(&inner, head.number, &procedure.block.body)?;
-    Ok(procedure_with(alloc, code, &inner, procedure, words)?)
+    let held = held_with(&inner, words, &procedure.block.body)?;
+    Ok(procedure_with(alloc, code, &inner, procedure, words, held)?)
 }
 
 /// The code of procedures, one behind the other.

@@ -23,6 +23,7 @@ use rv_extent::amount::refer_amount;
 use rv_extent::evaluation::extents_code;
 use rv_extent::words::number_word;
 use rv_start::variable::variable_at;
+use rv_statement::held::held_for;
 use std::alloc::{AllocError, Global};
 
 fn amounts_given(code: &mut Code, declaration: &DeclaredVariable) -> Result<(), AllocError>
@@ -64,11 +65,12 @@ fn routine_with(
 ) -> Result<(), AllocError>
     ensures { OnOk result (code.new ≡ code.old ++ routine_with (environment_of environment.now) index words (declared_variable_of declaration.now)) }
 {
+    let held = held_for(words);
     routine_marked(code, environment.block, index)?;
-    frame_begun(code, words, environment.level, 0, true)?;
+    frame_begun(code, words, environment.level, 0, Some(held))?;
     extents_at(alloc, code, environment, index)?;
     amounts_given(code, declaration)?;
-    Ok(frame_returned(code, words)?)
+    Ok(frame_returned(code, words, held)?)
 }
 
 fn has_routine(class: StorageClass) -> bool

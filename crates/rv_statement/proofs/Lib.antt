@@ -1,5 +1,6 @@
 pub mod Around
 pub mod Counted
+pub mod HeldTaken
 pub mod Placing
 pub mod Walks
 pub mod Weights

@@ -1,5 +1,5 @@
 -- Pieces of the code of statements, each under a name of its own: whoever walks over the statements sees the names alone.
-use Rattle.std.specs.Prelude.{ℕ, ◌==◌, pos, true, false, List, [], ◌∷◌, ◌++◌, Option, Some, None, if◌then◌else◌}
+use Rattle.std.specs.Prelude.{ℕ, ℤ, ◌==◌, pos, List, [], ◌∷◌, ◌++◌, Option, Some, None, if◌then◌else◌}
 use Rattle.rv_meaning.specs.declared.instr.BranchTest.TheVariants as Test
 use Rattle.rv_meaning.specs.declared.instr.Instr.TheVariants as I
 use Rattle.rv_meaning.specs.declared.instr.RegisterOp.TheVariants as Op
@@ -12,11 +12,11 @@ use Rattle.pli_coding.specs.Instructions.{add, load_word, move, number, register
 use Rattle.pli_coding.specs.Environments.{Environment, Taken}
 use Rattle.pli_coding.specs.Arithmetic.{sum_code}
 use Rattle.pli_coding.specs.Expressions.{bit_code, call_code, stored_code}
-use Rattle.pli_coding.specs.Storing.{area_code', assigned_code, emptied_code}
+use Rattle.pli_coding.specs.Storing.{area_code', assignment_code, emptied_code}
 use Rattle.pli_coding.specs.Allocating.{act_code, allocations_code, freeings_code}
 use Rattle.pli_coding.specs.Entries.{block_left, entered_without_texts, frame_begun, frame_ended, registers_restored, variables_code}
 use Rattle.pli_coding.specs.Streams.{get_code, put_code}
-use Rattle.pli_coding.specs.Statements.{begin_code, condition_given, count_begun, counter_read, counter_stored, goto_code, goto_outer, if_met, in_turns, limit_place, limit_tested, once_code, one_of, returned_by, signal_code, start_loaded, start_place, step_place, stepped_code, stmt_code, text_cut, turn_of, turns_code, unit_code, unit_established, unit_mark, unit_variables, value_returned, while_met}
+use Rattle.pli_coding.specs.Statements.{begin_code, condition_given, constant_step, count_begun, counter_read, counter_stored, goto_code, goto_outer, if_met, in_turns, limit_place, limit_tested, once_code, one_of, returned_by, signal_code, start_loaded, start_place, step_added, step_place, stepped_code, stmt_code, text_cut, turn_of, turns_code, unit_code, unit_established, unit_mark, unit_variables, value_returned, while_met}
 use Rattle.rv_assignment.specs.Pieces.{aggregate_put, elements_put}
 
 -- ---- RETURN and GOTO
@@ -49,12 +49,16 @@ step_loaded t = load_word a0 frame_register (step_place t)
 unfoldable pub act_begun : (line : ℕ) → Code
 act_begun line = number a0 line ++ (small a1 1 ∷ service 1)
 
-unfoldable pub step_added : Taken → Code
-step_added t = move u1 a0 ∷ (step_loaded t ++ sum_code (in_turns t))
+-- a step that waits, and any step, and the value in a0
+unfoldable pub kept_added : Taken → Code
+kept_added t = move u1 a0 ∷ (step_loaded t ++ sum_code (in_turns t))
+
+unfoldable pub summed_by : Taken → (step : Option ℤ) → Code
+summed_by t step = step_added t step
 
 -- the next value
-unfoldable pub stepped : Environment → Taken → Y.Counter → (line : ℕ) → Code
-stepped e t counter line = stepped_code e t counter line
+unfoldable pub stepped : Environment → Taken → Y.Counter → (step : Option ℤ) → (line : ℕ) → Code
+stepped e t counter step line = stepped_code e t counter step line
 
 -- ---- tests, with a jump over so many words where they aren't met
 
@@ -75,15 +79,15 @@ limit_loaded t = load_word u1 frame_register (limit_place t)
 abbrev pub step_beside : Taken → Code
 step_beside t = load_word u2 frame_register (step_place t)
 
--- whether the value in a0 has passed the limit, in u3
+-- whether the value in a0 has passed the limit in u1, in u3
 unfoldable pub limit_compared : Taken → Code
-limit_compared t = limit_loaded t ++ (step_beside t ++ (registers Op.SetLess u3 u1 a0 ∷ turned_if_negative))
+limit_compared t = step_beside t ++ (registers Op.SetLess u3 u1 a0 ∷ turned_if_negative)
 
-abbrev pub limit_passed : (behind : ℕ) → Code
-limit_passed behind = skip_where Test.Equal u3 zero_register (JumpAhead behind ∷ [])
+abbrev pub flag_tested : (behind : ℕ) → Code
+flag_tested behind = skip_where Test.Equal u3 zero_register (JumpAhead behind ∷ [])
 
-abbrev pub limit_ahead : Environment → Taken → Y.Counter → (behind : ℕ) → Code
-limit_ahead e t counter behind = counter_read e t counter ++ limit_tested t behind
+abbrev pub limit_ahead : Environment → Taken → Y.Counter → (step : Option ℤ) → (behind : ℕ) → Code
+limit_ahead e t counter step behind = counter_read e t counter ++ limit_tested t step behind
 
 -- what each turn begins with
 abbrev pub turn_opened : Environment → Taken → Y.Counter → (line : ℕ) → Code
@@ -95,7 +99,7 @@ unfoldable pub acted : (line : ℕ) → Code
 acted line = act_code line
 
 unfoldable pub assign_statement : Environment → Taken → Y.Reference → Y.Stored → (line : ℕ) → Code
-assign_statement e t target source line = acted line ++ assigned_code e t target source
+assign_statement e t target source line = acted line ++ assignment_code e t target source
 
 unfoldable pub elements_statement : Environment → Taken → Y.Reference → Y.Stored → (line : ℕ) → Code
 elements_statement e t target source line = acted line ++ elements_put e t target source
@@ -164,7 +168,7 @@ unfoldable pub block_begun : Environment → (level : ℕ) → (words line : ℕ
 block_begun e level words line =
     acted line
     ++ (move a0 frame_register
-    ∷ (frame_begun words level 0 false ++ (entered_without_texts 1 line ++ variables_code e line)))
+    ∷ (frame_begun words level 0 None ++ (entered_without_texts 1 line ++ variables_code e line)))
 
 unfoldable pub block_ended : (words : ℕ) → Code
 block_ended words = block_left 0 ++ frame_ended words
@@ -176,22 +180,22 @@ unit_told c line = acted line ++ (OffsetAhead a1 5 ∷ condition_given c ∷ ser
 abbrev pub unit_announced : Condition → (line behind : ℕ) → Code
 unit_announced c line behind = unit_told c line ++ JumpAhead behind ∷ []
 
-unfoldable pub unit_begun : Environment → Y.BlockHead → (words : ℕ) → Code
-unit_begun e head words =
-    frame_begun words head.level 0 true
+unfoldable pub unit_begun : Environment → Y.BlockHead → (words held : ℕ) → Code
+unit_begun e head words held =
+    frame_begun words head.level 0 (Some held)
     ++ (entered_without_texts 2 head.line ++ (unit_variables e head head.kind ++ acted head.line))
 
-unfoldable pub held_back : Code
-held_back = registers_restored 0 7
+unfoldable pub held_back : (held : ℕ) → Code
+held_back held = registers_restored 0 held
 
-unfoldable pub unit_gone : (words : ℕ) → Code
-unit_gone words =
+unfoldable pub unit_gone : (words held : ℕ) → Code
+unit_gone words held =
     service 31
-    ++ (held_back
+    ++ (held_back held
     ++ (frame_ended words ++ (BaseIn u0 ∷ add u0 u0 a0 ∷ Plain (I.JumpRegister zero_register u0 (pos 0)) ∷ [])))
 
-unfoldable pub unit_ended : Y.BlockHead → (words : ℕ) → Code
-unit_ended head words = unit_mark head head.kind ++ unit_gone words
+unfoldable pub unit_ended : Y.BlockHead → (words held : ℕ) → Code
+unit_ended head words held = unit_mark head head.kind ++ unit_gone words held
 
 -- ---- statements that hold others, by the code of these
 
@@ -206,18 +210,18 @@ while_statement e t x body line = act_code line ++ while_met (act_code line ++ b
 
 unfoldable pub once_statement : Environment → Taken → Y.Reference → Y.Stored → Option Y.Bit → (body : Code) → (line : ℕ) → Code
 once_statement e t variable start condition body line =
-    act_code line ++ (assigned_code e t variable start ++ once_code e t condition line body)
+    act_code line ++ (assignment_code e t variable start ++ once_code e t condition line body)
 
 unfoldable pub count_statement : Environment → Taken → Y.Counter → Y.Value → Option Y.Number → Y.Number → Option Y.Bit → (body : Code) → (line : ℕ) → Code
 count_statement e t counter start limit step condition body line =
     act_code line
-    ++ (count_begun e t counter start limit step ++ turns_code (turn_of e t counter limit condition line body))
+    ++ (count_begun e t counter start limit step ++ turns_code (turn_of e t counter limit (constant_step step) condition line body))
 
 unfoldable pub begin_statement : Environment → Y.BlockHead → (words : ℕ) → (body : Code) → Code
 begin_statement e head words body = act_code head.line ++ begin_code e head words body
 
-unfoldable pub unit_statement : Environment → Condition → Y.BlockHead → (words : ℕ) → (body : Code) → (line : ℕ) → Code
-unit_statement e c head words body line = act_code line ++ unit_established c (unit_code e head words body)
+unfoldable pub unit_statement : Environment → Condition → Y.BlockHead → (words held : ℕ) → (body : Code) → (line : ℕ) → Code
+unit_statement e c head words held body line = act_code line ++ unit_established c (unit_code e head words held body)
 
 -- DO, by what it says of its turns
 unfoldable pub turns_statement : Environment → Taken → Turns → Y.Stmts → (line : ℕ) → Code

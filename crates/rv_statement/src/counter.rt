@@ -1,17 +1,19 @@
 // DO with a variable that counts: its start, limit and step, and how it goes on from turn to turn. Limit and step stand in two words
-// as long as the turns go on, and the start in a third one until it is assigned.
+// as long as the turns go on, and the start in a third one until it is assigned. A step that is a constant stands in the code.
 
-ghost use Rattle.std.specs.Prelude.{◌≡◌, ◌++◌, OnOk, IfOk};
+ghost use Rattle.std.specs.Prelude.{◌≡◌, ◌++◌, pos, OnOk, IfOk};
 ghost use Rattle.pli_language.specs.View.{option_of};
-ghost use Rattle.pli_typing.specs.TypedView.{number_of, value_of};
+ghost use Rattle.pli_typing.specs.TypedTree as Y;
+ghost use Rattle.pli_typing.specs.TypedView.{number_of, sign_of, value_of};
 ghost use Rattle.pli_typing.specs.TypedStatementView.{counter_of};
+ghost use Rattle.pli_meaning.specs.Numbers.{signed_result};
 ghost use Rattle.pli_coding.specs.Arithmetic.{sum_code};
 ghost use Rattle.pli_coding.specs.Statements as form;
 ghost use Rattle.rv_address.specs.Around.{environment_of, taken_of};
-ghost use Rattle.rv_statement.specs.Pieces.{act_begun, limit_kept, start_kept, start_read, step_added, step_kept, step_loaded, stepped};
+ghost use Rattle.rv_statement.specs.Pieces.{act_begun, kept_added, limit_kept, start_kept, start_read, step_kept, step_loaded, stepped, summed_by};
 
 use pli_frames::fixed::words_place;
-use pli_typing::typed::{ArithmeticOperator, Counter, Number, Value};
+use pli_typing::typed::{ArithmeticOperator, Counter, Number, Sign, Value};
 use rv_address::environment::Environment;
 use rv_address::taken::Taken;
 use rv_allocation::allocation::act_code;
@@ -20,7 +22,7 @@ use rv_assembly::registers::{a0, a1, frame, u1, u2, u3, zero};
 use rv_assignment::scalar::{top_stored, word_stored};
 use rv_expr::expression::{bit_code, number_code, reference_code, text_code};
 use rv_meaning::instr::{BranchTest, RegisterOp};
-use rv_operation::arithmetic::{calculated_code, fitted_code};
+use rv_operation::arithmetic::{calculated_code, constant_added, fitted_code};
 use rv_operation::reference::{text_loaded, value_loaded};
 use rv_operation::text::text_to_number;
 use rv_stream::text::as_text;
@@ -89,6 +91,39 @@ fn start_loaded(code: &mut Code, taken: Taken) -> Result<(), AllocError>
     code.load_word(a0(), frame(), place)
 }
 
+// ---- steps that are constants
+
+fn signed(sign: Sign, value: u64) -> i128
+    ensures { result ≡ signed_result (sign_of sign) (pos value) }
+{
+    match sign {
+        Sign::Positive => i128::from(value),
+        Sign::Negative => -i128::from(value),
+    }
+}
+
+#[tactic(auto, unfolding(pli_typing::specs::TypedView::number_of))]
+fn signed_constant(sign: Sign, operand: &Number) -> Option<i128>
+    ensures { result ≡ form.constant_step (Y.Signed (sign_of sign) (number_of operand.now)) }
+{
+    match operand {
+        Number::Constant(value) => Some(signed(sign, *value)),
+        _ => None,
+    }
+}
+
+/// The constant that a step is, if it is one.
+#[tactic(auto, unfolding(pli_typing::specs::TypedView::number_of))]
+pub(crate) fn constant_step(step: &Number) -> Option<i128>
+    ensures { result ≡ form.constant_step (number_of step.now) }
+{
+    match step {
+        Number::Constant(value) => Some(i128::from(*value)),
+        Number::Signed { sign, operand } => signed_constant(*sign, operand),
+        _ => None,
+    }
+}
+
 // ---- before the first turn
 
 /// A start isn't converted before limit and step are evaluated; a text waits on the stack.
@@ -146,9 +181,14 @@ fn step_code(
 ) -> Result<(), AllocError>
     ensures { OnOk result (code.new ≡ code.old ++ form.step_code (environment_of environment.now) (taken_of taken) (number_of step.now)) }
 {
-    let before = before_turns(taken)?;
-    number_code(alloc, code, environment, before, step)?;
-    step_kept(code, taken)
+    match constant_step(step) {
+        Some(_) => Ok(()),
+        None => {
+            let before = before_turns(taken)?;
+            number_code(alloc, code, environment, before, step)?;
+            step_kept(code, taken)
+        }
+    }
 }
 
 fn text_started(code: &mut Code, taken: Taken, start: &Value) -> Result<(), AllocError>
@@ -312,13 +352,24 @@ fn summed(code: &mut Code, taken: Taken) -> Result<(), AllocError>
     calculated_code(code, inside, ArithmeticOperator::Sum)
 }
 
-#[tactic(auto, unfolding(crate::specs::Pieces::step_added))]
-fn step_added(code: &mut Code, taken: Taken) -> Result<(), AllocError>
-    ensures { OnOk result (code.new ≡ code.old ++ step_added (taken_of taken)) }
+#[tactic(auto, unfolding(crate::specs::Pieces::kept_added))]
+fn kept_added(code: &mut Code, taken: Taken) -> Result<(), AllocError>
+    ensures { OnOk result (code.new ≡ code.old ++ kept_added (taken_of taken)) }
 {
     code.copy(u1(), a0())?;
     step_loaded(code, taken)?;
     summed(code, taken)
+}
+
+/// The step and the value in a0.
+#[tactic(auto, unfolding(crate::specs::Pieces::summed_by, crate::specs::Pieces::kept_added))]
+fn summed_by(code: &mut Code, taken: Taken, step: Option<i128>) -> Result<(), AllocError>
+    ensures { OnOk result (code.new ≡ code.old ++ summed_by (taken_of taken) step) }
+{
+    match step {
+        Some(constant) => constant_added(code, in_turns(taken)?, constant),
+        None => kept_added(code, taken),
+    }
 }
 
 /// The next value, with the line of the DO.
@@ -329,12 +380,13 @@ pub(crate) fn stepped_code(
     environment: &Environment,
     taken: Taken,
     counter: &Counter,
+    step: Option<i128>,
     line: u32,
 ) -> Result<(), AllocError>
-    ensures { OnOk result (code.new ≡ code.old ++ stepped (environment_of environment.now) (taken_of taken) (counter_of counter.now) line) }
+    ensures { OnOk result (code.new ≡ code.old ++ stepped (environment_of environment.now) (taken_of taken) (counter_of counter.now) step line) }
 {
     act_begun(code, line)?;
     counter_read(alloc, code, environment, taken, counter)?;
-    step_added(code, taken)?;
+    summed_by(code, taken, step)?;
     counter_converted(code, taken, counter)
 }

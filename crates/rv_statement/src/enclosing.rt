@@ -105,7 +105,7 @@ pub(crate) fn block_begun(
 {
     acted(code, line)?;
     code.copy(a0(), frame())?;
-    frame_begun(code, words, level, 0, false)?;
+    frame_begun(code, words, level, 0, None)?;
     entered_without_texts(code, 1, line)?;
     variables_code(alloc, code, inside, line)
 }
@@ -190,10 +190,11 @@ pub(crate) fn unit_begun(
     inside: &Environment,
     head: BlockHead,
     words: u32,
+    held: u8,
 ) -> Result<(), AllocError>
-    ensures { OnOk result (code.new ≡ code.old ++ unit_begun (environment_of inside.now) (block_head_of head) words) }
+    ensures { OnOk result (code.new ≡ code.old ++ unit_begun (environment_of inside.now) (block_head_of head) words held) }
 {
-    frame_begun(code, words, head.level, 0, true)?;
+    frame_begun(code, words, head.level, 0, Some(held))?;
     entered_without_texts(code, 2, head.line)?;
     unit_variables(alloc, code, inside, head)?;
     acted(code, head.line)
@@ -218,19 +219,19 @@ fn return_marked(code: &mut Code, block: usize) -> Result<(), AllocError>
 }
 
 #[tactic(auto, unfolding(crate::specs::Pieces::held_back))]
-fn held_back(code: &mut Code) -> Result<(), AllocError>
-    ensures { OnOk result (code.new ≡ code.old ++ held_back) }
+fn held_back(code: &mut Code, held: u8) -> Result<(), AllocError>
+    ensures { OnOk result (code.new ≡ code.old ++ held_back held) }
 {
-    held_restored(code)
+    held_restored(code, held)
 }
 
 /// A unit goes on where its raise said, with its condition's code in a1.
 #[tactic(auto, unfolding(crate::specs::Pieces::unit_gone))]
-fn unit_gone(code: &mut Code, words: u32) -> Result<(), AllocError>
-    ensures { OnOk result (code.new ≡ code.old ++ unit_gone words) }
+fn unit_gone(code: &mut Code, words: u32, held: u8) -> Result<(), AllocError>
+    ensures { OnOk result (code.new ≡ code.old ++ unit_gone words held) }
 {
     code.service(31)?;
-    held_back(code)?;
+    held_back(code, held)?;
     frame_ended(code, words)?;
     code.push(Item::BaseIn(u0()))?;
     code.add(u0(), u0(), a0())?;
@@ -243,9 +244,14 @@ fn unit_gone(code: &mut Code, words: u32) -> Result<(), AllocError>
 
 /// An on-unit behind its statements.
 #[tactic(auto, unfolding(crate::specs::Pieces::unit_ended))]
-pub(crate) fn unit_ended(code: &mut Code, head: BlockHead, words: u32) -> Result<(), AllocError>
-    ensures { OnOk result (code.new ≡ code.old ++ unit_ended (block_head_of head) words) }
+pub(crate) fn unit_ended(
+    code: &mut Code,
+    head: BlockHead,
+    words: u32,
+    held: u8,
+) -> Result<(), AllocError>
+    ensures { OnOk result (code.new ≡ code.old ++ unit_ended (block_head_of head) words held) }
 {
     unit_mark(code, head)?;
-    unit_gone(code, words)
+    unit_gone(code, words, held)
 }

@@ -6,6 +6,7 @@ mod condition;
 mod counter;
 mod enclosing;
 mod goto;
+pub mod held;
 mod returning;
 mod single;
 pub mod statement;

@@ -21,7 +21,7 @@ use rv_assembly::code::Code;
 use rv_assembly::registers::{a0, a1};
 use rv_assignment::aggregate::{aggregate_code, elements_code};
 use rv_assignment::area::{area_code, emptied_code};
-use rv_assignment::scalar::assigned_code;
+use rv_assignment::scalar::assignment_code;
 use rv_expr::expression::{call_code, stored_code};
 use rv_stream::get::get_code;
 use rv_stream::put::put_code;
@@ -49,7 +49,7 @@ pub(crate) fn assign_statement(
     ensures { OnOk result (code.new ≡ code.old ++ assign_statement (environment_of environment.now) (taken_of taken) (reference_of target.now) (stored_of source.now) line) }
 {
     acted(code, line)?;
-    assigned_code(alloc, code, environment, taken, target, source)
+    assignment_code(alloc, code, environment, taken, target, source)
 }
 
 /// A value to all elements of an array.

@@ -10,12 +10,13 @@ ghost use Rattle.rv_address.specs.Around.{environment_of, taken_of};
 ghost use Rattle.rv_statement.specs.Pieces.{begin_statement, count_statement, if_else_statement, if_statement, once_statement, turns_statement, unit_statement, while_statement};
 
 use crate::ahead::{jump_over_if, otherwise};
-use crate::counter::in_turns;
+use crate::counter::{constant_step, in_turns};
 use crate::enclosing::{
     block_begun, block_ended, counting, once_begun, owner_of_unit, unit_announced, unit_begun,
     unit_ended,
 };
 use crate::goto::marked;
+use crate::held::held_with;
 use crate::single::{
     acted, aggregate_statement, allocate_statement, area_statement, assign_statement,
     call_statement, elements_statement, emptied_statement, free_statement, get_statement,
@@ -303,6 +304,7 @@ fn count_code(
         step,
         line,
     )?;
+    let fixed = constant_step(step);
     let turn = turn_begun(
         alloc,
         code,
@@ -310,12 +312,13 @@ fn count_code(
         taken,
         counter,
         limit,
+        fixed,
         condition,
         line,
     )?;
     let inside = in_turns(taken)?;
     stmts_code(alloc, code, environment, inside, body)?;
-    turn_ended(alloc, code, environment, taken, counter, line, turn)?;
+    turn_ended(alloc, code, environment, taken, counter, fixed, line, turn)?;
     Ok(())
 }
 
@@ -349,16 +352,17 @@ fn unit_code(
     body: &Stmts,
     line: u32,
 ) -> Result<(), AllocError>
-    ensures { OnOk result (code.new ≡ code.old ++ unit_statement (environment_of environment.now) condition (block_head_of head) (form.unit_words (environment_of environment.now) (block_head_of head) (block_head_of head).kind (form.stmts_words (stmts_of body.now))) (form.stmts_code (form.unit_environment (block_head_of head) (environment_of environment.now)) environments.none_taken (stmts_of body.now)) line) }
+    ensures { OnOk result (code.new ≡ code.old ++ unit_statement (environment_of environment.now) condition (block_head_of head) (form.unit_words (environment_of environment.now) (block_head_of head) (block_head_of head).kind (form.stmts_words (stmts_of body.now))) (form.unit_held (environment_of environment.now) (block_head_of head) (block_head_of head).kind (stmts_of body.now)) (form.stmts_code (form.unit_environment (block_head_of head) (environment_of environment.now)) environments.none_taken (stmts_of body.now)) line) }
 {
     let words = unit_words(environment, head, body)?;
+    let held = held_with(environment, words, body)?;
     let inside = environment
         .in_frame(head.number, head.level)
         .owned_by(owner_of_unit(head));
     let end = unit_announced(code, condition, line)?;
-    unit_begun(alloc, code, &inside, head, words)?;
+    unit_begun(alloc, code, &inside, head, words, held)?;
     stmts_code(alloc, code, &inside, none_taken(), body)?;
-    unit_ended(code, head, words)?;
+    unit_ended(code, head, words, held)?;
     code.jump_over(end);
     Ok(())
 }

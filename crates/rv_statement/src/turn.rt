@@ -44,14 +44,15 @@ fn turn_opening(
     taken: Taken,
     counter: &Counter,
     limit: &Option<Number>,
+    step: Option<i128>,
     line: u32,
 ) -> Result<Option<Place>, AllocError>
-    ensures written { OnOk result (code.new ≡ code.old ++ turn_opening (environment_of environment.now) (taken_of taken) (counter_of counter.now) (option_of number_of limit.now) line 0) }
-    ensures place { IfOk result (λ p. ComesToIf code.new p (λ n. code.old ++ turn_opening (environment_of environment.now) (taken_of taken) (counter_of counter.now) (option_of number_of limit.now) line n)) }
+    ensures written { OnOk result (code.new ≡ code.old ++ turn_opening (environment_of environment.now) (taken_of taken) (counter_of counter.now) (option_of number_of limit.now) step line 0) }
+    ensures place { IfOk result (λ p. ComesToIf code.new p (λ n. code.old ++ turn_opening (environment_of environment.now) (taken_of taken) (counter_of counter.now) (option_of number_of limit.now) step line n)) }
 {
     counter_stored(alloc, code, environment, taken, counter)?;
     act_code(code, line)?;
-    Ok(limit_tested(alloc, code, environment, taken, counter, limit)?)
+    Ok(limit_tested(alloc, code, environment, taken, counter, limit, step)?)
 }
 
 /// A turn up to its body.
@@ -62,13 +63,14 @@ pub(crate) fn turn_begun(
     taken: Taken,
     counter: &Counter,
     limit: &Option<Number>,
+    step: Option<i128>,
     condition: &Option<Bit>,
     line: u32,
 ) -> Result<Turn, AllocError>
-    ensures { IfOk result (λ u. TurnBegun code.old code.new u (environment_of environment.now) (taken_of taken) (counter_of counter.now) (option_of number_of limit.now) (option_of bit_of condition.now) line) }
+    ensures { IfOk result (λ u. TurnBegun code.old code.new u (environment_of environment.now) (taken_of taken) (counter_of counter.now) (option_of number_of limit.now) step (option_of bit_of condition.now) line) }
 {
     let start = code.size();
-    let limit = turn_opening(alloc, code, environment, taken, counter, limit, line)?;
+    let limit = turn_opening(alloc, code, environment, taken, counter, limit, step, line)?;
     let condition = while_tested(alloc, code, environment, taken, condition)?;
     Ok(Turn {
         start,
@@ -84,14 +86,15 @@ pub(crate) fn turn_ended(
     environment: &Environment,
     taken: Taken,
     counter: &Counter,
+    step: Option<i128>,
     line: u32,
     turn: Turn,
 ) -> Result<(), AllocError>
     requires limit { IsJumpIf code.old turn.limit }
     requires condition { IsJumpIf code.old turn.condition }
-    ensures { OnOk result (code.new ≡ jumped_if (jumped_if (turned_back (code.old ++ stepped (environment_of environment.now) (taken_of taken) (counter_of counter.now) line) turn.start) turn.condition) turn.limit) }
+    ensures { OnOk result (code.new ≡ jumped_if (jumped_if (turned_back (code.old ++ stepped (environment_of environment.now) (taken_of taken) (counter_of counter.now) step line) turn.start) turn.condition) turn.limit) }
 {
-    stepped_code(alloc, code, environment, taken, counter, line)?;
+    stepped_code(alloc, code, environment, taken, counter, step, line)?;
     turned_back(code, turn.start)?;
     jump_over_if(code, turn.condition);
     jump_over_if(code, turn.limit);

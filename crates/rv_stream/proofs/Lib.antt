@@ -1,4 +1,5 @@
 pub mod Awaiting
+pub mod Counting
 pub mod Getting
 pub mod Leading
 pub mod Putting

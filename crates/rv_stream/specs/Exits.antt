@@ -1,12 +1,14 @@
 -- GET with jumps to its exit that go nowhere yet, and their places; and what it is once they lead there.
-use Rattle.std.specs.Prelude.{ℕ, ◌-◌, ⊤, List, [], ◌∷◌, ◌++◌}
+use Rattle.std.specs.Prelude.{ℕ, ◌-◌, ⊤, List, [], ◌∷◌, ◌++◌, if◌then◌else◌}
 use Rattle.pli_language.specs.Tree.{Formats}
 use Rattle.pli_typing.specs.TypedTree as Y
+use Rattle.pli_coding.specs.Registers.{zero_register}
 use Rattle.pli_coding.specs.Assembly.{JumpAhead, Code}
-use Rattle.pli_coding.specs.Environments.{Environment, Taken}
+use Rattle.pli_coding.specs.Environments.{Environment, Taken, save}
+use Rattle.pli_coding.specs.Locating.{leaf_number}
 use Rattle.pli_coding.specs.Expressions.{type_in}
 use Rattle.pli_coding.specs.Storing.{record_code}
-use Rattle.pli_coding.specs.Streams.{Elements, edit_begun, edit_ended, element_got, elements_begun, elements_of, field_awaited, field_stored, for_elements, next_asked}
+use Rattle.pli_coding.specs.Streams.{Elements, by_distance, counted_element_got, is_counted, edit_begun, edit_ended, element_got, elements_begun, elements_of, field_awaited, field_stored, for_elements, next_asked}
 use Rattle.rv_assembly.specs.declared.place.Place.{Place}
 use Rattle.rv_assembly.specs.Places.{IsPlace, patched}
 use Rattle.rv_item.specs.Ends.{exit_behind}
@@ -24,13 +26,26 @@ elements_kept e l formats r =
 unfoldable pub elements_exit : Environment → Elements → Y.Reference → (before : Code) → Place
 elements_exit e l r before = exit_behind (before ++ (record_code e l.taken r ++ (elements_begun l ++ turn_begun (next_asked e l r))))
 
+unfoldable pub counted_kept : Environment → Taken → Formats → Y.Reference → Code
+counted_kept e t formats (Y.Referring v locator part subscripts) =
+    by_distance t (leaf_number e v part.first) (field_awaited 0 ++ counted_element_got e t formats v part)
+
+unfoldable pub counted_exit : Taken → (before : Code) → Place
+counted_exit t before = exit_behind (before ++ save zero_register t)
+
+abbrev pub aggregate_kept : Environment → Taken → Formats → Y.Reference → Code
+aggregate_kept e t formats r = if is_counted e r then counted_kept e t formats r else elements_kept e (elements_of t r) formats r
+
+abbrev pub aggregate_exit : Environment → Taken → (before : Code) → Y.Reference → Place
+aggregate_exit e t before r = if is_counted e r then counted_exit t before else elements_exit e (elements_of t r) r before
+
 abbrev pub item_kept : Environment → Taken → Formats → Y.GetItem → Code
 item_kept e t formats (Y.GetScalar r) = scalar_kept e t formats r
-item_kept e t formats (Y.GetAggregate r) = elements_kept e (elements_of t r) formats r
+item_kept e t formats (Y.GetAggregate r) = aggregate_kept e t formats r
 
 abbrev pub item_exit : Environment → Taken → (before : Code) → Y.GetItem → Place
 item_exit e t before (Y.GetScalar r) = exit_behind before
-item_exit e t before (Y.GetAggregate r) = elements_exit e (elements_of t r) r before
+item_exit e t before (Y.GetAggregate r) = aggregate_exit e t before r
 
 abbrev pub items_kept : Environment → Taken → Formats → List Y.GetItem → Code
 items_kept e t formats [] = []

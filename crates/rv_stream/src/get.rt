@@ -4,30 +4,36 @@
 ghost use Rattle.std.specs.Prelude.{◌≡◌, [], ◌∷◌, ◌++◌, map, OnOk};
 ghost use Rattle.pli_typing.specs.TypedStatementView.{get_item_of, get_pair_of};
 ghost use Rattle.pli_typing.specs.TypedTree as Y;
-ghost use Rattle.pli_typing.specs.TypedView.{leaf_type_of, reference_of};
+ghost use Rattle.pli_typing.specs.TypedView.{leaf_type_of, part_of, reference_of, variable_of};
 ghost use Rattle.pli_coding.specs.Storing as storing;
 ghost use Rattle.pli_coding.specs.Streams as form;
 ghost use Rattle.rv_address.specs.Around.{environment_of, taken_of};
 ghost use Rattle.rv_item.specs.Elements.{elements_shown};
 ghost use Rattle.rv_item.specs.Ends.{exit_behind};
-ghost use Rattle.rv_stream.specs.Exits.{elements_exit, elements_kept, item_exit, item_kept, items_exits, items_kept, pair_exits, pair_kept, pairs_exits, pairs_kept, scalar_kept};
+ghost use Rattle.rv_stream.specs.Exits.{aggregate_exit, aggregate_kept, counted_exit, counted_kept, elements_exit, elements_kept, item_exit, item_kept, items_exits, items_kept, pair_exits, pair_kept, pairs_exits, pairs_kept, scalar_kept};
 ghost use Rattle.rv_item.specs.Lists.{formats_in};
 ghost use Rattle.rv_item.specs.Turns.{turn_begun};
 
 use crate::exit::led;
 use crate::pair::{edit_begun, edit_ended, skip_option};
-use pli_typing::typed::{GetItem, GetPair, LeafType, Reference};
+use pli_typing::typed::{GetItem, GetPair, LeafType, Part, Reference, Variable};
+use rv_address::element::address_of;
 use rv_address::environment::Environment;
-use rv_address::taken::Taken;
+use rv_address::taken::{Taken, save};
 use rv_assembly::code::Code;
 use rv_assembly::item::Item;
 use rv_assembly::place::Place;
+use rv_assembly::registers::zero;
 use rv_assignment::record::record_code;
 use rv_assignment::scalar::{top_stored, word_stored};
-use rv_item::elements::{Elements, element_found, elements_begun, elements_of, free_in};
+use rv_item::distance::{distance_added, element_counted, is_counted};
+use rv_item::elements::{
+    Elements, element_found, elements_begun, elements_of, free_in, part_in, variable_in,
+};
 use rv_item::field::{bit_got, field_awaited, number_got, text_got};
 use rv_item::fields::Fields;
 use rv_item::moved::{Motion, element_moved};
+use rv_item::shown::{field_converted, field_kept};
 use rv_item::taking::element_field_taken;
 use rv_item::turns::{turn_begun, turn_ended};
 use rv_operation::arithmetic::fitted_code;
@@ -188,6 +194,66 @@ fn elements_got(
     each_got(alloc, code, exits, environment, elements, fields, reference)
 }
 
+// ---- an array of one kind at a constant place
+
+fn counted_element_got(
+    code: &mut Code,
+    environment: &Environment,
+    taken: Taken,
+    fields: &Fields,
+    variable: Variable,
+    part: Part,
+) -> Result<(), AllocError>
+    ensures { OnOk result (code.new ≡ code.old ++ form.counted_element_got (environment_of environment.now) (taken_of taken) (formats_in fields.now) (variable_of variable) (part_of part)) }
+{
+    let leaf = environment.leaf(variable, part.first)?;
+    let address = address_of(environment, variable, part, 1)?;
+    field_converted(code, taken.with_number()?, fields, leaf.kind)?;
+    distance_added(code, environment, taken, variable)?;
+    field_kept(code, leaf.kind, address)
+}
+
+#[tactic(auto, using(crate::proofs::Counting::got_whole, crate::proofs::Counting::got_exit))]
+fn counted_got(
+    code: &mut Code,
+    exits: &mut Vec<Place>,
+    environment: &Environment,
+    taken: Taken,
+    fields: &Fields,
+    reference: &Reference,
+) -> Result<(), AllocError>
+    ensures code { OnOk result (code.new ≡ code.old ++ counted_kept (environment_of environment.now) (taken_of taken) (formats_in fields.now) (reference_of reference.now)) }
+    ensures exits { OnOk result (exits.new.items ≡ exits.old.items ++ counted_exit (taken_of taken) code.old ∷ []) }
+{
+    let variable = variable_in(reference);
+    let part = part_in(reference);
+    let leaf = environment.leaf(variable, part.first)?;
+    save(code, zero(), taken)?;
+    let start = code.size();
+    field_awaited(code, exits)?;
+    counted_element_got(code, environment, taken, fields, variable, part)?;
+    element_counted(code, taken, leaf, start)
+}
+
+fn aggregate_got(
+    alloc: Global,
+    code: &mut Code,
+    exits: &mut Vec<Place>,
+    environment: &Environment,
+    taken: Taken,
+    fields: &Fields,
+    reference: &Reference,
+) -> Result<(), AllocError>
+    ensures code { OnOk result (code.new ≡ code.old ++ aggregate_kept (environment_of environment.now) (taken_of taken) (formats_in fields.now) (reference_of reference.now)) }
+    ensures exits { OnOk result (exits.new.items ≡ exits.old.items ++ aggregate_exit (environment_of environment.now) (taken_of taken) code.old (reference_of reference.now) ∷ []) }
+{
+    if is_counted(environment, reference)? {
+        return counted_got(code, exits, environment, taken, fields, reference);
+    }
+    let elements = elements_of(taken, reference)?;
+    elements_got(alloc, code, exits, environment, elements, fields, reference)
+}
+
 // ---- the statement
 
 fn item_got(
@@ -207,8 +273,7 @@ fn item_got(
             scalar_got(alloc, code, exits, environment, taken, fields, target)
         }
         GetItem::Aggregate(reference) => {
-            let elements = elements_of(taken, reference)?;
-            elements_got(alloc, code, exits, environment, elements, fields, reference)
+            aggregate_got(alloc, code, exits, environment, taken, fields, reference)
         }
     }
 }

@@ -3,24 +3,27 @@
 ghost use Rattle.std.specs.Prelude.{◌≡◌, ◌++◌, map, OnOk};
 ghost use Rattle.pli_typing.specs.TypedStatementView.{put_item_of, put_pair_of};
 ghost use Rattle.pli_typing.specs.TypedTree as Y;
-ghost use Rattle.pli_typing.specs.TypedView.{bit_of, number_of, reference_of, text_of, value_of};
+ghost use Rattle.pli_typing.specs.TypedView.{bit_of, number_of, part_of, reference_of, text_of, value_of, variable_of};
 ghost use Rattle.pli_coding.specs.Streams as form;
 ghost use Rattle.rv_address.specs.Around.{environment_of, taken_of};
 ghost use Rattle.rv_item.specs.Elements.{elements_shown};
 ghost use Rattle.rv_item.specs.Lists.{formats_in};
 
 use crate::pair::{edit_begun, edit_ended, skip_option};
-use pli_typing::typed::{Bit, Number, PutItem, PutPair, Reference, Text, Value};
+use pli_typing::typed::{Bit, Number, Part, PutItem, PutPair, Reference, Text, Value, Variable};
+use rv_address::element::address_of;
 use rv_address::environment::Environment;
 use rv_address::taken::{Taken, save};
 use rv_assembly::code::Code;
-use rv_assembly::registers::a0;
+use rv_assembly::registers::{a0, zero};
 use rv_assignment::record::record_code;
 use rv_expr::expression::{bit_code, number_code, text_code};
-use rv_item::elements::{Elements, elements_begun, elements_of, free_in};
+use rv_item::distance::{distance_added, element_counted, is_counted};
+use rv_item::elements::{Elements, elements_begun, elements_of, free_in, part_in, variable_in};
 use rv_item::field::{number_put, text_put};
 use rv_item::fields::Fields;
 use rv_item::putting::element_written;
+use rv_item::shown::element_shown;
 use rv_item::text::NumberText;
 use rv_item::turns::{turn_begun, turn_ended};
 use std::alloc::{AllocError, Global};
@@ -141,6 +144,60 @@ fn elements_put(
     each_put(alloc, code, environment, elements, fields, reference)
 }
 
+// ---- an array of one kind at a constant place
+
+fn counted_element_put(
+    code: &mut Code,
+    environment: &Environment,
+    taken: Taken,
+    fields: &Fields,
+    variable: Variable,
+    part: Part,
+) -> Result<(), AllocError>
+    ensures { OnOk result (code.new ≡ code.old ++ form.counted_element_put (environment_of environment.now) (taken_of taken) (formats_in fields.now) (variable_of variable) (part_of part)) }
+{
+    let leaf = environment.leaf(variable, part.first)?;
+    let address = address_of(environment, variable, part, 1)?;
+    distance_added(code, environment, taken, variable)?;
+    element_shown(code, taken.with_number()?, fields, leaf.kind, address)
+}
+
+#[tactic(auto, using(crate::proofs::Counting::put_whole))]
+fn counted_put(
+    code: &mut Code,
+    environment: &Environment,
+    taken: Taken,
+    fields: &Fields,
+    reference: &Reference,
+) -> Result<(), AllocError>
+    ensures { OnOk result (code.new ≡ code.old ++ form.counted_put (environment_of environment.now) (taken_of taken) (formats_in fields.now) (reference_of reference.now)) }
+{
+    let variable = variable_in(reference);
+    let part = part_in(reference);
+    let leaf = environment.leaf(variable, part.first)?;
+    save(code, zero(), taken)?;
+    let start = code.size();
+    counted_element_put(code, environment, taken, fields, variable, part)?;
+    element_counted(code, taken, leaf, start)
+}
+
+fn aggregate_put(
+    alloc: Global,
+    code: &mut Code,
+    environment: &Environment,
+    taken: Taken,
+    fields: &Fields,
+    reference: &Reference,
+) -> Result<(), AllocError>
+    ensures { OnOk result (code.new ≡ code.old ++ form.aggregate_put (environment_of environment.now) (taken_of taken) (formats_in fields.now) (reference_of reference.now)) }
+{
+    if is_counted(environment, reference)? {
+        return counted_put(code, environment, taken, fields, reference);
+    }
+    let elements = elements_of(taken, reference)?;
+    elements_put(alloc, code, environment, elements, fields, reference)
+}
+
 // ---- the statement
 
 fn item_put(
@@ -156,8 +213,7 @@ fn item_put(
     match item {
         PutItem::Value(value) => value_put(alloc, code, environment, taken, fields, value),
         PutItem::Aggregate(reference) => {
-            let elements = elements_of(taken, reference)?;
-            elements_put(alloc, code, environment, elements, fields, reference)
+            aggregate_put(alloc, code, environment, taken, fields, reference)
         }
     }
 }

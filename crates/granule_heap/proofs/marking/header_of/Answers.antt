@@ -1,4 +1,4 @@
-use Rattle.std.proofs.Common.{◌+◌, ◌%◌, refl, sym, ap, ◌∙◌, arith}
+use Rattle.std.proofs.Common.{◌+◌, refl, arith}
 use Rattle.granule_heap.proofs.Finding.{no_offset, found, none_begins, of_another}
 use Rattle.granule_heap.proofs.marking.header_of.Goals as goal
 use Rattle.granule_heap.proofs.marking.header_of.Goals.{then-offset-ne0-via-then-offset-ne0, then-offset-ne0-via-else-offset-ne0+then-offset-capacity, else-begins-via-then-begins+else-word_at-signature, else-begins-via-else-begins}

@@ -1,4 +1,3 @@
-use Rattle.std.proofs.Common.{ap, ◌∙◌, arith}
 use Rattle.granule_heap.proofs.Calls.{marks_copied}
 use Rattle.granule_heap.proofs.marking.mark_copied.Goals as goal
 

@@ -7,5 +7,5 @@ pub returns-clause-bounds : goal.returns-clause-bounds
 returns-clause-bounds c =
     let bounds = c.args.placed.now.in_force.bounds.items in
     let n = length c.args.given.now in
-    ap (map pair_of) (c.in_ok-bounds.ensures.ok ∙ (c.bounds_behind-left.ensures ∙ ap (drop n) c.as_slice.ensures))
+    ap (map pair_of) (c.in_ok-bounds.ensures.ok ∙ (c.behind-left.ensures ∙ ap (drop n) c.as_slice.ensures))
     ∙ sym (drop-map pair_of n bounds)

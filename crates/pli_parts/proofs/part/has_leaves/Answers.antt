@@ -1,4 +1,4 @@
-use Rattle.std.proofs.Common.{◌≡◌, ◌<◌, ◌∙◌, arith, length}
+use Rattle.std.proofs.Common.{◌<◌, ◌∙◌, arith, length}
 use Rattle.pli_serving.specs.Templates.{shape_at}
 use Rattle.pli_parts.proofs.Asked.{has_none, has_so}
 use Rattle.pli_parts.proofs.part.has_leaves.Goals as goal

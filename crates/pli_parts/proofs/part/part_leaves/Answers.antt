@@ -1,4 +1,4 @@
-use Rattle.std.proofs.Common.{◌≡◌, ◌+◌, ◌≤◌, ◌∙◌, List, Ok, Option, ap, arith, length, subst, sym, ℕ}
+use Rattle.std.proofs.Common.{◌≡◌, ◌+◌, ◌∙◌, List, Ok, Option, ap, arith, length, subst, sym, ℕ}
 use Rattle.std.proofs.lemmas.List.{length_push}
 use Rattle.pli_storage.specs.Findings.{found_of}
 use Rattle.pli_parts.specs.Leaves.{ArePartLeaves, IsLeafFound, IsPartLeaf}

@@ -1,16 +1,31 @@
-use Rattle.std.proofs.Common.{◌≡◌, ◌<◌, ◌≤◌, ◌+◌, arith, get_or, length}
-use Rattle.std.proofs.lemmas.List.{get_or_read}
+use Rattle.std.proofs.Common.{◌<◌, ◌∙◌, ℕ, ap, arith, length, subst, sym}
 use Rattle.pli_typing.specs.Signatures.{leaf_bytes}
 use Rattle.pli_signatures.specs.View.{kind_of}
-use Rattle.pli_parts.proofs.Elements.{within_at}
+use Rattle.pli_aggregates.specs.Elements.{AreWithin}
+use Rattle.pli_aggregates.specs.Runs.{standing}
+use Rattle.pli_parts.specs.Putting.{elements_put}
+use Rattle.pli_parts.proofs.Puts.{no_leaf_put, whole_bytes}
 use Rattle.pli_parts.proofs.storing.put_leaf.Goals as goal
 
-pub put_value-requires : goal.put_value-requires
-put_value-requires c =
-    let items = c.args.leaf.now.addresses.items in
-    let place = c.loop-place.place in
-    let bytes = leaf_bytes (kind_of c.args.leaf.now.kind) in
-    let there : place < length items = grind (arith, c.len-place-end.ensures, c.loop-place-test.true) in
-    let inside : get_or items place 0 + bytes ≤ length c.args.memory.now = within_at bytes (length c.args.memory.now) items place c.requires.within there in
-    let read : c.index.result.now ≡ get_or items place 0 = get_or_read items place c.index.result.now there c.index.ensures 0 in
-    omega (arith, inside, read, c.loop-place.auto.memory)
+pub returns-then-value_bytes-eq0 : goal.returns-then-value_bytes-eq0
+returns-then-value_bytes-eq0 c = no_leaf_put c.args.leaf.now c.args.taken.now c.args.memory.now (sym c.value_bytes.ensures ∙ c.if-value_bytes-eq0.true)
+
+pub put_run-requires-clause-within : goal.put_run-requires-clause-within
+put_run-requires-clause-within c =
+    let l = c.args.leaf.now in
+    let some : 0 < leaf_bytes (kind_of l.kind) = grind (arith, c.value_bytes.ensures, c.if-value_bytes-eq0.false) in
+    subst (λ (n : ℕ). AreWithin (leaf_bytes (kind_of l.kind)) (length c.args.memory.now) (standing l.run.at l.run.step n)) (sym (c.requires.readable.counted some)) c.requires.readable.within
+
+pub put_run-requires-clause-whole : goal.put_run-requires-clause-whole
+put_run-requires-clause-whole c =
+    let l = c.args.leaf.now in
+    let some : 0 < leaf_bytes (kind_of l.kind) = grind (arith, c.value_bytes.ensures, c.if-value_bytes-eq0.false) in
+    whole_bytes l c.args.taken.now some c.requires.whole
+
+pub returns : goal.returns
+returns c =
+    let l = c.args.leaf.now in
+    let t = c.args.taken.now in
+    let some : 0 < leaf_bytes (kind_of l.kind) = grind (arith, c.value_bytes.ensures, c.if-value_bytes-eq0.false) in
+    c.put_run.ensures
+    ∙ ap (λ (n : ℕ). elements_put (kind_of l.kind) (kind_of t.kind) t.bytes.items 0 (standing l.run.at l.run.step n) c.args.memory.now) (c.requires.readable.counted some)

@@ -1,18 +1,15 @@
 use Rattle.std.proofs.Common.{◌≡◌, ◌<◌, ◌≤◌, ◌∙◌, ℕ, arith, length, min, subst, sym}
-use Rattle.pli_typing.specs.Signatures.{leaf_bytes}
-use Rattle.pli_signatures.specs.View.{kind_of}
-use Rattle.pli_aggregates.specs.Elements.{AreWithin}
+use Rattle.pli_parts.specs.Leaves.{IsReadable}
 use Rattle.pli_parts.proofs.Puts.{no_more_put, whole_at}
 use Rattle.pli_parts.proofs.Takes.{readable_at}
 use Rattle.pli_parts.proofs.storing.put_leaves.Goals as goal
 
-pub put_leaf-requires-clause-within : goal.put_leaf-requires-clause-within
-put_leaf-requires-clause-within c =
+pub put_leaf-requires-clause-readable : goal.put_leaf-requires-clause-readable
+put_leaf-requires-clause-readable c =
     let l = c.index-leaves-number.result in
     let there : c.loop-number.number < length c.args.leaves.now = grind (arith, c.min-both.ensures, c.loop-number-test.true) in
     let same : length c.args.memory.now ≡ length c.loop-number.memory = omega (arith, c.loop-number.auto.memory) in
-    let one = readable_at (length c.args.memory.now) c.args.leaves.now c.loop-number.number l c.requires.readable there c.index-leaves-number.is in
-    subst (λ (n : ℕ). AreWithin (leaf_bytes (kind_of l.kind)) n l.addresses.items) same one.within
+    subst (λ (n : ℕ). IsReadable n l) same (readable_at (length c.args.memory.now) c.args.leaves.now c.loop-number.number l c.requires.readable there c.index-leaves-number.is)
 
 pub put_leaf-requires-clause-whole : goal.put_leaf-requires-clause-whole
 put_leaf-requires-clause-whole c =

@@ -1,4 +1,4 @@
-use Rattle.std.proofs.Common.{refl, sym, ap, ◌∙◌, arith}
+use Rattle.std.proofs.Common.{refl, sym, ap, arith}
 use Rattle.area_heap.specs.declared.fault.AreaFault.TheVariants.{TooSmall}
 use Rattle.area_heap.specs.Answers.{done_or, bytes_or}
 use Rattle.granule_keeper.specs.Granules.{marks_in}

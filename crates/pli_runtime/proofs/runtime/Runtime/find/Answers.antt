@@ -1,4 +1,4 @@
-use Rattle.std.proofs.Common.{ℕ, arith, refl, slice_index, subst}
+use Rattle.std.proofs.Common.{ℕ, arith, slice_index, subst}
 use Rattle.pli_serving.specs.ElementService.{element_served, of_two_words}
 use Rattle.pli_serving.specs.Finding.{Call}
 use Rattle.pli_answering.specs.Answering.{Answers}

@@ -1,5 +1,5 @@
 use Rattle.std.proofs.Common.{refl}
-use Rattle.pli_runtime.proofs.Stacked.{by_done, by_refused}
+use Rattle.pli_runtime.proofs.Stacked.{by_refused}
 use Rattle.pli_runtime.specs.Running.{call_of}
 use Rattle.pli_runtime.proofs.runtime.Runtime.push_text.Goals as goal
 

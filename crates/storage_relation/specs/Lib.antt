@@ -1,0 +1,16 @@
+pub mod Telling
+pub mod Standing
+pub mod Stored
+pub mod Served
+pub mod Keeping
+pub mod Parts
+pub mod Numbered
+pub mod Beginning
+pub mod Controlled
+pub mod Versions
+pub mod Changes
+pub mod Laws
+pub mod ServiceLaws
+pub mod Rows
+pub mod Tables
+pub mod ItemShapes

@@ -1,0 +1,188 @@
+-- Pieces of typed trees that aren't well formed, one for each main rule.
+use Rattle.std.proofs.Common.{[], ◌∷◌, None, refl, inl, inr, arith}
+use Rattle.std.specs.Prelude.{◌^◌, pos}
+use Rattle.pli_language.specs.Formats.{Putting, Getting, formats_move_data, format_moves_data}
+use Rattle.pli_language.specs.Tree as T
+use Rattle.pli_typing.specs.TypedTree as Y
+use Rattle.pli_typing.proofs.RowTrees.{at}
+use Rattle.well_formed_trees.specs.Ranges.{IsLine, IsConstant, IsPrecision, IsLength, IsFormat, IsFormatList, IsTimes}
+use Rattle.well_formed_trees.specs.Surroundings.{Where, NoReturn, IsTarget, in_unit, in_list}
+use Rattle.well_formed_trees.specs.References.{IsLocated}
+use Rattle.well_formed_trees.specs.Expressions.{IsProcedure, Fits}
+use Rattle.well_formed_trees.specs.EarlyNumbers.{Early}
+use Rattle.well_formed_trees.specs.Declarations.{IsExtent, IsRising, IsInitial, AreMembers}
+use Rattle.well_formed_trees.specs.Blocks.{BlockLabelsOnce}
+use Rattle.well_formed_trees.specs.Statements.{SoundStmt}
+use Rattle.well_formed_trees.specs.WellFormed.{AreNumbered, IsHeld, HasMain, IsResult, AreApart, AreNested}
+use Rattle.well_formed_trees.proofs.WellFormedRows.{typed_program, table, main_entry, begin_entry, in_main, inner}
+use Rattle.well_formed_trees.proofs.WellFormedRows.{main_head, number}
+
+-- ---- numbers and labels of blocks
+
+-- a number twice; a number left out
+number_twice : ¬ AreNumbered 3 (1 ∷ 1 ∷ [])
+number_twice h = absurd (cc (h.once 1 (omega arith) (omega arith)))
+
+number_missing : ¬ AreNumbered 4 (1 ∷ 2 ∷ [])
+number_missing h = absurd (cc (h.once 3 (omega arith) (omega arith)))
+
+abbrev labelled : Y.Stmts → Y.Block
+labelled body = Y.BlockOf main_head body
+
+-- L: ; L: ;
+label_twice : ¬ BlockLabelsOnce
+    (labelled (Y.StmtThen ((76 ∷ []) ∷ []) (Y.Null 2) (Y.StmtThen ((76 ∷ []) ∷ []) (Y.Null 3)
+    (Y.EndOfList []))))
+label_twice h = absurd (cc h.0.0)
+
+-- L: ; DO; L: END;
+label_twice_in_group : ¬ BlockLabelsOnce (labelled (Y.StmtThen ((76 ∷ []) ∷ []) (Y.Null 2)
+    (Y.StmtThen [] (Y.Do (Y.EndOfList ((76 ∷ []) ∷ [])) 3) (Y.EndOfList []))))
+label_twice_in_group h = absurd (cc h.0.0)
+
+-- ---- levels and holders
+
+-- a procedure at the level of the block that holds it
+not_further_in : ¬ IsHeld table 0 (main_entry ∷ [])
+not_further_in h = absurd (cc h.0)
+
+-- a block whose level is one short
+level_short : ¬ SoundStmt in_main (Y.Begin (Y.BlockOf (record { kind = Y.BeginBlock; number = 2; level = 0; line = 4 })
+    (Y.EndOfList [])))
+level_short h = absurd (cc h.0.1.0.level)
+
+-- a block that the table doesn't have there
+not_listed : ¬ SoundStmt in_main (Y.Begin (Y.BlockOf (record { kind = Y.BeginBlock; number = 1; level = 1; line = 4 })
+    (Y.EndOfList [])))
+not_listed h = absurd (cc h.0.1.1)
+
+-- an entry that says that it stands in a block that begins behind it
+not_nested : ¬ AreNested ([] ∷ (begin_entry ∷ main_entry ∷ []) ∷ [])
+not_nested h =
+    let behind = (h 1 begin_entry (main_entry ∷ []) refl).0 in
+    absurd (omega (arith, behind))
+
+-- ---- RETURN and GOTO
+
+-- RETURN(1) where nothing is returned, and RETURN in an on-unit
+value_returned : ¬ SoundStmt in_main (Y.ReturnValue (Y.FixedLeaf 31) (Y.StoredNumber 31 (Y.NumberConstant 1)) 3)
+value_returned h = absurd (cc h.0)
+
+unit_returns : ¬ SoundStmt (in_unit in_main) (Y.Return 3)
+unit_returns h = absurd (cc h.0)
+
+-- GOTO K, where no list has K
+no_target : ¬ SoundStmt in_main (Y.Goto 0 (75 ∷ []) 3)
+no_target h = none h.0 where
+  none : ¬ IsTarget 0 (75 ∷ []) (main_entry ∷ [])
+  none (inl k) = absurd (cc k.1)
+  none (inr k) = k
+
+-- DO; K: ; ON ERROR GOTO K; END; (the labels of groups around an on-unit are none of its targets)
+unit_leaves_group : ¬ SoundStmt (in_unit (in_list in_main ((75 ∷ []) ∷ []))) (Y.Goto 0 (75 ∷ []) 3)
+unit_leaves_group h = none h.0 where
+  none : ¬ IsTarget 0 (75 ∷ []) (main_entry ∷ [])
+  none (inl k) = absurd (cc k.1)
+  none (inr k) = k
+
+-- ---- calls and main procedures
+
+-- no procedure has the number of a begin block
+no_procedure : ¬ IsProcedure in_main 2 0 inner
+no_procedure h = absurd (cc h.found)
+
+-- a procedure whose holder isn't around
+abbrev elsewhere : Where
+elsewhere = record { program = typed_program; table = table; around = []; returning = NoReturn }
+
+holder_not_around : ¬ IsProcedure elsewhere 3 0 inner
+holder_not_around h = h.holder_around
+
+-- a main procedure with a parameter
+main_takes : ¬ HasMain
+    (record { block = Y.BlockOf main_head (Y.EndOfList []); parameters = 0 ∷ []; result = None } ∷ [])
+main_takes h = absurd (cc h.1.0)
+
+parameter_twice : ¬ AreApart (0 ∷ 0 ∷ [])
+parameter_twice h = absurd (cc h.0)
+
+area_returned : ¬ IsResult (Y.AreaLeaf (Y.ConstantExtent (pos 64)))
+area_returned h = h
+
+-- ---- numbers in range
+
+line_too_great : ¬ IsLine (2 ^ 31)
+line_too_great h = absurd (omega (arith, h))
+
+constant_too_great : ¬ IsConstant (2 ^ 31)
+constant_too_great h = absurd (omega (arith, h))
+
+no_digits : ¬ IsPrecision 0
+no_digits h = absurd (omega (arith, h.0))
+
+text_too_long : ¬ IsLength 1025
+text_too_long h = absurd (omega (arith, h))
+
+-- F(0), A in GET, and 1001 X(1)
+no_width : ¬ IsFormat Putting (T.FixedFormat 0)
+no_width h = absurd (omega (arith, h.0))
+
+width_missing : ¬ IsFormat Getting (T.TextFormat None)
+width_missing h = h
+
+too_often : ¬ IsTimes 1001
+too_often h = absurd (omega (arith, h.1))
+
+-- (X(1)) moves no data
+no_data : ¬ IsFormatList Putting (T.FormatThen (at 3 1) 1 (T.SpaceFormat 1) T.NoFormat)
+unfolding formats_move_data format_moves_data
+no_data h = absurd (cc h.moves_data)
+
+-- ---- references and declarations
+
+not_located : ¬ IsLocated Y.BasedClass Y.NotLocated
+not_located h = h
+
+located : ¬ IsLocated Y.AutomaticClass (Y.LocatedBy Y.NullPointer)
+located h = h
+
+-- a number into a text, and a value into an area
+number_into_text : ¬ Fits (Y.CharacterLeaf (Y.ConstantExtent (pos 3))) (Y.StoredNumber 31 (Y.NumberConstant 1))
+number_into_text h = h
+
+value_into_area : ¬ Fits (Y.AreaLeaf (Y.ConstantExtent (pos 64))) (Y.StoredPointer Y.NullPointer)
+value_into_area h = h
+
+-- an extent that names its own variable, or calls a function
+not_made_yet : ¬ Early 1 0 (Y.NumberIn number)
+not_made_yet h = absurd (omega (arith, h.0 refl refl))
+
+function_called : ¬ Early 1 0 (Y.NumberFrom (Y.Calling 3 0 Y.NoArgument))
+function_called h = h
+
+-- `*` of what is no parameter, REFER of what isn't BASED, and an evaluation that a STATIC variable has none of
+star_of_automatic : ¬ IsExtent Y.AutomaticClass 0 Y.StarExtent
+star_of_automatic h = h
+
+refer_of_automatic : ¬ IsExtent Y.AutomaticClass 0 Y.ReferExtent
+refer_of_automatic h = h
+
+evaluated_static : ¬ IsExtent Y.StaticClass 1 (Y.EvaluatedExtent 0)
+evaluated_static h = h
+
+no_such_evaluation : ¬ IsExtent Y.AutomaticClass 1 (Y.EvaluatedExtent 1)
+no_such_evaluation h = absurd (omega (arith, h))
+
+falling : ¬ IsRising (Y.ConstantExtent (pos 2)) (Y.ConstantExtent (pos 1))
+falling h = absurd (cc h)
+
+-- INITIAL(8) of three digits, and of a text
+number_too_wide : ¬ IsInitial (Y.FixedLeaf 3) (T.InitialNumber (pos 8))
+number_too_wide h = absurd (cc h)
+
+text_of_number : ¬ IsInitial (Y.FixedLeaf 3) (T.InitialText (56 ∷ []))
+text_of_number h = h
+
+-- a member two structures further in than the variable before it
+too_deep : ¬ AreMembers (record { depth = 0; dimensions = 0 } ∷ record { depth = 2; dimensions = 0 } ∷ [])
+too_deep h = absurd (omega (arith, h.1.0.1))

@@ -1,0 +1,16 @@
+pub mod Every
+pub mod Ranges
+pub mod Members
+pub mod Surroundings
+pub mod References
+pub mod Expressions
+pub mod EarlyNumbers
+pub mod Statements
+pub mod Declarations
+pub mod Blocks
+pub mod WellFormed
+pub mod Written
+pub mod Spelled
+pub mod Held
+pub mod Framed
+pub mod Placed

@@ -1,0 +1,90 @@
+// Laws of typed trees, each of which a function carries.
+
+ghost use Rattle.well_formed_trees.specs.WellFormed.{ShapeKept, NumbersKept, ListsKept, OutermostKept, LabelsKept};
+ghost use Rattle.well_formed_trees.specs.Spelled.{RangesKept};
+ghost use Rattle.well_formed_trees.specs.Placed.{PlacesKept};
+ghost use Rattle.well_formed_trees.specs.Framed.{AcceptedFramed};
+ghost use Rattle.well_formed_trees.specs.Held.{BlocksKept, NestingKept, TableKept, EntriesKept, DepthsKept};
+ghost use Rattle.well_formed_trees.specs.Held.{MainKept, ResultsKept, ParametersKept};
+
+/// What is spelled is procedures, with the labels of each END last in their list, and on-units that hold no statement
+/// but in BEGIN blocks.
+pub fn shape_kept()
+    ensures { ShapeKept }
+{}
+
+/// Lines, constants, texts and format lists of what is spelled are in range, and nothing stands deeper than it may.
+pub fn ranges_kept()
+    ensures { RangesKept }
+{}
+
+/// Each block has a number of its own, from 1 on.
+pub fn numbers_kept()
+    ensures { NumbersKept }
+{}
+
+/// Variables are listed for each block.
+pub fn lists_kept()
+    ensures { ListsKept }
+{}
+
+/// Each label stands once in its block.
+pub fn labels_kept()
+    ensures { LabelsKept }
+{}
+
+/// Each block stands one level further in than the block that holds it, where the table of blocks has it; lines,
+/// RETURN, SKIP and format lists are as they may be.
+pub fn blocks_kept()
+    ensures { BlocksKept }
+{}
+
+/// The block that holds another one is the last block of its level before it.
+pub fn nesting_kept()
+    ensures { NestingKept }
+{}
+
+/// The table has as many entries as there are blocks.
+pub fn table_kept()
+    ensures { TableKept }
+{}
+
+/// Each entry of the table has its own number first, at the level of as many blocks as are around.
+pub fn entries_kept()
+    ensures { EntriesKept }
+{}
+
+/// The whole program, which is block 0, declares nothing.
+pub fn outermost_kept()
+    ensures { OutermostKept }
+{}
+
+/// Each block has its entry in the table, and none stands inside more blocks than a block may.
+pub fn depths_kept()
+    ensures { DepthsKept }
+{}
+
+/// The first procedure stands in no block and has no parameters, and all others stand in it.
+pub fn main_kept()
+    ensures { MainKept }
+{}
+
+/// What a procedure returns is no area, and its extents are constants in range.
+pub fn results_kept()
+    ensures { ResultsKept }
+{}
+
+/// Each parameter of a procedure is a variable of its block, and no two are the same one.
+pub fn parameters_kept()
+    ensures { ParametersKept }
+{}
+
+/// Labels, procedures and the names of DECLARE stand in source order, so no two of them have one place.
+pub fn places_kept()
+    ensures { PlacesKept }
+{}
+
+/// The typed tree of each accepted source is well formed but for what its expressions, GOTO and declarations say.
+pub fn accepted_framed()
+    ensures { AcceptedFramed }
+{}
