@@ -19,7 +19,7 @@ use rv_address::number::count;
 use rv_address::taken::Taken;
 use rv_assembly::code::Code;
 use rv_assembly::registers::{a0, a1, a2};
-use rv_expr::expression::pointer_code;
+use rv_expr::locator::pointer_code;
 use rv_operation::pointer::waiting_place;
 use rv_operation::standing::standing_name;
 use std::alloc::{AllocError, Global};

@@ -118,7 +118,7 @@ fn generations_are_made_in_their_words(rt: HostRuntime) -> Result<(), Fail> {
             area: area(),
         },
     };
-    assert_eq!(rt; made(rt.alloc(), &known, in_area)?, 35);
+    assert_eq!(rt; made(rt.alloc(), &known, in_area)?, 33);
     let controlled = Allocation::Controlled(named(StorageClass::Controlled, 4));
     assert_eq!(rt; made(rt.alloc(), &known, controlled)?, 17);
     Ok(())

@@ -4,24 +4,23 @@
 ghost use Rattle.std.specs.Prelude.{◌≡◌, ◌++◌, OnOk};
 ghost use Rattle.pli_language.specs.View.{option_of};
 ghost use Rattle.pli_typing.specs.TypedTree as Y;
-ghost use Rattle.pli_typing.specs.TypedView.{argument_of, arguments_of, bit_of, extremum_of, number_of, numbers_of, offset_of, part_of, pointer_of, reference_of, stored_of, text_of, variable_of};
+ghost use Rattle.pli_typing.specs.TypedView.{argument_of, arguments_of, bit_of, extremum_of, number_of, numbers_of, part_of, pointer_of, reference_of, stored_of, text_of, variable_of};
 ghost use Rattle.pli_coding.specs.Expressions as form;
 ghost use Rattle.rv_address.specs.Around.{environment_of, taken_of};
 ghost use Rattle.rv_address.specs.Places.{name_of};
 ghost use Rattle.rv_operation.specs.Asked.{list_of};
-ghost use Rattle.rv_operation.specs.Standing.{place_of};
-ghost use Rattle.rv_expr.specs.Forms.{address_kept, both_bits, both_numbers, located_reached, locator_of, names_told, null_told, offset_told, operand_kept, pointers_compared, subscripted};
+ghost use Rattle.rv_expr.specs.Forms.{both_bits, both_numbers, located_reached, locator_of, subscripted};
 
+use crate::locator::{offset_code, pointer_code, pointers_compared};
 use pli_typing::typed::{
-    Argument, Arguments, Bit, Callee, Extremum, Number, Numbers, Offset, Part, Pointer, Reference,
-    Stored, Text, Variable,
+    Argument, Arguments, Bit, Callee, Extremum, Number, Numbers, Part, Pointer, Reference, Stored,
+    Text, Variable,
 };
 use rv_address::environment::Environment;
 use rv_address::located::behind_locator;
 use rv_address::names::NamePlace;
 use rv_address::subscript::is_given;
 use rv_address::taken::{Taken, fetch, save};
-use rv_address::transfer::Address;
 use rv_assembly::code::Code;
 use rv_assembly::registers::{a0, u1};
 use rv_operation::argument::{
@@ -33,18 +32,11 @@ use rv_operation::arithmetic::{
     fitted_code, modulo_code, negated_code, sign_code, signed_code,
 };
 use rv_operation::constant::{bit_constant, generations_counted, number_constant};
-use rv_operation::pointer::{
-    name_to_offset, null_compared, null_kept, offset_to_name, offsets_compared, places_compared,
-    result_kept, waiting_address, waiting_place,
-};
+use rv_operation::pointer::offsets_compared;
 use rv_operation::reference::{
-    BoundAsked, bound_told, element_reached, name_kept, part_named, standing_named,
-    standing_reached, text_loaded, value_loaded,
+    BoundAsked, bound_told, element_reached, standing_reached, text_loaded, value_loaded,
 };
-use rv_operation::standing::{
-    is_null, left_standing, own_standing, place_or_waiting, standing_behind, standing_locator,
-    standing_name,
-};
+use rv_operation::standing::standing_behind;
 use rv_operation::text::{
     bit_pushed, constant_pushed, end_cut, index_found, number_pushed, substring_cut, text_measured,
     text_to_bit, text_to_number, texts_compared, verified,
@@ -348,225 +340,6 @@ fn both_bits(
     save(code, a0(), taken)?;
     bit_code(alloc, code, environment, taken.with_number()?, right)?;
     fetch(code, u1(), taken)
-}
-
-/// Whether two names are equal, or whether they aren't.
-#[cycle(walk)]
-#[tactic(auto, unfolding(crate::specs::Forms::pointers_compared))]
-fn pointers_compared(
-    alloc: Global,
-    code: &mut Code,
-    environment: &Environment,
-    taken: Taken,
-    equal: bool,
-    left: &Pointer,
-    right: &Pointer,
-) -> Result<(), AllocError>
-    ensures { OnOk result (code.new ≡ code.old ++ pointers_compared (environment_of environment.now) (taken_of taken) equal (pointer_of left.now) (pointer_of right.now)) }
-{
-    if is_null(right) {
-        let place = own_standing(environment, left)?;
-        return null_told(alloc, code, environment, taken, equal, left, place);
-    }
-    let place = left_standing(environment, left, right)?;
-    let other = own_standing(environment, right)?;
-    names_told(
-        alloc,
-        code,
-        environment,
-        taken,
-        equal,
-        left,
-        right,
-        place,
-        other,
-    )
-}
-
-/// Whether a name is null, or whether it isn't.
-#[cycle(walk)]
-#[tactic(auto, using(crate::proofs::Walks::compared))]
-fn null_told(
-    alloc: Global,
-    code: &mut Code,
-    environment: &Environment,
-    taken: Taken,
-    equal: bool,
-    pointer: &Pointer,
-    place: Option<Address>,
-) -> Result<(), AllocError>
-    ensures { OnOk result (code.new ≡ code.old ++ null_told (environment_of environment.now) (taken_of taken) equal (pointer_of pointer.now) (option_of place_of place)) }
-{
-    operand_kept(alloc, code, environment, taken, pointer, place)?;
-    let there = place_or_waiting(taken, place)?;
-    null_compared(code, equal, there)
-}
-
-/// Whether two names are equal, or whether they aren't, each where it stands, or else waits.
-#[cycle(walk)]
-#[tactic(auto, using(crate::proofs::Walks::compared))]
-fn names_told(
-    alloc: Global,
-    code: &mut Code,
-    environment: &Environment,
-    taken: Taken,
-    equal: bool,
-    left: &Pointer,
-    right: &Pointer,
-    place: Option<Address>,
-    other: Option<Address>,
-) -> Result<(), AllocError>
-    ensures { OnOk result (code.new ≡ code.old ++ names_told (environment_of environment.now) (taken_of taken) equal (pointer_of left.now) (pointer_of right.now) (option_of place_of place) (option_of place_of other)) }
-{
-    let behind = taken.with_words(4)?;
-    operand_kept(alloc, code, environment, taken, left, place)?;
-    operand_kept(alloc, code, environment, behind, right, other)?;
-    let first = place_or_waiting(taken, place)?;
-    let second = place_or_waiting(behind, other)?;
-    places_compared(code, equal, first, second)
-}
-
-/// A name that is compared: where it doesn't stand in the frame, in the words behind the temporaries in use.
-#[cycle(walk)]
-#[tactic(auto, using(crate::proofs::Walks::compared))]
-fn operand_kept(
-    alloc: Global,
-    code: &mut Code,
-    environment: &Environment,
-    taken: Taken,
-    pointer: &Pointer,
-    place: Option<Address>,
-) -> Result<(), AllocError>
-    ensures { OnOk result (code.new ≡ code.old ++ operand_kept (environment_of environment.now) (taken_of taken) (pointer_of pointer.now) (option_of place_of place)) }
-{
-    match place {
-        Some(_) => Ok(()),
-        None => pointer_code(alloc, code, environment, taken, pointer),
-    }
-}
-
-/// A POINTER value, in the words behind the temporaries in use.
-#[cycle(walk)]
-pub fn pointer_code(
-    alloc: Global,
-    code: &mut Code,
-    environment: &Environment,
-    taken: Taken,
-    pointer: &Pointer,
-) -> Result<(), AllocError>
-    ensures { OnOk result (code.new ≡ code.old ++ form.pointer_code (environment_of environment.now) (taken_of taken) (pointer_of pointer.now)) }
-{
-    let to = waiting_address(taken)?;
-    pointer_to(alloc, code, environment, taken, to, pointer)
-}
-
-/// A POINTER value, into a place of the running frame, which is written last.
-#[cycle(walk)]
-#[tactic(auto, using(crate::proofs::Walks::pointers))]
-pub fn pointer_to(
-    alloc: Global,
-    code: &mut Code,
-    environment: &Environment,
-    taken: Taken,
-    to: Address,
-    pointer: &Pointer,
-) -> Result<(), AllocError>
-    ensures { OnOk result (code.new ≡ code.old ++ form.pointer_to (environment_of environment.now) (taken_of taken) to.displacement (pointer_of pointer.now)) }
-{
-    match pointer {
-        Pointer::Null => null_kept(code, to),
-        Pointer::In(reference) => {
-            reference_code(alloc, code, environment, taken, reference)?;
-            name_kept(code, environment, to, reference)
-        }
-        Pointer::From { callee, arguments } => {
-            call_code(alloc, code, environment, taken, *callee, arguments)?;
-            result_kept(code, to)
-        }
-        Pointer::AddressOf(reference) => {
-            let standing = standing_locator(environment, reference)?;
-            address_kept(alloc, code, environment, taken, to, reference, standing)
-        }
-        Pointer::Into { offset, area } => {
-            offset_code(alloc, code, environment, taken, offset)?;
-            offset_to_name(code, environment, taken, to, *area)
-        }
-    }
-}
-
-/// ADDR of a reference, where its locator's name stands, or else waits.
-#[cycle(walk)]
-#[tactic(auto, using(crate::proofs::Walks::standing))]
-fn address_kept(
-    alloc: Global,
-    code: &mut Code,
-    environment: &Environment,
-    taken: Taken,
-    to: Address,
-    reference: &Reference,
-    standing: Option<NamePlace>,
-) -> Result<(), AllocError>
-    ensures { OnOk result (code.new ≡ code.old ++ address_kept (environment_of environment.now) (taken_of taken) to.displacement (reference_of reference.now) (option_of name_of standing)) }
-{
-    match standing {
-        Some(name) => standing_named(code, environment, name, to, reference),
-        None => {
-            locator_code(alloc, code, environment, taken, reference)?;
-            part_named(code, environment, taken, to, reference)
-        }
-    }
-}
-
-/// An OFFSET value, in a0.
-#[cycle(walk)]
-#[tactic(auto, using(crate::proofs::Walks::offsets))]
-pub fn offset_code(
-    alloc: Global,
-    code: &mut Code,
-    environment: &Environment,
-    taken: Taken,
-    offset: &Offset,
-) -> Result<(), AllocError>
-    ensures { OnOk result (code.new ≡ code.old ++ form.offset_code (environment_of environment.now) (taken_of taken) (offset_of offset.now)) }
-{
-    match offset {
-        Offset::Null => code.constant(a0(), -1),
-        Offset::In(reference) => {
-            reference_code(alloc, code, environment, taken, reference)?;
-            value_loaded(code, environment, reference)
-        }
-        Offset::From { callee, arguments } => {
-            call_code(alloc, code, environment, taken, *callee, arguments)
-        }
-        Offset::Into { pointer, area } => {
-            let standing = standing_name(environment, pointer)?;
-            offset_told(alloc, code, environment, taken, pointer, *area, standing)
-        }
-    }
-}
-
-/// The offset of a name in an area, where it stands, or else waits.
-#[cycle(walk)]
-#[tactic(auto, using(crate::proofs::Walks::standing))]
-fn offset_told(
-    alloc: Global,
-    code: &mut Code,
-    environment: &Environment,
-    taken: Taken,
-    pointer: &Pointer,
-    area: Variable,
-    standing: Option<NamePlace>,
-) -> Result<(), AllocError>
-    ensures { OnOk result (code.new ≡ code.old ++ offset_told (environment_of environment.now) (taken_of taken) (pointer_of pointer.now) (variable_of area) (option_of name_of standing)) }
-{
-    match standing {
-        Some(name) => name_to_offset(code, environment, taken, name, area),
-        None => {
-            pointer_code(alloc, code, environment, taken, pointer)?;
-            let name = waiting_place(environment, taken)?;
-            name_to_offset(code, environment, taken, name, area)
-        }
-    }
 }
 
 /// An element, or the first leaf of a part: the locator, then the subscripts, then the checks.
