@@ -4,7 +4,8 @@ use lib.Chars.{codes}
 use Rattle.pli_language.specs.declared.condition.Condition.TheVariants as C
 use Rattle.pli_typing.specs.TypedTree as Y
 use Rattle.coding_runs.proofs.RowPieces.{automatic, whole, scalar, leaf, member, declared, head, procedure, program}
-use Rattle.coding_runs.proofs.FormPieces.{n, minus, text, num, txt, const, up_to, at, line, list, set, put_numbers, put_texts, simple_unit}
+use Rattle.coding_runs.proofs.FormPieces.{n, minus, text, num, txt, const, up_to, at, line, list, set, put_numbers}
+use Rattle.coding_runs.proofs.FormPieces.{put_texts, simple_unit}
 use Rattle.coding_runs.proofs.Running.{fitted, run_of}
 use Rattle.coding_runs.proofs.StorageMachine.{machine_shows, computing}
 
@@ -47,7 +48,8 @@ abbrev below : Y.Variable → ℕ → Option Y.Bit
 below v k = Some (Y.NumbersCompared Y.IsLess (num v) (n k))
 
 -- DO of a variable, with what its statements are
-abbrev counts : Y.Variable → (precision : ℕ) → (start : Y.Number) → Option Y.Number → (step : Y.Number) → Option Y.Bit → List Y.Stmt → Y.Stmt
+abbrev counts : Y.Variable → (precision : ℕ) → (start : Y.Number) → Option Y.Number → (step : Y.Number) → Option Y.Bit
+    → List Y.Stmt → Y.Stmt
 counts v precision start limit step condition body =
     Y.DoCount (Y.NumberCounter precision (whole v)) (Y.NumberValue 31 start) limit step condition (list body) line
 
@@ -101,13 +103,15 @@ around_the_ends =
     counting
     (goes_on
     ∷ counts i 31 (n 2147483646) (Some highest) (n 1) (below j 4) (plus_one j ∷ put_numbers (num i ∷ []) ∷ [])
-    ∷ counts i 31 (Y.Calculated Y.Sum lowest (n 1)) (Some lowest) (minus (n 1)) (below j 7) (plus_one j ∷ put_numbers (num i ∷ []) ∷ [])
+    ∷ counts i 31 (Y.Calculated Y.Sum lowest (n 1)) (Some lowest) (minus (n 1)) (below j 7)
+        (plus_one j ∷ put_numbers (num i ∷ []) ∷ [])
     ∷ counts i 31 (n 2147480000) None (n 5000) (below j 9) (plus_one j ∷ put_numbers (num i ∷ []) ∷ [])
     ∷ counts i 31 (n 1) (Some (n 0)) (minus highest) (below j 12) (plus_one j ∷ put_numbers (num i ∷ []) ∷ [])
     ∷ put_numbers (num i ∷ [])
     ∷ [])
 
-around_the_ends_agree : run_of (fitted around_the_ends 1024 64) 20000 around_the_ends [] ≡ machine_shows around_the_ends []
+around_the_ends_agree : run_of (fitted around_the_ends 1024 64) 20000 around_the_ends []
+    ≡ machine_shows around_the_ends []
 unfolding computing
 around_the_ends_agree = refl
 
@@ -115,14 +119,16 @@ around_the_ends_agree = refl
 abbrev past_the_highest : Y.Program
 past_the_highest = counting (shows (n 2147483646) highest (n 1) ∷ [])
 
-past_the_highest_agrees : run_of (fitted past_the_highest 1024 64) 20000 past_the_highest [] ≡ machine_shows past_the_highest []
+past_the_highest_agrees : run_of (fitted past_the_highest 1024 64) 20000 past_the_highest []
+    ≡ machine_shows past_the_highest []
 unfolding computing
 past_the_highest_agrees = refl
 
 abbrev past_the_lowest : Y.Program
 past_the_lowest = counting (shows (Y.Calculated Y.Sum lowest (n 1)) lowest (minus (n 1)) ∷ [])
 
-past_the_lowest_agrees : run_of (fitted past_the_lowest 1024 64) 20000 past_the_lowest [] ≡ machine_shows past_the_lowest []
+past_the_lowest_agrees : run_of (fitted past_the_lowest 1024 64) 20000 past_the_lowest []
+    ≡ machine_shows past_the_lowest []
 unfolding computing
 past_the_lowest_agrees = refl
 
@@ -151,10 +157,14 @@ other_counters =
     counting
     (goes_on
     ∷ counts s 15 (n 32766) (Some (n 32767)) (n 1) (below j 3) (plus_one j ∷ put_numbers (num s ∷ []) ∷ [])
-    ∷ counts s 15 (minus (n 32767)) (Some (minus (n 32768))) (minus (n 1)) (below j 5) (plus_one j ∷ put_numbers (num s ∷ []) ∷ [])
-    ∷ Y.DoCount (Y.NumberCounter 31 second) (Y.NumberValue 31 (n 1)) (Some (n 2)) (n 1) None (list (put_numbers (Y.NumberIn second ∷ []) ∷ [])) line
-    ∷ Y.DoCount (Y.TextCounter (whole c)) (Y.TextValue (text (codes "7"))) (Some (n 9)) (n 2) None (list (put_texts (txt c ∷ []) ∷ [])) line
-    ∷ Y.DoCount (Y.TextCounter (whole c)) (Y.TextValue (text (codes "2"))) (Some (n 1)) (minus (n 1)) None (list (put_texts (txt c ∷ []) ∷ [])) line
+    ∷ counts s 15 (minus (n 32767)) (Some (minus (n 32768))) (minus (n 1)) (below j 5)
+        (plus_one j ∷ put_numbers (num s ∷ []) ∷ [])
+    ∷ Y.DoCount (Y.NumberCounter 31 second) (Y.NumberValue 31 (n 1)) (Some (n 2)) (n 1) None
+        (list (put_numbers (Y.NumberIn second ∷ []) ∷ [])) line
+    ∷ Y.DoCount (Y.TextCounter (whole c)) (Y.TextValue (text (codes "7"))) (Some (n 9)) (n 2) None
+        (list (put_texts (txt c ∷ []) ∷ [])) line
+    ∷ Y.DoCount (Y.TextCounter (whole c)) (Y.TextValue (text (codes "2"))) (Some (n 1)) (minus (n 1)) None
+        (list (put_texts (txt c ∷ []) ∷ [])) line
     ∷ [])
 
 other_counters_agree : run_of (fitted other_counters 1024 64) 20000 other_counters [] ≡ machine_shows other_counters []

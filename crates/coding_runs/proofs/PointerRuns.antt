@@ -1,11 +1,13 @@
--- Programs whose locators are used where they stand, and set where they stand: what their images show is what the storage machine
--- shows.
+-- Programs whose locators are used where they stand, and set where they stand: what their images show is what the
+-- storage machine shows.
 use Rattle.std.proofs.Common.{◌≡◌, ℕ, pos, true, false, List, [], ◌∷◌, Option, Some, None, refl}
 use Rattle.pli_language.specs.declared.condition.Condition.TheVariants as C
 use Rattle.pli_language.specs.Tree as T
 use Rattle.pli_typing.specs.TypedTree as Y
-use Rattle.coding_runs.proofs.RowPieces.{automatic, static, based, whole, located, plain, scalar, part, bounds, initial, leaf, evaluation, refer, member, declared, head, procedure, program}
-use Rattle.coding_runs.proofs.FormPieces.{n, num, ptr, at, at_pointer, const, up_to, line, list, set, set_pointer, any, put_with, bit_item, put_numbers, simple_unit, call, do_call}
+use Rattle.coding_runs.proofs.RowPieces.{automatic, static, based, whole, located, plain, scalar, part, bounds}
+use Rattle.coding_runs.proofs.RowPieces.{initial, leaf, evaluation, refer, member, declared, head, procedure, program}
+use Rattle.coding_runs.proofs.FormPieces.{n, num, ptr, at, at_pointer, const, up_to, line, list, set, set_pointer}
+use Rattle.coding_runs.proofs.FormPieces.{any, put_with, bit_item, put_numbers, simple_unit, call, do_call}
 use Rattle.coding_runs.proofs.Running.{fitted, run_of}
 use Rattle.coding_runs.proofs.StorageMachine.{machine_shows, computing}
 
@@ -45,10 +47,9 @@ q = automatic 1 0 1
 -- ---- locators of the running block: the second of two, STATIC, a member, an element
 
 -- T: PROC OPTIONS(MAIN);
--- DCL (P,Q) PTR, R PTR STATIC, 1 S, 2 N FIXED BIN(31), 2 L PTR, E(2) PTR, X FIXED BIN(31) BASED, I FIXED BIN(31); I = 2;
--- ALLOCATE X SET(Q), X SET(R), X SET(S.L), X SET(E(I)); Q->X = 2; R->X = 3; S.L->X = 4; E(2)->X = 5;
--- PUT EDIT (Q->X,R->X,S.L->X,E(I)->X) (F(12));
--- END T;
+-- DCL (P,Q) PTR, R PTR STATIC, 1 S, 2 N FIXED BIN(31), 2 L PTR, E(2) PTR, X FIXED BIN(31) BASED, I FIXED BIN(31); I =
+-- 2; ALLOCATE X SET(Q), X SET(R), X SET(S.L), X SET(E(I)); Q->X = 2; R->X = 3; S.L->X = 4; E(2)->X = 5; PUT EDIT
+-- (Q->X,R->X,S.L->X,E(I)->X) (F(12)); END T;
 abbrev r : Y.Variable
 r = static 1 0 2
 
@@ -73,7 +74,8 @@ value_at locator = Y.NumberIn (located locator x)
 abbrev pointing_variables : List Y.DeclaredVariable
 pointing_variables =
     pointer ∷ pointer ∷ scalar Y.StaticClass Y.PointerLeaf
-    ∷ declared Y.AutomaticClass (member 0 0 ∷ member 1 0 ∷ member 1 0 ∷ []) (plain (Y.FixedLeaf 31) ∷ plain Y.PointerLeaf ∷ []) None []
+    ∷ declared Y.AutomaticClass (member 0 0 ∷ member 1 0 ∷ member 1 0 ∷ []) (plain (Y.FixedLeaf 31)
+        ∷ plain Y.PointerLeaf ∷ []) None []
     ∷ pointers 2 ∷ based_number ∷ number ∷ []
 
 abbrev standing_program : Y.Program
@@ -84,7 +86,8 @@ standing_program =
     ∷ allocate (into None x (whole q) ∷ into None x (whole r) ∷ into None x l ∷ into None x (e (num i)) ∷ [])
     ∷ set (x_at q) 31 (n 2) ∷ set (x_at r) 31 (n 3)
     ∷ set (located (Y.PointerIn l) x) 31 (n 4) ∷ set (located (Y.PointerIn (e (n 2))) x) 31 (n 5)
-    ∷ put_numbers (value_at (ptr q) ∷ value_at (ptr r) ∷ value_at (Y.PointerIn l) ∷ value_at (Y.PointerIn (e (num i))) ∷ [])
+    ∷ put_numbers (value_at (ptr q) ∷ value_at (ptr r) ∷ value_at (Y.PointerIn l) ∷ value_at (Y.PointerIn (e (num i)))
+        ∷ [])
     ∷ [])
     ∷ [])
 
@@ -177,9 +180,8 @@ changed_agrees = refl
 -- DCL P PTR, E(2) PTR, (A,B) AREA(64), O OFFSET(A), X FIXED BIN(31) BASED;
 -- ON AREA BEGIN; PUT EDIT (P->X,E(1)->X) (F(12)); FREE P->X; END;
 -- ALLOCATE X IN(A) SET(P), X IN(A) SET(E(1)); P->X = 1; E(1)->X = 2; ALLOCATE X IN(A) SET(P); P->X = 3;
--- PUT EDIT (P->X) (F(12)); ALLOCATE X IN(A) SET(E(1)); E(1)->X = 4; O = E(1); P = POINTER(O,A); PUT EDIT (P->X) (F(12));
--- ON ERROR PUT EDIT (POINTER(O,A)->X) (F(12)); ALLOCATE X IN(B) SET(P); O = P;
--- END T;
+-- PUT EDIT (P->X) (F(12)); ALLOCATE X IN(A) SET(E(1)); E(1)->X = 4; O = E(1); P = POINTER(O,A); PUT EDIT (P->X)
+-- (F(12)); ON ERROR PUT EDIT (POINTER(O,A)->X) (F(12)); ALLOCATE X IN(B) SET(P); O = P; END T;
 abbrev e' : Y.Number → Y.Reference
 e' k = at (automatic 1 0 1) 0 (k ∷ [])
 
@@ -195,7 +197,8 @@ o = automatic 1 0 4
 abbrev full_program : Y.Program
 full_program =
     program ([]
-    ∷ (pointer ∷ pointers 2 ∷ area ∷ area ∷ scalar Y.AutomaticClass (Y.OffsetLeaf (Some a)) ∷ based_number ∷ []) ∷ [] ∷ [])
+    ∷ (pointer ∷ pointers 2 ∷ area ∷ area ∷ scalar Y.AutomaticClass (Y.OffsetLeaf (Some a)) ∷ based_number ∷ []) ∷ []
+        ∷ [])
     (main
     (Y.OnUnit C.Area
     (Y.BlockOf (head Y.UnitBlock 2 1 2)
@@ -224,10 +227,9 @@ full_agrees = refl
 -- ---- a name that fails: the target is as it was
 
 -- T: PROC OPTIONS(MAIN);
--- DCL (P,Q) PTR, K FIXED BIN(31) INIT(3), 1 S BASED(P), 2 N FIXED BIN(31), 2 M(K REFER(N)) FIXED BIN(31), Y FIXED BIN(31),
--- X FIXED BIN(31) BASED; ALLOCATE S SET(Q); P = ADDR(Q->S); P->S.M(2) = 6; PUT EDIT (Q->S.M(2)) (F(12)); P = ADDR(Y);
--- P->X = 9; ON ERROR PUT EDIT (P->X) (F(12)); Q->S.N = 4; P = ADDR(Q->S);
--- END T;
+-- DCL (P,Q) PTR, K FIXED BIN(31) INIT(3), 1 S BASED(P), 2 N FIXED BIN(31), 2 M(K REFER(N)) FIXED BIN(31), Y FIXED
+-- BIN(31), X FIXED BIN(31) BASED; ALLOCATE S SET(Q); P = ADDR(Q->S); P->S.M(2) = 6; PUT EDIT (Q->S.M(2)) (F(12)); P =
+-- ADDR(Y); P->X = 9; ON ERROR PUT EDIT (P->X) (F(12)); Q->S.N = 4; P = ADDR(Q->S); END T;
 abbrev s : Y.Variable
 s = based 1 0 3
 
@@ -241,7 +243,8 @@ abbrev failing_program : Y.Program
 failing_program =
     program ([]
     ∷ (pointer ∷ pointer
-    ∷ declared Y.AutomaticClass (member 0 0 ∷ []) (leaf (Y.FixedLeaf 31) [] (initial 1 (T.InitialNumber (pos 3)) ∷ []) ∷ []) None []
+    ∷ declared Y.AutomaticClass (member 0 0 ∷ []) (leaf (Y.FixedLeaf 31) [] (initial 1 (T.InitialNumber (pos 3)) ∷ [])
+        ∷ []) None []
     ∷ declared Y.BasedClass (member 0 0 ∷ member 1 0 ∷ member 1 1 ∷ [])
     (plain (Y.FixedLeaf 31) ∷ leaf (Y.FixedLeaf 31) (bounds (const 1) Y.ReferExtent ∷ []) [] ∷ [])
     (Some (refer 0 (Y.EvaluatedExtent 0)))

@@ -1,10 +1,11 @@
--- Values wait in registers while procedures, on-units and routines of extents run, which save them: what the image shows is what the
--- storage machine shows.
+-- Values wait in registers while procedures, on-units and routines of extents run, which save them: what the image
+-- shows is what the storage machine shows.
 use Rattle.std.proofs.Common.{◌≡◌, ℕ, List, [], ◌∷◌, Some, None, refl}
 use lib.Chars.{codes}
 use Rattle.pli_language.specs.declared.condition.Condition.TheVariants as C
 use Rattle.pli_typing.specs.TypedTree as Y
-use Rattle.coding_runs.proofs.RowPieces.{controlled, bounds, leaf, evaluation, member, declared, head, procedure, program}
+use Rattle.coding_runs.proofs.RowPieces.{controlled, bounds, leaf, evaluation, member, declared, head, procedure}
+use Rattle.coding_runs.proofs.RowPieces.{program}
 use Rattle.coding_runs.proofs.FormPieces.{n, const, line, list, put_numbers, call, do_call}
 use Rattle.coding_runs.proofs.Running.{fitted, run_of}
 use Rattle.coding_runs.proofs.StorageMachine.{machine_shows, computing}
@@ -33,11 +34,13 @@ begun block level statements = Y.Begin (Y.BlockOf (head Y.BeginBlock block level
 abbrev called : (block : ℕ) → Y.Number
 called block = Y.NumberFrom (call block 0 [])
 
--- RETURN from a block in a block; GOTO out of a procedure to the one that called it; ALLOCATE with an extent; and a unit with a block
+-- RETURN from a block in a block; GOTO out of a procedure to the one that called it; ALLOCATE with an extent; and a
+-- unit with a block
 abbrev saving : Y.Program
 saving =
     program ([]
-    ∷ (declared Y.ControlledClass (member 0 1 ∷ []) (leaf (Y.FixedLeaf 31) (bounds (const 1) (Y.EvaluatedExtent 0) ∷ []) [] ∷ []) None
+    ∷ (declared Y.ControlledClass (member 0 1 ∷ [])
+        (leaf (Y.FixedLeaf 31) (bounds (const 1) (Y.EvaluatedExtent 0) ∷ []) [] ∷ []) None
     (evaluation (others 11) (Y.BoundsCheck (bounds (const 1) (Y.EvaluatedExtent 0))) ∷ []) ∷ [])
     ∷ [] ∷ [] ∷ [] ∷ [] ∷ [] ∷ [] ∷ [] ∷ [] ∷ [])
     (procedure
@@ -55,7 +58,8 @@ saving =
     (Y.BlockOf (head Y.ProcedureBlock 5 2 line)
     (list (Y.If (Y.NumbersCompared Y.IsLess (others 2) (n 100)) (Y.Goto 1 (codes "L") line) line ∷ []))) [] None
     ∷ function 6
-    (list (Y.Allocate (Y.AllocateControlled (controlled 1 0 0) ∷ []) line ∷ Y.Free (Y.FreeControlled (controlled 1 0 0) ∷ []) line ∷ returned (n 8) ∷ []))
+    (list (Y.Allocate (Y.AllocateControlled (controlled 1 0 0) ∷ []) line
+        ∷ Y.Free (Y.FreeControlled (controlled 1 0 0) ∷ []) line ∷ returned (n 8) ∷ []))
     ∷ [])
 
 saving_agrees : run_of (fitted saving 2048 256) 20000 saving [] ≡ machine_shows saving []

@@ -1,10 +1,13 @@
--- Elements by simple subscripts and by others, and what lies outside: what the images show is what the storage machine shows.
+-- Elements by simple subscripts and by others, and what lies outside: what the images show is what the storage
+-- machine shows.
 use Rattle.std.proofs.Common.{◌≡◌, ℕ, ℤ, pos, negsuc, List, [], ◌∷◌, Some, None, refl}
 use lib.Chars.{codes}
 use Rattle.pli_language.specs.declared.condition.Condition.TheVariants as C
 use Rattle.pli_typing.specs.TypedTree as Y
-use Rattle.coding_runs.proofs.RowPieces.{automatic, whole, bounds, leaf, scalar, member, declared, head, procedure, program}
-use Rattle.coding_runs.proofs.FormPieces.{n, minus, text, num, at, const, up_to, line, list, set, set_text, call, put_numbers, put_texts, simple_unit}
+use Rattle.coding_runs.proofs.RowPieces.{automatic, whole, bounds, leaf, scalar, member, declared, head, procedure}
+use Rattle.coding_runs.proofs.RowPieces.{program}
+use Rattle.coding_runs.proofs.FormPieces.{n, minus, text, num, at, const, up_to, line, list, set, set_text, call}
+use Rattle.coding_runs.proofs.FormPieces.{put_numbers, put_texts, simple_unit}
 use Rattle.coding_runs.proofs.Running.{fitted, run_of}
 use Rattle.coding_runs.proofs.StorageMachine.{machine_shows, computing}
 
@@ -26,8 +29,8 @@ element index xs = Y.NumberIn (own index xs)
 abbrev plus : Y.Number → Y.Number → Y.Number
 plus x y = Y.Calculated Y.Sum x y
 
--- K FIXED(31), A(0:2) FIXED(31), B(-2:1) FIXED(15), M(2,3) FIXED(31), Q(-2**31:-2**31+1) FIXED(31), T(2) CHAR(2), and the
--- function F, which sets K to 1 and gives 3
+-- K FIXED(31), A(0:2) FIXED(31), B(-2:1) FIXED(15), M(2,3) FIXED(31), Q(-2**31:-2**31+1) FIXED(31), T(2) CHAR(2), and
+-- the function F, which sets K to 1 and gives 3
 abbrev variables : List Y.DeclaredVariable
 variables =
     scalar Y.AutomaticClass (Y.FixedLeaf 31)
@@ -42,7 +45,8 @@ with_function statements =
     program ([] ∷ variables ∷ [] ∷ [])
     (procedure (Y.BlockOf (head Y.ProcedureBlock 1 0 1) (list statements)) [] None
     ∷ procedure
-    (Y.BlockOf (head Y.ProcedureBlock 2 1 2) (list (set (whole k) 31 (n 1) ∷ Y.ReturnValue (Y.FixedLeaf 31) (Y.StoredNumber 31 (n 3)) line ∷ [])))
+    (Y.BlockOf (head Y.ProcedureBlock 2 1 2)
+        (list (set (whole k) 31 (n 1) ∷ Y.ReturnValue (Y.FixedLeaf 31) (Y.StoredNumber 31 (n 3)) line ∷ [])))
     [] (Some (Y.FixedLeaf 31)) ∷ [])
 
 abbrev changed : Y.Number

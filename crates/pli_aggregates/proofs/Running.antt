@@ -1,8 +1,11 @@
 -- Elements as a run of addresses.
-use Rattle.std.proofs.Common.{◌≡◌, ℕ, zero, suc, ◌+◌, ◌-◌, ◌*◌, ◌^◌, ◌<◌, ◌≤◌, ℤ, Bool, true, false, List, [], ◌∷◌, ◌++◌, length, map, take, drop, get_or, min, Option, Some, None, Result, Ok, Err, refl, sym, ap, ap₂, subst, ◌∙◌, arith, mul-le-mul_left}
+use Rattle.std.proofs.Common.{◌≡◌, ℕ, zero, suc, ◌+◌, ◌-◌, ◌*◌, ◌^◌, ◌<◌, ◌≤◌, ℤ, Bool, true, false, List, [], ◌∷◌}
+use Rattle.std.proofs.Common.{◌++◌, length, map, take, drop, get_or, min, Option, Some, None, Result, Ok, Err, refl}
+use Rattle.std.proofs.Common.{sym, ap, ap₂, subst, ◌∙◌, arith, mul-le-mul_left}
 use Rattle.std.specs.Prelude.{◌&&◌, if◌then◌else◌}
 use Rattle.std.specs.List.{list_all, range_with_len}
-use Rattle.std.proofs.lemmas.List.{drop_all, drop_min, drop_more, drop-map, length-map, length-take-le, map-append, take-append-drop}
+use Rattle.std.proofs.lemmas.List.{drop_all, drop_min, drop_more, drop-map, length-map, length-take-le, map-append}
+use Rattle.std.proofs.lemmas.List.{take-append-drop}
 use Rattle.std.proofs.lemmas.List.FromFn.{length-map-range_with_len}
 use Rattle.pli_typing.specs.Signatures.{Bounds, Leaf, LeafKind, Fixed, Character, Varying, Bit, Pointer, Offset, Area, capped, element_count, leaf_bytes}
 use Rattle.pli_types.specs.View.{pair_of}
@@ -64,7 +67,8 @@ standing_within bytes end at step n h = within_from bytes end at step 0 n (λ s.
     none : (k : ℕ) → k - 1 ≡ 0 + k - 1
     none k = omega arith
 
-within_at : (bytes end : ℕ) (as' : List ℕ) (i : ℕ) → AreWithin bytes end as' → i < length as' → get_or as' i 0 + bytes ≤ end
+within_at : (bytes end : ℕ) (as' : List ℕ) (i : ℕ) → AreWithin bytes end as' → i < length as'
+    → get_or as' i 0 + bytes ≤ end
 within_at bytes end [] i w h = absurd (omega (arith, h))
 within_at bytes end (a ∷ as') zero w h = w.0
 within_at bytes end (a ∷ as') (suc i) w h = within_at bytes end as' i w.1 (omega (arith, h))

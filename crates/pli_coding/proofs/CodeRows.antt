@@ -1,5 +1,6 @@
 -- The code of small forms, the frame of a block, the table and the static data, computed.
-use Rattle.std.proofs.Common.{◌≡◌, ℕ, zero, suc, ◌+◌, pos, negsuc, true, false, List, [], ◌∷◌, ◌++◌, map, Some, None, refl, ℤ}
+use Rattle.std.proofs.Common.{◌≡◌, ℕ, zero, suc, ◌+◌, pos, negsuc, true, false, List, [], ◌∷◌, ◌++◌, map, Some, None}
+use Rattle.std.proofs.Common.{refl, ℤ}
 use lib.Chars.{codes}
 use Rattle.rv_meaning.specs.declared.instr.Instr.TheVariants as I
 use Rattle.rv_meaning.specs.declared.instr.RegisterOp.TheVariants as Op
@@ -15,14 +16,16 @@ use Rattle.pli_language.specs.Tree as T
 use Rattle.pli_typing.specs.TypedTree as Y
 use Rattle.area_keeper.specs.Chain.{chain}
 use Rattle.pli_coding.specs.Registers as R
-use Rattle.pli_coding.specs.Assembly.{ConstantBytes, InitialValues, StaticStorage, DataPlace, Plain, BaseIn, OffsetOf, JumpTo, CallTo, RaiseError, RaiseCondition, Code, JumpBack}
+use Rattle.pli_coding.specs.Assembly.{ConstantBytes, InitialValues, StaticStorage, DataPlace, Plain, BaseIn, OffsetOf}
+use Rattle.pli_coding.specs.Assembly.{JumpTo, CallTo, RaiseError, RaiseCondition, Code, JumpBack}
 use Rattle.pli_coding.specs.StaticData.{static_data, placed_from, bytes_from}
 use Rattle.pli_coding.specs.Frames.{MemoryParts, fixed_size, automatic_place, frame_end, word_in, words_place}
 use Rattle.pli_coding.specs.SignatureTable.{table_of}
 use Rattle.pli_coding.specs.Environments.{Environment, Taken, none_taken, block_around, with_number}
 use Rattle.pli_coding.specs.Arithmetic.{sum_code, fitted_code}
 use Rattle.pli_coding.specs.Locating.{leaf_resolved, located, subscript_given}
-use Rattle.pli_coding.specs.Expressions.{are_few, elements_code, number_code, subscripts_code, text_code, bit_code, reference_code}
+use Rattle.pli_coding.specs.Expressions.{are_few, elements_code, number_code, subscripts_code, text_code, bit_code}
+use Rattle.pli_coding.specs.Expressions.{reference_code}
 use Rattle.pli_coding.specs.Storing.{word_stored, assignment_code}
 use Rattle.pli_coding.specs.Allocating.{allocation_code}
 use Rattle.pli_coding.specs.Temporaries.{number_words}
@@ -30,9 +33,11 @@ use Rattle.pli_coding.specs.Entries.{frame_begun}
 use Rattle.pli_coding.specs.Statements.{block_held}
 use Rattle.pli_coding.specs.Procedures.{end_reached, frame_returned}
 use Rattle.pli_coding.specs.Instructions.{immediate, add, move, tested_service}
-use Rattle.pli_coding.specs.Streams.{is_counted, item_put, item_got, controls_carried_out, field_awaited, number_written}
+use Rattle.pli_coding.specs.Streams.{is_counted, item_put, item_got, controls_carried_out, field_awaited}
+use Rattle.pli_coding.specs.Streams.{number_written}
 use Rattle.pli_coding.specs.Images.{environment_of, code_of, blocks_of}
-use Rattle.pli_coding.proofs.RowPieces.{part, variable, automatic, parameter, whole, scalar, bounds, initial, leaf, member, declared, head, procedure, program, plain}
+use Rattle.pli_coding.proofs.RowPieces.{part, variable, automatic, parameter, whole, scalar, bounds, initial, leaf}
+use Rattle.pli_coding.proofs.RowPieces.{member, declared, head, procedure, program, plain}
 
 abbrev parts : MemoryParts
 parts = record { stack_start = 4096; stack_end = 8192; area_bytes = chain.bytes_for }
@@ -215,7 +220,8 @@ labelled = Y.EndOfList (codes "L" ∷ [])
 -- those of its own temporaries, of its BEGIN blocks, and all where a label stands in them
 registers_are_counted :
     map (block_held (within 1 0) 1)
-    (Y.EndOfList [] ∷ one (tested 2) ∷ one (tested 8) ∷ one (begun (one (tested 2))) ∷ one (begun (one (begun (one (tested 3)))))
+    (Y.EndOfList [] ∷ one (tested 2) ∷ one (tested 8) ∷ one (begun (one (tested 2)))
+        ∷ one (begun (one (begun (one (tested 3)))))
     ∷ one (begun labelled) ∷ labelled ∷ Y.StmtThen (codes "L" ∷ []) (Y.Null 1) (Y.EndOfList []) ∷ [])
     ≡ (0 ∷ 3 ∷ 7 ∷ 3 ∷ 4 ∷ 7 ∷ 7 ∷ 7 ∷ [])
 registers_are_counted = refl
@@ -224,14 +230,16 @@ registers_are_counted = refl
 registers_of_groups_are_counted :
     map (λ s. block_held (within 1 0) 1 (one s))
     (Y.Do (one (begun (one (tested 2)))) 1 ∷ Y.DoWhile (Y.BitConstant true) (one (begun (one (tested 2)))) 1
-    ∷ Y.If (Y.BitConstant true) (begun (one (tested 2))) 1 ∷ Y.IfElse (Y.BitConstant true) (tested 1) (begun (one (tested 2))) 1
+    ∷ Y.If (Y.BitConstant true) (begun (one (tested 2))) 1 ∷ Y.IfElse (Y.BitConstant true) (tested 1)
+        (begun (one (tested 2))) 1
     ∷ Y.IfElse (Y.BitConstant true) (Y.Do labelled 1) (begun (one (tested 2))) 1
     ∷ Y.OnUnit C.Area (Y.BlockOf (head Y.UnitBlock 3 1 3) (one (tested 2))) 1 ∷ [])
     ≡ (3 ∷ 3 ∷ 3 ∷ 3 ∷ 7 ∷ 0 ∷ [])
 registers_of_groups_are_counted = refl
 
 -- where it goes on, three registers, the frame below, the top of the lower stack, the display and its own offset
-three_registers_are_saved : stores_in (frame_begun 3 1 0 (Some 3)) ∷ stores_in (frame_begun 3 1 0 None) ∷ [] ≡ (8 ∷ 4 ∷ [])
+three_registers_are_saved : stores_in (frame_begun 3 1 0 (Some 3)) ∷ stores_in (frame_begun 3 1 0 None) ∷ []
+    ≡ (8 ∷ 4 ∷ [])
 three_registers_are_saved = refl
 
 last_register_is_restored :
@@ -289,8 +297,10 @@ rows =
     program ([] ∷
     (scalar Y.AutomaticClass (Y.FixedLeaf 31)
     ∷ declared Y.AutomaticClass (member 0 1 ∷ []) (leaf (Y.FixedLeaf 31) (between (pos 0) (pos 3) ∷ []) [] ∷ []) None []
-    ∷ declared Y.AutomaticClass (member 0 1 ∷ []) (leaf (Y.FixedLeaf 15) (between (negsuc 4) (pos 5) ∷ []) [] ∷ []) None []
-    ∷ declared Y.AutomaticClass (member 0 1 ∷ []) (leaf (Y.CharacterLeaf (Y.ConstantExtent (pos 3))) (up_to 2 ∷ []) [] ∷ []) None []
+    ∷ declared Y.AutomaticClass (member 0 1 ∷ []) (leaf (Y.FixedLeaf 15) (between (negsuc 4) (pos 5) ∷ []) [] ∷ [])
+        None []
+    ∷ declared Y.AutomaticClass (member 0 1 ∷ []) (leaf (Y.CharacterLeaf (Y.ConstantExtent (pos 3))) (up_to 2 ∷ []) []
+        ∷ []) None []
     ∷ scalar Y.StaticClass (Y.FixedLeaf 15) ∷ []) ∷ [])
     (procedure (Y.BlockOf (head Y.ProcedureBlock 1 0 1) (Y.EndOfList [])) [] None ∷ [])
 
@@ -384,8 +394,8 @@ value_waits_for_other_targets = refl
 
 -- ---- locators
 
--- P and Q POINTER, R POINTER STATIC, E(2) POINTER, X FIXED(31) BASED, V(3) FIXED(31) BASED, 1 S BASED with 2 N FIXED(31) and
--- 2 M(K REFER(N)) FIXED(31), I FIXED(31)
+-- P and Q POINTER, R POINTER STATIC, E(2) POINTER, X FIXED(31) BASED, V(3) FIXED(31) BASED, 1 S BASED with 2 N
+-- FIXED(31) and 2 M(K REFER(N)) FIXED(31), I FIXED(31)
 abbrev pointing : Y.Program
 pointing =
     program ([] ∷
@@ -406,7 +416,8 @@ abbrev q : Y.Variable
 q = automatic 1 0 1
 
 abbrev behind : Y.Variable → Y.Variable → (leaves : ℕ) → Y.Numbers → Y.Reference
-behind locator v leaves subscripts = Y.Referring v (Y.LocatedBy (Y.PointerIn (whole locator))) (part 0 leaves) subscripts
+behind locator v leaves subscripts = Y.Referring v (Y.LocatedBy (Y.PointerIn (whole locator))) (part 0 leaves)
+    subscripts
 
 abbrev first_two : Code → Code
 first_two (a ∷ b ∷ is) = a ∷ b ∷ []
@@ -415,7 +426,9 @@ first_two is = is
 -- the service is told where Q itself stands, behind its name, or where the STATIC one does
 locator_stands_where_it_is :
     first_two (reference_code among_pointers none_taken (behind q (variable Y.BasedClass 1 0 4) 1 Y.NoNumber))
-    ∷ first_two (reference_code among_pointers none_taken (behind (variable Y.StaticClass 1 0 2) (variable Y.BasedClass 1 0 4) 1 Y.NoNumber))
+    ∷ first_two
+        (reference_code among_pointers none_taken (behind (variable Y.StaticClass 1 0 2) (variable Y.BasedClass 1 0 4)
+        1 Y.NoNumber))
     ∷ []
     ≡ ((Plain (I.Load Load.Word R.a0 R.frame_register (pos 36)) ∷ Plain (I.Immediate Imm.Add R.a0 R.a0 (pos 192)) ∷ [])
     ∷ (OffsetOf R.a0 (DataPlace (StaticStorage 1 2 16)) ∷ Plain (I.Immediate Imm.Add R.a0 R.a0 (pos 16)) ∷ [])
@@ -423,12 +436,14 @@ locator_stands_where_it_is :
 locator_stands_where_it_is = refl
 
 abbrev subscripted_by : Y.Number → Code
-subscripted_by i = reference_code among_pointers none_taken (behind q (variable Y.BasedClass 1 0 5) 1 (Y.NumberThen i Y.NoNumber))
+subscripted_by i =
+    reference_code among_pointers none_taken (behind q (variable Y.BasedClass 1 0 5) 1 (Y.NumberThen i Y.NoNumber))
 
 -- the name is copied where the subscript is a sum or a call, behind which the pointer may be another
 locator_waits_where_it_may_change :
     map (λ i. stores_in (subscripted_by i))
-    (number 2 ∷ number_in (automatic 1 0 7) ∷ plus (number 1) (number 1) ∷ Y.NumberFrom (Y.Calling 1 0 Y.NoArgument) ∷ [])
+    (number 2 ∷ number_in (automatic 1 0 7) ∷ plus (number 1) (number 1) ∷ Y.NumberFrom (Y.Calling 1 0 Y.NoArgument)
+        ∷ [])
     ≡ (0 ∷ 0 ∷ 4 ∷ 4 ∷ [])
 locator_waits_where_it_may_change = refl
 
@@ -440,11 +455,15 @@ left_name_waits_for_a_call :
 left_name_waits_for_a_call = refl
 
 abbrev made_for : Y.Reference → Code
-made_for target = allocation_code among_pointers none_taken 3 (Y.AllocateBased (variable Y.BasedClass 1 0 4) None (Y.SetPointer target))
+made_for target =
+    allocation_code among_pointers none_taken 3
+    (Y.AllocateBased (variable Y.BasedClass 1 0 4) None (Y.SetPointer target))
 
 -- the name comes into Q at once; into an element it is copied once the generation was placed
 name_comes_last :
-    stores_in (made_for (whole q)) ∷ stores_in (made_for (Y.Referring (automatic 1 0 3) Y.NotLocated (part 0 1) (Y.NumberThen (number 2) Y.NoNumber))) ∷ []
+    stores_in (made_for (whole q))
+        ∷ stores_in
+        (made_for (Y.Referring (automatic 1 0 3) Y.NotLocated (part 0 1) (Y.NumberThen (number 2) Y.NoNumber))) ∷ []
     ≡ (2 ∷ 6 ∷ [])
 name_comes_last = refl
 
@@ -459,7 +478,8 @@ copy_comes_last = refl
 -- a name is copied into Q where REFER is looked at once it was written
 name_is_assigned_once_all_is_tested :
     map (λ r. stores_in (assignment_code among_pointers none_taken (whole q) (Y.StoredPointer (Y.AddressOf r))))
-    (behind (automatic 1 0 0) (variable Y.BasedClass 1 0 4) 1 Y.NoNumber ∷ behind (automatic 1 0 0) (variable Y.BasedClass 1 0 6) 2 Y.NoNumber ∷ [])
+    (behind (automatic 1 0 0) (variable Y.BasedClass 1 0 4) 1 Y.NoNumber
+        ∷ behind (automatic 1 0 0) (variable Y.BasedClass 1 0 6) 2 Y.NoNumber ∷ [])
     ≡ (0 ∷ 4 ∷ [])
 name_is_assigned_once_all_is_tested = refl
 
@@ -539,9 +559,11 @@ array_is_got_by_distance = refl
 abbrev others : Y.Program
 others =
     program ([] ∷
-    (declared Y.AutomaticClass (member 0 1 ∷ []) (leaf (Y.CharacterLeaf (Y.ConstantExtent (pos 0))) (up_to 3 ∷ []) [] ∷ []) None []
+    (declared Y.AutomaticClass (member 0 1 ∷ []) (leaf (Y.CharacterLeaf (Y.ConstantExtent (pos 0))) (up_to 3 ∷ []) []
+        ∷ []) None []
     ∷ declared Y.StaticClass (member 0 1 ∷ member 1 0 ∷ member 1 1 ∷ [])
-    (leaf Y.BitLeaf (up_to 3 ∷ []) [] ∷ leaf (Y.VaryingLeaf (Y.ConstantExtent (pos 5))) (up_to 3 ∷ up_to 2 ∷ []) [] ∷ []) None []
+    (leaf Y.BitLeaf (up_to 3 ∷ []) [] ∷ leaf (Y.VaryingLeaf (Y.ConstantExtent (pos 5))) (up_to 3 ∷ up_to 2 ∷ []) []
+        ∷ []) None []
     ∷ []) ∷ []) []
 
 abbrev members : (first count : ℕ) → Y.Reference
@@ -549,7 +571,9 @@ members first count = Y.Referring (variable Y.StaticClass 1 0 1) Y.NotLocated (p
 
 what_is_counted :
     map (is_counted (within 2 1))
-    (array ∷ Y.Referring (automatic 1 0 1) Y.NotLocated (part 0 1) (Y.NumberThen (number 1) Y.NoNumber) ∷ whole (parameter 2 1 0) ∷ [])
-    ++ map (is_counted (record (environment_of parts others) { block = 1; level = 0 })) (whole (automatic 1 0 0) ∷ members 0 2 ∷ members 0 1 ∷ members 1 1 ∷ [])
+    (array ∷ Y.Referring (automatic 1 0 1) Y.NotLocated (part 0 1) (Y.NumberThen (number 1) Y.NoNumber)
+        ∷ whole (parameter 2 1 0) ∷ [])
+    ++ map (is_counted (record (environment_of parts others) { block = 1; level = 0 })) (whole (automatic 1 0 0)
+        ∷ members 0 2 ∷ members 0 1 ∷ members 1 1 ∷ [])
     ≡ (true ∷ false ∷ false ∷ false ∷ false ∷ true ∷ true ∷ [])
 what_is_counted = refl

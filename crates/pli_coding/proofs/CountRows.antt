@@ -28,23 +28,29 @@ abbrev parts : MemoryParts
 parts = record { stack_start = 4096; stack_end = 8192; area_bytes = chain.bytes_for }
 
 abbrev anywhere : Environment
-anywhere = environment_of parts (program ([] ∷ []) (procedure (Y.BlockOf (head Y.ProcedureBlock 1 0 1) (Y.EndOfList [])) [] None ∷ []))
+anywhere =
+    environment_of parts
+    (program ([] ∷ []) (procedure (Y.BlockOf (head Y.ProcedureBlock 1 0 1) (Y.EndOfList [])) [] None ∷ []))
 
 -- 5, +5, -5, -0 and -(-5)
 constants_with_a_sign_are_steps :
-    map constant_step (number 5 ∷ Y.Signed Y.Positive (number 5) ∷ minus (number 5) ∷ minus (number 0) ∷ minus (minus (number 5)) ∷ [])
+    map constant_step (number 5 ∷ Y.Signed Y.Positive (number 5) ∷ minus (number 5) ∷ minus (number 0)
+        ∷ minus (minus (number 5)) ∷ [])
     ≡ (Some (pos 5) ∷ Some (pos 5) ∷ Some (negsuc 4) ∷ Some (pos 0) ∷ None ∷ [])
 constants_with_a_sign_are_steps = refl
 
 -- of these the last one is evaluated, and kept
-constant_step_waits_nowhere : map (λ x. size_of (step_code anywhere none_taken x)) (number 5 ∷ minus (number 5) ∷ minus (minus (number 5)) ∷ []) ≡ (0 ∷ 0 ∷ 20 ∷ [])
+constant_step_waits_nowhere :
+    map (λ x. size_of (step_code anywhere none_taken x)) (number 5 ∷ minus (number 5) ∷ minus (minus (number 5)) ∷ [])
+    ≡ (0 ∷ 0 ∷ 20 ∷ [])
 constant_step_waits_nowhere = refl
 
 -- ---- the limit
 
 abbrev tested_by : (r s : Register) → Code
 tested_by r s =
-    Plain (I.Load Load.Word R.u1 R.frame_register (negsuc 3)) ∷ Plain (I.Branch Test.GreaterOrEqual r s (pos 12)) ∷ JumpAhead 9 ∷ []
+    Plain (I.Load Load.Word R.u1 R.frame_register (negsuc 3)) ∷ Plain (I.Branch Test.GreaterOrEqual r s (pos 12))
+        ∷ JumpAhead 9 ∷ []
 
 -- up with 1 and with 0, down with -1
 limit_is_tested_by_the_sign :

@@ -11,7 +11,8 @@ use Rattle.pli_coding.specs.Instructions.{small, number, load_word, store_word, 
 use Rattle.pli_coding.specs.Frames.{words_place}
 use Rattle.pli_coding.specs.Environments.{Environment, declaration_of, Taken, with_words}
 use Rattle.pli_coding.specs.Arithmetic.{raised}
-use Rattle.pli_coding.specs.Locating.{NamePlace, FrameName, DataNumber, own_place, where_standing, name_offset, needs_number_word, number_loaded, based_number, controlled_number, waiting_name}
+use Rattle.pli_coding.specs.Locating.{NamePlace, FrameName, DataNumber, own_place, where_standing, name_offset}
+use Rattle.pli_coding.specs.Locating.{needs_number_word, number_loaded, based_number, controlled_number, waiting_name}
 use Rattle.pli_coding.specs.Expressions.{frame_given, standing_in, standing_name, pointer_code}
 use Rattle.pli_coding.specs.Temporaries.{pointer_words, reference_words}
 use Rattle.pli_coding.specs.Storing.{area_name, word_stored, name_stored}
@@ -53,7 +54,8 @@ abbrev pub amounts_code : Environment → Taken → (line : ℕ) → Y.Variable 
 amounts_code e t line v =
     amounts_found e t line v (declaration_of e v) (declaration_of e v).evaluations ++ both_kept t
 
--- ---- ALLOCATE of a BASED variable: behind the two words its name waits, until its locator is set, unless that holds it at once
+-- ---- ALLOCATE of a BASED variable: behind the two words its name waits, until its locator is set, unless that holds
+-- it at once
 
 abbrev pub behind_amounts : Taken → Taken
 behind_amounts t = with_words 2 t
@@ -62,7 +64,8 @@ abbrev pub area_or_heap : Environment → Register → Taken → Option Y.Variab
 area_or_heap e r t None = small r 0 ∷ []
 area_or_heap e r t (Some area) = area_name e r t area
 
--- where the service writes the name: into the POINTER variable that is set, where that stands, or into words of the frame
+-- where the service writes the name: into the POINTER variable that is set, where that stands, or into words of the
+-- frame
 abbrev pub name_target : Environment → Taken → Y.LocatorTarget → NamePlace
 name_target e t (Y.SetPointer r) = unwrap_or (standing_in e r) (FrameName e.level (waiting_name t))
 name_target e t (Y.SetOffset r area) = FrameName e.level (waiting_name t)

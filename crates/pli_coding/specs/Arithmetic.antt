@@ -13,7 +13,8 @@ use Rattle.pli_meaning.specs.Codes.{fixed_overflow_code, zero_divide_code}
 use Rattle.pli_meaning.specs.Numbers.{operator_precision}
 use Rattle.pli_coding.specs.Registers.{zero_register, a0, a1, u1, u2, u3, u4}
 use Rattle.pli_coding.specs.Assembly.{Item, CallTo, RaiseCondition, Code}
-use Rattle.pli_coding.specs.Instructions.{immediate, shift, registers, add, subtract, move, small, plus, lowest_number, skip_where, choice}
+use Rattle.pli_coding.specs.Instructions.{immediate, shift, registers, add, subtract, move, small, plus}
+use Rattle.pli_coding.specs.Instructions.{lowest_number, skip_where, choice}
 use Rattle.pli_coding.specs.Environments.{Taken, save, fetch}
 
 -- ---- raises

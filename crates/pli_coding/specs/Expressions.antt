@@ -1,6 +1,7 @@
 -- The code of expressions. A number, a bit or an OFFSET value comes in a0, a text on top of the text stack, and a POINTER value in
 -- the four words of the frame behind the temporaries in use.
-use Rattle.std.specs.Prelude.{ℕ, zero, suc, ◌+◌, ◌*◌, ℤ, pos, negsuc, ◌+ℤ◌, ◌-ℤ◌, Bool, true, false, not, ◌&&◌, List, [], ◌∷◌, ◌++◌, length, slice_get, unwrap_or, if◌then◌else◌, Option, Some, None, is_some}
+use Rattle.std.specs.Prelude.{ℕ, zero, suc, ◌+◌, ◌*◌, ℤ, pos, negsuc, ◌+ℤ◌, ◌-ℤ◌, Bool, true, false, not, ◌&&◌, List}
+use Rattle.std.specs.Prelude.{[], ◌∷◌, ◌++◌, length, slice_get, unwrap_or, if◌then◌else◌, Option, Some, None, is_some}
 use Rattle.rv_meaning.specs.declared.instr.Register.{Register}
 use Rattle.rv_meaning.specs.declared.instr.RegisterOp.TheVariants as Op
 use Rattle.rv_meaning.specs.declared.instr.ImmediateOp.TheVariants as Imm
@@ -12,7 +13,12 @@ use Rattle.pli_coding.specs.Instructions.{immediate, registers, subtract, move, 
 use Rattle.pli_coding.specs.Frames.{buffer_lower, buffer_upper, are_constant, words_place, word_in}
 use Rattle.pli_coding.specs.Environments.{Environment, Taken, with_words, with_number, save, fetch}
 use Rattle.pli_coding.specs.Arithmetic.{calculated_code, fitted_code, divided_code, signed_code, absolute_code, count_checked, sign_code, modulo_code, extreme_code, negated_code, combined_code, equal_code, compared_code}
-use Rattle.pli_coding.specs.Locating.{frame_found, frame_in, own_place, Located, located, name_offset, number_loaded, controlled_number, class_found, behind_locator, waiting_name, leaf_number, is_direct, is_referred, refer_read, leaf_found, bound_loaded, is_simple, are_simple, Address, address_of, reached, loaded, name_copied, in_own_frame, text_pushed, NamePlace, FrameName, based_located, based_reached, direct_name, where_standing, own_name}
+use Rattle.pli_coding.specs.Locating.{frame_found, frame_in, own_place, Located, located, name_offset, number_loaded}
+use Rattle.pli_coding.specs.Locating.{controlled_number, class_found, behind_locator, waiting_name, leaf_number}
+use Rattle.pli_coding.specs.Locating.{is_direct, is_referred, refer_read, leaf_found, bound_loaded, is_simple}
+use Rattle.pli_coding.specs.Locating.{are_simple, Address, address_of, reached, loaded, name_copied, in_own_frame}
+use Rattle.pli_coding.specs.Locating.{text_pushed, NamePlace, FrameName, based_located, based_reached, direct_name}
+use Rattle.pli_coding.specs.Locating.{where_standing, own_name}
 
 -- ---- references
 
@@ -382,8 +388,10 @@ abbrev mutual
   argument_code e t l n (Y.ByReference (Y.Referring v locator part subscripts)) =
       locator_code e t locator ++ by_reference e t l n v part
   argument_code e t l n (Y.ByCopy type v) = stored_code e t v ++ (value_to_argument t l n v ++ is_copy l n)
-  argument_code e t l n (Y.ByOffsetInParameter p parameter) = pointer_to e t (waiting_name t) p ++ (name_to_argument t l n ++ is_copy l n)
-  argument_code e t l n (Y.ByOffsetInAutomatic p) = pointer_to e t (waiting_name t) p ++ (name_to_argument t l n ++ is_copy l n)
+  argument_code e t l n (Y.ByOffsetInParameter p parameter) =
+      pointer_to e t (waiting_name t) p ++ (name_to_argument t l n ++ is_copy l n)
+  argument_code e t l n (Y.ByOffsetInAutomatic p) = pointer_to e t (waiting_name t) p
+      ++ (name_to_argument t l n ++ is_copy l n)
 
   -- a value of the kind that is due
   pub stored_code : Environment → Taken → Y.Stored → Code

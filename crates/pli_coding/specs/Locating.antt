@@ -1,6 +1,8 @@
 -- Where the elements of variables are: a name and a signature's number, the leaf that lives there, and the element at subscripts.
 -- What is AUTOMATIC or STATIC and of constant size is reached without a service.
-use Rattle.std.specs.Prelude.{ℕ, zero, suc, ◌+◌, ◌*◌, ◌^◌, ◌-◌, ℤ, pos, negsuc, neg_ℤ, ◌+ℤ◌, ◌-ℤ◌, Bool, true, false, not, ◌&&◌, ◌||◌, ◌==◌, nat_le, List, [], ◌∷◌, ◌++◌, length, take, Option, Some, None, is_some, slice_get, unwrap_or, if◌then◌else◌}
+use Rattle.std.specs.Prelude.{ℕ, zero, suc, ◌+◌, ◌*◌, ◌^◌, ◌-◌, ℤ, pos, negsuc, neg_ℤ, ◌+ℤ◌, ◌-ℤ◌, Bool, true, false}
+use Rattle.std.specs.Prelude.{not, ◌&&◌, ◌||◌, ◌==◌, nat_le, List, [], ◌∷◌, ◌++◌, length, take, Option, Some, None}
+use Rattle.std.specs.Prelude.{is_some, slice_get, unwrap_or, if◌then◌else◌}
 use Rattle.std.specs.List.{list_all}
 use Rattle.rv_meaning.specs.declared.instr.Instr.TheVariants as I
 use Rattle.rv_meaning.specs.declared.instr.LoadKind.TheVariants as Load
@@ -294,7 +296,8 @@ loaded (Y.FixedLeaf p) rd a =
 loaded Y.BitLeaf rd a = displaced (λ r z. I.Load Load.ByteUnsigned rd r z) a.register a.displacement
 loaded _ rd a = load_word rd a.register a.displacement
 
--- ---- simple numbers: constants, and variables at constant places. Each comes into a register by itself, and changes no other but u0.
+-- ---- simple numbers: constants, and variables at constant places. Each comes into a register by itself, and changes
+-- no other but u0.
 
 abbrev pub is_simple : Environment → Y.Number → Bool
 is_simple e (Y.NumberConstant n) = true
@@ -379,7 +382,8 @@ times_constant n =
 abbrev pub times_size : (more : ℕ) → Code
 times_size more =
     load_word u2 frame_register buffer_size
-    ++ (immediate Imm.Add u2 u2 (pos (more + 3)) ∷ immediate Imm.And u2 u2 (negsuc 3) ∷ registers Op.Multiply u4 u1 u2 ∷ [])
+    ++ (immediate Imm.Add u2 u2 (pos (more + 3)) ∷ immediate Imm.And u2 u2 (negsuc 3) ∷ registers Op.Multiply u4 u1 u2
+        ∷ [])
 
 -- the distance of an element from the first one
 abbrev pub times_stride : Y.LeafType → Code
@@ -414,7 +418,8 @@ leaf_reached e at t v part l subscripts =
     leaf_found e at part.first (needs_buffer l) (is_referred e v part)
     ++ (subscripts_counted e t 0 subscripts l.bounds ++ (BaseIn u0 ∷ add u3 u3 u0 ∷ element_added u3 l.type subscripts))
 
-abbrev pub found_reached : Environment → (found t : Taken) → Y.Variable → Y.Part → Y.Leaf → (subscripts : Y.Numbers) → Code
+abbrev pub found_reached : Environment → (found t : Taken) → Y.Variable → Y.Part → Y.Leaf → (subscripts : Y.Numbers)
+    → Code
 found_reached e found t v part l subscripts =
     class_found e found v v.class ++ leaf_reached e (located e found v) t v part l subscripts
 

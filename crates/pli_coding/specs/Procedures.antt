@@ -1,10 +1,12 @@
 -- The code of procedures, and of the routines that evaluate the extents of variables which ALLOCATE makes.
-use Rattle.std.specs.Prelude.{ℕ, suc, ◌==◌, min, pos, Bool, true, false, List, [], ◌∷◌, ◌++◌, length, Option, Some, None, if◌then◌else◌}
+use Rattle.std.specs.Prelude.{ℕ, suc, ◌==◌, min, pos, Bool, true, false, List, [], ◌∷◌, ◌++◌, length, Option, Some}
+use Rattle.std.specs.Prelude.{None, if◌then◌else◌}
 use Rattle.rv_meaning.specs.declared.instr.Instr.TheVariants as I
 use Rattle.pli_typing.specs.TypedTree as Y
 use Rattle.pli_meaning.specs.Codes.{no_value_code}
 use Rattle.pli_meaning.specs.DeclaredShapes.{variables_of_block}
-use Rattle.pli_coding.specs.Registers.{held_registers, zero_register, return_register, frame_register, a0, a1, a2, a3, u5}
+use Rattle.pli_coding.specs.Registers.{held_registers, zero_register, return_register, frame_register, a0, a1, a2, a3}
+use Rattle.pli_coding.specs.Registers.{u5}
 use Rattle.pli_coding.specs.Assembly.{Plain, ProcedureEntry, ReturnPlace, ExtentRoutine, Mark, Code}
 use Rattle.pli_coding.specs.Instructions.{move, small, number, plus, load_word, service, error_raised}
 use Rattle.pli_coding.specs.Frames.{result}
@@ -71,11 +73,13 @@ procedure_ended e head words held type =
 abbrev pub procedure_with : Environment → Y.BlockHead → Y.Stmts → (words held : ℕ) → List ℕ → Option Y.LeafType → Code
 procedure_with e head body words held parameters type =
     Mark (ProcedureEntry head.number)
-    ∷ (procedure_begun e head words held parameters ++ (stmts_code e none_taken body ++ procedure_ended e head words held type))
+    ∷ (procedure_begun e head words held parameters
+        ++ (stmts_code e none_taken body ++ procedure_ended e head words held type))
 
 abbrev pub procedure_in : Environment → Y.BlockHead → Y.Stmts → List ℕ → Option Y.LeafType → Code
 procedure_in e head body parameters type =
-    procedure_with e head body (block_words e head.number (stmts_words body)) (block_held e head.number body) parameters type
+    procedure_with e head body (block_words e head.number (stmts_words body)) (block_held e head.number body)
+        parameters type
 
 abbrev pub procedure_of_block : Environment → Y.Block → List ℕ → Option Y.LeafType → Code
 procedure_of_block e (Y.BlockOf head body) parameters type =
@@ -103,7 +107,8 @@ amounts_given d = refer_amount none_taken d.leaves d.refer ++ load_word a0 frame
 abbrev pub routine_code : Environment → (index : ℕ) → Y.DeclaredVariable → Code
 routine_code e index d =
     Mark (ExtentRoutine e.block index)
-    ∷ (routine_begun e d ++ (extents_code e none_taken d ++ (amounts_given d ++ frame_returned (routine_words d) (routine_held d))))
+    ∷ (routine_begun e d
+        ++ (extents_code e none_taken d ++ (amounts_given d ++ frame_returned (routine_words d) (routine_held d))))
 
 abbrev pub has_routine : Y.StorageClass → Bool
 has_routine Y.BasedClass = true

@@ -1,5 +1,6 @@
 -- The code of statements, with the blocks that stand among them. Each begins with its act, which sets its line.
-use Rattle.std.specs.Prelude.{ℕ, suc, ◌+◌, ◌==◌, max, ℤ, pos, int_lt, Bool, true, false, List, [], ◌∷◌, ◌++◌, map, Option, Some, None, if◌then◌else◌, min}
+use Rattle.std.specs.Prelude.{ℕ, suc, ◌+◌, ◌==◌, max, ℤ, pos, int_lt, Bool, true, false, List, [], ◌∷◌, ◌++◌, map}
+use Rattle.std.specs.Prelude.{Option, Some, None, if◌then◌else◌, min}
 use Rattle.rv_meaning.specs.declared.instr.Instr.TheVariants as I
 use Rattle.rv_meaning.specs.declared.instr.RegisterOp.TheVariants as Op
 use Rattle.rv_meaning.specs.declared.instr.BranchTest.TheVariants as Test
@@ -9,7 +10,8 @@ use Rattle.pli_typing.specs.TypedTree as Y
 use Rattle.pli_meaning.specs.Codes.{code_signalled}
 use Rattle.pli_meaning.specs.Numbers.{operator_precision, signed_result}
 use Rattle.pli_meaning.specs.DeclaredShapes.{variables_of_block}
-use Rattle.pli_coding.specs.Registers.{held_registers, zero_register, stack_register, frame_register, a0, a1, a2, u0, u1, u2, u3}
+use Rattle.pli_coding.specs.Registers.{held_registers, zero_register, stack_register, frame_register, a0, a1, a2, u0}
+use Rattle.pli_coding.specs.Registers.{u1, u2, u3}
 use Rattle.pli_coding.specs.Assembly.{Item, Plain, BaseIn, LabelPlace, ReturnPlace, Mark, OffsetAhead, JumpTo, JumpAhead, JumpBack, Code, size_of}
 use Rattle.pli_coding.specs.Instructions.{registers, add, move, small, number, plus, load_word, store_word, skip_where, service, tested_service, error_raised}
 use Rattle.pli_coding.specs.Frames.{own_offset, result, display, frame_end, words_place}
@@ -18,7 +20,8 @@ use Rattle.pli_coding.specs.Arithmetic.{condition_number, raised, sum_code, cons
 use Rattle.pli_coding.specs.Locating.{frame_found, frame_in, waiting_name, Address, loaded, name_copied, in_own_frame, text_pushed, length_loaded}
 use Rattle.pli_coding.specs.Expressions.{type_in, address_in, number_code, text_code, bit_code, reference_code, call_code, stored_code}
 use Rattle.pli_coding.specs.Temporaries.{number_words, bit_words, reference_words, call_words, stored_words}
-use Rattle.pli_coding.specs.Storing.{word_stored, top_stored, assignment_code, elements_code, aggregate_code, area_code', emptied_code, assigned_words, elements_words, aggregate_words}
+use Rattle.pli_coding.specs.Storing.{word_stored, top_stored, assignment_code, elements_code, aggregate_code}
+use Rattle.pli_coding.specs.Storing.{area_code', emptied_code, assigned_words, elements_words, aggregate_words}
 use Rattle.pli_coding.specs.Allocating.{act_code, allocations_code, freeings_code, allocations_words, freeings_words}
 use Rattle.pli_coding.specs.Streams.{as_text, put_code, get_code, value_words, put_words, get_words}
 use Rattle.pli_coding.specs.Entries.{registers_restored, frame_begun, frame_ended, entered_without_texts, block_left, variables_code, variables_words}
@@ -171,7 +174,8 @@ turns_code u =
     ++ (u.condition (words_behind_condition u) ++ (u.body ++ (u.stepped ++ JumpBack (words_back u) ∷ []))))
 
 -- the value in a0, or the top text, is assigned; then comes the act of the test
-abbrev pub turn_of : Environment → Taken → Y.Counter → Option Y.Number → (step : Option ℤ) → Option Y.Bit → (line : ℕ) → (body : Code) → Turn
+abbrev pub turn_of : Environment → Taken → Y.Counter → Option Y.Number → (step : Option ℤ) → Option Y.Bit → (line : ℕ)
+    → (body : Code) → Turn
 turn_of e t counter limit step condition line body =
     record {
       begun = counter_stored e t counter ++ act_code line;
@@ -352,9 +356,9 @@ abbrev mutual
   stmts_words (Y.EndOfList labels) = 0
   stmts_words (Y.StmtThen labels first rest) = max (stmt_words first) (stmts_words rest)
 
--- ---- registers that procedures and on-units save. A block's code writes no more of them than its temporaries take words, since each
--- number counts among these; BEGIN blocks save none. A GOTO ends frames without restoring what they saved: where one may come to a
--- label, all are saved.
+-- ---- registers that procedures and on-units save. A block's code writes no more of them than its temporaries take
+-- words, since each number counts among these; BEGIN blocks save none. A GOTO ends frames without restoring what they
+-- saved: where one may come to a label, all are saved.
 
 abbrev pub labels_held : List (List ℕ) → ℕ
 labels_held [] = 0
@@ -364,7 +368,8 @@ labels_held (l ∷ ls) = held_registers
 abbrev mutual
   pub stmt_held : Y.Program → Y.Stmt → ℕ
   stmt_held program (Y.If condition unit line) = stmt_held program unit
-  stmt_held program (Y.IfElse condition unit otherwise line) = max (stmt_held program unit) (stmt_held program otherwise)
+  stmt_held program (Y.IfElse condition unit otherwise line) =
+      max (stmt_held program unit) (stmt_held program otherwise)
   stmt_held program (Y.Do body line) = stmts_held program body
   stmt_held program (Y.DoWhile condition body line) = stmts_held program body
   stmt_held program (Y.DoOnce variable start condition body line) = stmts_held program body

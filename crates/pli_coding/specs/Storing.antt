@@ -1,5 +1,7 @@
--- Values into storage: scalars, arrays, aggregates and areas. A value waits while its target is reached, or stays where it is.
-use Rattle.std.specs.Prelude.{ℕ, ◌+◌, Bool, true, false, not, ◌&&◌, ℤ, max, [], ◌∷◌, ◌++◌, Option, Some, None, if◌then◌else◌}
+-- Values into storage: scalars, arrays, aggregates and areas. A value waits while its target is reached, or stays
+-- where it is.
+use Rattle.std.specs.Prelude.{ℕ, ◌+◌, Bool, true, false, not, ◌&&◌, ℤ, max, [], ◌∷◌, ◌++◌, Option, Some, None}
+use Rattle.std.specs.Prelude.{if◌then◌else◌}
 use Rattle.rv_meaning.specs.declared.instr.BranchTest.TheVariants as Test
 use Rattle.rv_meaning.specs.declared.instr.Register.{Register}
 use Rattle.pli_language.specs.declared.condition.Condition.TheVariants as C
@@ -11,13 +13,18 @@ use Rattle.pli_coding.specs.Instructions.{small, number, store_word, skip_where,
 use Rattle.pli_coding.specs.Frames.{word_in}
 use Rattle.pli_coding.specs.Environments.{Environment, Taken, with_words, with_number, save, fetch}
 use Rattle.pli_coding.specs.Arithmetic.{raised}
-use Rattle.pli_coding.specs.Locating.{own_place, Located, located, name_offset, number_loaded, class_found, behind_locator, waiting_name, leaf_number, is_direct, are_simple, is_referred, leaf_found, needs_buffer, subscripts_counted, stored, name_copied, in_own_frame, text_stored, own_name}
-use Rattle.pli_coding.specs.Expressions.{given_in, type_in, address_in, reference_code, locator_code, subscripts_code, stored_code, standing_in, pointer_code, pointer_to}
+use Rattle.pli_coding.specs.Locating.{own_place, Located, located, name_offset, number_loaded, class_found}
+use Rattle.pli_coding.specs.Locating.{behind_locator, waiting_name, leaf_number, is_direct, are_simple, is_referred}
+use Rattle.pli_coding.specs.Locating.{leaf_found, needs_buffer, subscripts_counted, stored, name_copied, in_own_frame}
+use Rattle.pli_coding.specs.Locating.{text_stored, own_name}
+use Rattle.pli_coding.specs.Expressions.{given_in, type_in, address_in, reference_code, locator_code, subscripts_code}
+use Rattle.pli_coding.specs.Expressions.{stored_code, standing_in, pointer_code, pointer_to}
 use Rattle.pli_coding.specs.Temporaries.{reference_words, stored_words, located_words}
 
 -- ---- scalars
 
--- whether a target is reached by code that leaves a0 alone: it stands at a constant place, and its subscripts are simple
+-- whether a target is reached by code that leaves a0 alone: it stands at a constant place, and its subscripts are
+-- simple
 abbrev pub is_near : Environment → Y.Reference → Bool
 is_near e (Y.Referring v Y.NotLocated part subscripts) = is_direct e v && are_simple e subscripts
 is_near e _ = false
@@ -98,7 +105,8 @@ aggregate_found e t found v part =
     ++ (leaf_found e (located e found v) part.first (needs_buffer (leaf_number e v part.first)) (is_referred e v part)
     ++ extent_recorded t (is_referred e v part))
 
-abbrev pub subscripts_recorded : Environment → (t waiting : Taken) → Y.Variable → Y.Part → (subscripts : Y.Numbers) → Code
+abbrev pub subscripts_recorded : Environment → (t waiting : Taken) → Y.Variable → Y.Part → (subscripts : Y.Numbers)
+    → Code
 subscripts_recorded e t waiting v part Y.NoNumber = record_stored t 2 zero_register
 subscripts_recorded e t waiting v part (Y.NumberThen first rest) =
     subscripts_counted e waiting 0 (Y.NumberThen first rest) (leaf_number e v part.first).bounds ++ record_stored t 2 u1

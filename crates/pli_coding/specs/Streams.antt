@@ -1,6 +1,7 @@
 -- GET and PUT with EDIT. What is written waits while control items are carried out; a format item is asked for by a service that
 -- makes no act before the one that acts.
-use Rattle.std.specs.Prelude.{ℕ, suc, ◌+◌, ◌^◌, max, ℤ, pos, negsuc, Bool, true, false, ◌&&◌, ◌||◌, ◌==◌, nat_lt, List, [], ◌∷◌, ◌++◌, take, drop, Option, Some, None, if◌then◌else◌}
+use Rattle.std.specs.Prelude.{ℕ, suc, ◌+◌, ◌^◌, max, ℤ, pos, negsuc, Bool, true, false, ◌&&◌, ◌||◌, ◌==◌, nat_lt}
+use Rattle.std.specs.Prelude.{List, [], ◌∷◌, ◌++◌, take, drop, Option, Some, None, if◌then◌else◌}
 use Rattle.std.specs.List.{list_any}
 use Rattle.rv_meaning.specs.declared.instr.LoadKind.TheVariants as Load
 use Rattle.rv_meaning.specs.declared.instr.StoreKind.TheVariants as Store
@@ -20,12 +21,15 @@ use Rattle.pli_meaning.specs.Numbers.{operator_precision}
 use Rattle.pli_meaning.specs.DeclaredShapes.{kind_of, leaf_of}
 use Rattle.pli_coding.specs.Registers.{zero_register, frame_register, a0, a1, a2, a3, a4, a5, u0, u1, u2, u3, u4}
 use Rattle.pli_coding.specs.Assembly.{Item, Plain, BaseIn, OffsetOf, DataPlace, JumpAhead, JumpBack, Code, size_of}
-use Rattle.pli_coding.specs.Instructions.{immediate, registers, add, subtract, move, small, number, plus, load_word, store_word, skip_where, choice, repeated_while_zero, service, tested_service, status_tested}
+use Rattle.pli_coding.specs.Instructions.{immediate, registers, add, subtract, move, small, number, plus, load_word}
+use Rattle.pli_coding.specs.Instructions.{store_word, skip_where, choice, repeated_while_zero, service}
+use Rattle.pli_coding.specs.Instructions.{tested_service, status_tested}
 use Rattle.pli_coding.specs.Frames.{buffer, buffer_kind, buffer_size, word_in}
 use Rattle.pli_coding.specs.StaticForms.{formats_datum, shape_datum}
 use Rattle.pli_coding.specs.Environments.{Environment, declaration_of, Taken, with_words, with_number, save, fetch}
 use Rattle.pli_coding.specs.Arithmetic.{raised, overflow_raised, fitted_code}
-use Rattle.pli_coding.specs.Locating.{own_place, leaf_number, is_direct, direct_base, direct_register, Address, address_of, loaded, stored, text_pushed, text_stored}
+use Rattle.pli_coding.specs.Locating.{own_place, leaf_number, is_direct, direct_base, direct_register, Address}
+use Rattle.pli_coding.specs.Locating.{address_of, loaded, stored, text_pushed, text_stored}
 use Rattle.pli_coding.specs.Expressions.{given_in, type_in, number_code, text_code, bit_code}
 use Rattle.pli_coding.specs.Temporaries.{number_words, text_words, bit_words, reference_words}
 use Rattle.pli_coding.specs.Storing.{word_stored, top_stored, behind_record, words_behind_record, record_code, record_given, aggregate_words}
@@ -296,7 +300,8 @@ elements_put e l formats r =
 
 -- what stands at an address
 abbrev pub element_shown : Taken → T.Formats → Y.LeafType → Address → Code
-element_shown t formats (Y.FixedLeaf p) a = loaded (Y.FixedLeaf p) a0 a ++ (save a0 t ++ number_put t formats (as_text p))
+element_shown t formats (Y.FixedLeaf p) a =
+    loaded (Y.FixedLeaf p) a0 a ++ (save a0 t ++ number_put t formats (as_text p))
 element_shown t formats (Y.CharacterLeaf x) a = text_pushed (Y.CharacterLeaf x) a ++ text_put formats
 element_shown t formats (Y.VaryingLeaf x) a = text_pushed (Y.VaryingLeaf x) a ++ text_put formats
 element_shown t formats Y.BitLeaf a = loaded Y.BitLeaf a0 a ++ (save a0 t ++ number_put t formats (as_text 0))

@@ -1,5 +1,6 @@
 -- Sums and products that are stopped at each step.
-use Rattle.std.proofs.Common.{◌≡◌, ◌<◌, ◌≤◌, ◌⊎◌, inl, inr, ℕ, zero, suc, ◌+◌, ◌*◌, ◌/◌, List, [], get_or, length, drop, map, refl, sym, ap, ◌∙◌, arith, true, false, true≢false, Bool}
+use Rattle.std.proofs.Common.{◌≡◌, ◌<◌, ◌≤◌, ◌⊎◌, inl, inr, ℕ, zero, suc, ◌+◌, ◌*◌, ◌/◌, List, [], get_or, length}
+use Rattle.std.proofs.Common.{drop, map, refl, sym, ap, ◌∙◌, arith, true, false, true≢false, Bool}
 use Rattle.std.specs.Prelude.{nat_lt, ◌&&◌}
 use Rattle.std.specs.List.{list_all}
 use Rattle.std.proofs.lemmas.Bool.Decides.{nat_tests}

@@ -37,9 +37,34 @@ use Rattle.pli_headline.proofs.ArrayMeant.{element, element_state}
 use Rattle.pli_headline.proofs.ArrayElements.{ArrayScope, element_stored_piece}
 use Rattle.pli_headline.proofs.Reach.{Family, Aims, Comes, Closed, before_closed, comes_on}
 
-pub element_assigned_piece : {links : Links} {code : List Instr} {i : ℕ} {g : Ground} (g' : ℤ → ℕ → Ground) {v : Services} {h t : ℕ → ℕ} {s : State} {aims : Aims (Unit {0})} {e : Environment} {block : Names} {j : ℕ} {type : Y.LeafType} {bs : List Bounds} {n : ℕ → ℤ} (closed : Closed code aims) (routines : Routines links code) (temps : Temporaries g) (scope : ArrayScope g e s block j type bs n) (f : Family) (around : Around) (taken : Taken) (k due words : ℕ) (first : Y.Number) (rest : Y.Numbers) (source : Y.Stored) → Stores links code g v s k due type (λ u. stored_code e u source) (V.stored_value around source) → stored_into e taken (element block j first rest) source ≡ word_stored e taken (element block j first rest) → EvaluatesAll links code g v s k words e around (Y.NumberThen first rest) → suc (given_in rest) ≡ length bs → taken.words + due ≤ g.words → taken.words + suc words ≤ g.words → Serving k s v around.line → ((z : ℤ) (p : ℕ) (b : Base) (h' : ℕ → ℕ) → reserved_are b g h' ≡ reserved_are b (g' z p) h') → ((z : ℤ) (p : ℕ) → Fits type z → p < element_count bs → (t' : ℕ → ℕ) (b : Base) (m : List ℕ) → length m ≡ memory_size → g.memory t' b m → (g' z p).memory t' b (store (store_width (store_kind type)) m (scope.base + 4 * p + data_place e block j) (word z))) → Linked links code i (assigned_code e taken (element block j first rest) source) → ((b : Base) → At b i (Known g v h t nothing b) (f b)) → ((z : ℤ) (is : List ℤ) (f' : Family) (h' t' : ℕ → ℕ) → Fits type z → is_within bs is ≡ true → Stays taken h t h' t' → ((b : Base) → At b (i + size_of (assigned_code e taken (element block j first rest) source)) (Known (g' z (element_place bs is)) v h' t' nothing b) (f' b)) → aims.done (i + size_of (assigned_code e taken (element block j first rest) source)) f' v tt (element_state s type bs scope.serial scope.holds.values is z)) → Comes code i f v aims (((V.stored_value around source) >>= (λ y. M.assigned around (element block j first rest) y)) k s)
+pub element_assigned_piece : {links : Links} {code : List Instr} {i : ℕ} {g : Ground} (g' : ℤ → ℕ → Ground) {v :
+    Services} {h t : ℕ → ℕ} {s : State} {aims : Aims (Unit {0})} {e : Environment} {block : Names} {j : ℕ} {type :
+    Y.LeafType} {bs : List Bounds} {n : ℕ → ℤ} (closed : Closed code aims) (routines : Routines links code) (temps :
+    Temporaries g) (scope : ArrayScope g e s block j type bs n) (f : Family) (around : Around) (taken :
+    Taken) (k due words : ℕ) (first : Y.Number) (rest : Y.Numbers) (source : Y.Stored)
+    → Stores links code g v s k due type (λ u. stored_code e u source) (V.stored_value around source)
+    → stored_into e taken (element block j first rest) source ≡ word_stored e taken (element block j first rest)
+    → EvaluatesAll links code g v s k words e around (Y.NumberThen first rest) → suc (given_in rest) ≡ length bs
+    → taken.words + due ≤ g.words → taken.words + suc words ≤ g.words → Serving k s v around.line
+    → ((z : ℤ) (p : ℕ) (b : Base) (h' : ℕ → ℕ) → reserved_are b g h' ≡ reserved_are b (g' z p) h')
+    → ((z : ℤ) (p : ℕ) → Fits type z → p < element_count bs → (t' : ℕ → ℕ) (b : Base) (m : List ℕ)
+    → length m ≡ memory_size → g.memory t' b m
+    → (g' z p).memory t' b (store (store_width (store_kind type)) m (scope.base + 4 * p + data_place e block j)
+    (word z))) → Linked links code i (assigned_code e taken (element block j first rest) source)
+    → ((b : Base) → At b i (Known g v h t nothing b) (f b))
+    → ((z : ℤ) (is : List ℤ) (f' : Family) (h' t' : ℕ → ℕ) → Fits type z → is_within bs is ≡ true
+    → Stays taken h t h' t'
+    → ((b : Base)
+    → At b (i + size_of (assigned_code e taken (element block j first rest) source))
+    (Known (g' z (element_place bs is)) v h' t' nothing b) (f' b))
+    → aims.done (i + size_of (assigned_code e taken (element block j first rest) source)) f' v tt
+    (element_state s type bs scope.serial scope.holds.values is z))
+    → Comes code i f v aims
+    (((V.stored_value around source) >>= (λ y. M.assigned around (element block j first rest) y)) k s)
 unfolding ◌>>=◌
-element_assigned_piece {links = links} {code = code} {i = i} g' {v = v} {s = s} {aims = aims} {e = e} {block = block} {j = j} {type = type} {bs = bs} closed routines temps scope f around taken k due words first rest source stores into all same room some serving alike writes l at goal =
+element_assigned_piece {links = links} {code = code} {i = i} g' {v = v} {s = s} {aims = aims} {e = e} {block =
+    block} {j = j} {type = type} {bs = bs} closed routines temps scope f around taken k due words first rest source
+    stores into all same room some serving alike writes l at goal =
     let target = element block j first rest in
     let a = stored_code e taken source in
     let c = word_stored e taken target in
@@ -51,7 +76,8 @@ element_assigned_piece {links = links} {code = code} {i = i} g' {v = v} {s = s} 
     comes_on k (V.stored_value around source k s) next'
     (stores.does (before_closed k next' closed) f taken room (front_of a (stored_into e taken target source) l) at
     (λ z f1 h1 t1 fits stays at1.
-    element_stored_piece (g' z) closed routines temps scope f1 around taken z k words first rest all same fits some serving (alike z) (λ p below t' b m len o. writes z p fits below t' b m len o) l2 at1
+    element_stored_piece (g' z) closed routines temps scope f1 around taken z k words first rest all same fits some
+        serving (alike z) (λ p below t' b m len o. writes z p fits below t' b m len o) l2 at1
     (λ is f2 h2 t2 inside stays2 at2.
     subst (λ u. aims.done u f2 v tt (element_state s type bs scope.serial scope.holds.values is z)) (sym there)
     (goal z is f2 h2 t2 fits inside (stays_then stays stays2) (λ b. record { pc = (at2 b).pc ∙ ap (address b) there; holds = (at2 b).holds })))))

@@ -38,9 +38,12 @@ use Rattle.pli_headline.proofs.Engine.{Base, address}
 use Rattle.pli_headline.proofs.Linking.{size_append}
 use Rattle.pli_headline.proofs.Items.{Linked, At, straight}
 use Rattle.pli_headline.proofs.Numbers.{word_small}
-use Rattle.pli_headline.proofs.Bodies.{Ground, Known, PlaceFrom, with', set_known, reserved_are, frame_is, load_piece, narrow_load_from, narrow_store_into}
+use Rattle.pli_headline.proofs.Bodies.{Ground, Known, PlaceFrom, with', set_known, reserved_are, frame_is, load_piece}
+use Rattle.pli_headline.proofs.Bodies.{narrow_load_from, narrow_store_into}
 use Rattle.pli_headline.proofs.Jumps.{front_of, back_of}
-use Rattle.pli_headline.proofs.Temporaries.{Temporaries, Stays, stays_same, stays_then, stays_saved, stays_less, waiting_saved, waiting_kept, held_with, words_with, nothing, save_piece, fetch_piece}
+use Rattle.pli_headline.proofs.Temporaries.{Temporaries, Stays, stays_same, stays_then, stays_saved, stays_less}
+use Rattle.pli_headline.proofs.Temporaries.{waiting_saved, waiting_kept, held_with, words_with, nothing, save_piece}
+use Rattle.pli_headline.proofs.Temporaries.{fetch_piece}
 use Rattle.pli_headline.proofs.Reaching.{Reaches, reach_moved}
 use Rattle.pli_headline.proofs.Calls.{Serving}
 use Rattle.pli_headline.proofs.Raising.{Routines}
@@ -80,10 +83,13 @@ element_code e t level bs first rest =
 abbrev pub leaf_in : Option Y.DeclaredVariable → Y.Leaf
 leaf_in o = unwrap_or (slice_get (declared_in o).leaves 0) L.no_leaf
 
-abbrev pub reached_by : Environment → Taken → (block : Names) (index : ℕ) (xs : Y.Numbers) → Option Y.DeclaredVariable → Code
+abbrev pub reached_by : Environment → Taken → (block : Names) (index : ℕ) (xs : Y.Numbers) → Option Y.DeclaredVariable
+    → Code
 reached_by e t block index xs o =
     let v = own block index in
-    if has_constant_size (declared_in o) then L.subscripts_counted e t 0 xs (leaf_in o).bounds ++ (L.frame_found e (level_of block index) u3 ++ L.element_added (L.frame_in e (level_of block index) u3) (leaf_in o).type xs)
+    if has_constant_size (declared_in o) then L.subscripts_counted e t 0 xs (leaf_in o).bounds
+        ++ (L.frame_found e (level_of block index) u3 ++ L.element_added (L.frame_in e (level_of block index) u3)
+        (leaf_in o).type xs)
     else L.found_reached e t t v whole_part (L.leaf_number e v 0) xs
 
 abbrev pub address_by : Environment → (block : Names) (index : ℕ) → Option Y.DeclaredVariable → L.Address
@@ -105,9 +111,11 @@ stride_by : (q : Bool) (r : Register) → L.times_constant (rounded_up 4 (cond q
 stride_by true r = refl
 stride_by false r = refl
 
-stride_is : (type : Y.LeafType) → IsNumeric type → (r : Register) (first : Y.Number) (rest : Y.Numbers) → L.element_added r type (Y.NumberThen first rest) ≡ words_added r
+stride_is : (type : Y.LeafType) → IsNumeric type → (r : Register) (first : Y.Number) (rest : Y.Numbers)
+    → L.element_added r type (Y.NumberThen first rest) ≡ words_added r
 stride_is type is r first rest =
-    by_type (λ u. L.element_added r u (Y.NumberThen first rest) ≡ words_added r) (λ p. stride_by (nat_le p 15) r) refl type is
+    by_type (λ u. L.element_added r u (Y.NumberThen first rest) ≡ words_added r) (λ p. stride_by (nat_le p 15) r) refl
+        type is
 
 pub element_reached : (e : Environment) (t : Taken) (block : Names) (j : ℕ) (type : Y.LeafType) (bs : List Bounds) (first : Y.Number) (rest : Y.Numbers) → IsNumeric type → IsDeclaredArray e block j type bs → reference_code e t (element block j first rest) ≡ element_code e t (level_of block j) bs first rest
 element_reached e t block j type bs first rest is declared =
@@ -118,7 +126,8 @@ element_reached e t block j type bs first rest is declared =
     let r = L.frame_in e (level_of block j) u3 in
     let other = L.found_reached e t t (own block j) whole_part (L.leaf_number e (own block j) 0) xs in
     ap (λ o. front ++ reached_by e t block j xs o) declared.1
-    ∙ ap (λ q. front ++ (if q then counted ++ (found ++ L.element_added r type xs) else other)) (size_constant type is bs declared.0)
+    ∙ ap (λ q. front ++ (if q then counted ++ (found ++ L.element_added r type xs) else other))
+        (size_constant type is bs declared.0)
     ∙ ap (λ c. front ++ (counted ++ (found ++ c))) (stride_is type is r first rest)
 
 abbrev pub element_loaded : Environment → (block : Names) (index : ℕ) → Y.LeafType → Code
@@ -153,25 +162,44 @@ address_sum at base p valid few = omega (arith, valid, few)
 sum_of : (x y a p : ℕ) → x ≡ a → y ≡ p → sum x y ≡ sum a p
 sum_of x y a p e f = ap (λ u. sum u y) e ∙ ap (sum a) f
 
-address_piece : (q : Bool) (level : ℕ) {links : Links} {code : List Instr} {i : ℕ} {g : Ground} {v : Services} {h t : ℕ → ℕ} {ys : Base → List (ℕ × ℕ)} (c : ℕ) (f : Family) (base p : ℕ) → Beside ys → Reaches q level g base → base + 4 * p < memory_size → Linked links code i (cond q [] (load_word u3 frame_register (display level)) ++ words_added (cond q frame_register u3)) → ((b : Base) → At b i (Known g v h t (with' 6 (λ b'. p) ys) b) (f b)) → Reach code c f v (c + size_of (cond q [] (load_word u3 frame_register (display level)) ++ words_added (cond q frame_register u3))) v (λ b w. At b (i + size_of (cond q [] (load_word u3 frame_register (display level)) ++ words_added (cond q frame_register u3))) (Known g v h t (with' 28 (λ b'. b'.at + (base + 4 * p)) ys) b) w)
+address_piece : (q : Bool) (level : ℕ) {links : Links} {code : List Instr} {i : ℕ} {g : Ground} {v : Services} {h t :
+    ℕ → ℕ} {ys : Base → List (ℕ × ℕ)} (c : ℕ) (f : Family) (base p : ℕ) → Beside ys → Reaches q level g base
+    → base + 4 * p < memory_size
+    → Linked links code i (cond q [] (load_word u3 frame_register (display level))
+    ++ words_added (cond q frame_register u3)) → ((b : Base) → At b i (Known g v h t (with' 6 (λ b'. p) ys) b) (f b))
+    → Reach code c f v
+    (c + size_of (cond q [] (load_word u3 frame_register (display level)) ++ words_added (cond q frame_register u3)))
+    v (λ b w. At b (i + size_of (cond q [] (load_word u3 frame_register (display level))
+    ++ words_added (cond q frame_register u3))) (Known g v h t (with' 28 (λ b'. b'.at + (base + 4 * p)) ys) b) w)
 address_piece true level {g = g} {v = v} {h = h} {t = t} {ys = ys} c f base p beside reaches few l at =
-    straight c f v v (λ b. Known g v h t (with' 28 (λ b'. b'.at + (base + 4 * p)) ys) b) l (omega arith) (λ b. (at b).pc)
+    straight c f v v (λ b. Known g v h t (with' 28 (λ b'. b'.at + (base + 4 * p)) ys) b) l (omega arith)
+        (λ b. (at b).pc)
     (λ b.
     let o = (at b).holds in
-    let k = set_known (f b) 29 (shifted_left ((f b).machine.registers 6) 2) (f b).machine.pc (λ b'. shifted_left p 2) beside.free4 (ap (λ u. shifted_left u 2) o.regs.0) (record { body = o.body; regs = o.regs.1 }) in
-    set_known _ 28 _ _ (λ b'. b'.at + (base + 4 * p)) beside.free3 (sum_of _ _ (b.at + base) (shifted_left p 2) (frame_is k.body ∙ ap (λ u. b.at + u) reaches) k.regs.0 ∙ address_sum b.at base p b.valid.1 few) (record { body = k.body; regs = k.regs.1 }))
+    let k = set_known (f b) 29 (shifted_left ((f b).machine.registers 6) 2) (f b).machine.pc (λ b'. shifted_left p 2)
+        beside.free4 (ap (λ u. shifted_left u 2) o.regs.0) (record { body = o.body; regs = o.regs.1 }) in
+    set_known _ 28 _ _ (λ b'. b'.at + (base + 4 * p)) beside.free3
+        (sum_of _ _ (b.at + base) (shifted_left p 2) (frame_is k.body ∙ ap (λ u. b.at + u) reaches) k.regs.0
+        ∙ address_sum b.at base p b.valid.1 few) (record { body = k.body; regs = k.regs.1 }))
 address_piece false level {i = i} {g = g} {v = v} {h = h} {t = t} {ys = ys} c f base p beside reaches few l at =
     let first = load_word u3 frame_register (display level) in
     let last = words_added u3 in
     let size = size_append first last in
     let r1 = load_piece c f u3 (display level) (g.frame + (144 + 4 * level)) (λ b. b.at + base) reaches.0 (λ b m k. reaches.1 t b m k)
-    (free_with 6 (λ b. p) (λ x y. refl) beside.free3) (free_with 6 (λ b. p) (λ x y. refl) beside.far) (front_of first last l) at in
-    let r2 = straight (c + size_of first) (reached r1) v v (λ b. Known g v h t (with' 28 (λ b'. b'.at + (base + 4 * p)) ys) b) (back_of first last l) (omega arith) (λ b. (reached_holds r1 b).pc)
+    (free_with 6 (λ b. p) (λ x y. refl) beside.free3) (free_with 6 (λ b. p) (λ x y. refl) beside.far)
+        (front_of first last l) at in
+    let r2 =
+        straight (c + size_of first) (reached r1) v v (λ b. Known g v h t (with' 28 (λ b'. b'.at + (base + 4 * p)) ys)
+        b) (back_of first last l) (omega arith) (λ b. (reached_holds r1 b).pc)
     (λ b.
     let o = (reached_holds r1 b).holds in
     let w = reached r1 b in
-    let k = set_known w 29 (shifted_left (w.machine.registers 6) 2) w.machine.pc (λ b'. shifted_left p 2) (free_with 28 (λ b'. b'.at + base) (λ x y. refl) beside.free4) (ap (λ u. shifted_left u 2) o.regs.1.0) (record { body = o.body; regs = (o.regs.0, o.regs.1.1) }) in
-    set_known _ 28 _ _ (λ b'. b'.at + (base + 4 * p)) beside.free3 (sum_of _ _ (b.at + base) (shifted_left p 2) k.regs.1.0 k.regs.0 ∙ address_sum b.at base p b.valid.1 few) (record { body = k.body; regs = k.regs.1.1 })) in
+    let k = set_known w 29 (shifted_left (w.machine.registers 6) 2) w.machine.pc (λ b'. shifted_left p 2)
+        (free_with 28 (λ b'. b'.at + base) (λ x y. refl) beside.free4) (ap (λ u. shifted_left u 2) o.regs.1.0)
+        (record { body = o.body; regs = (o.regs.0, o.regs.1.1) }) in
+    set_known _ 28 _ _ (λ b'. b'.at + (base + 4 * p)) beside.free3
+        (sum_of _ _ (b.at + base) (shifted_left p 2) k.regs.1.0 k.regs.0 ∙ address_sum b.at base p b.valid.1 few)
+        (record { body = k.body; regs = k.regs.1.1 })) in
     reach_moved (omega (arith, size)) (omega (arith, size)) (reach_then r1 r2)
 
 -- ---- an array around an expression
@@ -190,9 +218,25 @@ pub record ArrayScope (g : Ground) (e : Environment) (s : State) (block : Names)
   pub reads : (p : ℕ) → p < element_count bs → (t : ℕ → ℕ) (b : Base) (m : List ℕ) → g.memory t b m → extended (load_kind type) (load (load_width (load_kind type)) m (base + 4 * p + data_place e block j)) ≡ word (n p)
 
 -- an element of it is found behind its subscripts: its address comes into u3, or the run ends
-pub counted_element_piece : {links : Links} {code : List Instr} {i : ℕ} {g : Ground} {v : Services} {h t : ℕ → ℕ} {ys : Base → List (ℕ × ℕ)} {s : State} {aims : Aims V.Designated} {e : Environment} {block : Names} {j : ℕ} {type : Y.LeafType} {bs : List Bounds} {n : ℕ → ℤ} (closed : Closed code aims) (routines : Routines links code) (scope : ArrayScope g e s block j type bs n) (f : Family) (around : Around) (taken : Taken) (k : ℕ) (first : Y.Number) (rest : Y.Numbers) (is : List ℤ) → Beside ys → AllWide is → length is ≡ suc (given_in rest) → suc (given_in rest) ≡ length bs → AllGive links code g v e taken h t (Y.NumberThen first rest) is → Serving k s v around.line → Linked links code i (counted_code e taken (level_of block j) bs first rest) → ((b : Base) → At b i (Known g v h t ys b) (f b)) → ((f' : Family) → is_within bs is ≡ true → ((b : Base) → At b (i + size_of (counted_code e taken (level_of block j) bs first rest)) (Known g v h t (with' 28 (λ b'. b'.at + (scope.base + 4 * element_place bs is)) ys) b) (f' b)) → aims.done (i + size_of (counted_code e taken (level_of block j) bs first rest)) f' v (designated_element type bs scope.serial scope.holds.values is) s) → Comes code i f v aims (V.variable_designated around (own block j) None whole_part is k s)
+pub counted_element_piece : {links : Links} {code : List Instr} {i : ℕ} {g : Ground} {v : Services} {h t :
+    ℕ → ℕ} {ys : Base → List (ℕ × ℕ)} {s : State} {aims : Aims V.Designated} {e : Environment} {block : Names} {j :
+    ℕ} {type : Y.LeafType} {bs : List Bounds} {n : ℕ → ℤ} (closed : Closed code aims) (routines :
+    Routines links code) (scope : ArrayScope g e s block j type bs n) (f : Family) (around : Around) (taken :
+    Taken) (k : ℕ) (first : Y.Number) (rest : Y.Numbers) (is : List ℤ) → Beside ys → AllWide is
+    → length is ≡ suc (given_in rest) → suc (given_in rest) ≡ length bs
+    → AllGive links code g v e taken h t (Y.NumberThen first rest) is → Serving k s v around.line
+    → Linked links code i (counted_code e taken (level_of block j) bs first rest)
+    → ((b : Base) → At b i (Known g v h t ys b) (f b))
+    → ((f' : Family) → is_within bs is ≡ true
+    → ((b : Base)
+    → At b (i + size_of (counted_code e taken (level_of block j) bs first rest))
+    (Known g v h t (with' 28 (λ b'. b'.at + (scope.base + 4 * element_place bs is)) ys) b) (f' b))
+    → aims.done (i + size_of (counted_code e taken (level_of block j) bs first rest)) f' v
+    (designated_element type bs scope.serial scope.holds.values is) s)
+    → Comes code i f v aims (V.variable_designated around (own block j) None whole_part is k s)
 unfolding give
-counted_element_piece {code = code} {i = i} {v = v} {s = s} {aims = aims} {e = e} {block = block} {j = j} {type = type} {bs = bs} closed routines scope f around taken k first rest is beside wide many same gives serving l at goal =
+counted_element_piece {code = code} {i = i} {v = v} {s = s} {aims = aims} {e = e} {block = block} {j = j} {type =
+    type} {bs = bs} closed routines scope f around taken k first rest is beside wide many same gives serving l at goal =
     let p2 = L.subscripts_counted e taken 0 (Y.NumberThen first rest) (map constant_bounds bs) in
     let p3 = element_found e (level_of block j) in
     let size = size_append p2 p3 in
@@ -200,11 +244,13 @@ counted_element_piece {code = code} {i = i} {v = v} {s = s} {aims = aims} {e = e
     let designated : V.Designated = designated_element type bs scope.serial scope.holds.values is in
     subst (Comes code i f v aims) (sym (element_checked around is k scope.holds (many ∙ same)))
     (comes_on k (R.demanded around 102 (is_within bs is) k s) (λ u. give designated)
-    (counted_all bs is first rest e (before_closed k (λ u. give designated) closed) routines f around taken k beside many (many ∙ same) scope.bounds wide scope.few gives (front_of p2 p3 l) serving at
+    (counted_all bs is first rest e (before_closed k (λ u. give designated) closed) routines f around taken k beside
+        many (many ∙ same) scope.bounds wide scope.few gives (front_of p2 p3 l) serving at
     (λ inside f2 at2.
     let below = place_inside bs is inside in
     let within = scope.within in
-    onward closed (address_piece (level_of block j == e.level) (level_of block j) (i + size_of p2) f2 scope.base (element_place bs is) beside scope.reach (omega (arith, within, below)) (back_of p2 p3 l) at2)
+    onward closed (address_piece (level_of block j == e.level) (level_of block j) (i + size_of p2) f2 scope.base
+        (element_place bs is) beside scope.reach (omega (arith, within, below)) (back_of p2 p3 l) at2)
     (λ f3 at3.
     record {
       to =
@@ -213,8 +259,23 @@ counted_element_piece {code = code} {i = i} {v = v} {s = s} {aims = aims} {e = e
     }))))
 
 -- and with its subscripts
-pub element_piece : {links : Links} {code : List Instr} {i : ℕ} {g : Ground} {v : Services} {h t : ℕ → ℕ} {s : State} {aims : Aims V.Designated} {e : Environment} {block : Names} {j : ℕ} {type : Y.LeafType} {bs : List Bounds} {n : ℕ → ℤ} (closed : Closed code aims) (routines : Routines links code) (scope : ArrayScope g e s block j type bs n) (f : Family) (around : Around) (taken : Taken) (k words : ℕ) (first : Y.Number) (rest : Y.Numbers) → EvaluatesAll links code g v s k words e around (Y.NumberThen first rest) → suc (given_in rest) ≡ length bs → taken.words + words ≤ g.words → Serving k s v around.line → Linked links code i (element_code e taken (level_of block j) bs first rest) → ((b : Base) → At b i (Known g v h t nothing b) (f b)) → ((is : List ℤ) (f' : Family) (h' t' : ℕ → ℕ) → is_within bs is ≡ true → Stays taken h t h' t' → ((b : Base) → At b (i + size_of (element_code e taken (level_of block j) bs first rest)) (Known g v h' t' (addressed (λ b'. b'.at + (scope.base + 4 * element_place bs is))) b) (f' b)) → aims.done (i + size_of (element_code e taken (level_of block j) bs first rest)) f' v (designated_element type bs scope.serial scope.holds.values is) s) → Comes code i f v aims (V.designated around (element block j first rest) k s)
-element_piece {code = code} {i = i} {v = v} {s = s} {aims = aims} {e = e} {block = block} {j = j} {type = type} {bs = bs} closed routines scope f around taken k words first rest all same room serving l at goal =
+pub element_piece : {links : Links} {code : List Instr} {i : ℕ} {g : Ground} {v : Services} {h t : ℕ → ℕ} {s :
+    State} {aims : Aims V.Designated} {e : Environment} {block : Names} {j : ℕ} {type : Y.LeafType} {bs :
+    List Bounds} {n : ℕ → ℤ} (closed : Closed code aims) (routines : Routines links code) (scope :
+    ArrayScope g e s block j type bs n) (f : Family) (around : Around) (taken : Taken) (k words : ℕ) (first :
+    Y.Number) (rest : Y.Numbers) → EvaluatesAll links code g v s k words e around (Y.NumberThen first rest)
+    → suc (given_in rest) ≡ length bs → taken.words + words ≤ g.words → Serving k s v around.line
+    → Linked links code i (element_code e taken (level_of block j) bs first rest)
+    → ((b : Base) → At b i (Known g v h t nothing b) (f b))
+    → ((is : List ℤ) (f' : Family) (h' t' : ℕ → ℕ) → is_within bs is ≡ true → Stays taken h t h' t'
+    → ((b : Base)
+    → At b (i + size_of (element_code e taken (level_of block j) bs first rest))
+    (Known g v h' t' (addressed (λ b'. b'.at + (scope.base + 4 * element_place bs is))) b) (f' b))
+    → aims.done (i + size_of (element_code e taken (level_of block j) bs first rest)) f' v
+    (designated_element type bs scope.serial scope.holds.values is) s)
+    → Comes code i f v aims (V.designated around (element block j first rest) k s)
+element_piece {code = code} {i = i} {v = v} {s = s} {aims = aims} {e = e} {block = block} {j = j} {type = type} {bs =
+    bs} closed routines scope f around taken k words first rest all same room serving l at goal =
     let p1 = subscripts_code e taken (Y.NumberThen first rest) in
     let p2 = counted_code e taken (level_of block j) bs first rest in
     let size = size_append p1 p2 in
@@ -224,7 +285,8 @@ element_piece {code = code} {i = i} {v = v} {s = s} {aims = aims} {e = e} {block
     (comes_on k (V.numbers around (Y.NumberThen first rest) k s) checks
     (all.does (before_closed k checks closed) f taken room (front_of p1 p2 l) at
     (λ is f1 h1 t1 wide many stays gives at1.
-    counted_element_piece closed routines scope f1 around taken k first rest is nothing_beside wide many same gives serving (back_of p1 p2 l) at1
+    counted_element_piece closed routines scope f1 around taken k first rest is nothing_beside wide many same gives
+        serving (back_of p1 p2 l) at1
     (λ f2 inside at2.
     subst (λ u. aims.done u f2 v (designated_element type bs scope.serial scope.holds.values is) s) (sym there)
     (goal is f2 h1 t1 inside stays (λ b. record { pc = (at2 b).pc ∙ ap (address b) there; holds = (at2 b).holds }))))))
@@ -241,9 +303,17 @@ element_part e block j first rest taken =
     let r = element block j first rest in
     reference_code e taken r ++ L.loaded (type_in e r) a0 (address_in e r)
 
-pub element_evaluates : {X : Type 0} {kind : Kind X} {read : BasicValue → X} {links : Links} {code : List Instr} {g : Ground} {v : Services} {s : State} {k : ℕ} {e : Environment} {block : Names} {j : ℕ} {type : Y.LeafType} {bs : List Bounds} {n : ℕ → ℤ} (as' : ReadAs kind type read) (routines : Routines links code) (scope : ArrayScope g e s block j type bs n) (around : Around) (words : ℕ) (first : Y.Number) (rest : Y.Numbers) → EvaluatesAll links code g v s k words e around (Y.NumberThen first rest) → suc (given_in rest) ≡ length bs → Serving k s v around.line → Evaluates kind links code g v s k words (element_part e block j first rest) ((V.designated around (element block j first rest)) >>= (λ d. give (read (V.value_in d))))
+pub element_evaluates : {X : Type 0} {kind : Kind X} {read : BasicValue → X} {links : Links} {code : List Instr} {g :
+    Ground} {v : Services} {s : State} {k : ℕ} {e : Environment} {block : Names} {j : ℕ} {type : Y.LeafType} {bs :
+    List Bounds} {n : ℕ → ℤ} (as' : ReadAs kind type read) (routines : Routines links code) (scope :
+    ArrayScope g e s block j type bs n) (around : Around) (words : ℕ) (first : Y.Number) (rest : Y.Numbers)
+    → EvaluatesAll links code g v s k words e around (Y.NumberThen first rest) → suc (given_in rest) ≡ length bs
+    → Serving k s v around.line → Evaluates kind links code g v s k words (element_part e block j first rest)
+    ((V.designated around (element block j first rest)) >>= (λ d. give (read (V.value_in d))))
 unfolding ◌>>=◌ give
-element_evaluates {kind = kind} {read = read} {links = links} {code = code} {g = g} {v = v} {s = s} {k = k} {e = e} {block = block} {j = j} {type = type} {bs = bs} {n = n} as' routines scope around words first rest all same serving =
+element_evaluates {kind = kind} {read = read} {links = links} {code = code} {g = g} {v = v} {s = s} {k = k} {e =
+    e} {block = block} {j = j} {type = type} {bs = bs} {n = n} as' routines scope around words first rest all same
+    serving =
     record {
       does = λ {i} {h} {t} {aims} closed f taken room l at goal.
           let r = element block j first rest in
@@ -260,7 +330,8 @@ element_evaluates {kind = kind} {read = read} {links = links} {code = code} {g =
           let there : i + size_of a + size_of c ≡ i + size_of (element_part e block j first rest taken) = omega (arith, size, whole') in
           let next' : V.Designated → Meaning _ = λ d. give (read (V.value_in d)) in
           comes_on k (V.designated around r k s) next'
-          (element_piece (before_closed k next' closed) routines scope f around taken k words first rest all same room serving (front_of a c l1) at
+          (element_piece (before_closed k next' closed) routines scope f around taken k words first rest all same room
+              serving (front_of a c l1) at
           (λ is f1 h1 t1 inside stays at1.
           let p = element_place bs is in
           let below = place_inside bs is inside in
@@ -285,36 +356,51 @@ element_evaluates {kind = kind} {read = read} {links = links} {code = code} {g =
 -- ---- an element is stored
 
 -- a value that waits
-abbrev waiting_code : Environment → (block : Names) (index : ℕ) → Y.LeafType → List Bounds → Y.Number → Y.Numbers → Taken → Code
+abbrev waiting_code : Environment → (block : Names) (index : ℕ) → Y.LeafType → List Bounds → Y.Number → Y.Numbers
+    → Taken → Code
 waiting_code e block j type bs first rest taken =
     save a0 taken ++ (element_code e (with_number taken) (level_of block j) bs first rest ++ (fetch a0 taken ++ element_kept e block j type))
 
 -- one that stays in a0
-abbrev near_code : Environment → (block : Names) (index : ℕ) → Y.LeafType → List Bounds → Y.Number → Y.Numbers → Taken → Code
+abbrev near_code : Environment → (block : Names) (index : ℕ) → Y.LeafType → List Bounds → Y.Number → Y.Numbers → Taken
+    → Code
 near_code e block j type bs first rest taken =
     element_code e taken (level_of block j) bs first rest ++ element_kept e block j type
 
-abbrev pub stored_by : Bool → Environment → (block : Names) (index : ℕ) → Y.LeafType → List Bounds → Y.Number → Y.Numbers → Taken → Code
+abbrev pub stored_by : Bool → Environment → (block : Names) (index : ℕ) → Y.LeafType → List Bounds → Y.Number
+    → Y.Numbers → Taken → Code
 stored_by q e block j type bs first rest taken =
     cond q (near_code e block j type bs first rest taken) (waiting_code e block j type bs first rest taken)
 
 -- an element is near where its subscripts are simple
-element_near : (e : Environment) (block : Names) (j : ℕ) (type : Y.LeafType) (bs : List Bounds) (first : Y.Number) (rest : Y.Numbers) → IsNumeric type → IsDeclaredArray e block j type bs → is_near e (element block j first rest) ≡ L.are_simple e (Y.NumberThen first rest)
+element_near : (e : Environment) (block : Names) (j : ℕ) (type : Y.LeafType) (bs : List Bounds) (first :
+    Y.Number) (rest : Y.Numbers) → IsNumeric type → IsDeclaredArray e block j type bs
+    → is_near e (element block j first rest) ≡ L.are_simple e (Y.NumberThen first rest)
 element_near e block j type bs first rest is declared =
     let simple = L.are_simple e (Y.NumberThen first rest) in
-    ap (λ o. has_constant_size (declared_in o) && simple) declared.1 ∙ ap (λ q. q && simple) (size_constant type is bs declared.0)
+    ap (λ o. has_constant_size (declared_in o) && simple) declared.1
+        ∙ ap (λ q. q && simple) (size_constant type is bs declared.0)
 
-pub stored_is : (e : Environment) (taken : Taken) (block : Names) (j : ℕ) (type : Y.LeafType) (bs : List Bounds) (first : Y.Number) (rest : Y.Numbers) → IsNumeric type → IsDeclaredArray e block j type bs → word_stored e taken (element block j first rest) ≡ stored_by (L.are_simple e (Y.NumberThen first rest)) e block j type bs first rest taken
+pub stored_is : (e : Environment) (taken : Taken) (block : Names) (j : ℕ) (type : Y.LeafType) (bs :
+    List Bounds) (first : Y.Number) (rest : Y.Numbers) → IsNumeric type → IsDeclaredArray e block j type bs
+    → word_stored e taken (element block j first rest) ≡ stored_by (L.are_simple e (Y.NumberThen first rest)) e block
+    j type bs first rest taken
 stored_is e taken block j type bs first rest is declared =
     let r = element block j first rest in
     let simple = L.are_simple e (Y.NumberThen first rest) in
     let written = L.stored (type_in e r) a0 (address_in e r) in
     let near = element_code e taken (level_of block j) bs first rest in
     let waits = element_code e (with_number taken) (level_of block j) bs first rest in
-    ap (λ q. cond q (reference_code e taken r ++ written) (save a0 taken ++ (reference_code e (with_number taken) r ++ (fetch a0 taken ++ written)))) (element_near e block j type bs first rest is declared)
-    ∙ ap (λ c. cond simple (c ++ written) (save a0 taken ++ (reference_code e (with_number taken) r ++ (fetch a0 taken ++ written)))) (element_reached e taken block j type bs first rest is declared)
-    ∙ ap (λ c. cond simple (near ++ written) (save a0 taken ++ (c ++ (fetch a0 taken ++ written)))) (element_reached e (with_number taken) block j type bs first rest is declared)
-    ∙ ap (λ c. cond simple (near ++ c) (save a0 taken ++ (waits ++ (fetch a0 taken ++ c)))) (kept_is e block j type bs first rest is declared)
+    ap (λ q. cond q (reference_code e taken r ++ written) (save a0 taken
+        ++ (reference_code e (with_number taken) r ++ (fetch a0 taken ++ written))))
+        (element_near e block j type bs first rest is declared)
+    ∙ ap (λ c. cond simple (c ++ written) (save a0 taken
+        ++ (reference_code e (with_number taken) r ++ (fetch a0 taken ++ written))))
+        (element_reached e taken block j type bs first rest is declared)
+    ∙ ap (λ c. cond simple (near ++ written) (save a0 taken ++ (c ++ (fetch a0 taken ++ written))))
+        (element_reached e (with_number taken) block j type bs first rest is declared)
+    ∙ ap (λ c. cond simple (near ++ c) (save a0 taken ++ (waits ++ (fetch a0 taken ++ c))))
+        (kept_is e block j type bs first rest is declared)
 
 valued_beside : (x : ℕ) → Beside (valued x)
 valued_beside x =
@@ -327,9 +413,31 @@ valued_beside x =
     }
 
 -- a value in a0 is assigned to an element; what then stands in memory goes by the place of the element
-stored_by_piece : (q : Bool) {links : Links} {code : List Instr} {i : ℕ} {g : Ground} (g' : ℕ → Ground) {v : Services} {h t : ℕ → ℕ} {s : State} {aims : Aims (Unit {0})} {e : Environment} {block : Names} {j : ℕ} {type : Y.LeafType} {bs : List Bounds} {n : ℕ → ℤ} (closed : Closed code aims) (routines : Routines links code) (temps : Temporaries g) (scope : ArrayScope g e s block j type bs n) (f : Family) (around : Around) (taken : Taken) (z : ℤ) (k words : ℕ) (first : Y.Number) (rest : Y.Numbers) → EvaluatesAll links code g v s k words e around (Y.NumberThen first rest) → L.are_simple e (Y.NumberThen first rest) ≡ q → suc (given_in rest) ≡ length bs → Fits type z → taken.words + suc words ≤ g.words → Serving k s v around.line → ((p : ℕ) (b : Base) (h' : ℕ → ℕ) → reserved_are b g h' ≡ reserved_are b (g' p) h') → ((p : ℕ) → p < element_count bs → (t' : ℕ → ℕ) (b : Base) (m : List ℕ) → length m ≡ memory_size → g.memory t' b m → (g' p).memory t' b (store (store_width (store_kind type)) m (scope.base + 4 * p + data_place e block j) (word z))) → Linked links code i (stored_by q e block j type bs first rest taken) → ((b : Base) → At b i (Known g v h t (valued (word z)) b) (f b)) → ((is : List ℤ) (f' : Family) (h' t' : ℕ → ℕ) → is_within bs is ≡ true → Stays taken h t h' t' → ((b : Base) → At b (i + size_of (stored_by q e block j type bs first rest taken)) (Known (g' (element_place bs is)) v h' t' nothing b) (f' b)) → aims.done (i + size_of (stored_by q e block j type bs first rest taken)) f' v tt (element_state s type bs scope.serial scope.holds.values is z)) → Comes code i f v aims (M.assigned around (element block j first rest) (value_as type z) k s)
+stored_by_piece : (q : Bool) {links : Links} {code : List Instr} {i : ℕ} {g : Ground} (g' : ℕ → Ground) {v :
+    Services} {h t : ℕ → ℕ} {s : State} {aims : Aims (Unit {0})} {e : Environment} {block : Names} {j : ℕ} {type :
+    Y.LeafType} {bs : List Bounds} {n : ℕ → ℤ} (closed : Closed code aims) (routines : Routines links code) (temps :
+    Temporaries g) (scope : ArrayScope g e s block j type bs n) (f : Family) (around : Around) (taken : Taken) (z :
+    ℤ) (k words : ℕ) (first : Y.Number) (rest : Y.Numbers)
+    → EvaluatesAll links code g v s k words e around (Y.NumberThen first rest)
+    → L.are_simple e (Y.NumberThen first rest) ≡ q → suc (given_in rest) ≡ length bs → Fits type z
+    → taken.words + suc words ≤ g.words → Serving k s v around.line
+    → ((p : ℕ) (b : Base) (h' : ℕ → ℕ) → reserved_are b g h' ≡ reserved_are b (g' p) h')
+    → ((p : ℕ) → p < element_count bs → (t' : ℕ → ℕ) (b : Base) (m : List ℕ) → length m ≡ memory_size
+    → g.memory t' b m
+    → (g' p).memory t' b (store (store_width (store_kind type)) m (scope.base + 4 * p + data_place e block j)
+    (word z))) → Linked links code i (stored_by q e block j type bs first rest taken)
+    → ((b : Base) → At b i (Known g v h t (valued (word z)) b) (f b))
+    → ((is : List ℤ) (f' : Family) (h' t' : ℕ → ℕ) → is_within bs is ≡ true → Stays taken h t h' t'
+    → ((b : Base)
+    → At b (i + size_of (stored_by q e block j type bs first rest taken))
+    (Known (g' (element_place bs is)) v h' t' nothing b) (f' b))
+    → aims.done (i + size_of (stored_by q e block j type bs first rest taken)) f' v tt
+    (element_state s type bs scope.serial scope.holds.values is z))
+    → Comes code i f v aims (M.assigned around (element block j first rest) (value_as type z) k s)
 unfolding M.assigned ◌>>=◌ give
-stored_by_piece true {links = links} {code = code} {i = i} {g = g} g' {v = v} {h = h} {t = t} {s = s} {aims = aims} {e = e} {block = block} {j = j} {type = type} {bs = bs} closed routines temps scope f around taken z k words first rest all simple same fits room serving alike writes l at goal =
+stored_by_piece true {links = links} {code = code} {i = i} {g = g} g' {v = v} {h = h} {t = t} {s = s} {aims =
+    aims} {e = e} {block = block} {j = j} {type = type} {bs = bs} closed routines temps scope f around taken z k words
+    first rest all simple same fits room serving alike writes l at goal =
     let xs = Y.NumberThen first rest in
     let one = all.simple simple in
     let is = one.values in
@@ -343,28 +451,37 @@ stored_by_piece true {links = links} {code = code} {i = i} {g = g} g' {v = v} {h
     let l1 = subst (Linked links code i) eq l in
     let whole' = ap size_of eq in
     let size = size_append a last in
-    let there : i + size_of a + size_of last ≡ i + size_of (near_code e block j type bs first rest taken) = omega (arith, whole', size) in
+    let there : i + size_of a + size_of last ≡ i + size_of (near_code e block j type bs first rest taken) =
+        omega (arith, whole', size) in
     let checks : List ℤ → Meaning V.Designated = λ js. V.variable_designated around (own block j) None whole_part js in
     let next' : V.Designated → Meaning (Unit {0}) = λ d. P.element_stored d (value_as type z) in
     let meant = element_meant around block j first rest k s ∙ ap (λ q. flow_on k q checks) one.meant in
     subst (λ q. Comes code i f v aims (flow_on k q next')) (sym meant)
     (comes_on k (checks is k s) next'
-    (counted_element_piece (before_closed k next' closed) routines scope f around taken k first rest is (valued_beside (word z)) one.wide one.many same (one.gives taken h t) serving (front_of a last l1) at
+    (counted_element_piece (before_closed k next' closed) routines scope f around taken k first rest is
+        (valued_beside (word z)) one.wide one.many same (one.gives taken h t) serving (front_of a last l1) at
     (λ f2 inside at2.
     let below = place_inside bs is inside in
     let within = scope.within in
-    let w = narrow_store_into (g' p) t (i + size_of a) f2 a0 u3 (store_kind type) (pos place) (scope.base + 4 * p) (scope.base + 4 * p + place) (λ b. word z) (scope.places p below) (omega (arith, within, below)) (λ y u. refl) (λ b w' o. o.regs.0) (λ y u. refl) (λ b w' o. o.regs.1.0) (λ b. alike p b h) (λ b m len o. writes p below t b m len o)
+    let w = narrow_store_into (g' p) t (i + size_of a) f2 a0 u3 (store_kind type) (pos place) (scope.base + 4 * p)
+        (scope.base + 4 * p + place) (λ b. word z) (scope.places p below) (omega (arith, within, below)) (λ y u. refl)
+        (λ b w' o. o.regs.0) (λ y u. refl) (λ b w' o. o.regs.1.0) (λ b. alike p b h)
+        (λ b m len o. writes p below t b m len o)
     (record { reserved_stay = λ y u. refl; known_stay = λ b y u o. (o.0, (o.1.0, tt)); set = λ y u. refl })
     (back_of a last l1) at2 in
     onward closed w (λ f3 at3.
-    subst (Comes code (i + size_of a + size_of last) f3 v aims) (sym (element_stored type bs scope.serial scope.holds.values is z k s))
+    subst (Comes code (i + size_of a + size_of last) f3 v aims)
+        (sym (element_stored type bs scope.serial scope.holds.values is z k s))
     (record {
       to =
           subst (λ u. aims.done u f3 v tt (element_state s type bs scope.serial scope.holds.values is z)) (sym there)
           (goal is f3 h t inside (stays_same taken h t)
-          (λ b. record { pc = (at3 b).pc ∙ ap (address b) there; holds = record { body = (at3 b).holds.body; regs = tt } }));
+          (λ b. record { pc = (at3 b).pc ∙ ap (address b) there; holds =
+              record { body = (at3 b).holds.body; regs = tt } }));
     })))))
-stored_by_piece false {links = links} {code = code} {i = i} {g = g} g' {v = v} {h = h} {t = t} {s = s} {aims = aims} {e = e} {block = block} {j = j} {type = type} {bs = bs} closed routines temps scope f around taken z k words first rest all simple same fits room serving alike writes l at goal =
+stored_by_piece false {links = links} {code = code} {i = i} {g = g} g' {v = v} {h = h} {t = t} {s = s} {aims =
+    aims} {e = e} {block = block} {j = j} {type = type} {bs = bs} closed routines temps scope f around taken z k words
+    first rest all simple same fits room serving alike writes l at goal =
     let r = element block j first rest in
     let wide = fits_wide type z fits in
     let place = data_place e block j in
@@ -377,16 +494,20 @@ stored_by_piece false {links = links} {code = code} {i = i} {g = g} g' {v = v} {
     let e1 = size_append put' (a ++ (back ++ last)) in
     let e2 = size_append a (back ++ last) in
     let e3 = size_append back last in
-    let there : i + size_of put' + size_of a + size_of back + size_of last ≡ i + size_of (put' ++ (a ++ (back ++ last))) = omega (arith, e1, e2, e3) in
+    let there : i + size_of put' + size_of a + size_of back + size_of last
+        ≡ i + size_of (put' ++ (a ++ (back ++ last))) = omega (arith, e1, e2, e3) in
     let more = with_words_most taken in
     let one : is_register_left taken ≡ false → taken.words < g.words = λ none. omega (arith, room) in
     let h1 = held_with taken (word z) h in
     let t1 = words_with taken (word z) t in
     let next' : V.Designated → Meaning (Unit {0}) = λ d. P.element_stored d (value_as type z) in
-    onward closed (save_piece temps i f a0 taken (word z) one (word_small z wide) (λ y u. refl) (λ b w' o. o.regs.0) (record { reserved_stay = λ y u. refl; known_stay = λ b y u q. q; set = λ y u. refl }) (front_of put' (a ++ (back ++ last)) l) at)
+    onward closed (save_piece temps i f a0 taken (word z) one (word_small z wide) (λ y u. refl) (λ b w' o. o.regs.0)
+        (record { reserved_stay = λ y u. refl; known_stay = λ b y u q. q; set = λ y u. refl })
+        (front_of put' (a ++ (back ++ last)) l) at)
     (λ f1 at1.
     comes_on k (V.designated around r k s) next'
-    (element_piece (before_closed k next' closed) routines scope f1 around (with_number taken) k words first rest all same (omega (arith, room, more)) serving (front_of a (back ++ last) l2) at1
+    (element_piece (before_closed k next' closed) routines scope f1 around (with_number taken) k words first rest all
+        same (omega (arith, room, more)) serving (front_of a (back ++ last) l2) at1
     (λ is f2 h2 t2 inside stays at2.
     let p = element_place bs is in
     let below = place_inside bs is inside in
@@ -408,14 +529,37 @@ stored_by_piece false {links = links} {code = code} {i = i} {g = g} g' {v = v} {
           (λ b. record { pc = (at4 b).pc ∙ ap (address b) there; holds = record { body = (at4 b).holds.body; regs = tt } }));
     }))))))
 
-pub element_stored_piece : {links : Links} {code : List Instr} {i : ℕ} {g : Ground} (g' : ℕ → Ground) {v : Services} {h t : ℕ → ℕ} {s : State} {aims : Aims (Unit {0})} {e : Environment} {block : Names} {j : ℕ} {type : Y.LeafType} {bs : List Bounds} {n : ℕ → ℤ} (closed : Closed code aims) (routines : Routines links code) (temps : Temporaries g) (scope : ArrayScope g e s block j type bs n) (f : Family) (around : Around) (taken : Taken) (z : ℤ) (k words : ℕ) (first : Y.Number) (rest : Y.Numbers) → EvaluatesAll links code g v s k words e around (Y.NumberThen first rest) → suc (given_in rest) ≡ length bs → Fits type z → taken.words + suc words ≤ g.words → Serving k s v around.line → ((p : ℕ) (b : Base) (h' : ℕ → ℕ) → reserved_are b g h' ≡ reserved_are b (g' p) h') → ((p : ℕ) → p < element_count bs → (t' : ℕ → ℕ) (b : Base) (m : List ℕ) → length m ≡ memory_size → g.memory t' b m → (g' p).memory t' b (store (store_width (store_kind type)) m (scope.base + 4 * p + data_place e block j) (word z))) → Linked links code i (word_stored e taken (element block j first rest)) → ((b : Base) → At b i (Known g v h t (valued (word z)) b) (f b)) → ((is : List ℤ) (f' : Family) (h' t' : ℕ → ℕ) → is_within bs is ≡ true → Stays taken h t h' t' → ((b : Base) → At b (i + size_of (word_stored e taken (element block j first rest))) (Known (g' (element_place bs is)) v h' t' nothing b) (f' b)) → aims.done (i + size_of (word_stored e taken (element block j first rest))) f' v tt (element_state s type bs scope.serial scope.holds.values is z)) → Comes code i f v aims (M.assigned around (element block j first rest) (value_as type z) k s)
-element_stored_piece {links = links} {code = code} {i = i} g' {v = v} {h = h} {t = t} {s = s} {aims = aims} {e = e} {block = block} {j = j} {type = type} {bs = bs} closed routines temps scope f around taken z k words first rest all same fits room serving alike writes l at goal =
+pub element_stored_piece : {links : Links} {code : List Instr} {i : ℕ} {g : Ground} (g' : ℕ → Ground) {v :
+    Services} {h t : ℕ → ℕ} {s : State} {aims : Aims (Unit {0})} {e : Environment} {block : Names} {j : ℕ} {type :
+    Y.LeafType} {bs : List Bounds} {n : ℕ → ℤ} (closed : Closed code aims) (routines : Routines links code) (temps :
+    Temporaries g) (scope : ArrayScope g e s block j type bs n) (f : Family) (around : Around) (taken : Taken) (z :
+    ℤ) (k words : ℕ) (first : Y.Number) (rest : Y.Numbers)
+    → EvaluatesAll links code g v s k words e around (Y.NumberThen first rest) → suc (given_in rest) ≡ length bs
+    → Fits type z → taken.words + suc words ≤ g.words → Serving k s v around.line
+    → ((p : ℕ) (b : Base) (h' : ℕ → ℕ) → reserved_are b g h' ≡ reserved_are b (g' p) h')
+    → ((p : ℕ) → p < element_count bs → (t' : ℕ → ℕ) (b : Base) (m : List ℕ) → length m ≡ memory_size
+    → g.memory t' b m
+    → (g' p).memory t' b (store (store_width (store_kind type)) m (scope.base + 4 * p + data_place e block j)
+    (word z))) → Linked links code i (word_stored e taken (element block j first rest))
+    → ((b : Base) → At b i (Known g v h t (valued (word z)) b) (f b))
+    → ((is : List ℤ) (f' : Family) (h' t' : ℕ → ℕ) → is_within bs is ≡ true → Stays taken h t h' t'
+    → ((b : Base)
+    → At b (i + size_of (word_stored e taken (element block j first rest)))
+    (Known (g' (element_place bs is)) v h' t' nothing b) (f' b))
+    → aims.done (i + size_of (word_stored e taken (element block j first rest))) f' v tt
+    (element_state s type bs scope.serial scope.holds.values is z))
+    → Comes code i f v aims (M.assigned around (element block j first rest) (value_as type z) k s)
+element_stored_piece {links = links} {code = code} {i = i} g' {v = v} {h = h} {t = t} {s = s} {aims = aims} {e =
+    e} {block = block} {j = j} {type = type} {bs = bs} closed routines temps scope f around taken z k words first rest
+    all same fits room serving alike writes l at goal =
     let r = element block j first rest in
     let simple = L.are_simple e (Y.NumberThen first rest) in
     let eq = stored_is e taken block j type bs first rest scope.holds.numeric scope.declared in
     let size = ap size_of eq in
-    let there : i + size_of (stored_by simple e block j type bs first rest taken) ≡ i + size_of (word_stored e taken r) = omega (arith, size) in
-    stored_by_piece simple g' closed routines temps scope f around taken z k words first rest all refl same fits room serving alike writes (subst (Linked links code i) eq l) at
+    let there : i + size_of (stored_by simple e block j type bs first rest taken)
+        ≡ i + size_of (word_stored e taken r) = omega (arith, size) in
+    stored_by_piece simple g' closed routines temps scope f around taken z k words first rest all refl same fits room
+        serving alike writes (subst (Linked links code i) eq l) at
     (λ is f1 h1 t1 inside stays at1.
     subst (λ u. aims.done u f1 v tt (element_state s type bs scope.serial scope.holds.values is z)) (sym there)
     (goal is f1 h1 t1 inside stays (λ b. record { pc = (at1 b).pc ∙ ap (address b) there; holds = (at1 b).holds })))

@@ -45,14 +45,28 @@ words_enough n = let m = le-max_right 0 (0 + n) in omega (arith, m)
 abbrev pub AllEvaluate : Links → List Instr → Ground → Services → State → (k : ℕ) → Environment → Around → Y.Numbers → Type 1
 AllEvaluate links code g v s k e around xs = EvaluatesAll links code g v s k (subscripts_words xs) e around xs
 
-pub element_number_does : {links : Links} {code : List Instr} {g : Ground} {v : Services} {s : State} {k : ℕ} {e : Environment} (around : Around) {block : Names} {j p : ℕ} {bs : List Bounds} {n : ℕ → ℤ} (routines : Routines links code) (serving : Serving k s v around.line) (scope : ArrayScope g e s block j (Y.FixedLeaf p) bs n) (first : Y.Number) (rest : Y.Numbers) → AllEvaluate links code g v s k e around (Y.NumberThen first rest) → suc (given_in rest) ≡ length bs → Evaluates number_kind links code g v s k (number_words (Y.NumberIn (element block j first rest))) (λ taken. number_code e taken (Y.NumberIn (element block j first rest))) (V.number around (Y.NumberIn (element block j first rest)))
+pub element_number_does : {links : Links} {code : List Instr} {g : Ground} {v : Services} {s : State} {k : ℕ} {e :
+    Environment} (around : Around) {block : Names} {j p : ℕ} {bs : List Bounds} {n : ℕ → ℤ} (routines :
+    Routines links code) (serving : Serving k s v around.line) (scope : ArrayScope g e s block j (Y.FixedLeaf p) bs n)
+    (first : Y.Number) (rest : Y.Numbers) → AllEvaluate links code g v s k e around (Y.NumberThen first rest)
+    → suc (given_in rest) ≡ length bs
+    → Evaluates number_kind links code g v s k (number_words (Y.NumberIn (element block j first rest)))
+    (λ taken. number_code e taken (Y.NumberIn (element block j first rest)))
+    (V.number around (Y.NumberIn (element block j first rest)))
 unfolding V.number ◌>>=◌ give
 element_number_does around {p = p} routines serving scope first rest all same =
     let xs = Y.NumberThen first rest in
     evaluates_with (max 0 (0 + subscripts_words xs)) (words_enough (subscripts_words xs))
     (element_evaluates (number_read p) routines scope around (subscripts_words xs) first rest all same serving)
 
-pub element_bit_does : {links : Links} {code : List Instr} {g : Ground} {v : Services} {s : State} {k : ℕ} {e : Environment} (around : Around) {block : Names} {j : ℕ} {bs : List Bounds} {n : ℕ → ℤ} (routines : Routines links code) (serving : Serving k s v around.line) (scope : ArrayScope g e s block j Y.BitLeaf bs n) (first : Y.Number) (rest : Y.Numbers) → AllEvaluate links code g v s k e around (Y.NumberThen first rest) → suc (given_in rest) ≡ length bs → Evaluates bit_kind links code g v s k (bit_words (Y.BitIn (element block j first rest))) (λ taken. bit_code e taken (Y.BitIn (element block j first rest))) (V.bit around (Y.BitIn (element block j first rest)))
+pub element_bit_does : {links : Links} {code : List Instr} {g : Ground} {v : Services} {s : State} {k : ℕ} {e :
+    Environment} (around : Around) {block : Names} {j : ℕ} {bs : List Bounds} {n : ℕ → ℤ} (routines :
+    Routines links code) (serving : Serving k s v around.line) (scope : ArrayScope g e s block j Y.BitLeaf bs n)
+    (first : Y.Number) (rest : Y.Numbers) → AllEvaluate links code g v s k e around (Y.NumberThen first rest)
+    → suc (given_in rest) ≡ length bs
+    → Evaluates bit_kind links code g v s k (bit_words (Y.BitIn (element block j first rest)))
+    (λ taken. bit_code e taken (Y.BitIn (element block j first rest)))
+    (V.bit around (Y.BitIn (element block j first rest)))
 unfolding V.bit ◌>>=◌ give
 element_bit_does around routines serving scope first rest all same =
     let xs = Y.NumberThen first rest in

@@ -36,7 +36,8 @@ use Rattle.pli_headline.proofs.Reaching.{write_based}
 use Rattle.pli_headline.proofs.Operators.{valued}
 use Rattle.pli_headline.proofs.Precisions.{fitted_piece}
 use Rattle.pli_headline.proofs.Scalars.{Values, value_as, Fits, fits_numeric, bit_back, bit_fits, bit_word, store_kind}
-use Rattle.pli_headline.proofs.Variables.{HoldsScalar, whole, own, level_of, data_place, designated_scalar, designated_gives, base_found, scalar_stored, scalar_stored_is}
+use Rattle.pli_headline.proofs.Variables.{HoldsScalar, whole, own, level_of, data_place, designated_scalar}
+use Rattle.pli_headline.proofs.Variables.{designated_gives, base_found, scalar_stored, scalar_stored_is}
 use Rattle.pli_headline.proofs.Expressions.{Scope, Setting, number_does, bit_does}
 use Rattle.pli_headline.proofs.Reach.{Family, Aims, Comes, Closed, before_closed, comes_on, onward}
 
@@ -101,21 +102,41 @@ bit_stores {v = v} {s = s} {k = k} {e = e} {around = around} x st is =
 -- ---- the store
 
 -- a value in a0 is assigned to a variable, with whatever credits there are
-pub stored_piece : {links : Links} {code : List Instr} {i : ℕ} {g : Ground} (g' : Ground) {v : Services} {h t : ℕ → ℕ} {s : State} {aims : Aims (Unit {0})} (closed : Closed code aims) (credits : ℕ) (e : Environment) (block : Names) (types : Types) (held : Values) (f : Family) (around : Around) (taken : Taken) (j : ℕ) {type : Y.LeafType} (z : ℤ) (k : ℕ) (below : slice_get types j ≡ Some (alone type)) → (fits : Fits type z) → (scope : Scope g e block types s held) → ((b : Base) (h' : ℕ → ℕ) → reserved_are b g h' ≡ reserved_are b g' h') → ((t' : ℕ → ℕ) (b : Base) (m : List ℕ) → length m ≡ memory_size → g.memory t' b m → g'.memory t' b (store (store_width (store_kind type)) m (scope.base j + data_place e block j) (word z))) → Linked links code i (word_stored e taken (whole (own block j))) → ((b : Base) → At b i (Known g v h t (valued (word z)) b) (f b)) → ((f' : Family) (h' t' : ℕ → ℕ) → Stays taken h t h' t' → ((b : Base) → At b (i + size_of (word_stored e taken (whole (own block j)))) (Known g' v h' t' nothing b) (f' b)) → aims.done (credits + size_of (word_stored e taken (whole (own block j)))) f' v tt (assigned_state s type (scope.holds j below (fits_numeric type z fits)).serial (scope.holds j below (fits_numeric type z fits)).values z)) → Comes code credits f v aims (M.assigned around (whole (own block j)) (value_as type z) k s)
-stored_piece {links = links} {code = code} {i = i} g' {v = v} {h = h} {t = t} {s = s} {aims = aims} closed credits e block types held f around taken j {type} z k below fits scope same writes l at goal =
+pub stored_piece : {links : Links} {code : List Instr} {i : ℕ} {g : Ground} (g' : Ground) {v : Services} {h t :
+    ℕ → ℕ} {s : State} {aims : Aims (Unit {0})} (closed : Closed code aims) (credits : ℕ) (e : Environment) (block :
+    Names) (types : Types) (held : Values) (f : Family) (around : Around) (taken : Taken) (j : ℕ) {type :
+    Y.LeafType} (z : ℤ) (k : ℕ) (below : slice_get types j ≡ Some (alone type)) → (fits : Fits type z)
+    → (scope : Scope g e block types s held) → ((b : Base) (h' : ℕ → ℕ) → reserved_are b g h' ≡ reserved_are b g' h')
+    → ((t' : ℕ → ℕ) (b : Base) (m : List ℕ) → length m ≡ memory_size → g.memory t' b m
+    → g'.memory t' b (store (store_width (store_kind type)) m (scope.base j + data_place e block j) (word z)))
+    → Linked links code i (word_stored e taken (whole (own block j)))
+    → ((b : Base) → At b i (Known g v h t (valued (word z)) b) (f b))
+    → ((f' : Family) (h' t' : ℕ → ℕ) → Stays taken h t h' t'
+    → ((b : Base) → At b (i + size_of (word_stored e taken (whole (own block j)))) (Known g' v h' t' nothing b)
+    (f' b)) → aims.done (credits + size_of (word_stored e taken (whole (own block j)))) f' v tt
+    (assigned_state s type (scope.holds j below (fits_numeric type z fits)).serial
+    (scope.holds j below (fits_numeric type z fits)).values z))
+    → Comes code credits f v aims (M.assigned around (whole (own block j)) (value_as type z) k s)
+stored_piece {links = links} {code = code} {i = i} g' {v = v} {h = h} {t = t} {s = s} {aims =
+    aims} closed credits e block types held f around taken j {type} z k below fits scope same writes l at goal =
     let holds = scope.holds j below (fits_numeric type z fits) in
     let place = data_place e block j in
     let written = base_found e (level_of block j) ++ scalar_stored type e (level_of block j) place in
     let eq = scalar_stored_is e taken block j type (fits_numeric type z fits) (scope.declared j below) in
     let whole_size = ap size_of eq in
     let l1 = subst (Linked links code i) eq l in
-    let there : i + size_of written ≡ i + size_of (word_stored e taken (whole (own block j))) = omega (arith, whole_size) in
-    let paid : credits + size_of written ≡ credits + size_of (word_stored e taken (whole (own block j))) = omega (arith, whole_size) in
+    let there : i + size_of written ≡ i + size_of (word_stored e taken (whole (own block j))) =
+        omega (arith, whole_size) in
+    let paid : credits + size_of written ≡ credits + size_of (word_stored e taken (whole (own block j))) =
+        omega (arith, whole_size) in
     subst (Comes code credits f v aims) (sym (assigned_gives around s j block type (held.numbers j) z k holds))
-    (onward closed (write_based (level_of block j == e.level) (level_of block j) g' credits f (scope.base j) (store_kind type) (pos place) (scope.base j + place) (word z) (scope.reach j below) (scope.within j below) (scope.places j below) (λ b. same b h) (λ b m len o. writes t b m len o) l1 at)
+    (onward closed (write_based (level_of block j == e.level) (level_of block j) g' credits f (scope.base j)
+        (store_kind type) (pos place) (scope.base j + place) (word z) (scope.reach j below) (scope.within j below)
+        (scope.places j below) (λ b. same b h) (λ b m len o. writes t b m len o) l1 at)
     (λ f1 at1.
     record {
       to =
           subst (λ u. aims.done u f1 v tt (assigned_state s type holds.serial holds.values z)) (sym paid)
-          (goal f1 h t (stays_same taken h t) (λ b. record { pc = (at1 b).pc ∙ ap (address b) there; holds = (at1 b).holds }));
+          (goal f1 h t (stays_same taken h t) (λ b. record { pc = (at1 b).pc ∙ ap (address b) there; holds =
+              (at1 b).holds }));
     }))

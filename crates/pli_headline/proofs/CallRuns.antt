@@ -83,8 +83,10 @@ called_code e head words held body =
 abbrev code_with : Environment → Y.BlockHead → Y.Stmts → (level words : ℕ) → Code
 code_with e head body level words =
     Mark (ProcedureEntry head.number)
-    ∷ ((frame_begun words level 0 (Some (held_with e.program words body)) ++ (called_entry head.line ++ (called_variables e head ++ act_code head.line)))
-    ++ (stmts_code (procedure_environment head e) none_taken body ++ (Mark (ReturnPlace head.number) ∷ called_ended words (held_with e.program words body))))
+    ∷ ((frame_begun words level 0 (Some (held_with e.program words body))
+        ++ (called_entry head.line ++ (called_variables e head ++ act_code head.line)))
+    ++ (stmts_code (procedure_environment head e) none_taken body
+        ++ (Mark (ReturnPlace head.number) ∷ called_ended words (held_with e.program words body))))
 
 joined : (frame enter made act code ended : Code) → (frame ++ (enter ++ (made ++ act))) ++ (code ++ ended) ≡ frame ++ (enter ++ ((made ++ (act ++ code)) ++ ended))
 joined frame enter made act code ended =
@@ -92,16 +94,22 @@ joined frame enter made act code ended =
     ∙ ap (λ c. frame ++ c) (code_joined enter (made ++ act) (code ++ ended))
     ∙ ap (λ c. frame ++ (enter ++ c)) (code_joined made act (code ++ ended) ∙ ap (λ c. made ++ c) (sym (code_joined act code ended)) ∙ sym (code_joined made (act ++ code) ended))
 
-pub called_code_is : (e : Environment) (head : Y.BlockHead) (body : Y.Stmts) → head.level ≡ 1 → ArePlain (vars_of e head) → procedure_in (procedure_environment head e) head body [] None ≡ called_code e head (max 0 (stmts_words body)) (held_with e.program (max 0 (stmts_words body)) body) body
+pub called_code_is : (e : Environment) (head : Y.BlockHead) (body : Y.Stmts) → head.level ≡ 1
+    → ArePlain (vars_of e head) → procedure_in (procedure_environment head e) head body [] None
+    ≡ called_code e head (max 0 (stmts_words body)) (held_with e.program (max 0 (stmts_words body)) body) body
 called_code_is e head body next are =
     let words = max 0 (stmts_words body) in
     let held = held_with e.program words body in
     ap (λ n. code_with e head body head.level (max n (stmts_words body))) (no_words (vars_of e head) are)
     ∙ ap (λ level. code_with e head body level words) next
-    ∙ ap (λ c. Mark (ProcedureEntry head.number) ∷ c) (joined (frame_begun words 1 0 (Some held)) (called_entry head.line) (called_variables e head) (act_code head.line) (stmts_code (procedure_environment head e) none_taken body) (Mark (ReturnPlace head.number) ∷ called_ended words held))
+    ∙ ap (λ c. Mark (ProcedureEntry head.number) ∷ c)
+        (joined (frame_begun words 1 0 (Some held)) (called_entry head.line) (called_variables e head)
+        (act_code head.line) (stmts_code (procedure_environment head e) none_taken body)
+        (Mark (ReturnPlace head.number) ∷ called_ended words held))
 
 -- where it stands
-pub record StandsAt (links : Links) (code : List Instr) (e : Environment) (head : Y.BlockHead) (words held : ℕ) (body : Y.Stmts) : Type 0 where
+pub record StandsAt (links : Links) (code : List Instr) (e : Environment) (head : Y.BlockHead) (words held :
+    ℕ) (body : Y.Stmts) : Type 0 where
   pub entry : ℕ
   pub placed : place_of links (ProcedureEntry head.number) ≡ 4 * entry
   pub behind : 10 ≤ entry
@@ -139,7 +147,19 @@ called_direct {e} bl level levels count entered long next inside =
 -- ---- behind the statements of the procedure
 
 -- it is left, and the caller goes on with the credits of its place
-leave_piece : {e : Environment} {block : Names} {types : Types} (bl : Block e block types) {links : Links} {code : List Instr} {level : ℕ} (callee : Callee bl) (k i resume : ℕ) (h t : ℕ → ℕ) {aims : Aims (Unit {0})} (closed : Closed code aims) → resume ≤ most_code → i + 3 + size_of (all_restored callee.held) + size_of (frame_ended callee.words) + 1 ≤ resume + length code → Linked links code i (called_ended callee.words callee.held) → ((s' : State) (v' : Services) (line' : ℕ) (n' : Values) (h' : ℕ → ℕ) (f' : Family) → Serving k s' v' line' → AllHold bl.frames bl.serials (storage v') (e.level ∷ bl.depths) s' block types n' → ((b : Base) → At b resume (Known (bl.ground n') v' h' t nothing b) (f' b)) → aims.done resume f' v' tt s') → (s : State) (v : Services) (line : ℕ) (n : Values) (h1 t1 : ℕ → ℕ) (f : Family) (free : ℕ) → Serving k s v line → AllHold (atop callee.at procedure_way bl.frames) bl.serials (storage v) (level ∷ e.level ∷ bl.depths) s block types n → ((b : Base) → At b i (Known (ending_ground bl callee (λ b'. address b' resume) h t n free) v h1 t1 nothing b) (f b)) → (owing code (length code) aims).done i f v tt (with_world s.world (newest_ended s))
+leave_piece : {e : Environment} {block : Names} {types : Types} (bl : Block e block types) {links : Links} {code :
+    List Instr} {level : ℕ} (callee : Callee bl) (k i resume : ℕ) (h t : ℕ → ℕ) {aims : Aims (Unit {0})} (closed :
+    Closed code aims) → resume ≤ most_code
+    → i + 3 + size_of (all_restored callee.held) + size_of (frame_ended callee.words) + 1 ≤ resume + length code
+    → Linked links code i (called_ended callee.words callee.held)
+    → ((s' : State) (v' : Services) (line' : ℕ) (n' : Values) (h' : ℕ → ℕ) (f' : Family) → Serving k s' v' line'
+    → AllHold bl.frames bl.serials (storage v') (e.level ∷ bl.depths) s' block types n'
+    → ((b : Base) → At b resume (Known (bl.ground n') v' h' t nothing b) (f' b)) → aims.done resume f' v' tt s')
+    → (s : State) (v : Services) (line : ℕ) (n : Values) (h1 t1 : ℕ → ℕ) (f : Family) (free : ℕ) → Serving k s v line
+    → AllHold (atop callee.at procedure_way bl.frames) bl.serials (storage v) (level ∷ e.level ∷ bl.depths) s block
+    types n → ((b : Base)
+    → At b i (Known (ending_ground bl callee (λ b'. address b' resume) h t n free) v h1 t1 nothing b) (f b))
+    → (owing code (length code) aims).done i f v tt (with_world s.world (newest_ended s))
 leave_piece {e} {block} {types} bl {code = code} callee k i resume h t closed near few l goal s v line n h1 t1 f free serving all at =
     let o = left_all s (storage v) serving.nested (inl callee.outer) (λ j kind at. bl.owners j at) all in
     let v' = ended_services v o.newest o.rest in
@@ -203,7 +223,27 @@ acted_does bl {c = c} {meaning = meaning} line fits d =
 
 -- ---- behind its act
 
-call_piece : {e : Environment} {block : Names} {types : Types} (bl : Block e block types) {links : Links} {code : List Instr} (around : Around) (more : ℕ) (head : Y.BlockHead) (body : Y.Stmts) (callee : Callee bl) (stands : StandsAt links code e head callee.words callee.held body) (list : ℤ) → (next : head.level ≡ 1) (main : ℕ) (mains : List Label) (has : HasMain main mains e.level e.block bl.labels bl.outer) → head.kind ≡ Y.ProcedureBlock → head.line < 2 ^ 31 → IsKnown (procedure_environment head e) → (makes : CalleeMakes bl callee head next main mains has) → CalleeStand bl callee head next main mains has links code → around.program ≡ e.program → around.enter ≡ M.entered e.program (suc more) → procedure_numbered head.number e.program.procedures ≡ Some (plain_procedure head body) → word list < 2 ^ 32 → CalleeDoes bl callee head next main mains has makes links code more body → {i : ℕ} {s : State} {v : Services} {h t : ℕ → ℕ} {aims : Aims (Unit {0})} (closed : Closed code aims) (n : Values) (f : Family) (k line : ℕ) → k < suc more + v.world.acts → (turns0 i0 acts0 : ℕ) → Enough bl links k turns0 i0 h t acts0 aims.jumped aims.returned → acts0 ≤ v.world.acts → Linked links code i (call_of e list head.number) → nat_lt (length s.activations) most_activations ≡ true → Serving k s v line → AllHold bl.frames bl.serials (storage v) (e.level ∷ bl.depths) s block types n → ((b : Base) → At b i (Known (bl.ground n) v h t nothing b) (f b)) → ((s' : State) (v' : Services) (line' : ℕ) (n' : Values) (h' : ℕ → ℕ) (f' : Family) → Serving k s' v' line' → AllHold bl.frames bl.serials (storage v') (e.level ∷ bl.depths) s' block types n' → ((b : Base) → At b (call_back i e list head.number) (Known (bl.ground n') v' h' t nothing b) (f' b)) → aims.done (call_back i e list head.number) f' v' tt s') → Comes code 0 f v (owing code (length code) aims) (call_part around head.number k s)
+call_piece : {e : Environment} {block : Names} {types : Types} (bl : Block e block types) {links : Links} {code :
+    List Instr} (around : Around) (more : ℕ) (head : Y.BlockHead) (body : Y.Stmts) (callee : Callee bl) (stands :
+    StandsAt links code e head callee.words callee.held body) (list : ℤ)
+    → (next : head.level ≡ 1) (main : ℕ) (mains : List Label) (has :
+    HasMain main mains e.level e.block bl.labels bl.outer) → head.kind ≡ Y.ProcedureBlock → head.line < 2 ^ 31
+    → IsKnown (procedure_environment head e) → (makes : CalleeMakes bl callee head next main mains has)
+    → CalleeStand bl callee head next main mains has links code → around.program ≡ e.program
+    → around.enter ≡ M.entered e.program (suc more) → procedure_numbered head.number e.program.procedures
+    ≡ Some (plain_procedure head body) → word list < 2 ^ 32
+    → CalleeDoes bl callee head next main mains has makes links code more body
+    → {i : ℕ} {s : State} {v : Services} {h t : ℕ → ℕ} {aims : Aims (Unit {0})} (closed : Closed code aims) (n :
+    Values) (f : Family) (k line : ℕ) → k < suc more + v.world.acts → (turns0 i0 acts0 : ℕ)
+    → Enough bl links k turns0 i0 h t acts0 aims.jumped aims.returned → acts0 ≤ v.world.acts
+    → Linked links code i (call_of e list head.number) → nat_lt (length s.activations) most_activations ≡ true
+    → Serving k s v line → AllHold bl.frames bl.serials (storage v) (e.level ∷ bl.depths) s block types n
+    → ((b : Base) → At b i (Known (bl.ground n) v h t nothing b) (f b))
+    → ((s' : State) (v' : Services) (line' : ℕ) (n' : Values) (h' : ℕ → ℕ) (f' : Family) → Serving k s' v' line'
+    → AllHold bl.frames bl.serials (storage v') (e.level ∷ bl.depths) s' block types n'
+    → ((b : Base) → At b (call_back i e list head.number) (Known (bl.ground n') v' h' t nothing b) (f' b))
+    → aims.done (call_back i e list head.number) f' v' tt s')
+    → Comes code 0 f v (owing code (length code) aims) (call_part around head.number k s)
 unfolding give ◌>>◌
 call_piece {e} {block} {types} bl {links} {code} around more head body callee stands list next main mains has kind fits known makes stand same enter found short does' {i} {s} {v} {h} {t} {aims} closed n f k line enough turns0 start0 acts0 ready less l few serving all at goal =
     let program = e.program in
@@ -292,14 +332,25 @@ call_piece {e} {block} {types} bl {links} {code} around more head body callee st
     (λ s5 v5 line5 n5 h5 t5 f5 free5 serving5 all5 at5. record { to = leave s5 v5 line5 n5 h5 t5 f5 free5 serving5 all5 at5 })))))))
 
 -- where too many blocks are entered the run ends
-limited_call : {e : Environment} {block : Names} {types : Types} (bl : Block e block types) {links : Links} {code : List Instr} (around : Around) (more : ℕ) (head : Y.BlockHead) (body : Y.Stmts) (callee : Callee bl) (stands : StandsAt links code e head callee.words callee.held body) (list : ℤ) → head.line < 2 ^ 31 → around.program ≡ e.program → around.enter ≡ M.entered e.program (suc more) → procedure_numbered head.number e.program.procedures ≡ Some (plain_procedure head body) → word list < 2 ^ 32 → {i : ℕ} {s : State} {v : Services} {h t : ℕ → ℕ} {aims : Aims (Unit {0})} (closed : Closed code aims) (n : Values) (f : Family) (k line : ℕ) → Linked links code i (call_of e list head.number) → nat_lt (length s.activations) most_activations ≡ false → Serving k s v line → ((b : Base) → At b i (Known (bl.ground n) v h t nothing b) (f b)) → Comes code 0 f v (owing code (length code) aims) (call_part around head.number k s)
+limited_call : {e : Environment} {block : Names} {types : Types} (bl : Block e block types) {links : Links} {code :
+    List Instr} (around : Around) (more : ℕ) (head : Y.BlockHead) (body : Y.Stmts) (callee : Callee bl) (stands :
+    StandsAt links code e head callee.words callee.held body) (list : ℤ) → head.line < 2 ^ 31
+    → around.program ≡ e.program → around.enter ≡ M.entered e.program (suc more)
+    → procedure_numbered head.number e.program.procedures ≡ Some (plain_procedure head body) → word list < 2 ^ 32
+    → {i : ℕ} {s : State} {v : Services} {h t : ℕ → ℕ} {aims : Aims (Unit {0})} (closed : Closed code aims) (n :
+    Values) (f : Family) (k line : ℕ) → Linked links code i (call_of e list head.number)
+    → nat_lt (length s.activations) most_activations ≡ false → Serving k s v line
+    → ((b : Base) → At b i (Known (bl.ground n) v h t nothing b) (f b))
+    → Comes code 0 f v (owing code (length code) aims) (call_part around head.number k s)
 limited_call {e} bl {code = code} around more head body callee stands list fits same enter found short {i} {s} {v} {h} {t} {aims} closed n f k line l many serving at =
     let debt = length code in
     let resume = call_back i e list head.number in
     let i0 = stands.entry in
     let fb = frame_begun callee.words 1 0 (Some callee.held) in
     let ec = called_entry head.line in
-    let behind' = (called_variables e head ++ (act_code head.line ++ stmts_code (procedure_environment head e) none_taken body)) ++ (Mark (ReturnPlace head.number) ∷ called_ended callee.words callee.held) in
+    let behind' =
+        (called_variables e head ++ (act_code head.line ++ stmts_code (procedure_environment head e) none_taken body))
+        ++ (Mark (ReturnPlace head.number) ∷ called_ended callee.words callee.held) in
     let mark : i0 + 0 ≡ i0 = omega arith in
     let l0 = linked_at i0 (fb ++ (ec ++ behind')) mark (rest_of (Mark (ProcedureEntry head.number)) (fb ++ (ec ++ behind')) stands.linked) in
     let le = front_of ec behind' (back_of fb (ec ++ behind') l0) in
@@ -325,7 +376,19 @@ limited_call {e} bl {code = code} around more head body callee stands list fits 
 
 -- ---- the statement
 
-pub own_call_does : {e : Environment} {block : Names} {types : Types} (bl : Block e block types) (links : Links) (code : List Instr) (around : Around) (more : ℕ) (head : Y.BlockHead) (body : Y.Stmts) (callee : Callee bl) (stands : StandsAt links code e head callee.words callee.held body) (list : ℤ) (line : ℕ) → (next : head.level ≡ 1) (main : ℕ) (mains : List Label) (has : HasMain main mains e.level e.block bl.labels bl.outer) → head.kind ≡ Y.ProcedureBlock → head.line < 2 ^ 31 → IsKnown (procedure_environment head e) → (makes : CalleeMakes bl callee head next main mains has) → CalleeStand bl callee head next main mains has links code → around.program ≡ e.program → Entering e.program around more → procedure_numbered head.number e.program.procedures ≡ Some (plain_procedure head body) → word list < 2 ^ 32 → line < 2 ^ 31 → ((more' : ℕ) → more ≡ suc more' → suc (length bl.depths) < most_activations → CalleeDoes bl callee head next main mains has makes links code more' body) → Does bl links code around.turns (act_code line ++ call_of e list head.number) (M.statement around (Y.CallProcedure (Y.Calling head.number 0 Y.NoArgument) line))
+pub own_call_does : {e : Environment} {block : Names} {types : Types} (bl : Block e block types) (links :
+    Links) (code : List Instr) (around : Around) (more : ℕ) (head : Y.BlockHead) (body : Y.Stmts) (callee :
+    Callee bl) (stands : StandsAt links code e head callee.words callee.held body) (list : ℤ) (line : ℕ)
+    → (next : head.level ≡ 1) (main : ℕ) (mains : List Label) (has :
+    HasMain main mains e.level e.block bl.labels bl.outer) → head.kind ≡ Y.ProcedureBlock → head.line < 2 ^ 31
+    → IsKnown (procedure_environment head e) → (makes : CalleeMakes bl callee head next main mains has)
+    → CalleeStand bl callee head next main mains has links code → around.program ≡ e.program
+    → Entering e.program around more → procedure_numbered head.number e.program.procedures
+    ≡ Some (plain_procedure head body) → word list < 2 ^ 32 → line < 2 ^ 31
+    → ((more' : ℕ) → more ≡ suc more' → suc (length bl.depths) < most_activations
+    → CalleeDoes bl callee head next main mains has makes links code more' body)
+    → Does bl links code around.turns (act_code line ++ call_of e list head.number)
+    (M.statement around (Y.CallProcedure (Y.Calling head.number 0 Y.NoArgument) line))
 unfolding M.statement ◌>>◌
 own_call_does {e} {block} {types} bl links code around zero head body callee stands list line next main mains has kind fits known makes stand same entering found short low does' =
     record {

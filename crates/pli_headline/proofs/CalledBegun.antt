@@ -1,5 +1,6 @@
 -- A called procedure inside the main one begins: its frame is filled, above the temporaries of its own.
-use Rattle.std.proofs.Common.{◌≡◌, ℕ, ◌+◌, ◌*◌, ◌^◌, ◌<◌, ◌≤◌, inl, inr, List, [], ◌∷◌, ◌++◌, length, Some, refl, ap, ◌∙◌, arith}
+use Rattle.std.proofs.Common.{◌≡◌, ℕ, ◌+◌, ◌*◌, ◌^◌, ◌<◌, ◌≤◌, inl, inr, List, [], ◌∷◌, ◌++◌, length, Some, refl, ap}
+use Rattle.std.proofs.Common.{◌∙◌, arith}
 use Rattle.std.specs.Prelude.{pos}
 use Rattle.rv_meaning.specs.declared.instr.Instr.{Instr}
 use Rattle.rv_meaning.specs.declared.instr.Instr.TheVariants as I
@@ -63,7 +64,12 @@ filled_code =
 only_level : (m : List ℕ) (at x j : ℕ) → j < 1 → load 4 m (at + 144) ≡ x → load 4 m (at + (144 + 4 * j)) ≡ x
 only_level m at x j few e = ap (λ u. load 4 m u) (omega (arith, few)) ∙ e
 
-filled_path : {e : Environment} {block : Names} {types : Types} (bl : Block e block types) (callee : Callee bl) (back : Base → ℕ) (texts : ℕ) (n : Values) (links : Links) (code : List Instr) (i : ℕ) (v : Services) (h t0 : ℕ → ℕ) (b : Base) (w : Whole) → 0 < i → length code ≤ most_code → Known (saved_ground (bl.ground n) callee.at back h callee.held) v h t0 (called_regs callee.at bl.base texts back) b w → Items links code b i filled_code w (Known (filled_ground bl callee back h t0 n) v h unknown (with_texts texts) b)
+filled_path : {e : Environment} {block : Names} {types : Types} (bl : Block e block types) (callee :
+    Callee bl) (back : Base → ℕ) (texts : ℕ) (n : Values) (links : Links) (code : List Instr) (i : ℕ) (v :
+    Services) (h t0 : ℕ → ℕ) (b : Base) (w : Whole) → 0 < i → length code ≤ most_code
+    → Known (saved_ground (bl.ground n) callee.at back h callee.held) v h t0
+    (called_regs callee.at bl.base texts back) b w
+    → Items links code b i filled_code w (Known (filled_ground bl callee back h t0 n) v h unknown (with_texts texts) b)
 filled_path bl callee back texts n links code i v h t0 b w later small' k =
     let g = bl.ground n in
     let x = w.machine.registers in
@@ -116,7 +122,10 @@ filled_path bl callee back texts n links code i v h t0 b w later small' k =
                     memory = record {
                       kept = (
                         keeps m3 (at + 36) own (omega (arith, above)) (keeps m2 (at + 144) (x 10) (omega (arith, above)) (keeps m1 (at + 40) top (omega (arith, above)) (keeps m (at + 4) (x 8) (omega (arith, above)) k.body.memory.0))),
-                        saved_beside (at + 36) own callee.few (inr (omega arith)) (saved_beside (at + 144) (x 10) callee.few (inr (omega arith)) (saved_beside (at + 40) top callee.few (inr (omega arith)) (saved_beside (at + 4) (x 8) callee.few (inl refl) k.body.memory.1))),
+                        saved_beside (at + 36) own callee.few (inr (omega arith))
+                            (saved_beside (at + 144) (x 10) callee.few (inr (omega arith))
+                            (saved_beside (at + 40) top callee.few (inr (omega arith))
+                            (saved_beside (at + 4) (x 8) callee.few (inl refl) k.body.memory.1))),
                       );
                       below =
                           load-store_other 4 4 m3 (at + 36) own (at + 4) (inl (omega arith))
@@ -186,7 +195,14 @@ entry_with base texts back b = (10, b.at + base) ∷ (12, texts) ∷ (1, back b)
 abbrev pub entry_regs : (base : ℕ) → (back : Base → ℕ) → Base → List (ℕ × ℕ)
 entry_regs base back = entry_with base 0 back
 
-pub called_frame : {e : Environment} {block : Names} {types : Types} (bl : Block e block types) (callee : Callee bl) (back : Base → ℕ) → ((b : Base) → back b < 2 ^ 32) → (texts : ℕ) (n : Values) {links : Links} {code : List Instr} {i : ℕ} {v : Services} {h t0 : ℕ → ℕ} (c : ℕ) (f : Family) → 0 < i → Linked links code i (frame_begun callee.words 1 0 (Some callee.held)) → ((b : Base) → At b i (Known (bl.ground n) v h t0 (entry_with bl.base texts back) b) (f b)) → Reach code c f v (c + size_of (frame_begun callee.words 1 0 (Some callee.held))) v (λ b w. At b (i + size_of (frame_begun callee.words 1 0 (Some callee.held))) (Known (called_ground bl callee back h t0 n) v h unknown (with_texts texts) b) w)
+pub called_frame : {e : Environment} {block : Names} {types : Types} (bl : Block e block types) (callee :
+    Callee bl) (back : Base → ℕ) → ((b : Base) → back b < 2 ^ 32) → (texts : ℕ) (n : Values) {links : Links} {code :
+    List Instr} {i : ℕ} {v : Services} {h t0 : ℕ → ℕ} (c : ℕ) (f : Family) → 0 < i
+    → Linked links code i (frame_begun callee.words 1 0 (Some callee.held))
+    → ((b : Base) → At b i (Known (bl.ground n) v h t0 (entry_with bl.base texts back) b) (f b))
+    → Reach code c f v (c + size_of (frame_begun callee.words 1 0 (Some callee.held))) v
+    (λ b w. At b (i + size_of (frame_begun callee.words 1 0 (Some callee.held)))
+    (Known (called_ground bl callee back h t0 n) v h unknown (with_texts texts) b) w)
 called_frame bl callee back fits texts n {links} {code} {i} {v} {h} {t0} c f later l there =
     let g = bl.ground n in
     let size = temporary_bytes callee.words in
@@ -213,7 +229,10 @@ called_frame bl callee back fits texts n {links} {code} {i} {v} {h} {t0} c f lat
     (record { reserved_stay = λ y u. refl; known_stay = λ b y u o. o; set = λ y u. refl })
     (front_of up r1 l) there in
     let c1 = c + size_of up in
-    let s2 = saved_piece callee.at back (called_regs callee.at bl.base texts back) (record { frame = λ b y k. k.0; return = λ b y k. k.1.1.1.0; far = record { reserved_stay = λ y u. refl; known_stay = λ b y u o. o; set = λ y u. refl } }) h callee.held callee.few (saving_at bl callee n t0) fits c1 (reached s1) (front_of saves r2 l1) (reached_holds s1) in
+    let s2 = saved_piece callee.at back (called_regs callee.at bl.base texts back)
+        (record { frame = λ b y k. k.0; return = λ b y k. k.1.1.1.0; far =
+        record { reserved_stay = λ y u. refl; known_stay = λ b y u o. o; set = λ y u. refl } }) h callee.held
+        callee.few (saving_at bl callee n t0) fits c1 (reached s1) (front_of saves r2 l1) (reached_holds s1) in
     let c2 = c1 + size_of saves in
     let s3 = straight c2 (reached s2) v v (λ b w. Known (filled_ground bl callee back h t0 n) v h unknown (with_texts texts) b w) (front_of filled_code raised l2) (omega arith) (λ b. (reached_holds s2 b).pc)
     (λ b. filled_path bl callee back texts n links code (i + size_of up + size_of saves) v h t0 b (reached s2 b) (omega (arith, later)) l.small' (reached_holds s2 b).holds) in

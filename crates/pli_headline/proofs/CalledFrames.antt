@@ -54,7 +54,8 @@ saved_below {at} {m = m} w p x below s =
       registers = λ j few. load-store_other w 4 m p x (at + (8 + 4 * j)) (inr (omega (arith, below))) ∙ s.registers j few;
     }
 
-pub saved_beside : {at back count : ℕ} {h : ℕ → ℕ} {m : List ℕ} (p x : ℕ) → count ≤ 7 → (p ≡ at + 4) ⊎ (at + 36 ≤ p) → Saved at back h count m → Saved at back h count (store 4 m p x)
+pub saved_beside : {at back count : ℕ} {h : ℕ → ℕ} {m : List ℕ} (p x : ℕ) → count ≤ 7 → (p ≡ at + 4) ⊎ (at + 36 ≤ p)
+    → Saved at back h count m → Saved at back h count (store 4 m p x)
 saved_beside {at} {m = m} p x most (inl e) s =
     record {
       return = load-store_other 4 4 m p x at (inl (omega (arith, e))) ∙ s.return;
@@ -63,22 +64,28 @@ saved_beside {at} {m = m} p x most (inl e) s =
 saved_beside {at} {m = m} p x most (inr above) s =
     record {
       return = load-store_other 4 4 m p x at (inl (omega (arith, above))) ∙ s.return;
-      registers = λ j few. load-store_other 4 4 m p x (at + (8 + 4 * j)) (inl (omega (arith, above, few, most))) ∙ s.registers j few;
+      registers = λ j few. load-store_other 4 4 m p x (at + (8 + 4 * j)) (inl (omega (arith, above, few, most)))
+          ∙ s.registers j few;
     }
 
 -- what is written behind them
-pub saved_behind : {at back count : ℕ} {h : ℕ → ℕ} {m : List ℕ} (w p x : ℕ) → count ≤ 7 → at + 36 ≤ p → Saved at back h count m → Saved at back h count (store w m p x)
+pub saved_behind : {at back count : ℕ} {h : ℕ → ℕ} {m : List ℕ} (w p x : ℕ) → count ≤ 7 → at + 36 ≤ p
+    → Saved at back h count m → Saved at back h count (store w m p x)
 saved_behind {at} {m = m} w p x most above s =
     record {
       return = load-store_other w 4 m p x at (inl (omega (arith, above))) ∙ s.return;
-      registers = λ j few. load-store_other w 4 m p x (at + (8 + 4 * j)) (inl (omega (arith, above, few, most))) ∙ s.registers j few;
+      registers = λ j few. load-store_other w 4 m p x (at + (8 + 4 * j)) (inl (omega (arith, above, few, most)))
+          ∙ s.registers j few;
     }
 
-pub saved_behind_bytes : {at back count : ℕ} {h : ℕ → ℕ} {m : List ℕ} (bytes : List ℕ) (p : ℕ) → p + length bytes ≤ length m → count ≤ 7 → at + 36 ≤ p → Saved at back h count m → Saved at back h count (with_bytes bytes p m)
+pub saved_behind_bytes : {at back count : ℕ} {h : ℕ → ℕ} {m : List ℕ} (bytes : List ℕ) (p : ℕ)
+    → p + length bytes ≤ length m → count ≤ 7 → at + 36 ≤ p → Saved at back h count m
+    → Saved at back h count (with_bytes bytes p m)
 saved_behind_bytes {at} {m = m} bytes p room most above s =
     record {
       return = load-with_other 4 bytes m p at room (inl (omega (arith, above))) ∙ s.return;
-      registers = λ j few. load-with_other 4 bytes m p (at + (8 + 4 * j)) room (inl (omega (arith, above, few, most))) ∙ s.registers j few;
+      registers = λ j few. load-with_other 4 bytes m p (at + (8 + 4 * j)) room (inl (omega (arith, above, few, most)))
+          ∙ s.registers j few;
     }
 
 pub saved_beside_text : {at back count : ℕ} {h : ℕ → ℕ} {m : List ℕ} (bytes : List ℕ) (p : ℕ) → p + length bytes ≤ length m → p + length bytes ≤ at → Saved at back h count m → Saved at back h count (with_bytes bytes p m)
@@ -304,14 +311,16 @@ called_block_as {e} bl callee back h0 t0 owner kind head next o c seen =
         above = omega arith;
         over = omega (arith, lowest, above);
         keeps = λ n t b m w p x over o. record {
-          kept = (bl.stack.keeps n t0 b m w p x (omega (arith, above, over)) o.kept.0, saved_behind w p x callee.few (omega (arith, over)) o.kept.1);
+          kept = (bl.stack.keeps n t0 b m w p x (omega (arith, above, over)) o.kept.0,
+              saved_behind w p x callee.few (omega (arith, over)) o.kept.1);
           below = load-store_other w 4 m p x (callee.at + 4) (inl (omega (arith, over))) ∙ o.below;
           own = load-store_other w 4 m p x (callee.at + 36) (inl (omega (arith, over))) ∙ o.own;
           shown = λ i h. load-store_other w 4 m p x (callee.at + (144 + 4 * i)) (inl (omega (arith, over, h))) ∙ o.shown i h;
           temporaries = λ i h known. load-store_other w 4 m p x (callee.at - 4 * suc i) (inl (omega (arith, over, above, h))) ∙ o.temporaries i h known;
         };
         keeps_bytes = λ n t b m bytes p over room o. record {
-          kept = (bl.stack.keeps_bytes n t0 b m bytes p (omega (arith, above, over)) room o.kept.0, saved_behind_bytes bytes p room callee.few (omega (arith, over)) o.kept.1);
+          kept = (bl.stack.keeps_bytes n t0 b m bytes p (omega (arith, above, over)) room o.kept.0,
+              saved_behind_bytes bytes p room callee.few (omega (arith, over)) o.kept.1);
           below = load-with_other 4 bytes m p (callee.at + 4) room (inl (omega (arith, over))) ∙ o.below;
           own = load-with_other 4 bytes m p (callee.at + 36) room (inl (omega (arith, over))) ∙ o.own;
           shown = λ i h. load-with_other 4 bytes m p (callee.at + (144 + 4 * i)) room (inl (omega (arith, over, h))) ∙ o.shown i h;

@@ -52,7 +52,9 @@ return_sum b x j near e = let v = b.valid.1 in omega (arith, e, near, v)
 abbrev pub ending_ground : {e : Environment} {block : Names} {types : Types} (bl : Block e block types) → Callee bl → (back : Base → ℕ) → (h0 t0 : ℕ → ℕ) → Values → (free : ℕ) → Ground
 ending_ground bl callee back h0 t0 n free = lower_ground (called_ground bl callee back h0 t0 n) free
 
-pub ending_saved : {e : Environment} {block : Names} {types : Types} (bl : Block e block types) (callee : Callee bl) (back : Base → ℕ) (h0 t0 : ℕ → ℕ) (n : Values) (free : ℕ) (t : ℕ → ℕ) → SavedIn (ending_ground bl callee back h0 t0 n free) t back h0 callee.held
+pub ending_saved : {e : Environment} {block : Names} {types : Types} (bl : Block e block types) (callee :
+    Callee bl) (back : Base → ℕ) (h0 t0 : ℕ → ℕ) (n : Values) (free : ℕ) (t : ℕ → ℕ)
+    → SavedIn (ending_ground bl callee back h0 t0 n free) t back h0 callee.held
 ending_saved bl callee back h0 t0 n free t =
     let above = inner_above callee.at bl.stack.free callee.words callee.place in
     let room = callee.room in
@@ -144,7 +146,14 @@ returned_piece {code = code} {i = i} {g = g} {v = v} {h = h} {t = t} c f resume 
     ))
 
 -- the registers hold again what the caller's did, as far as a word holds it
-pub called_left : {e : Environment} {block : Names} {types : Types} (bl : Block e block types) (callee : Callee bl) (resume : ℕ) (n : Values) (free : ℕ) {links : Links} {code : List Instr} {i : ℕ} {v : Services} {h0 h t0 t : ℕ → ℕ} (c : ℕ) (f : Family) (a : S.Activation) (rest : List S.Activation) → resume ≤ most_code → v.activations ≡ a ∷ rest → Linked links code i (called_ended callee.words callee.held) → ((b : Base) → At b i (Known (ending_ground bl callee (λ b'. address b' resume) h0 t0 n free) v h t nothing b) (f b)) → Reach code c f v (c + 3 + size_of (all_restored callee.held) + size_of (frame_ended callee.words) + 1) (ended_services v a rest) (λ b w. At b resume (Known (bl.ground n) (ended_services v a rest) (held_again h0 0 callee.held h) t0 nothing b) w)
+pub called_left : {e : Environment} {block : Names} {types : Types} (bl : Block e block types) (callee :
+    Callee bl) (resume : ℕ) (n : Values) (free : ℕ) {links : Links} {code : List Instr} {i : ℕ} {v :
+    Services} {h0 h t0 t : ℕ → ℕ} (c : ℕ) (f : Family) (a : S.Activation) (rest : List S.Activation)
+    → resume ≤ most_code → v.activations ≡ a ∷ rest → Linked links code i (called_ended callee.words callee.held)
+    → ((b : Base) → At b i (Known (ending_ground bl callee (λ b'. address b' resume) h0 t0 n free) v h t nothing b)
+    (f b)) → Reach code c f v (c + 3 + size_of (all_restored callee.held) + size_of (frame_ended callee.words) + 1)
+    (ended_services v a rest)
+    (λ b w. At b resume (Known (bl.ground n) (ended_services v a rest) (held_again h0 0 callee.held h) t0 nothing b) w)
 called_left bl callee resume n free {h0 = h0} {h = h} {t0 = t0} {t = t} c f a rest near e l there =
     let back : Base → ℕ = λ b. address b resume in
     let asked = block_left 0 in
@@ -154,7 +163,10 @@ called_left bl callee resume n free {h0 = h0} {h = h} {t0 = t0} {t = t} c f a re
     let l1 = back_of asked (restored ++ ended) l in
     let l2 = back_of restored ended l1 in
     let r1 = asked_piece bl callee back n free c f a rest e (front_of asked (restored ++ ended) l) there in
-    let r2 = restored_piece back h0 (ending_saved bl callee back h0 t0 n free t) h (c + 3) (reached r1) (front_of restored ended l1) (reached_holds r1) in
-    let r3 = lowered_piece bl callee back n free (c + 3 + size_of restored) (reached r2) (front_of lower jump_back l2) (reached_holds r2) in
-    let r4 = returned_piece (c + 3 + size_of restored + size_of lower) (reached r3) resume near (back_of lower jump_back l2) (reached_holds r3) in
+    let r2 = restored_piece back h0 (ending_saved bl callee back h0 t0 n free t) h (c + 3) (reached r1)
+        (front_of restored ended l1) (reached_holds r1) in
+    let r3 = lowered_piece bl callee back n free (c + 3 + size_of restored) (reached r2) (front_of lower jump_back l2)
+        (reached_holds r2) in
+    let r4 = returned_piece (c + 3 + size_of restored + size_of lower) (reached r3) resume near
+        (back_of lower jump_back l2) (reached_holds r3) in
     reach_then r1 (reach_then r2 (reach_then r3 r4))

@@ -1,5 +1,6 @@
 -- The code of a program that is proved names the format lists of its PUT statements and no other data.
-use Rattle.std.proofs.Common.{◌≡◌, ℕ, suc, ◌+◌, List, [], ◌∷◌, ◌++◌, map, length, None, Bool, true, false, refl, sym, ap, ◌∙◌, subst, append_assoc, append-nil, Some, zero}
+use Rattle.std.proofs.Common.{◌≡◌, ℕ, suc, ◌+◌, List, [], ◌∷◌, ◌++◌, map, length, None, Bool, true, false, refl, sym}
+use Rattle.std.proofs.Common.{ap, ◌∙◌, subst, append_assoc, append-nil, Some, zero}
 use Rattle.std.specs.Prelude.{ℤ, min, pos, neg_ℤ, cond, ◌&&◌}
 use Rattle.rv_meaning.specs.declared.instr.Register.{Register}
 use Rattle.rv_meaning.specs.declared.instr.BranchTest.TheVariants as Test
@@ -9,10 +10,12 @@ use Rattle.pli_language.specs.Tree as T
 use Rattle.pli_typing.specs.TypedTree as Y
 use Rattle.pli_meaning.specs.Codes.{fixed_overflow_code}
 use Rattle.pli_meaning.specs.DeclaredShapes.{variables_of_block}
-use Rattle.pli_coding.specs.Registers.{zero_register, return_register, frame_register, stack_register, a0, a1, a2, a3, a4, u0, u1, u5, held}
+use Rattle.pli_coding.specs.Registers.{zero_register, return_register, frame_register, stack_register, a0, a1, a2, a3}
+use Rattle.pli_coding.specs.Registers.{a4, u0, u1, u5, held}
 use Rattle.pli_coding.specs.Assembly.{Datum, Plain, BaseIn, OffsetOf, OffsetAhead, JumpTo, CallTo, JumpAhead, JumpBack, Mark, Code, size_of}
 use Rattle.pli_coding.specs.Instructions.{is_immediate, move, small, constant, number, plus, load_word, store_word, choice, service}
-use Rattle.pli_coding.specs.Frames.{frame_below, own_offset, temporary_bytes, name_bytes, frame_bytes, last_place, automatic_place, words_place, saved_register}
+use Rattle.pli_coding.specs.Frames.{frame_below, own_offset, temporary_bytes, name_bytes, frame_bytes, last_place}
+use Rattle.pli_coding.specs.Frames.{automatic_place, words_place, saved_register}
 use Rattle.pli_coding.specs.StaticData.{data_of_symbol, data_named}
 use Rattle.pli_coding.specs.StaticForms.{formats_datum}
 use Rattle.pli_coding.specs.Environments.{Environment, Taken, none_taken, is_register_left, with_number, save, fetch}
@@ -23,7 +26,8 @@ use Rattle.pli_coding.specs.Storing.{word_stored}
 use Rattle.pli_coding.specs.Streams.{has_fixed, has_text, number_written, text_written, number_put, as_text, item_put, items_put, edit_ended, put_pair, put_pairs}
 use Rattle.pli_coding.specs.Extents.{initial_code}
 use Rattle.pli_coding.specs.Allocating.{act_code}
-use Rattle.pli_coding.specs.Entries.{frame_begun, block_entered, constant_made, variables_made, variables_code, all_saved, all_restored, registers_saved, registers_restored}
+use Rattle.pli_coding.specs.Entries.{frame_begun, block_entered, constant_made, variables_made, variables_code}
+use Rattle.pli_coding.specs.Entries.{all_saved, all_restored, registers_saved, registers_restored}
 use Rattle.pli_coding.specs.Statements.{stmt_code, stmts_code, stmts_words, block_words, marked, block_held}
 use Rattle.pli_coding.specs.Procedures.{procedure_begun, procedure_ended, procedure_in}
 use Rattle.pli_coding.specs.Images.{raise_code, code_of}
@@ -241,14 +245,17 @@ entered_none line = behind (number a2 line) (service 4) [] (constant_none a2 (po
 registers_saved_none : (n left : ℕ) → Names (registers_saved u0 n left) []
 registers_saved_none n zero = refl
 registers_saved_none n (suc left) =
-    behind (store_word u0 (held n) (saved_register n)) (registers_saved u0 (suc n) left) [] (store_none u0 (held n) (saved_register n)) (registers_saved_none (suc n) left)
+    behind (store_word u0 (held n) (saved_register n)) (registers_saved u0 (suc n) left) []
+        (store_none u0 (held n) (saved_register n)) (registers_saved_none (suc n) left)
 
 registers_restored_none : (n left : ℕ) → Names (registers_restored n left) []
 registers_restored_none n zero = refl
 registers_restored_none n (suc left) =
-    behind (load_word (held n) frame_register (saved_register n)) (registers_restored (suc n) left) [] (load_none (held n) frame_register (saved_register n)) (registers_restored_none (suc n) left)
+    behind (load_word (held n) frame_register (saved_register n)) (registers_restored (suc n) left) []
+        (load_none (held n) frame_register (saved_register n)) (registers_restored_none (suc n) left)
 
-ended_none : (e : Environment) (head : Y.BlockHead) (words count : ℕ) → Names (procedure_ended e head words count None) []
+ended_none : (e : Environment) (head : Y.BlockHead) (words count : ℕ)
+    → Names (procedure_ended e head words count None) []
 ended_none e head words count =
     let z : ℤ = neg_ℤ (pos (temporary_bytes words)) in
     let up = plus stack_register frame_register z in
@@ -259,15 +266,18 @@ ended_none e head words count =
 
 begun_none : (words count : ℕ) → Names (frame_begun words 0 0 (Some count)) []
 begun_none words count =
-    behind (plus u0 stack_register (pos (temporary_bytes words))) (all_saved u0 count ++ frame_filled) [] (plus_none u0 stack_register (pos (temporary_bytes words)))
+    behind (plus u0 stack_register (pos (temporary_bytes words))) (all_saved u0 count ++ frame_filled) []
+        (plus_none u0 stack_register (pos (temporary_bytes words)))
     (behind (all_saved u0 count) frame_filled [] (registers_saved_none 0 count) refl)
 
-prologue_none : (e : Environment) (block line words count : ℕ) → AreNumbers (variables_of_block e.program e.block) → Names (procedure_begun (outermost e) (main_head block line) words count []) []
+prologue_none : (e : Environment) (block line words count : ℕ) → AreNumbers (variables_of_block e.program e.block)
+    → Names (procedure_begun (outermost e) (main_head block line) words count []) []
 prologue_none e block line words count plain =
     let made = variables_code (outermost e) line in
     let act = act_code line in
     let entered = block_entered 0 line in
-    behind (frame_begun words 0 0 (Some count)) (move u5 a1 ∷ move a3 a2 ∷ (entered ++ (made ++ act))) [] (begun_none words count)
+    behind (frame_begun words 0 0 (Some count)) (move u5 a1 ∷ move a3 a2 ∷ (entered ++ (made ++ act))) []
+        (begun_none words count)
     (behind entered (made ++ act) [] (entered_none line)
     (behind made act [] (variables_none e line 0 (variables_of_block e.program e.block) plain) (act_none line)))
 
@@ -282,8 +292,11 @@ program_names program block line body plain alone none are =
     let code = stmts_code e none_taken body in
     let ended = procedure_ended e (main_head block line) words count None in
     let inside : Names (begun ++ (code ++ ended)) (stmts_data body) =
-    behind begun (code ++ ended) (stmts_data body) (prologue_none e block line words count (block_numbers program.variables block plain))
-    (then_names code ended (stmts_data body) [] (statements_name e none_taken block (length (variables_of_block program block)) body (block_numbers program.variables block plain, refl) are) (ended_none e (main_head block line) words count)
+    behind begun (code ++ ended) (stmts_data body)
+        (prologue_none e block line words count (block_numbers program.variables block plain))
+    (then_names code ended (stmts_data body) []
+        (statements_name e none_taken block (length (variables_of_block program block)) body
+        (block_numbers program.variables block plain, refl) are) (ended_none e (main_head block line) words count)
     ∙ append-nil (stmts_data body)) in
     ap data_named (code_is program block line body (all_numbers_plain program.variables plain) alone ∙ only_main program block line body alone.others none)
     ∙ behind (start_of block) (raise_code ++ procedure_in e (main_head block line) body [] None) (stmts_data body) refl

@@ -29,15 +29,19 @@ neg_wide : (n : ℕ) → n < 2 ^ 31 → IsWide (neg_ℤ (pos n))
 neg_wide n h = grind (arith, nat_tests, ints)
 
 -- a value that fits is what a check gives
-fits_given : (around : Around) (z : ℤ) (k : ℕ) (s : State) → IsWide z → R.value_of around (cond (is_of_precision 31 z) (Gives z) (Raises C.FixedOverflow 20 (wrapped 31 z))) k s ≡ give z k s
+fits_given : (around : Around) (z : ℤ) (k : ℕ) (s : State) → IsWide z
+    → R.value_of around (cond (is_of_precision 31 z) (Gives z) (Raises C.FixedOverflow 20 (wrapped 31 z))) k s
+    ≡ give z k s
 unfolding R.value_of
-fits_given around z k s e = ap (λ q. R.value_of around (cond q (Gives z) (Raises C.FixedOverflow 20 (wrapped 31 z))) k s) e
+fits_given around z k s e =
+    ap (λ q. R.value_of around (cond q (Gives z) (Raises C.FixedOverflow 20 (wrapped 31 z))) k s) e
 
 signed_wide : (sign : Y.Sign) (n : ℕ) → n < 2 ^ 31 → IsWide (signed_result sign (pos n))
 signed_wide Y.Positive n h = pos_wide n h
 signed_wide Y.Negative n h = neg_wide n h
 
-pub constant_means : (names : Names) (types : Types) (x : Y.Number) (z : ℤ) → IsProvedNumber names types x → constant_step x ≡ Some z → Constant x z
+pub constant_means : (names : Names) (types : Types) (x : Y.Number) (z : ℤ) → IsProvedNumber names types x
+    → constant_step x ≡ Some z → Constant x z
 unfolding V.number ◌>>=◌ give
 constant_means names types (Y.NumberConstant n) z is e =
     let same = same_Some (pos n) z e in

@@ -23,7 +23,8 @@ use Rattle.pli_coding.specs.Arithmetic.{fitted_code}
 use Rattle.pli_coding.specs.Environments.{Environment, Taken}
 use Rattle.pli_coding.specs.Storing.{word_stored}
 use Rattle.pli_coding.specs.Temporaries.{number_words, bit_words, text_words, reference_words, subscripts_words}
-use Rattle.pli_coding.specs.Statements.{constant_step, in_turns, limit_code, step_code, number_if, stmts_code, bit_if, before_turns, start_code, start_loaded, stmt_code}
+use Rattle.pli_coding.specs.Statements.{constant_step, in_turns, limit_code, step_code, number_if, stmts_code, bit_if}
+use Rattle.pli_coding.specs.Statements.{before_turns, start_code, start_loaded, stmt_code}
 use Rattle.pli_coding.specs.Linking.{Links}
 use Rattle.pli_headline.specs.ProvedSoFar.{Names, Types, IsProvedNumber, IsProvedNumberIf, IsProvedBitIf, IsPart, IsAssigned, AreSubscripts, AreProvedNumbers, IsProvedBit, IsProvedStart, IsProvedText}
 use Rattle.pli_headline.proofs.Storages.{storage}
@@ -73,9 +74,28 @@ count_rest around line counter limit step condition part value =
     (M.limit_of (at_line around line) limit) >>= (λ most. (V.number (at_line around line) step) >>= (λ by. (M.counter_started (at_line around line) counter value) >>= (stored_first around line counter most by condition part)))
 
 -- the number in a0 is what the variable begins with, and the turns come
-begun_piece : {links : Links} {code : List Instr} {i : ℕ} {v : Services} {h0 t0 h t : ℕ → ℕ} {s : State} {aims : Aims (Unit {0})} {e : Environment} {block : Names} {types : Types} (bl : Block e block types) (routines : Standing bl links code) (around : Around) (r : Y.Reference) (p : ℕ) (limit : Option Y.Number) (most : Option ℤ) (fixed : Option ℤ) (by : ℤ) (condition : Option Y.Bit) (line : ℕ) (c : Code) (part : Meaning (Unit {0})) → Counts bl links code r p → IsWide by → IsProvedBitIf block types condition → bl.taken.words + 3 ≤ bl.words → bl.taken.words + 2 + bit_if condition ≤ bl.words → line < 2 ^ 31 → Does (turning bl) links code around.turns c part → (closed : Closed code aims) (n : Values) (f : Family) (k : ℕ) (z : ℤ) → IsWide z → Linked links code i (fitted_code (in_turns bl.taken) p) → Linked links code (i + size_of (fitted_code (in_turns bl.taken) p)) (turns_of bl r p limit fixed condition line c) → LimitWaits limit most t bl.taken.words → StepWaits fixed by t (bl.taken.words + 1) → Serving k s v line → AllHold bl.frames bl.serials (storage v) (e.level ∷ bl.depths) s block types n → ((b : Base) → At b i (Known (bl.ground n) v h t (valued (word z)) b) (f b)) → Stays bl.taken h0 t0 h t → Behind bl k h0 t0 (i + size_of (fitted_code (in_turns bl.taken) p) + size_of (turns_of bl r p limit fixed condition line c)) aims → Enough bl links k around.turns i h0 t0 v.world.acts aims.jumped aims.returned → Comes code i f v (before code aims k (stored_first around line (Y.NumberCounter p r) most by condition part)) (M.counter_value (at_line around line) (Y.NumberCounter p r) z k s)
+begun_piece : {links : Links} {code : List Instr} {i : ℕ} {v : Services} {h0 t0 h t : ℕ → ℕ} {s : State} {aims :
+    Aims (Unit {0})} {e : Environment} {block : Names} {types : Types} (bl : Block e block types) (routines :
+    Standing bl links code) (around : Around) (r : Y.Reference) (p : ℕ) (limit : Option Y.Number) (most :
+    Option ℤ) (fixed : Option ℤ) (by : ℤ) (condition : Option Y.Bit) (line : ℕ) (c : Code) (part : Meaning (Unit {0}))
+    → Counts bl links code r p → IsWide by → IsProvedBitIf block types condition → bl.taken.words + 3 ≤ bl.words
+    → bl.taken.words + 2 + bit_if condition ≤ bl.words → line < 2 ^ 31
+    → Does (turning bl) links code around.turns c part → (closed : Closed code aims) (n : Values) (f : Family) (k :
+    ℕ) (z : ℤ) → IsWide z → Linked links code i (fitted_code (in_turns bl.taken) p)
+    → Linked links code (i + size_of (fitted_code (in_turns bl.taken) p))
+    (turns_of bl r p limit fixed condition line c) → LimitWaits limit most t bl.taken.words
+    → StepWaits fixed by t (bl.taken.words + 1) → Serving k s v line
+    → AllHold bl.frames bl.serials (storage v) (e.level ∷ bl.depths) s block types n
+    → ((b : Base) → At b i (Known (bl.ground n) v h t (valued (word z)) b) (f b)) → Stays bl.taken h0 t0 h t
+    → Behind bl k h0 t0 (i + size_of (fitted_code (in_turns bl.taken) p)
+    + size_of (turns_of bl r p limit fixed condition line c)) aims
+    → Enough bl links k around.turns i h0 t0 v.world.acts aims.jumped aims.returned
+    → Comes code i f v (before code aims k (stored_first around line (Y.NumberCounter p r) most by condition part))
+    (M.counter_value (at_line around line) (Y.NumberCounter p r) z k s)
 unfolding M.counter_value ◌>>=◌ ◌>>◌ give
-begun_piece {i = i} {v = v} {t = t} {s = s} {e = e} {block = block} {types = types} bl routines around r p limit most fixed by condition line c part counts wby isc room roomc fits inner closed n f k z wz lf lt waits at_step serving all at stays goal more =
+begun_piece {i = i} {v = v} {t = t} {s = s} {e = e} {block = block} {types = types} bl routines around r p limit most
+    fixed by condition line c part counts wby isc room roomc fits inner closed n f k z wz lf lt waits at_step serving
+    all at stays goal more =
     let here = at_line around line in
     let takes = counts.takes in
     let counter = Y.NumberCounter p r in
@@ -103,7 +123,9 @@ begun_piece {i = i} {v = v} {t = t} {s = s} {e = e} {block = block} {types = typ
           (takes.does (before_closed k goes closed) f1 here z n k (few, fits1) lst serving all at1
           (λ s2 n2 h2 t2 f2 serving2 all2 stays2 at2.
           let before2 = stays_then stays (stays_fewer 2 stays2) in
-          head_piece bl routines around r p limit most fixed by condition line c part counts wby isc room roomc fits inner around.turns closed (i4 + size_of st) line n2 f2 k (let q = more.enough in omega (arith, q)) (omega (arith, inside, s6, s7)) lt
+          head_piece bl routines around r p limit most fixed by condition line c part counts wby isc room roomc fits
+              inner around.turns closed (i4 + size_of st) line n2 f2 k (let q = more.enough in omega (arith, q))
+              (omega (arith, inside, s6, s7)) lt
           (limit_stays limit most _ t2 w (stays2.words w (omega arith)) waits)
           (step_stays fixed by t t2 (w + 1) (stays2.words (w + 1) (omega arith)) at_step)
           serving2 all2 at2
@@ -127,7 +149,20 @@ abbrev count_ahead : Environment → Taken → (p : ℕ) → Option Y.Number →
 count_ahead e taken p limit step c0 c3 =
     c0 ++ (limit_code e taken limit ++ (step_code e taken step ++ (c3 ++ fitted_code (in_turns taken) p)))
 
-count_does : {e : Environment} {block : Names} {types : Types} (bl : Block e block types) (links : Links) (code : List Instr) (routines : Standing bl links code) (around : Around) (r : Y.Reference) (p : ℕ) (start : Y.Value) (c0 c3 : Code) (limit : Option Y.Number) (step : Y.Number) (condition : Option Y.Bit) (body : Y.Stmts) (line : ℕ) → Starts bl links code (at_line around line) r p start c0 c3 → Counts bl links code r p → IsProvedNumberIf block types limit → IsProvedNumber block types step → IsProvedBitIf block types condition → bl.taken.words + 3 ≤ bl.words → bl.taken.words + 3 + number_if limit ≤ bl.words → bl.taken.words + 3 + number_words step ≤ bl.words → bl.taken.words + 2 + bit_if condition ≤ bl.words → line < 2 ^ 31 → Does (turning bl) links code around.turns (stmts_code e (in_turns bl.taken) body) (M.list around body) → Does bl links code around.turns (act_code line ++ (count_ahead e bl.taken p limit step c0 c3 ++ turns_of bl r p limit (constant_step step) condition line (stmts_code e (in_turns bl.taken) body))) (M.statement around (Y.DoCount (Y.NumberCounter p r) start limit step condition body line))
+count_does : {e : Environment} {block : Names} {types : Types} (bl : Block e block types) (links : Links) (code :
+    List Instr) (routines : Standing bl links code) (around : Around) (r : Y.Reference) (p : ℕ) (start :
+    Y.Value) (c0 c3 : Code) (limit : Option Y.Number) (step : Y.Number) (condition : Option Y.Bit) (body :
+    Y.Stmts) (line : ℕ) → Starts bl links code (at_line around line) r p start c0 c3 → Counts bl links code r p
+    → IsProvedNumberIf block types limit → IsProvedNumber block types step → IsProvedBitIf block types condition
+    → bl.taken.words + 3 ≤ bl.words → bl.taken.words + 3 + number_if limit ≤ bl.words
+    → bl.taken.words + 3 + number_words step ≤ bl.words → bl.taken.words + 2 + bit_if condition ≤ bl.words
+    → line < 2 ^ 31 → Does (turning bl) links code around.turns (stmts_code e (in_turns bl.taken) body)
+    (M.list around body)
+    → Does bl links code around.turns
+    (act_code line
+    ++ (count_ahead e bl.taken p limit step c0 c3 ++ turns_of bl r p limit (constant_step step) condition line
+    (stmts_code e (in_turns bl.taken) body)))
+    (M.statement around (Y.DoCount (Y.NumberCounter p r) start limit step condition body line))
 unfolding M.statement M.list ◌>>=◌ ◌>>◌
 count_does {e} {block} {types} bl links code routines around r p start c0 c3 limit step condition body line starts counts isl iss isc room rooml rooms roomc fits inner =
     record {
@@ -175,7 +210,9 @@ count_does {e} {block} {types} bl links code routines around r p start c0 c3 lim
           comes_on k (M.counter_started here counter value k s') store
           (loads.does (before_closed k store closed) f3 (front_of c3 c4 l3) start3 at3
           (λ z f4 wz at4.
-          begun_piece bl routines around r p limit most (constant_step step) by condition line c part counts wby isc room roomc fits inner closed n f4 k z wz (back_of c3 c4 l3) lt waits at_step serving1 all1 at4 (stays_then stays2 stays3)
+          begun_piece bl routines around r p limit most (constant_step step) by condition line c part counts wby isc
+              room roomc fits inner closed n f4 k z wz (back_of c3 c4 l3) lt waits at_step serving1 all1 at4
+              (stays_then stays2 stays3)
           (λ s5' v5 line5 n5 h5 t5 f5 serving5 all5 stays5 at5.
           subst (λ q. aims.done q f5 v5 tt s5') (sym place)
           (goal s5' v5 line5 n5 h5 t5 f5 serving5 all5 stays5 (λ b. record { pc = (at5 b).pc ∙ ap (address b) place; holds = (at5 b).holds })))

@@ -27,7 +27,10 @@ use Rattle.pli_coding.specs.Expressions.{number_code}
 use Rattle.pli_coding.specs.Storing.{word_stored}
 use Rattle.pli_coding.specs.Frames.{words_place}
 use Rattle.pli_coding.specs.Temporaries.{number_words, reference_words}
-use Rattle.pli_coding.specs.Statements.{constant_step, step_place, in_turns, before_turns, limit_code, step_kept, step_code, number_if, limit_kept, while_kept, step_added, stepped_code, turn_of, words_behind_condition, words_behind_limit, words_back, turns_code, bit_if}
+use Rattle.pli_coding.specs.Statements.{constant_step, step_place, in_turns, before_turns, limit_code, step_kept}
+use Rattle.pli_coding.specs.Statements.{step_code, number_if, limit_kept, while_kept, step_added, stepped_code}
+use Rattle.pli_coding.specs.Statements.{turn_of, words_behind_condition, words_behind_limit, words_back, turns_code}
+use Rattle.pli_coding.specs.Statements.{bit_if}
 use Rattle.pli_coding.specs.Linking.{Links}
 use Rattle.pli_headline.specs.ProvedSoFar.{Names, Types, IsProvedNumber, IsProvedNumberIf, IsProvedBitIf}
 use Rattle.pli_headline.proofs.Storages.{storage}
@@ -143,8 +146,16 @@ abbrev lefted : ℕ → Base → List (ℕ × ℕ)
 lefted x b = (6, x) ∷ []
 
 -- the step is added to the value in a0
-added_piece : {links : Links} {code : List Instr} {i : ℕ} {v : Services} {h t : ℕ → ℕ} {s : State} {aims : Aims ℤ} {e : Environment} {block : Names} {types : Types} (bl : Block e block types) (routines : Standing bl links code) (around : Around) (fixed : Option ℤ) (step z : ℤ) (closed : Closed code aims) (n : Values) (f : Family) (k : ℕ) → IsWide z → IsWide step → StepWaits fixed step t (bl.taken.words + 1) → bl.taken.words + 3 ≤ bl.words → Linked links code i (step_added bl.taken fixed) → Serving k s v around.line → ((b : Base) → At b i (Known (bl.ground n) v h t (valued (word z)) b) (f b)) → Gone code (bl.ground n) h t v s (i + size_of (step_added bl.taken fixed)) aims → Comes code i f v aims (R.value_of around (checked 31 (z +ℤ step)) k s)
-added_piece {i = i} {v = v} {h = h} {t = t} {s = s} {aims = aims} bl routines around None step z closed n f k wz ws at_step room l serving at gone =
+added_piece : {links : Links} {code : List Instr} {i : ℕ} {v : Services} {h t : ℕ → ℕ} {s : State} {aims :
+    Aims ℤ} {e : Environment} {block : Names} {types : Types} (bl : Block e block types) (routines :
+    Standing bl links code) (around : Around) (fixed : Option ℤ) (step z : ℤ) (closed : Closed code aims) (n :
+    Values) (f : Family) (k : ℕ) → IsWide z → IsWide step → StepWaits fixed step t (bl.taken.words + 1)
+    → bl.taken.words + 3 ≤ bl.words → Linked links code i (step_added bl.taken fixed) → Serving k s v around.line
+    → ((b : Base) → At b i (Known (bl.ground n) v h t (valued (word z)) b) (f b))
+    → Gone code (bl.ground n) h t v s (i + size_of (step_added bl.taken fixed)) aims
+    → Comes code i f v aims (R.value_of around (checked 31 (z +ℤ step)) k s)
+added_piece {i = i} {v = v} {h = h} {t = t} {s = s} {aims = aims} bl routines around None step z closed n f k wz ws
+    at_step room l serving at gone =
     let taken = in_turns bl.taken in
     let m = move u1 a0 ∷ [] in
     let c = load_word a0 frame_register (step_place bl.taken) in
@@ -153,25 +164,55 @@ added_piece {i = i} {v = v} {h = h} {t = t} {s = s} {aims = aims} bl routines ar
     let size = size_append c d in
     let place : i + 1 + size_of c + size_of d ≡ i + size_of (m ++ (c ++ d)) = omega (arith, size) in
     let w = bl.words_are n in
-    onward closed (straight i f v v (λ b. Known (bl.ground n) v h t (lefted (word z)) b) (front_of m (c ++ d) l) (omega arith) (λ b. (at b).pc)
+    onward closed (straight i f v v (λ b. Known (bl.ground n) v h t (lefted (word z)) b) (front_of m (c ++ d) l)
+        (omega arith) (λ b. (at b).pc)
     (λ b. let o = (at b).holds in record {
-      body = record { services = o.body.services; registers = o.body.registers; bytes = o.body.bytes; memory = o.body.memory };
+      body = record { services = o.body.services; registers = o.body.registers; bytes = o.body.bytes; memory =
+          o.body.memory };
       regs = (sum_zero _ (word z) o.regs.0 (word_small z wz), tt);
     }))
     (λ f3 at3.
-    onward closed (read_piece (bl.temps n) (i + 1) f3 a0 (bl.taken.words + 1) (word step) (omega (arith, room, w)) (word_small step ws) at_step (record { reserved_stay = λ y u. refl; known_stay = λ b y u q. q; set = λ y u. refl }) (record { reserved_stay = λ y u. refl; known_stay = λ b y u q. q; set = λ y u. refl }) (front_of c d l4) at3)
+    onward closed (read_piece (bl.temps n) (i + 1) f3 a0 (bl.taken.words + 1) (word step) (omega (arith, room, w))
+        (word_small step ws) at_step (record { reserved_stay = λ y u. refl; known_stay = λ b y u q. q; set =
+        λ y u. refl }) (record { reserved_stay = λ y u. refl; known_stay = λ b y u q. q; set = λ y u. refl })
+        (front_of c d l4) at3)
     (λ f4 at4.
-    sum_piece closed routines.raises (bl.temps n) f4 around taken z step k wz ws (λ none. omega (arith, room, w)) (back_of c d l4) serving
-    (λ b. let o = at4 b in record { pc = o.pc; holds = record { body = o.holds.body; regs = (o.holds.regs.1.0, (o.holds.regs.0, tt)) } })
-    (λ z' f5 w5 at5. subst (λ q. aims.done q f5 v z' s) (sym place) (gone z' f5 w5 (λ b. record { pc = (at5 b).pc ∙ ap (address b) place; holds = (at5 b).holds })))))
-added_piece {code = code} {i = i} {v = v} {s = s} {aims = aims} bl routines around (Some c) step z closed n f k wz ws at_step room l serving at gone =
+    sum_piece closed routines.raises (bl.temps n) f4 around taken z step k wz ws (λ none. omega (arith, room, w))
+        (back_of c d l4) serving
+    (λ b. let o =
+        at4 b in record { pc = o.pc;
+        holds = record { body = o.holds.body; regs = (o.holds.regs.1.0, (o.holds.regs.0, tt)) } })
+    (λ z' f5 w5 at5. subst (λ q. aims.done q f5 v z' s) (sym place)
+        (gone z' f5 w5 (λ b. record { pc = (at5 b).pc ∙ ap (address b) place; holds = (at5 b).holds })))))
+added_piece {code = code} {i = i} {v = v} {s = s} {aims = aims} bl routines around (Some c) step z closed n f k wz ws
+    at_step room l serving at gone =
     let w = bl.words_are n in
     subst (λ q. Comes code i f v aims (R.value_of around (checked 31 (z +ℤ q)) k s)) (sym at_step)
-    (constant_piece closed routines.raises (bl.temps n) f around (in_turns bl.taken) z c k wz (subst IsWide at_step ws) (λ none. omega (arith, room, w)) l serving at gone)
+    (constant_piece closed routines.raises (bl.temps n) f around (in_turns bl.taken) z c k wz
+        (subst IsWide at_step ws) (λ none. omega (arith, room, w)) l serving at gone)
 
-pub stepping_piece : {links : Links} {code : List Instr} {i : ℕ} {v : Services} {h t : ℕ → ℕ} {s : State} {aims : Aims (Unit {0})} {e : Environment} {block : Names} {types : Types} (bl : Block e block types) (routines : Standing bl links code) (around : Around) (line : ℕ) (r : Y.Reference) (p : ℕ) (fixed : Option ℤ) (step : ℤ) (closed : Closed code aims) (n : Values) (f : Family) (old k : ℕ) → line < 2 ^ 31 → p ≤ 31 → IsProvedNumber block types (Y.NumberIn r) → IsWide step → StepWaits fixed step t (bl.taken.words + 1) → bl.taken.words + 3 + reference_words r ≤ bl.words → Linked links code i (stepped_code e bl.taken (Y.NumberCounter p r) fixed line) → Serving k s v old → AllHold bl.frames bl.serials (storage v) (e.level ∷ bl.depths) s block types n → ((b : Base) → At b i (Known (bl.ground n) v h t nothing b) (f b)) → ((z : ℤ) (f' : Family) (h' t' : ℕ → ℕ) → Fits (Y.FixedLeaf p) z → IsUnpaused (M.assigned (at_line around line) r (BasicNumber z) k s) → Stays (in_turns bl.taken) h t h' t' → Serving k s (on_line line v) line → ((b : Base) → At b (i + size_of (stepped_code e bl.taken (Y.NumberCounter p r) fixed line)) (Known (bl.ground n) (on_line line v) h' t' (valued (word z)) b) (f' b)) → Comes code (i + size_of (stepped_code e bl.taken (Y.NumberCounter p r) fixed line)) f' (on_line line v) aims (M.assigned (at_line around line) r (BasicNumber z) k s)) → Comes code i f v aims (M.stepped (at_line around line) (Y.NumberCounter p r) step k s)
+pub stepping_piece : {links : Links} {code : List Instr} {i : ℕ} {v : Services} {h t : ℕ → ℕ} {s : State} {aims :
+    Aims (Unit {0})} {e : Environment} {block : Names} {types : Types} (bl : Block e block types) (routines :
+    Standing bl links code) (around : Around) (line : ℕ) (r : Y.Reference) (p : ℕ) (fixed : Option ℤ) (step :
+    ℤ) (closed : Closed code aims) (n : Values) (f : Family) (old k : ℕ) → line < 2 ^ 31 → p ≤ 31
+    → IsProvedNumber block types (Y.NumberIn r) → IsWide step → StepWaits fixed step t (bl.taken.words + 1)
+    → bl.taken.words + 3 + reference_words r ≤ bl.words
+    → Linked links code i (stepped_code e bl.taken (Y.NumberCounter p r) fixed line) → Serving k s v old
+    → AllHold bl.frames bl.serials (storage v) (e.level ∷ bl.depths) s block types n
+    → ((b : Base) → At b i (Known (bl.ground n) v h t nothing b) (f b))
+    → ((z : ℤ) (f' : Family) (h' t' : ℕ → ℕ) → Fits (Y.FixedLeaf p) z
+    → IsUnpaused (M.assigned (at_line around line) r (BasicNumber z) k s) → Stays (in_turns bl.taken) h t h' t'
+    → Serving k s (on_line line v) line
+    → ((b : Base)
+    → At b (i + size_of (stepped_code e bl.taken (Y.NumberCounter p r) fixed line))
+    (Known (bl.ground n) (on_line line v) h' t' (valued (word z)) b) (f' b))
+    → Comes code (i + size_of (stepped_code e bl.taken (Y.NumberCounter p r) fixed line)) f' (on_line line v) aims
+    (M.assigned (at_line around line) r (BasicNumber z) k s))
+    → Comes code i f v aims (M.stepped (at_line around line) (Y.NumberCounter p r) step k s)
 unfolding M.stepped M.counter_number M.counter_value V.number ◌>>=◌ give
-stepping_piece {links = links} {code = code} {i = i} {v = v} {h = h} {t = t} {s = s} {aims = aims} {e = e} {block = block} {types = types} bl routines around line r p fixed step closed n f old k fits few mine ws at_step room l serving all at goal =
+stepping_piece {links = links} {code = code} {i = i} {v = v} {h = h} {t = t} {s = s} {aims = aims} {e = e} {block =
+    block} {types = types} bl routines around line r p fixed step closed n f old k fits few mine ws at_step room l
+    serving all at goal =
     let here = at_line around line in
     let taken = in_turns bl.taken in
     let first = number a0 line in
@@ -188,7 +229,8 @@ stepping_piece {links = links} {code = code} {i = i} {v = v} {h = h} {t = t} {s 
     let e2 = size_append a (d ++ q) in
     let e4 = size_append d q in
     let j1 = i + size_of (line_code line) in
-    let there : j1 + size_of a + size_of d + size_of q ≡ i + size_of (stepped_code e bl.taken (Y.NumberCounter p r) fixed line) = omega (arith, e0, e1, e2, e4) in
+    let there : j1 + size_of a + size_of d + size_of q
+        ≡ i + size_of (stepped_code e bl.taken (Y.NumberCounter p r) fixed line) = omega (arith, e0, e1, e2, e4) in
     let w = bl.words_are n in
     let v1 = on_line line v in
     let store : BasicValue → Meaning (Unit {0}) = λ u. M.assigned here r u in
@@ -206,7 +248,9 @@ stepping_piece {links = links} {code = code} {i = i} {v = v} {h = h} {t = t} {s 
     reads.does (before_closed k next1 closed) f1 taken (omega (arith, room, w)) l' at1
     (λ z f2 h2 t2 wz stays2 at2.
     comes_on k (R.value_of here (checked 31 (z +ℤ step)) k s) next2
-    (added_piece bl routines here fixed step z (before_closed k next2 closed) n f2 k wz ws (step_stays fixed step t t2 (bl.taken.words + 1) (stays2.words (bl.taken.words + 1) (omega arith)) at_step) (omega (arith, room)) (front_of d q l5) serving1 at2
+    (added_piece bl routines here fixed step z (before_closed k next2 closed) n f2 k wz ws
+        (step_stays fixed step t t2 (bl.taken.words + 1) (stays2.words (bl.taken.words + 1) (omega arith)) at_step)
+        (omega (arith, room)) (front_of d q l5) serving1 at2
     (λ z2 f5 w2 at5.
     comes_on k (M.counter_value here (Y.NumberCounter p r) z2 k s) store
     (comes_on k (R.value_of here (checked p z2) k s) as_value
@@ -226,14 +270,18 @@ pub record Counts {e : Environment} {block : Names} {types : Types} (bl : Block 
   pub room : bl.taken.words + 3 + reference_words r ≤ bl.words
 
 -- the code of a turn behind what begins it
-abbrev pub turn_rest : {e : Environment} {block : Names} {types : Types} → Block e block types → (r : Y.Reference) → (p : ℕ) → Option Y.Number → Option ℤ → Option Y.Bit → (line : ℕ) → Code → Code
+abbrev pub turn_rest : {e : Environment} {block : Names} {types : Types} → Block e block types → (r : Y.Reference)
+    → (p : ℕ) → Option Y.Number → Option ℤ → Option Y.Bit → (line : ℕ) → Code → Code
 turn_rest {e} {block} bl r p limit fixed condition line c =
     let u = turn_of e bl.taken (Y.NumberCounter p r) limit fixed condition line c in
     limit_kept e bl.taken (Y.NumberCounter p r) limit fixed (words_behind_limit u)
-    ++ (while_kept e bl.taken condition (words_behind_condition u) ++ (c ++ (stepped_code e bl.taken (Y.NumberCounter p r) fixed line ++ JumpBack (words_back u) ∷ [])))
+    ++ (while_kept e bl.taken condition (words_behind_condition u)
+        ++ (c ++ (stepped_code e bl.taken (Y.NumberCounter p r) fixed line ++ JumpBack (words_back u) ∷ [])))
 
-abbrev pub turns_of : {e : Environment} {block : Names} {types : Types} → Block e block types → (r : Y.Reference) → (p : ℕ) → Option Y.Number → Option ℤ → Option Y.Bit → (line : ℕ) → Code → Code
-turns_of {e} {block} bl r p limit fixed condition line c = turns_code (turn_of e bl.taken (Y.NumberCounter p r) limit fixed condition line c)
+abbrev pub turns_of : {e : Environment} {block : Names} {types : Types} → Block e block types → (r : Y.Reference)
+    → (p : ℕ) → Option Y.Number → Option ℤ → Option Y.Bit → (line : ℕ) → Code → Code
+turns_of {e} {block} bl r p limit fixed condition line c =
+    turns_code (turn_of e bl.taken (Y.NumberCounter p r) limit fixed condition line c)
 
 pub limit_stays : (limit : Option Y.Number) (most : Option ℤ) (t t' : ℕ → ℕ) (j : ℕ) → t' j ≡ t j → LimitWaits limit most t j → LimitWaits limit most t' j
 limit_stays None None t t' j e waits = tt
@@ -242,11 +290,30 @@ limit_stays (Some x) None t t' j e waits = absurd waits
 limit_stays (Some x) (Some m) t t' j e waits = (waits.0, e ∙ waits.1)
 
 -- from the act of a turn on, with credits enough for it
-pub head_piece : {e : Environment} {block : Names} {types : Types} (bl : Block e block types) {links : Links} {code : List Instr} (routines : Standing bl links code) (around : Around) (r : Y.Reference) (p : ℕ) (limit : Option Y.Number) (most : Option ℤ) (fixed : Option ℤ) (step : ℤ) (condition : Option Y.Bit) (line : ℕ) (c : Code) (part : Meaning (Unit {0})) → Counts bl links code r p → IsWide step → IsProvedBitIf block types condition → bl.taken.words + 3 ≤ bl.words → bl.taken.words + 2 + bit_if condition ≤ bl.words → line < 2 ^ 31 → Does (turning bl) links code around.turns c part → (turns : ℕ) {i : ℕ} {s : State} {v : Services} {h t : ℕ → ℕ} {aims : Aims (Unit {0})} (closed : Closed code aims) (credits old : ℕ) (n : Values) (f : Family) (k : ℕ) → k < turns + v.world.acts → credits + size_of (act_code line) ≤ cost code → Linked links code i (turns_of bl r p limit fixed condition line c) → LimitWaits limit most t bl.taken.words → StepWaits fixed step t (bl.taken.words + 1) → Serving k s v old → AllHold bl.frames bl.serials (storage v) (e.level ∷ bl.depths) s block types n → ((b : Base) → At b (i + size_of (word_stored e (in_turns bl.taken) r)) (Known (bl.ground n) v h t nothing b) (f b)) → Behind bl k h t (i + size_of (turns_of bl r p limit fixed condition line c)) aims → Enough bl links k around.turns i h t v.world.acts aims.jumped aims.returned → Comes code credits f v aims (repeated_while turns (M.turn_due (at_line around line) (Y.NumberCounter p r) most step condition) (part >> (M.stepped (at_line around line) (Y.NumberCounter p r) step)) k s)
+pub head_piece : {e : Environment} {block : Names} {types : Types} (bl : Block e block types) {links : Links} {code :
+    List Instr} (routines : Standing bl links code) (around : Around) (r : Y.Reference) (p : ℕ) (limit :
+    Option Y.Number) (most : Option ℤ) (fixed : Option ℤ) (step : ℤ) (condition : Option Y.Bit) (line : ℕ) (c :
+    Code) (part : Meaning (Unit {0})) → Counts bl links code r p → IsWide step → IsProvedBitIf block types condition
+    → bl.taken.words + 3 ≤ bl.words → bl.taken.words + 2 + bit_if condition ≤ bl.words → line < 2 ^ 31
+    → Does (turning bl) links code around.turns c part → (turns : ℕ) {i : ℕ} {s : State} {v : Services} {h t :
+    ℕ → ℕ} {aims : Aims (Unit {0})} (closed : Closed code aims) (credits old : ℕ) (n : Values) (f : Family) (k : ℕ)
+    → k < turns + v.world.acts → credits + size_of (act_code line) ≤ cost code
+    → Linked links code i (turns_of bl r p limit fixed condition line c) → LimitWaits limit most t bl.taken.words
+    → StepWaits fixed step t (bl.taken.words + 1) → Serving k s v old
+    → AllHold bl.frames bl.serials (storage v) (e.level ∷ bl.depths) s block types n
+    → ((b : Base) → At b (i + size_of (word_stored e (in_turns bl.taken) r)) (Known (bl.ground n) v h t nothing b)
+    (f b)) → Behind bl k h t (i + size_of (turns_of bl r p limit fixed condition line c)) aims
+    → Enough bl links k around.turns i h t v.world.acts aims.jumped aims.returned
+    → Comes code credits f v aims
+    (repeated_while turns (M.turn_due (at_line around line) (Y.NumberCounter p r) most step condition)
+    (part >> (M.stepped (at_line around line) (Y.NumberCounter p r) step)) k s)
 unfolding repeated_while M.turn_due ◌>>=◌ ◌>>◌ give stuck choose
-head_piece bl routines around r p limit most fixed step condition line c part counts ws is room room' fits inner zero closed credits old n f k enough paid l waits at_step serving all at goal more =
+head_piece bl routines around r p limit most fixed step condition line c part counts ws is room room' fits inner zero
+    closed credits old n f k enough paid l waits at_step serving all at goal more =
     absurd (let a = serving.allowed in omega (arith, a, enough))
-head_piece {e} {block} {types} bl {links} {code} routines around r p limit most fixed step condition line c part counts ws is room room' fits inner (suc turns) {i} {s} {v} {h} {t} {aims} closed credits old n f k enough paid l waits at_step serving all at goal more =
+head_piece {e} {block} {types} bl {links} {code} routines around r p limit most fixed step condition line c part
+    counts ws is room room' fits inner (suc turns) {i} {s} {v} {h} {t} {aims} closed credits old n f k enough paid l
+    waits at_step serving all at goal more =
     let here = at_line around line in
     let takes = counts.takes in
     let some = counts.room in
@@ -301,7 +368,10 @@ head_piece {e} {block} {types} bl {links} {code} routines around r p limit most 
     let v' = acted line v in
     let all1 : AllHold bl.frames bl.serials (storage v) (e.level ∷ bl.depths) s' block types n = counted_all _ all in
     comes_on k (M.within_limit here (Y.NumberCounter p r) most step k s') conditions
-    (within_piece bl routines here r p limit most fixed step (words_behind_limit u) (before_closed k conditions (before_closed k branch closed)) n f1 k counts.reads waits ws at_step (omega (arith, some)) (omega (arith, inside, over1)) (front_of lim (con ++ (c ++ (sp ++ jump))) l1) serving1 all1 at1 (
+    (within_piece bl routines here r p limit most fixed step (words_behind_limit u)
+        (before_closed k conditions (before_closed k branch closed)) n f1 k counts.reads waits ws at_step
+        (omega (arith, some)) (omega (arith, inside, over1)) (front_of lim (con ++ (c ++ (sp ++ jump))) l1) serving1
+        all1 at1 (
       (λ f2 h2 t2 stays2 at2.
           condition_piece bl routines here condition (words_behind_condition u) (before_closed k branch closed) n f2 k is room' (omega (arith, inside, over2)) (front_of con (c ++ (sp ++ jump)) l2) serving1 all1 at2 (
             (λ f3 h3 t3 stays3 at3.
@@ -311,7 +381,10 @@ head_piece {e} {block} {types} bl {links} {code} routines around r p limit most 
                 (inner.does (since_closed acts1 (before_closed k steps (before_closed k goes closed))) line n f3 k (front_of c (sp ++ jump) l3) serving1 all1 at3
                 (λ s4' v4 line4 n4 h4 t4 f4 serving4 all4 stays4 at4 grown.
                 let stays04 = stays_then stays2 (stays_then stays3 stays4) in
-                stepping_piece bl routines around line r p fixed step (before_closed k goes closed) n4 f4 line4 k fits (takes.old s4' (storage v4) n4 all4).1.0 counts.reads ws (step_stays fixed step t t4 (w + 1) (stays04.words (w + 1) (omega arith)) at_step) some (front_of sp jump l4) serving4 all4 at4
+                stepping_piece bl routines around line r p fixed step (before_closed k goes closed) n4 f4 line4 k fits
+                    (takes.old s4' (storage v4) n4 all4).1.0 counts.reads ws
+                    (step_stays fixed step t t4 (w + 1) (stays04.words (w + 1) (omega arith)) at_step) some
+                    (front_of sp jump l4) serving4 all4 at4
                 (λ z f5 h5 t5 wz unpaused stays5 serving5 at5.
                 onward (before_closed k goes closed) (back_piece i5 f5 (words_back u) i back (record { reserved_stay = λ y x. refl; known_stay = λ b y x q. q; set = λ y x. refl }) (back_of sp jump l4) at5)
                 (λ f6 at6.
@@ -320,8 +393,11 @@ head_piece {e} {block} {types} bl {links} {code} routines around r p limit most 
                 (takes.does (later_closed turn (before_closed k goes closed)) f6 here z n4 k wz ls serving5 all4 at6
                 (λ s7 n7 h7 t7 f7 serving7 all7 stays7 at7.
                 let stays07 = stays_then stays04 (stays_then stays5 stays7) in
-                head_piece bl routines around r p limit most fixed step condition line c part counts ws is room room' fits inner turns closed (i + size_of st + turn) line n7 f7 k (omega (arith, enough, grown)) (omega (arith, inside, ends, s0, s1, again_at)) l
-                (limit_stays limit most t t7 w (stays07.words w (omega arith)) waits) (step_stays fixed step t t7 (w + 1) (stays07.words (w + 1) (omega arith)) at_step)
+                head_piece bl routines around r p limit most fixed step condition line c part counts ws is room room'
+                    fits inner turns closed (i + size_of st + turn) line n7 f7 k (omega (arith, enough, grown))
+                    (omega (arith, inside, ends, s0, s1, again_at)) l
+                (limit_stays limit most t t7 w (stays07.words w (omega arith)) waits)
+                    (step_stays fixed step t t7 (w + 1) (stays07.words (w + 1) (omega arith)) at_step)
                 serving7 all7 at7
                 (λ s8 v8 line8 n8 h8 t8 f8 serving8 all8 stays8 at8. goal s8 v8 line8 n8 h8 t8 f8 serving8 all8 (stays_then (stays_fewer 2 stays07) stays8) at8)
                 (further more (omega arith) (omega (arith, grown)) (stays_fewer 2 stays07))))))))
@@ -388,7 +464,19 @@ limit_kept_piece {h = h} {t = t} {s = s} bl routines around (Some x) n closed f 
     }))
 
 -- the step is evaluated, and waits, unless it is a constant
-step_kept_piece : {links : Links} {code : List Instr} {i : ℕ} {v : Services} {h t : ℕ → ℕ} {s : State} {aims : Aims ℤ} {e : Environment} {block : Names} {types : Types} (bl : Block e block types) (routines : Standing bl links code) (around : Around) (step : Y.Number) (fixed : Option ℤ) (n : Values) (closed : Closed code aims) (f : Family) (k : ℕ) → constant_step step ≡ fixed → IsProvedNumber block types step → bl.taken.words + 3 + number_words step ≤ bl.words → Linked links code i (step_kept e bl.taken step fixed) → Serving k s v around.line → AllHold bl.frames bl.serials (storage v) (e.level ∷ bl.depths) s block types n → ((b : Base) → At b i (Known (bl.ground n) v h t nothing b) (f b)) → ((by : ℤ) (f' : Family) (h' t' : ℕ → ℕ) → IsWide by → StepWaits fixed by t' (bl.taken.words + 1) → t' bl.taken.words ≡ t bl.taken.words → t' (bl.taken.words + 2) ≡ t (bl.taken.words + 2) → Stays bl.taken h t h' t' → ((b : Base) → At b (i + size_of (step_kept e bl.taken step fixed)) (Known (bl.ground n) v h' t' nothing b) (f' b)) → aims.done (i + size_of (step_kept e bl.taken step fixed)) f' v by s) → Comes code i f v aims (V.number around step k s)
+step_kept_piece : {links : Links} {code : List Instr} {i : ℕ} {v : Services} {h t : ℕ → ℕ} {s : State} {aims :
+    Aims ℤ} {e : Environment} {block : Names} {types : Types} (bl : Block e block types) (routines :
+    Standing bl links code) (around : Around) (step : Y.Number) (fixed : Option ℤ) (n : Values) (closed :
+    Closed code aims) (f : Family) (k : ℕ) → constant_step step ≡ fixed → IsProvedNumber block types step
+    → bl.taken.words + 3 + number_words step ≤ bl.words → Linked links code i (step_kept e bl.taken step fixed)
+    → Serving k s v around.line → AllHold bl.frames bl.serials (storage v) (e.level ∷ bl.depths) s block types n
+    → ((b : Base) → At b i (Known (bl.ground n) v h t nothing b) (f b))
+    → ((by : ℤ) (f' : Family) (h' t' : ℕ → ℕ) → IsWide by → StepWaits fixed by t' (bl.taken.words + 1)
+    → t' bl.taken.words ≡ t bl.taken.words → t' (bl.taken.words + 2) ≡ t (bl.taken.words + 2)
+    → Stays bl.taken h t h' t'
+    → ((b : Base) → At b (i + size_of (step_kept e bl.taken step fixed)) (Known (bl.ground n) v h' t' nothing b)
+    (f' b)) → aims.done (i + size_of (step_kept e bl.taken step fixed)) f' v by s)
+    → Comes code i f v aims (V.number around step k s)
 unfolding give
 step_kept_piece bl routines around step None n closed f k is iss room l serving all at goal =
     let w = bl.taken.words in
@@ -396,20 +484,41 @@ step_kept_piece bl routines around step None n closed f k is iss room l serving 
     (λ by f2 h2 t2 wide stays2 at2.
     goal by f2 h2 (put t2 (w + 1) (word by)) wide (put_same t2 (w + 1) (word by))
     (put_other t2 (w + 1) (word by) w (omega arith) ∙ stays2.words w (omega arith))
-    (put_apart t2 (w + 1) (word by) (w + 2) (other_place (w + 2) (w + 1) (omega arith)) ∙ stays2.words (w + 2) (omega arith))
+    (put_apart t2 (w + 1) (word by) (w + 2) (other_place (w + 2) (w + 1) (omega arith))
+        ∙ stays2.words (w + 2) (omega arith))
     (stays_then (stays_fewer 3 stays2) (stays_kept bl.taken h2 t2 (w + 1) (word by) (omega arith))) at2)
-step_kept_piece {code = code} {i = i} {v = v} {h = h} {t = t} {s = s} {aims = aims} {block = block} {types = types} bl routines around step (Some z) n closed f k is iss room l serving all at goal =
+step_kept_piece {code = code} {i = i} {v = v} {h = h} {t = t} {s = s} {aims = aims} {block = block} {types =
+    types} bl routines around step (Some z) n closed f k is iss room l serving all at goal =
     let constant = constant_means block types step z iss is in
     let same : i ≡ i + 0 = omega arith in
     subst (Comes code i f v aims) (sym (constant.means around k s))
     (record {
       to =
           subst (λ u. aims.done u f v z s) (sym same)
-          (goal z f h t constant.wide refl refl refl (stays_same bl.taken h t) (λ b. record { pc = (at b).pc ∙ ap (address b) same; holds = (at b).holds }));
+          (goal z f h t constant.wide refl refl refl (stays_same bl.taken h t) (λ b. record { pc =
+              (at b).pc ∙ ap (address b) same; holds = (at b).holds }));
     })
 
 -- limit and step are evaluated, and wait in their words
-pub limits_piece : {links : Links} {code : List Instr} {i : ℕ} {v : Services} {h t : ℕ → ℕ} {s : State} {aims : Aims (Unit {0})} {e : Environment} {block : Names} {types : Types} (bl : Block e block types) (routines : Standing bl links code) (around : Around) (limit : Option Y.Number) (step : Y.Number) (n : Values) (next' : Option ℤ → ℤ → Meaning (Unit {0})) (closed : Closed code aims) (f : Family) (k : ℕ) → IsProvedNumberIf block types limit → IsProvedNumber block types step → bl.taken.words + 3 + number_if limit ≤ bl.words → bl.taken.words + 3 + number_words step ≤ bl.words → Linked links code i (limit_code e bl.taken limit) → Linked links code (i + size_of (limit_code e bl.taken limit)) (step_code e bl.taken step) → Serving k s v around.line → AllHold bl.frames bl.serials (storage v) (e.level ∷ bl.depths) s block types n → ((b : Base) → At b i (Known (bl.ground n) v h t nothing b) (f b)) → ((most : Option ℤ) (by : ℤ) (f' : Family) (h' t' : ℕ → ℕ) → IsWide by → LimitWaits limit most t' bl.taken.words → StepWaits (constant_step step) by t' (bl.taken.words + 1) → t' (bl.taken.words + 2) ≡ t (bl.taken.words + 2) → Stays bl.taken h t h' t' → ((b : Base) → At b (i + size_of (limit_code e bl.taken limit) + size_of (step_code e bl.taken step)) (Known (bl.ground n) v h' t' nothing b) (f' b)) → Comes code (i + size_of (limit_code e bl.taken limit) + size_of (step_code e bl.taken step)) f' v aims (next' most by k s)) → Comes code i f v aims (((M.limit_of around limit) >>= (λ most. (V.number around step) >>= (λ by. next' most by))) k s)
+pub limits_piece : {links : Links} {code : List Instr} {i : ℕ} {v : Services} {h t : ℕ → ℕ} {s : State} {aims :
+    Aims (Unit {0})} {e : Environment} {block : Names} {types : Types} (bl : Block e block types) (routines :
+    Standing bl links code) (around : Around) (limit : Option Y.Number) (step : Y.Number) (n : Values) (next' :
+    Option ℤ → ℤ → Meaning (Unit {0})) (closed : Closed code aims) (f : Family) (k : ℕ)
+    → IsProvedNumberIf block types limit → IsProvedNumber block types step
+    → bl.taken.words + 3 + number_if limit ≤ bl.words → bl.taken.words + 3 + number_words step ≤ bl.words
+    → Linked links code i (limit_code e bl.taken limit)
+    → Linked links code (i + size_of (limit_code e bl.taken limit)) (step_code e bl.taken step)
+    → Serving k s v around.line → AllHold bl.frames bl.serials (storage v) (e.level ∷ bl.depths) s block types n
+    → ((b : Base) → At b i (Known (bl.ground n) v h t nothing b) (f b))
+    → ((most : Option ℤ) (by : ℤ) (f' : Family) (h' t' : ℕ → ℕ) → IsWide by → LimitWaits limit most t' bl.taken.words
+    → StepWaits (constant_step step) by t' (bl.taken.words + 1) → t' (bl.taken.words + 2) ≡ t (bl.taken.words + 2)
+    → Stays bl.taken h t h' t'
+    → ((b : Base) → At b (i + size_of (limit_code e bl.taken limit) + size_of (step_code e bl.taken step))
+    (Known (bl.ground n) v h' t' nothing b) (f' b))
+    → Comes code (i + size_of (limit_code e bl.taken limit) + size_of (step_code e bl.taken step)) f' v aims
+    (next' most by k s))
+    → Comes code i f v aims
+    (((M.limit_of around limit) >>= (λ most. (V.number around step) >>= (λ by. next' most by))) k s)
 unfolding ◌>>=◌
 limits_piece {s = s} bl routines around limit step n next' closed f k isl iss rooml rooms l1 l2 serving all at goal =
     let w = bl.taken.words in
@@ -418,6 +527,8 @@ limits_piece {s = s} bl routines around limit step n next' closed f k isl iss ro
     (limit_kept_piece bl routines around limit n (before_closed k steps closed) f k isl rooml l1 serving all at
     (λ most f1 h1 t1 waits stays1 start1 at1.
     comes_on k (V.number around step k s) (λ by. next' most by)
-    (step_kept_piece bl routines around step (constant_step step) n (before_closed k (λ by. next' most by) closed) f1 k refl iss rooms l2 serving all at1
+    (step_kept_piece bl routines around step (constant_step step) n (before_closed k (λ by. next' most by) closed) f1
+        k refl iss rooms l2 serving all at1
     (λ by f2 h2 t2 wide kept limit_same start_same stays2 at2.
-    goal most by f2 h2 t2 wide (limit_stays limit most t1 t2 w limit_same waits) kept (start_same ∙ start1) (stays_then stays1 stays2) at2))))
+    goal most by f2 h2 t2 wide (limit_stays limit most t1 t2 w limit_same waits) kept (start_same ∙ start1)
+        (stays_then stays1 stays2) at2))))

@@ -1,5 +1,6 @@
 -- The code of expressions and assignments marks no symbols.
-use Rattle.std.proofs.Common.{◌≡◌, ℕ, [], ◌∷◌, ◌++◌, length, Bool, true, false, refl, ap, ◌∙◌, inl, inr, sym, subst, List, map}
+use Rattle.std.proofs.Common.{◌≡◌, ℕ, [], ◌∷◌, ◌++◌, length, Bool, true, false, refl, ap, ◌∙◌, inl, inr, sym, subst}
+use Rattle.std.proofs.Common.{List, map}
 use Rattle.std.specs.Prelude.{pos, cond, ◌==◌}
 use Rattle.rv_meaning.specs.declared.instr.ImmediateOp.TheVariants as Imm
 use Rattle.rv_meaning.specs.declared.instr.RegisterOp.TheVariants as Op
@@ -14,7 +15,8 @@ use Rattle.pli_coding.specs.Frames.{display}
 use Rattle.pli_coding.specs.Environments.{Environment, Taken, with_number, save, fetch}
 use Rattle.pli_coding.specs.Arithmetic.{calculated_code, fitted_code, divided_code, signed_code, absolute_code, count_checked, sign_code, modulo_code, extreme_code, negated_code, combined_code, compared_code}
 use Rattle.pli_coding.specs.Locating.{frame_found, address_offset, frame_in, times_constant, subscripts_counted}
-use Rattle.pli_coding.specs.Expressions.{number_code, extremes_code, text_code, bit_code, subscripts_code, BoundAsked, LowerAsked, UpperAsked, ElementsAsked}
+use Rattle.pli_coding.specs.Expressions.{number_code, extremes_code, text_code, bit_code, subscripts_code, BoundAsked}
+use Rattle.pli_coding.specs.Expressions.{LowerAsked, UpperAsked, ElementsAsked}
 use Rattle.pli_coding.specs.Streams.{as_text}
 use Rattle.pli_coding.specs.Storing.{word_stored, top_stored}
 use Rattle.pli_headline.specs.ProvedSoFar.{Names, Types, IsOwn, IsProvedNumber, AreProvedNumbers, IsProvedBit, IsProvedText, text_leaf, alone, IsPart, IsPartNumber, IsAssigned, AreSubscripts, Kind, IsDimension, IsPartText, IsAssignedText, constant_bounds}
@@ -22,7 +24,9 @@ use Rattle.pli_headline.proofs.Scalars.{IsNumeric}
 use Rattle.pli_headline.proofs.Reaching.{found_by, register_by}
 use Rattle.pli_headline.proofs.TextPlaces.{text_mode, kind_asked, text_asked}
 use Rattle.pli_headline.proofs.TextVariables.{text_loaded, text_kept}
-use Rattle.pli_headline.proofs.Variables.{own, whole, data_place, base_found, scalar_loaded, scalar_stored, number_loaded, bit_loaded, scalar_stored_is, HasTypes, subscripts_in, level_of}
+use Rattle.pli_headline.proofs.Variables.{own, whole, data_place, base_found, scalar_loaded, scalar_stored}
+use Rattle.pli_headline.proofs.Variables.{number_loaded, bit_loaded, scalar_stored_is, HasTypes, subscripts_in}
+use Rattle.pli_headline.proofs.Variables.{level_of}
 use Rattle.pli_headline.proofs.SymbolsMarked.{symbols_marked, Marks, behind, either, constant_none, load_none, plus_none, saved_none, fetched_none, overflow_none, calculated_none, fitted_none, divided_none, sign_none, extreme_none, combined_none, compared_none}
 use Rattle.pli_headline.proofs.ArrayMarks.{next_none, part_none, kept_element_none, dimensions_none}
 use Rattle.pli_headline.proofs.ArrayDimensions.{asked_number, checked_if, answer_code, answer_is}
@@ -115,7 +119,8 @@ text_element_none e t block j n varying most bs first rest none =
     let offset = address_offset (record { register = u3; displacement = pos place }) in
     behind (text_element_code e t level varying most bs first rest) (element_asked n place varying most) []
     (behind (subscripts_code e t (Y.NumberThen first rest)) (counted ++ text_found e level varying most) [] none
-    (behind counted (text_found e level varying most) [] (dimensions_none e t 0 xs bs) (text_found_none e level varying most)))
+    (behind counted (text_found e level varying most) [] (dimensions_none e t 0 xs bs)
+        (text_found_none e level varying most)))
     (behind offset (kind_asked n varying most) [] (plus_none a0 a0 (pos place)) (kind_none n varying most))
 
 text_part_none : (e : Environment) (t : Taken) (block : Names) (types : Types) (r : Y.Reference) → HasTypes e block types → IsPartText block types r → Marks (subscripts_code e t (subscripts_in r)) [] → Marks (text_code e t (Y.TextIn r)) []
@@ -276,7 +281,8 @@ target_none e t block types type r numeric has is =
     let same : word_stored e t r ≡ base_found e (level_of block is.index) ++ into =
     ap (λ q. word_stored e t q) is.is ∙ scalar_stored_is e t block is.index type numeric d in
     ap symbols_marked same
-    ∙ behind (base_found e (level_of block is.index)) into [] (base_none e (level_of block is.index)) (kept_none type e (level_of block is.index) place)
+    ∙ behind (base_found e (level_of block is.index)) into [] (base_none e (level_of block is.index))
+        (kept_none type e (level_of block is.index) place)
 
 -- what is assigned to
 pub assigned_none : (e : Environment) (t : Taken) (block : Names) (types : Types) (type : Y.LeafType) (r : Y.Reference) → IsNumeric type → HasTypes e block types → IsAssigned block types type r → Marks (word_stored e t r) []
@@ -288,7 +294,9 @@ assigned_none e t block types type r numeric has is = by_part is.0
         let kind : Kind = record { type = type; bounds = o.bound ∷ o.bounds } in
         let are : AreProvedNumbers block types (Y.NumberThen o.first o.rest) = subst (AreSubscripts block types) o.is is.1 in
         subst (λ q. Marks (word_stored e t q) []) (sym o.is)
-        (kept_element_none e t block o.index type (o.bound ∷ o.bounds) o.first o.rest numeric (has o.index kind o.declared) (subscripts_none e t block types (Y.NumberThen o.first o.rest) has are) (subscripts_none e (with_number t) block types (Y.NumberThen o.first o.rest) has are))
+        (kept_element_none e t block o.index type (o.bound ∷ o.bounds) o.first o.rest numeric
+            (has o.index kind o.declared) (subscripts_none e t block types (Y.NumberThen o.first o.rest) has are)
+            (subscripts_none e (with_number t) block types (Y.NumberThen o.first o.rest) has are))
 
 -- a number that is assigned
 pub number_assigned_none : (e : Environment) (t : Taken) (block : Names) (types : Types) (precision : ℕ) (r : Y.Reference) (x : Y.Number) → HasTypes e block types → IsAssigned block types (Y.FixedLeaf precision) r → IsProvedNumber block types x → Marks ((number_code e t x ++ fitted_code t precision) ++ word_stored e t r) []

@@ -21,7 +21,8 @@ use Rattle.pli_coding.specs.Assembly.{Code, size_of}
 use Rattle.pli_coding.specs.Instructions.{small}
 use Rattle.pli_coding.specs.Environments.{Environment, Taken}
 use Rattle.pli_coding.specs.Locating.{is_simple, simple_loaded}
-use Rattle.pli_coding.specs.Expressions.{number_code, extremes_code, bit_code, text_code, BoundAsked, LowerAsked, UpperAsked, ElementsAsked}
+use Rattle.pli_coding.specs.Expressions.{number_code, extremes_code, bit_code, text_code, BoundAsked, LowerAsked}
+use Rattle.pli_coding.specs.Expressions.{UpperAsked, ElementsAsked}
 use Rattle.pli_coding.specs.Temporaries.{number_words, numbers_words, bit_words, text_words, subscripts_words}
 use Rattle.pli_coding.specs.Linking.{Links}
 use Rattle.pli_headline.specs.ProvedSoFar.{Names, Types, IsOwn, IsProvedNumber, AreProvedNumbers, IsProvedBit, IsProvedText, IsPart, IsPartNumber, alone, IsDimension, IsPartText, text_leaf, IsScalar}
@@ -47,7 +48,9 @@ use Rattle.pli_headline.proofs.EditTexts.{at_other_texts}
 use Rattle.pli_headline.proofs.Texts.{EvaluatesText, constant_evaluates, number_evaluates_text, bit_evaluates_text, joined_evaluates, from_evaluates, part_evaluates}
 use Rattle.pli_headline.proofs.OnCodes.{oncode_evaluates}
 use Rattle.pli_headline.proofs.TextValues.{one_finishes, two_finish, length_finishes, index_finishes, verify_finishes, number_finishes, bit_finishes, compare_finishes}
-use Rattle.pli_headline.proofs.Variables.{HoldsScalar, IsDeclared, whole, own, level_of, number_gives, bit_gives, data_place, scalar_loaded, number_loaded, simple_loaded_is, bit_loaded, subscripts_in}
+use Rattle.pli_headline.proofs.Variables.{HoldsScalar, IsDeclared, whole, own, level_of, number_gives, bit_gives}
+use Rattle.pli_headline.proofs.Variables.{data_place, scalar_loaded, number_loaded, simple_loaded_is, bit_loaded}
+use Rattle.pli_headline.proofs.Variables.{subscripts_in}
 use Rattle.pli_headline.proofs.TextScopes.{TextsHeld, variable_evaluates}
 use Rattle.pli_headline.proofs.Reach.{Family, Aims, Comes, Closed, onward}
 use Rattle.pli_headline.proofs.Subscripts.{Simple, none_evaluate, next_evaluate}
@@ -177,14 +180,16 @@ number_part_does {links} {code} {g} {v} {s} {k} {e} {block} {types} {held} {arou
     by_part (inr o) =
         let all' = subst (λ q. AllEvaluate links code g v s k e around (subscripts_in q)) o.is all in
         subst (λ q. Evaluates number_kind links code g v s k (number_words (Y.NumberIn q)) (λ taken. number_code e taken (Y.NumberIn q)) (V.number around (Y.NumberIn q))) (sym o.is)
-        (element_number_does around st.routines st.serving (st.scope.arrays o.index (Y.FixedLeaf is.precision) o.bound o.bounds (o.declared, tt)) o.first o.rest all' (ap (λ n. suc n) o.many))
+        (element_number_does around st.routines st.serving (st.scope.arrays o.index (Y.FixedLeaf is.precision) o.bound
+            o.bounds (o.declared, tt)) o.first o.rest all' (ap (λ n. suc n) o.many))
 
 bit_part_does : {links : Links} {code : List Instr} {g : Ground} {v : Services} {s : State} {k : ℕ} {e : Environment} {block : Names} {types : Types} {held : Values} {around : Around} (r : Y.Reference) → IsPart block types Y.BitLeaf r → Setting links code g v s k e block types held around → AllEvaluate links code g v s k e around (subscripts_in r) → Evaluates bit_kind links code g v s k (bit_words (Y.BitIn r)) (λ taken. bit_code e taken (Y.BitIn r)) (V.bit around (Y.BitIn r))
 bit_part_does {around = around} r (inl o) st all = own_bit_does around r (bit_words (Y.BitIn r)) o st.scope
 bit_part_does {links} {code} {g} {v} {s} {k} {e} {around = around} r (inr o) st all =
     let all' = subst (λ q. AllEvaluate links code g v s k e around (subscripts_in q)) o.is all in
     subst (λ q. Evaluates bit_kind links code g v s k (bit_words (Y.BitIn q)) (λ taken. bit_code e taken (Y.BitIn q)) (V.bit around (Y.BitIn q))) (sym o.is)
-    (element_bit_does around st.routines st.serving (st.scope.arrays o.index Y.BitLeaf o.bound o.bounds (o.declared, tt)) o.first o.rest all' (ap (λ n. suc n) o.many))
+    (element_bit_does around st.routines st.serving (st.scope.arrays o.index Y.BitLeaf o.bound o.bounds (o.declared,
+        tt)) o.first o.rest all' (ap (λ n. suc n) o.many))
 
 text_part_does : {links : Links} {code : List Instr} {g : Ground} {v : Services} {s : State} {k : ℕ} {e : Environment} {block : Names} {types : Types} {held : Values} {around : Around} (r : Y.Reference) → IsPartText block types r → Setting links code g v s k e block types held around → AllEvaluate links code g v s k e around (subscripts_in r) → EvaluatesText links code g v s k (text_words (Y.TextIn r)) (λ taken. text_code e taken (Y.TextIn r)) (V.text around (Y.TextIn r))
 text_part_does {links} {code} {g} {v} {s} {k} {e} {block} {types} {held} {around} r is st all = by_part is.part
@@ -194,12 +199,15 @@ text_part_does {links} {code} {g} {v} {s} {k} {e} {block} {types} {held} {around
     by_part (inr o) =
         let all' = subst (λ q. AllEvaluate links code g v s k e around (subscripts_in q)) o.is all in
         subst (λ q. EvaluatesText links code g v s k (text_words (Y.TextIn q)) (λ taken. text_code e taken (Y.TextIn q)) (V.text around (Y.TextIn q))) (sym o.is)
-        (text_element_evaluates around st.routines st.serving (st.scope.text_arrays o.index is.varying is.most o.bound o.bounds o.declared) o.first o.rest all' (ap (λ n. suc n) o.many))
+        (text_element_evaluates around st.routines st.serving (st.scope.text_arrays o.index is.varying is.most o.bound
+            o.bounds o.declared) o.first o.rest all' (ap (λ n. suc n) o.many))
 
 -- ---- simple numbers
 
 -- a constant, in u1
-constant_given : {links : Links} {code : List Instr} {g : Ground} {v : Services} {s : State} {k : ℕ} (e : Environment) (around : Around) (n : ℕ) → n < 2 ^ 31 → Simple links code g v s k (simple_loaded e u1 (Y.NumberConstant n)) (V.number around (Y.NumberConstant n))
+constant_given : {links : Links} {code : List Instr} {g : Ground} {v : Services} {s : State} {k : ℕ} (e :
+    Environment) (around : Around) (n : ℕ) → n < 2 ^ 31
+    → Simple links code g v s k (simple_loaded e u1 (Y.NumberConstant n)) (V.number around (Y.NumberConstant n))
 unfolding V.number give
 constant_given e around n is =
     let wide = constant_wide n is in
@@ -207,35 +215,50 @@ constant_given e around n is =
       value = pos n;
       wide = wide;
       meant = refl;
-      gives = λ h t. record { comes = λ c f free far l at. constant_piece c f u1 (pos n) (word_small (pos n) wide) free l at };
+      gives = λ h t. record { comes = λ c f free far l at. constant_piece c f u1 (pos n) (word_small (pos n) wide)
+          free l at };
     }
 
 -- a variable of the block
-own_given : {links : Links} {code : List Instr} {g : Ground} {v : Services} {s : State} {k : ℕ} {e : Environment} {block : Names} {types : Types} {held : Values} (around : Around) (r : Y.Reference) (p : ℕ) → IsOwn block types (Y.FixedLeaf p) r → Scope g e block types s held → Simple links code g v s k (simple_loaded e u1 (Y.NumberIn r)) (V.number around (Y.NumberIn r))
+own_given : {links : Links} {code : List Instr} {g : Ground} {v : Services} {s : State} {k : ℕ} {e :
+    Environment} {block : Names} {types : Types} {held : Values} (around : Around) (r : Y.Reference) (p : ℕ)
+    → IsOwn block types (Y.FixedLeaf p) r → Scope g e block types s held
+    → Simple links code g v s k (simple_loaded e u1 (Y.NumberIn r)) (V.number around (Y.NumberIn r))
 own_given {links} {code} {g} {v} {s} {k} {e} {block} {types} {held} around r p is scope =
     let j = is.index in
     let holds = scope.holds j is.declared tt in
     let place = data_place e block j in
     let z = held.numbers j in
-    let T : Y.Reference → Type 1 = λ q. Simple links code g v s k (simple_loaded e u1 (Y.NumberIn q)) (V.number around (Y.NumberIn q)) in
+    let T : Y.Reference → Type 1 = λ q. Simple links code g v s k (simple_loaded e u1 (Y.NumberIn q))
+        (V.number around (Y.NumberIn q)) in
     subst T (sym is.is)
-    (subst (λ c. Simple links code g v s k c (V.number around (Y.NumberIn (whole (own block j))))) (sym (simple_loaded_is e block j p (scope.declared j is.declared)))
+    (subst (λ c. Simple links code g v s k c (V.number around (Y.NumberIn (whole (own block j)))))
+        (sym (simple_loaded_is e block j p (scope.declared j is.declared)))
     (record {
       value = z;
       wide = fits_wide (Y.FixedLeaf p) z holds.fits;
       meant = number_gives around s (own block j) p z k holds;
       gives = λ h t. record {
-        comes = λ c f free far l at. brought_based (level_of block j == e.level) (level_of block j) c f (scope.base j) (load_kind (Y.FixedLeaf p)) (pos place) (scope.base j + place) (λ b. word z) (scope.reach j is.declared) (scope.within j is.declared) (scope.places j is.declared) (λ b m o. scope.reads j is.declared tt t b m o) free far l at;
+        comes = λ c f free far l at. brought_based (level_of block j == e.level) (level_of block j) c f (scope.base j)
+            (load_kind (Y.FixedLeaf p)) (pos place) (scope.base j + place) (λ b. word z) (scope.reach j is.declared)
+            (scope.within j is.declared) (scope.places j is.declared) (λ b m o. scope.reads j is.declared tt t b m o)
+            free far l at;
       };
     }))
 
-simple_part : {links : Links} {code : List Instr} {g : Ground} {v : Services} {s : State} {k : ℕ} {e : Environment} {block : Names} {types : Types} {held : Values} (around : Around) (r : Y.Reference) (p : ℕ) → IsPart block types (Y.FixedLeaf p) r → Scope g e block types s held → is_simple e (Y.NumberIn r) ≡ true → Simple links code g v s k (simple_loaded e u1 (Y.NumberIn r)) (V.number around (Y.NumberIn r))
+simple_part : {links : Links} {code : List Instr} {g : Ground} {v : Services} {s : State} {k : ℕ} {e :
+    Environment} {block : Names} {types : Types} {held : Values} (around : Around) (r : Y.Reference) (p : ℕ)
+    → IsPart block types (Y.FixedLeaf p) r → Scope g e block types s held → is_simple e (Y.NumberIn r) ≡ true
+    → Simple links code g v s k (simple_loaded e u1 (Y.NumberIn r)) (V.number around (Y.NumberIn r))
 simple_part around r p (inl o) scope is = own_given around r p o scope
 simple_part {e = e} around r p (inr o) scope is =
     let none : false ≡ true = subst (λ q. is_simple e (Y.NumberIn q) ≡ true) o.is is in
     absurd (cc none)
 
-simple_does : (x : Y.Number) {links : Links} {code : List Instr} {g : Ground} {v : Services} {s : State} {k : ℕ} {e : Environment} {block : Names} {types : Types} {held : Values} {around : Around} → Setting links code g v s k e block types held around → IsProvedNumber block types x → is_simple e x ≡ true → Simple links code g v s k (simple_loaded e u1 x) (V.number around x)
+simple_does : (x : Y.Number) {links : Links} {code : List Instr} {g : Ground} {v : Services} {s : State} {k : ℕ} {e :
+    Environment} {block : Names} {types : Types} {held : Values} {around : Around}
+    → Setting links code g v s k e block types held around → IsProvedNumber block types x → is_simple e x ≡ true
+    → Simple links code g v s k (simple_loaded e u1 x) (V.number around x)
 simple_does (Y.NumberConstant n) {e = e} {around = around} st is simple = constant_given e around n is
 simple_does (Y.NumberIn (Y.Referring w locator part subscripts)) {around = around} st is simple =
     simple_part around (Y.Referring w locator part subscripts) is.0.precision is.0.part st.scope simple
@@ -310,7 +333,8 @@ mutual
   pub subscripts_do : (xs : Y.Numbers) {links : Links} {code : List Instr} {g : Ground} {v : Services} {s : State} {k : ℕ} {e : Environment} {block : Names} {types : Types} {held : Values} {around : Around} → Setting links code g v s k e block types held around → AreProvedNumbers block types xs → AllEvaluate links code g v s k e around xs
   subscripts_do Y.NoNumber st are = none_evaluate
   subscripts_do (Y.NumberThen first rest) st are =
-      next_evaluate st.temps (number_words first) (subscripts_words rest) first rest (λ simple. simple_does first st are.0 simple) (number_does first st are.0) (subscripts_do rest st are.1)
+      next_evaluate st.temps (number_words first) (subscripts_words rest) first rest
+          (λ simple. simple_does first st are.0 simple) (number_does first st are.0) (subscripts_do rest st are.1)
 
   pub bit_does : (x : Y.Bit) {links : Links} {code : List Instr} {g : Ground} {v : Services} {s : State} {k : ℕ} {e : Environment} {block : Names} {types : Types} {held : Values} {around : Around} → Setting links code g v s k e block types held around → IsProvedBit block types x → Evaluates bit_kind links code g v s k (bit_words x) (λ taken. bit_code e taken x) (V.bit around x)
   bit_does (Y.BitConstant true) st is = bit_does' 1 true (lit< tt) refl

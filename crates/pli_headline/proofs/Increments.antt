@@ -15,7 +15,8 @@ use Rattle.pli_coding.specs.Instructions.{plus, displaced, is_immediate}
 use Rattle.pli_coding.specs.Linking.{Links}
 use Rattle.pli_headline.proofs.Engine.{Base}
 use Rattle.pli_headline.proofs.Items.{Linked, At}
-use Rattle.pli_headline.proofs.Bodies.{Ground, Known, Free, IsNear, PlaceFrom, with', set_known, lose_known, displaced_by, at_place}
+use Rattle.pli_headline.proofs.Bodies.{Ground, Known, Free, IsNear, PlaceFrom, with', set_known, lose_known}
+use Rattle.pli_headline.proofs.Bodies.{displaced_by, at_place}
 use Rattle.pli_headline.proofs.Reach.{Family, Reach}
 
 pub plus_own : {links : Links} {code : List Instr} {i : ℕ} {g : Ground} {v : Services} {h t : ℕ → ℕ} {rs : Base → List (ℕ × ℕ)} (c : ℕ) (f : Family) (r : Register) (z : ℤ) (y x : Base → ℕ) → word z < 2 ^ 32 → ((b : Base) → y b < 2 ^ 32) → IsNear r.index → ((b : Base) → sum (y b) (word z) ≡ x b) → Free rs r.index → Free (with' r.index y rs) 31 → Linked links code i (plus r r z) → ((b : Base) → At b i (Known g v h t (with' r.index y rs) b) (f b)) → Reach code c f v (c + size_of (plus r r z)) v (λ b w. At b (i + size_of (plus r r z)) (Known g v h t (with' r.index x rs) b) w)
@@ -30,11 +31,22 @@ plus_own {links = links} {code = code} {g = g} {v = v} {h = h} {t = t} {rs = rs}
 inside_memory : (b : Base) (n : ℕ) → n < memory_size → b.at + n < 2 ^ 32
 inside_memory b n h = let v = b.valid.1 in omega (arith, v, h)
 
-pub load_own : {links : Links} {code : List Instr} {i : ℕ} {g : Ground} {v : Services} {h t : ℕ → ℕ} {rs : Base → List (ℕ × ℕ)} (c : ℕ) (f : Family) (r : Register) (kind : LoadKind) (z : ℤ) (base o : ℕ) (x : Base → ℕ) → PlaceFrom base z o → base < memory_size → IsNear r.index → ((b : Base) (m : List ℕ) → g.memory t b m → extended kind (load (load_width kind) m o) ≡ x b) → Free rs r.index → Free (with' r.index (λ b. b.at + base) rs) 31 → Linked links code i (displaced (λ s d. I.Load kind r s d) r z) → ((b : Base) → At b i (Known g v h t (with' r.index (λ b'. b'.at + base) rs) b) (f b)) → Reach code c f v (c + size_of (displaced (λ s d. I.Load kind r s d) r z)) v (λ b w. At b (i + size_of (displaced (λ s d. I.Load kind r s d) r z)) (Known g v h t (with' r.index x rs) b) w)
+pub load_own : {links : Links} {code : List Instr} {i : ℕ} {g : Ground} {v : Services} {h t : ℕ → ℕ} {rs :
+    Base → List (ℕ × ℕ)} (c : ℕ) (f : Family) (r : Register) (kind : LoadKind) (z : ℤ) (base o : ℕ) (x : Base → ℕ)
+    → PlaceFrom base z o → base < memory_size → IsNear r.index
+    → ((b : Base) (m : List ℕ) → g.memory t b m → extended kind (load (load_width kind) m o) ≡ x b) → Free rs r.index
+    → Free (with' r.index (λ b. b.at + base) rs) 31 → Linked links code i (displaced (λ s d. I.Load kind r s d) r z)
+    → ((b : Base) → At b i (Known g v h t (with' r.index (λ b'. b'.at + base) rs) b) (f b))
+    → Reach code c f v (c + size_of (displaced (λ s d. I.Load kind r s d) r z)) v
+    (λ b w. At b (i + size_of (displaced (λ s d. I.Load kind r s d) r z)) (Known g v h t (with' r.index x rs) b) w)
 load_own {g = g} {v = v} {h = h} {t = t} {rs = rs} c f r kind z base o x place within near reads free far l at =
-    displaced_by (is_immediate z) c f (λ s d. I.Load kind r s d) r z (λ b. b.at + base) (Known g v h t (with' r.index (λ b. b.at + base) rs)) (Known g v h t (with' r.index x rs)) place.small' (λ b. inside_memory b base within) near (λ b. (at b).holds.regs.0) (omega arith)
+    displaced_by (is_immediate z) c f (λ s d. I.Load kind r s d) r z (λ b. b.at + base)
+        (Known g v h t (with' r.index (λ b. b.at + base) rs)) (Known g v h t (with' r.index x rs)) place.small'
+        (λ b. inside_memory b base within) near (λ b. (at b).holds.regs.0) (omega arith)
     (record {
-      does = λ b j w s d k e. (at_place b place _ e, set_known w r.index (extended kind (load (load_width kind) w.machine.memory o)) _ x free (reads b w.machine.memory k.body.memory) (record { body = k.body; regs = k.regs.1 }));
+      does = λ b j w s d k e. (at_place b place _ e,
+          set_known w r.index (extended kind (load (load_width kind) w.machine.memory o)) _ x free
+          (reads b w.machine.memory k.body.memory) (record { body = k.body; regs = k.regs.1 }));
       lost = λ b w u i k. lose_known w 31 u i far k;
     })
     l at

@@ -16,10 +16,16 @@ use Rattle.pli_headline.specs.ProvedSoFar.{Names, Types, ArePlain, IsProvedState
 use Rattle.pli_coding.specs.Procedures.{procedure_begun, procedure_ended, procedure_in}
 use Rattle.pli_headline.proofs.Linking.{size_append}
 use Rattle.pli_coding.specs.Entries.{frame_begun, frame_ended, block_left, entered_without_texts, variables_code}
-use Rattle.pli_coding.specs.Statements.{begin_environment, begin_code, if_met, while_met, block_words, stmt_code, stmts_code, stmt_words, stmts_words, marked, once_code, bit_if, in_turns, number_if, start_code, limit_code, constant_step, step_code, started_code, turn_of, turns_code, words_back, words_behind_limit, words_behind_condition, limit_kept, while_kept, stepped_code, block_held}
+use Rattle.pli_coding.specs.Statements.{begin_environment, begin_code, if_met, while_met, block_words, stmt_code}
+use Rattle.pli_coding.specs.Statements.{stmts_code, stmt_words, stmts_words, marked, once_code, bit_if, in_turns}
+use Rattle.pli_coding.specs.Statements.{number_if, start_code, limit_code, constant_step, step_code, started_code}
+use Rattle.pli_coding.specs.Statements.{turn_of, turns_code, words_back, words_behind_limit, words_behind_condition}
+use Rattle.pli_coding.specs.Statements.{limit_kept, while_kept, stepped_code, block_held}
 use Rattle.pli_headline.proofs.Variables.{HasTypes}
 use Rattle.pli_headline.proofs.DeclaredNames.{named_in, has_in}
-use Rattle.pli_headline.proofs.Sizes.{most, number_size, bit_size, text_size, act_size, met_size', once_size, limit_words_size, step_words_size, condition_words_size, statement_size, no_variable_words, target_size, start_words_size, text_target_size}
+use Rattle.pli_headline.proofs.Sizes.{most, number_size, bit_size, text_size, act_size, met_size', once_size}
+use Rattle.pli_headline.proofs.Sizes.{limit_words_size, step_words_size, condition_words_size, statement_size}
+use Rattle.pli_headline.proofs.Sizes.{no_variable_words, target_size, start_words_size, text_target_size}
 use Rattle.pli_coding.specs.Streams.{value_words}
 use Rattle.pli_headline.proofs.PlainInside.{DeclaresPlain, DeclarePlain}
 
@@ -32,7 +38,9 @@ with_most a c d n h i = grind (arith, nat_tests)
 both_most : (a b c d n : ℕ) → a + c ≤ n → b + d ≤ n → a + d ≤ n → b + c ≤ n → max a b + max c d ≤ n
 both_most a b c d n h i j k = grind (arith, nat_tests)
 
-once_both : (e : Environment) (t : Taken) (block : Names) (types : Types) (has : HasTypes e block types) (condition : Option Y.Bit) (line : ℕ) (c : Code) → IsProvedBitIf block types condition → bit_if condition + size_of c ≤ size_of (once_code e t condition line c)
+once_both : (e : Environment) (t : Taken) (block : Names) (types : Types) (has : HasTypes e block types) (condition :
+    Option Y.Bit) (line : ℕ) (c : Code) → IsProvedBitIf block types condition
+    → bit_if condition + size_of c ≤ size_of (once_code e t condition line c)
 once_both e t block types has None line c is = omega arith
 once_both e t block types has (Some x) line c is =
     let n = bit_size e t block types has x is in
@@ -236,7 +244,8 @@ mutual
       let s5 = size_append c back in
       most_more _ _ _ _ (omega (arith, n, m, s1, s2, s3, s4, s5)) (omega (arith, m, s1, s2, s4, s5))
   statement_inner e t block types named has (Y.DoOnce target (Y.StoredNumber precision x) condition body line) is bare =
-      let z : reference_words target ≤ size_of (stored_into e t target (Y.StoredNumber precision x)) = target_size e t block types has (Y.FixedLeaf precision) tt target is.0.0 in
+      let z : reference_words target ≤ size_of (stored_into e t target (Y.StoredNumber precision x)) =
+          target_size e t block types has (Y.FixedLeaf precision) tt target is.0.0 in
       let n = number_size e t block types has x is.0.1 in
       let m = statements_inner e t block types named has body is.1.1.0 bare in
       let o = once_size e t block types has condition line (stmts_code e t body) is.1.0 in
@@ -255,7 +264,8 @@ mutual
       (most_more _ _ _ _ (most_more _ _ _ _ (omega (arith, m, o1, four, s1, s2)) (omega (arith, n, m, o1, s1, s2, s3, s4))) (omega (arith, z, four, m, o1, s1, s2, s3)))
       (most_more _ _ _ _ (omega (arith, both, m, s1, s2)) (omega (arith, m, o1, s1, s2)))
   statement_inner e t block types named has (Y.DoOnce target (Y.StoredBit x) condition body line) is bare =
-      let z : reference_words target ≤ size_of (stored_into e t target (Y.StoredBit x)) = target_size e t block types has Y.BitLeaf tt target is.0.0 in
+      let z : reference_words target ≤ size_of (stored_into e t target (Y.StoredBit x)) =
+          target_size e t block types has Y.BitLeaf tt target is.0.0 in
       let n = bit_size e t block types has x is.0.1 in
       let m = statements_inner e t block types named has body is.1.1.0 bare in
       let o = once_size e t block types has condition line (stmts_code e t body) is.1.0 in
@@ -272,7 +282,8 @@ mutual
       (most_more _ _ _ _ (omega (arith, n, m, o1, s1, s2, s3)) (omega (arith, z, four, m, o1, s1, s2, s3)))
       (most_more _ _ _ _ (omega (arith, both, m, s1, s2)) (omega (arith, m, o1, s1, s2)))
   statement_inner e t block types named has (Y.DoOnce target (Y.StoredText x) condition body line) is bare =
-      let z : reference_words target ≤ size_of (stored_into e t target (Y.StoredText x)) = text_target_size e t block types has target is.0.0 in
+      let z : reference_words target ≤ size_of (stored_into e t target (Y.StoredText x)) =
+          text_target_size e t block types has target is.0.0 in
       let n = text_size e t block types has x is.0.1 in
       let m = statements_inner e t block types named has body is.1.1.0 bare in
       let o = once_size e t block types has condition line (stmts_code e t body) is.1.0 in
@@ -318,7 +329,9 @@ mutual
       let s11 = size_append c rest in
       most_more _ _ _ _
       (let a : max (value_words start) (max (number_if limit) (number_words step)) + all_inner_words body ≤ size_of (stmt_code e t (Y.DoCount counter start limit step condition body line)) - 2 =
-      most_more _ _ _ _ (omega (arith, n0, n4, four, s1, s2, s3, s8, s9, s10, s11)) (most_more _ _ _ _ (omega (arith, n1, n4, four, s1, s2, s3, s4, s8, s9, s10, s11)) (omega (arith, n2, n4, four, s1, s2, s3, s4, s5, s8, s9, s10, s11))) in
+      most_more _ _ _ _ (omega (arith, n0, n4, four, s1, s2, s3, s8, s9, s10, s11))
+          (most_more _ _ _ _ (omega (arith, n1, n4, four, s1, s2, s3, s4, s8, s9, s10, s11))
+          (omega (arith, n2, n4, four, s1, s2, s3, s4, s5, s8, s9, s10, s11))) in
       omega (arith, a, four, s1))
       (let a : max (suc (reference_words target)) (max (bit_if condition) (stmts_words body)) + all_inner_words body ≤ size_of (stmt_code e t (Y.DoCount counter start limit step condition body line)) - 1 =
       most_more _ _ _ _ (omega (arith, z, four, n4, s0, s1, s2, s8, s9, s10, s11)) (most_more _ _ _ _ (omega (arith, n3, n4, four, s1, s2, s8, s9, s10, s11)) (omega (arith, n4, four, s1, s2, s8, s9, s10, s11))) in

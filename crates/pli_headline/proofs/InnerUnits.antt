@@ -16,7 +16,8 @@ use Rattle.pli_meaning.specs.StorageState.{most_activations}
 use Rattle.pli_coding.specs.Environments.{BlockPlace, Taken, Environment, none_taken}
 use Rattle.pli_coding.specs.Frames.{fixed_size, frame_end, temporary_bytes}
 use Rattle.pli_coding.specs.Linking.{Links}
-use Rattle.pli_coding.specs.Statements.{owner_of_unit, unit_environment, stmt_code, stmts_code, stmt_words, stmts_words, held_with}
+use Rattle.pli_coding.specs.Statements.{owner_of_unit, unit_environment, stmt_code, stmts_code, stmt_words}
+use Rattle.pli_coding.specs.Statements.{stmts_words, held_with}
 use Rattle.pli_coding.specs.Temporaries.{number_words, bit_words, text_words, reference_words}
 use Rattle.pli_headline.specs.ProvedSoFar.{Types, OuterBlock, main_labels, main_outer, times, IsOutward, JumpsAround, IsSimple, IsUnitBody, IsProvedStatement, AreProvedStatements, AllJumpAround, CallsAmong, AllCallAmong, Names, names_in, types_in, unit_declares, inner_bytes, bytes_of}
 use Rattle.pli_headline.specs.InnerWords.{all_inner_words}
@@ -204,7 +205,9 @@ unit_raisable {e} {block} {types} bl {links} {code} standing {procedure = proced
     let words = words_of_unit q.head.kind (stmts_words q.body) in
     let few = q.few in
     let small' = words_few q.head.kind (stmts_words q.body) in
-    let callee : Callee bl = record { words = words; held = held_with e.program words q.body; few = held_few e.program words q.body; at = bl.stack.free + temporary_bytes words; place = refl; room = omega (arith, small', few, space, deep); outer = outermost } in
+    let callee : Callee bl = record { words = words; held = held_with e.program words q.body; few =
+        held_few e.program words q.body; at = bl.stack.free + temporary_bytes words; place = refl; room =
+        omega (arith, small', few, space, deep); outer = outermost } in
     let makes = unit_makes bl callee q.head q.level procedure mains has standing.known q.declares (omega (arith, few, small', space, deep)) (omega (arith, few)) in
     let sized = unit_sized e q.head q.head.kind q.body q.what standing.known q.declares q.level (omega (arith, few)) in
     record {

@@ -10,7 +10,8 @@ use Rattle.pli_meaning.specs.Executing.{labels_in}
 use Rattle.pli_coding.specs.Registers.{frame_register, stack_register, a0, a1, a2, a3, a4, u5}
 use Rattle.pli_coding.specs.Assembly.{Datum, Symbol, ProcedureEntry, ReturnPlace, LabelPlace, RaiseCondition, RaiseError, ErrorEnd}
 use Rattle.pli_coding.specs.Instructions.{move, small, number, plus, load_word, service}
-use Rattle.pli_coding.specs.Frames.{own_offset, name_bytes, frame_bytes, last_place, automatic_place, variable_place, parameters_in, first_variable, fixed_size, frame_end, parameters_of_block}
+use Rattle.pli_coding.specs.Frames.{own_offset, name_bytes, frame_bytes, last_place, automatic_place, variable_place}
+use Rattle.pli_coding.specs.Frames.{parameters_in, first_variable, fixed_size, frame_end, parameters_of_block}
 use Rattle.pli_coding.specs.Environments.{BlockPlace, Environment, none_taken, last_of_level}
 use Rattle.pli_coding.specs.Locating.{own_place, table_number}
 use Rattle.pli_coding.specs.StaticForms.{initial_datum}
@@ -77,12 +78,14 @@ variables_none e line index (d ∷ ds) are =
 begun_none : (words held : ℕ) → Marks (frame_begun words 0 0 (Some held)) []
 begun_none words held = called_begun_none words 0 held
 
-prologue_none : (e : Environment) (block line words held : ℕ) → ArePlain (variables_of_block e.program e.block) → Marks (procedure_begun (outermost e) (main_head block line) words held []) []
+prologue_none : (e : Environment) (block line words held : ℕ) → ArePlain (variables_of_block e.program e.block)
+    → Marks (procedure_begun (outermost e) (main_head block line) words held []) []
 prologue_none e block line words held plain =
     let made = variables_code (outermost e) line in
     let act = act_code line in
     let entered = block_entered 0 line in
-    behind (frame_begun words 0 0 (Some held)) (move u5 a1 ∷ move a3 a2 ∷ (entered ++ (made ++ act))) [] (begun_none words held)
+    behind (frame_begun words 0 0 (Some held)) (move u5 a1 ∷ move a3 a2 ∷ (entered ++ (made ++ act))) []
+        (begun_none words held)
     (behind entered (made ++ act) [] (behind (number a2 line) (service 4) [] (constant_none a2 (pos line)) refl)
     (behind made act [] (variables_none e line 0 (variables_of_block e.program e.block) plain) (act_none line)))
 
@@ -109,7 +112,9 @@ program_marks program block line body plain all called alone are bare others =
     let ss = places_of (all_stands block body) ++ ReturnPlace block ∷ [] in
     let inside : Marks (begun ++ (code ++ ended)) ss =
     behind begun (code ++ ended) ss (prologue_none e block line words held (main_plain program block plain))
-    (both_mark code ended (places_of (all_stands block body)) (ReturnPlace block ∷ []) (statements_mark e none_taken (main_names program block) (types_of (variables_of_block program block)) body refl has are bare) (ended_marks e (main_head block line) words held)) in
+    (both_mark code ended (places_of (all_stands block body)) (ReturnPlace block ∷ [])
+        (statements_mark e none_taken (main_names program block) (types_of (variables_of_block program block)) body
+        refl has are bare) (ended_marks e (main_head block line) words held)) in
     ap symbols_marked (code_is program block line body plain alone)
     ∙ behind (start_of block) (raise_code ++ (main ++ rest)) (program_symbols block (all_stands block body) alone.others) refl
     (both_mark raise_code (main ++ rest) (RaiseCondition ∷ RaiseError ∷ ErrorEnd ∷ []) (ProcedureEntry block ∷ (ss ++ procedure_symbols alone.others)) refl

@@ -1,5 +1,6 @@
 -- The main procedure is left: its activation ends, the registers are restored, and the start finishes the run.
-use Rattle.std.proofs.Common.{◌≡◌, ℕ, ◌+◌, ◌*◌, ◌^◌, ◌<◌, ◌≤◌, List, [], ◌∷◌, ◌++◌, None, refl, ap, ◌∙◌, arith, lit<, zero, suc}
+use Rattle.std.proofs.Common.{◌≡◌, ℕ, ◌+◌, ◌*◌, ◌^◌, ◌<◌, ◌≤◌, List, [], ◌∷◌, ◌++◌, None, refl, ap, ◌∙◌, arith, lit<}
+use Rattle.std.proofs.Common.{zero, suc}
 use Rattle.std.specs.Prelude.{pos, neg_ℤ, filter, nat_le}
 use Rattle.rv_meaning.specs.declared.instr.Instr.{Instr}
 use Rattle.rv_meaning.specs.declared.instr.Instr.TheVariants as I
@@ -33,7 +34,8 @@ use Rattle.pli_headline.proofs.Statements.{Unwound}
 use Rattle.pli_headline.proofs.Calls.{called, Calling, call_done}
 use Rattle.pli_headline.proofs.Raising.{small_is}
 use Rattle.pli_headline.proofs.Finishing.{Bare, finish_piece}
-use Rattle.pli_headline.proofs.Reach.{Family, Reach, Aims, Comes, Closed, onward, stay, reach_then, reached, reached_holds}
+use Rattle.pli_headline.proofs.Reach.{Family, Reach, Aims, Comes, Closed, onward, stay, reach_then, reached}
+use Rattle.pli_headline.proofs.Reach.{reached_holds}
 use Rattle.pli_headline.proofs.MainGround.{Frame, lowest_holds}
 use Rattle.pli_headline.proofs.MainProcedure.{main_head}
 use Rattle.pli_headline.proofs.Prologue.{over_word}
@@ -94,7 +96,8 @@ left_piece {code = code} {i = i} {v = v} c f a g e l at =
     call_done c g v v' (λ b. (g b).machine.memory) (λ b. 0) (λ b. (g b).machine.registers 11) (λ b. Returning f v' (in_frame f) b) (omega arith) calling
     (λ b. let o = (at b).holds in record { services = refl; regs = o.regs.1.1; resumes = o.resumes })
 
-others_stay : (n : ℕ) → n < 7 → (f : Frame) (b : Base) (y : ℕ → ℕ) (u : ℕ) → Regs (restored_in f b) y → Regs (restored_in f b) (written y (held n).index u)
+others_stay : (n : ℕ) → n < 7 → (f : Frame) (b : Base) (y : ℕ → ℕ) (u : ℕ) → Regs (restored_in f b) y
+    → Regs (restored_in f b) (written y (held n).index u)
 others_stay (zero) l f b y u k = k
 others_stay (suc zero) l f b y u k = k
 others_stay (suc (suc zero)) l f b y u k = k
@@ -104,7 +107,11 @@ others_stay (suc (suc (suc (suc (suc zero))))) l f b y u k = k
 others_stay (suc (suc (suc (suc (suc (suc zero)))))) l f b y u k = k
 others_stay (suc (suc (suc (suc (suc (suc (suc n))))))) l f b y u k = absurd (omega (arith, l))
 
-more_restored : (left n : ℕ) {links : Links} {code : List Instr} {i : ℕ} {v : Services} (c : ℕ) (f : Frame) (g : Family) → n + left ≤ 7 → Linked links code i (registers_restored n left) → ((b : Base) → At b i (Returning f v (restored_in f) b) (g b)) → Reach code c g v (c + size_of (registers_restored n left)) v (λ b w. At b (i + size_of (registers_restored n left)) (Returning f v (restored_in f) b) w)
+more_restored : (left n : ℕ) {links : Links} {code : List Instr} {i : ℕ} {v : Services} (c : ℕ) (f : Frame) (g :
+    Family) → n + left ≤ 7 → Linked links code i (registers_restored n left)
+    → ((b : Base) → At b i (Returning f v (restored_in f) b) (g b))
+    → Reach code c g v (c + size_of (registers_restored n left)) v
+    (λ b w. At b (i + size_of (registers_restored n left)) (Returning f v (restored_in f) b) w)
 more_restored zero n {code = code} {i = i} {v = v} c f g all l at =
     reach_moved (omega arith) (omega arith) (stay code c g v (λ b w. At b i (Returning f v (restored_in f) b) w) at)
 more_restored (suc left) n {v = v} c f g all l at =
@@ -114,8 +121,11 @@ more_restored (suc left) n {v = v} c f g all l at =
     let few : n < 7 = omega (arith, all) in
     let above = f.above_statics in
     let inside = f.inside in
-    let place = frame_place f.at (8 + 4 * n) f.whole (omega (arith, above)) (omega (arith, inside)) (omega arith) (omega (arith, few)) in
-    let r1 = displaced_by (is_immediate (saved_register n)) c g (λ q d. I.Load Load.Word (held n) q d) frame_register (saved_register n) (λ b. b.at + f.at) (Returning f v (restored_in f)) (Returning f v (restored_in f)) place.small'
+    let place = frame_place f.at (8 + 4 * n) f.whole (omega (arith, above)) (omega (arith, inside)) (omega arith)
+        (omega (arith, few)) in
+    let r1 = displaced_by (is_immediate (saved_register n)) c g (λ q d. I.Load Load.Word (held n) q d) frame_register
+        (saved_register n) (λ b. b.at + f.at) (Returning f v (restored_in f)) (Returning f v (restored_in f))
+        place.small'
     (λ b. let v' = b.valid.1 in omega (arith, v', inside))
     (λ y u. refl)
     (λ b. (at b).holds.regs.1.0)
@@ -123,20 +133,27 @@ more_restored (suc left) n {v = v} c f g all l at =
     (record {
       does = λ b j w q d k e. (
         at_place b place _ e,
-        record { services = k.services; regs = others_stay n few f b w.machine.registers _ k.regs; resumes = k.resumes },
+        record { services = k.services; regs = others_stay n few f b w.machine.registers _ k.regs; resumes =
+            k.resumes },
       );
       lost = λ b w u i' k. record { services = k.services; regs = k.regs; resumes = k.resumes };
     })
     (front_of first rest l) at in
-    let r2 = more_restored left (suc n) (c + size_of first) f (reached r1) (omega (arith, all)) (back_of first rest l) (reached_holds r1) in
+    let r2 = more_restored left (suc n) (c + size_of first) f (reached r1) (omega (arith, all)) (back_of first rest l)
+        (reached_holds r1) in
     reach_moved (omega (arith, size)) (omega (arith, size)) (reach_then r1 r2)
 
-restored_piece : {links : Links} {code : List Instr} {i : ℕ} {v : Services} (c : ℕ) (f : Frame) (held' : ℕ) (g : Family) → held' ≤ 7 → Linked links code i (all_restored held') → ((b : Base) → At b i (Returning f v (in_frame f) b) (g b)) → Reach code c g v (c + size_of (all_restored held')) v (λ b w. At b (i + size_of (all_restored held')) (Returning f v (restored_in f) b) w)
+restored_piece : {links : Links} {code : List Instr} {i : ℕ} {v : Services} (c : ℕ) (f : Frame) (held' : ℕ) (g :
+    Family) → held' ≤ 7 → Linked links code i (all_restored held')
+    → ((b : Base) → At b i (Returning f v (in_frame f) b) (g b))
+    → Reach code c g v (c + size_of (all_restored held')) v
+    (λ b w. At b (i + size_of (all_restored held')) (Returning f v (restored_in f) b) w)
 restored_piece {v = v} c f held' g few l at =
     let first = load_word return_register frame_register return_address in
     let rest = registers_restored 0 held' in
     let size = size_append first rest in
-    let r1 = straight c g v v (λ b w. Returning f v (restored_in f) b w) (front_of first rest l) (omega arith) (λ b. (at b).pc)
+    let r1 = straight c g v v (λ b w. Returning f v (restored_in f) b w) (front_of first rest l) (omega arith)
+        (λ b. (at b).pc)
     (λ b.
     let o = (at b).holds in
     let m = (g b).machine.memory in
@@ -144,7 +161,8 @@ restored_piece {v = v} c f held' g few l at =
       over_word f b ((g b).machine.registers 8) 0 refl (omega arith) o.regs.0,
       record { services = o.services; regs = (ap (load 4 m) same ∙ o.resumes, o.regs); resumes = o.resumes },
     )) in
-    let r2 = more_restored held' 0 (c + size_of first) f (reached r1) (omega (arith, few)) (back_of first rest l) (reached_holds r1) in
+    let r2 = more_restored held' 0 (c + size_of first) f (reached r1) (omega (arith, few)) (back_of first rest l)
+        (reached_holds r1) in
     reach_moved (omega (arith, size)) (omega (arith, size)) (reach_then r1 r2)
 
 -- the stack's register takes what it will, and is not asked any more
@@ -175,8 +193,15 @@ returned_piece {code = code} {i = i} {v = v} c f g near l at =
 
 -- ---- from the end of the statements to the end of the run
 
-pub leaving_piece : {X : Type 0} {links : Links} {code : List Instr} {i : ℕ} {v : Services} {aims : Aims X} (closed : Closed code aims) (e : Environment) (block line words held' : ℕ) (f : Frame) (g : Family) (s : State) (k : ℕ) (a : S.Activation) → held' ≤ 7 → temporary_bytes words < 2 ^ 24 → f.resume ≤ most_code → Linked links code i (procedure_ended e (main_head block line) words held' None) → Linked links code f.resume finish_code → v.world ≡ s.world → v.world.end ≡ E.Running → v.world.acts ≤ k → k + 1 < 2 ^ 64 → v.activations ≡ a ∷ [] → ((b : Base) → At b i (Unwound f.at (lowest_holds f) v b) (g b)) → Comes code i g v aims (finish {R = X} E.Finished k s)
-leaving_piece {code = code} {i = i} {v = v} closed e block line words held' f g s k a most few near l finish' same running allowed fits only at =
+pub leaving_piece : {X : Type 0} {links : Links} {code : List Instr} {i : ℕ} {v : Services} {aims : Aims X} (closed :
+    Closed code aims) (e : Environment) (block line words held' : ℕ) (f : Frame) (g : Family) (s : State) (k : ℕ) (a :
+    S.Activation) → held' ≤ 7 → temporary_bytes words < 2 ^ 24 → f.resume ≤ most_code
+    → Linked links code i (procedure_ended e (main_head block line) words held' None)
+    → Linked links code f.resume finish_code → v.world ≡ s.world → v.world.end ≡ E.Running → v.world.acts ≤ k
+    → k + 1 < 2 ^ 64 → v.activations ≡ a ∷ [] → ((b : Base) → At b i (Unwound f.at (lowest_holds f) v b) (g b))
+    → Comes code i g v aims (finish {R = X} E.Finished k s)
+leaving_piece {code = code} {i = i} {v = v} closed e block line words held' f g s k a most few near l finish' same
+    running allowed fits only at =
     let v' = left_services v a in
     let ps = plus stack_register frame_register (neg_ℤ (pos (temporary_bytes words))) in
     let ended = frame_ended words ++ jump_back in
@@ -192,7 +217,8 @@ leaving_piece {code = code} {i = i} {v = v} closed e block line words held' f g 
     let size = size_append ps (load_word frame_register frame_register frame_below) in
     let here : i + 2 + 1 + r + size_of ps + 1 ≡ i + 2 + 1 + r + size_of (frame_ended words) = omega (arith, size) in
     let room = l6.inside in
-    let r1 = straight i g v v (λ b w. Returning f v (λ b'. (17, 5) ∷ (10, 0) ∷ in_frame f b') b w) (front_of asked (Plain I.Ecall ∷ (restored ++ ended)) l) (omega arith) (λ b. (at b).pc)
+    let r1 = straight i g v v (λ b w. Returning f v (λ b'. (17, 5) ∷ (10, 0) ∷ in_frame f b') b w)
+        (front_of asked (Plain I.Ecall ∷ (restored ++ ended)) l) (omega arith) (λ b. (at b).pc)
     (λ b. let o = (at b).holds in let z = o.regs.1.0 in record {
       services = o.services;
       regs = (small_is _ 5 z (lit< tt), (small_is _ 0 z (lit< tt), o.regs));
@@ -201,12 +227,18 @@ leaving_piece {code = code} {i = i} {v = v} closed e block line words held' f g 
     onward closed r1 (λ g1 at1.
     onward closed (left_piece (i + 2) f a g1 only (first_of (Plain I.Ecall) (restored ++ ended) l1) at1) (λ g2 at2.
     onward closed (restored_piece (i + 2 + 1) f held' g2 most (front_of restored ended l2) at2) (λ g3 at3.
-    onward closed (lowered_piece (i + 2 + 1 + r) f (temporary_bytes words) g3 few (front_of ps (load_word frame_register frame_register frame_below) l4) at3) (λ g4 at4.
-    let r5 = straight (i + 2 + 1 + r + size_of ps) g4 v' v' (λ b w. Bare v' ((1, address b f.resume) ∷ (0, 0) ∷ []) w) l5 (omega arith) (λ b. (at4 b).pc)
+    onward closed
+        (lowered_piece (i + 2 + 1 + r) f (temporary_bytes words) g3 few
+        (front_of ps (load_word frame_register frame_register frame_below) l4) at3) (λ g4 at4.
+    let r5 = straight (i + 2 + 1 + r + size_of ps) g4 v' v' (λ b w. Bare v' ((1, address b f.resume) ∷ (0, 0) ∷ []) w)
+        l5 (omega arith) (λ b. (at4 b).pc)
     (λ b. let o = (at4 b).holds in (
       over_word f b ((g4 b).machine.registers 8) 4 refl (omega arith) o.regs.1.0,
       record { services = o.services; regs = (o.regs.0, (o.regs.1.1.0, tt)) },
     )) in
     onward closed r5 (λ g5 at5.
-    onward closed (returned_piece (i + 2 + 1 + r + size_of ps + 1) f g5 near l6 (λ b. record { pc = (at5 b).pc ∙ ap (address b) here; holds = (at5 b).holds })) (λ g6 at6.
-    finish_piece closed (i + 2 + 1 + r + size_of ps + 1 + 1) g6 s k (omega (arith, room, size)) finish' same running allowed fits at6))))))
+    onward closed
+        (returned_piece (i + 2 + 1 + r + size_of ps + 1) f g5 near l6 (λ b. record { pc =
+        (at5 b).pc ∙ ap (address b) here; holds = (at5 b).holds })) (λ g6 at6.
+    finish_piece closed (i + 2 + 1 + r + size_of ps + 1 + 1) g6 s k (omega (arith, room, size)) finish' same running
+        allowed fits at6))))))

@@ -1,6 +1,7 @@
--- The test of a loop's limit: above it, and with a negative step below it, the turns are over. The step waits in a word, or is a
--- constant of the code.
-use Rattle.std.proofs.Common.{◌≡◌, ℕ, ◌+◌, ◌≤◌, List, [], ◌∷◌, ◌++◌, length, Option, None, Some, Bool, true, false, refl, sym, ap, ◌∙◌, subst, arith}
+-- The test of a loop's limit: above it, and with a negative step below it, the turns are over. The step waits in a
+-- word, or is a constant of the code.
+use Rattle.std.proofs.Common.{◌≡◌, ℕ, ◌+◌, ◌≤◌, List, [], ◌∷◌, ◌++◌, length, Option, None, Some, Bool, true, false}
+use Rattle.std.proofs.Common.{refl, sym, ap, ◌∙◌, subst, arith}
 use Rattle.std.specs.Prelude.{ℤ, pos, negsuc, not, nat_lt, nat_le, int_lt, int_le, ◌==◌, if◌then◌else◌}
 use Rattle.std.proofs.lemmas.Bool.Decides.{nat_tests}
 use Rattle.rv_meaning.specs.declared.instr.Instr.{Instr}
@@ -36,7 +37,8 @@ abbrev pub StepWaits : Option ℤ → (step : ℤ) → (t : ℕ → ℕ) → (j 
 StepWaits None step t j = t j ≡ word step
 StepWaits (Some z) step t j = step ≡ z
 
-pub step_stays : (fixed : Option ℤ) (step : ℤ) (t t' : ℕ → ℕ) (j : ℕ) → t' j ≡ t j → StepWaits fixed step t j → StepWaits fixed step t' j
+pub step_stays : (fixed : Option ℤ) (step : ℤ) (t t' : ℕ → ℕ) (j : ℕ) → t' j ≡ t j → StepWaits fixed step t j
+    → StepWaits fixed step t' j
 step_stays None step t t' j e waits = e ∙ waits
 step_stays (Some z) step t t' j e waits = waits
 
@@ -120,8 +122,22 @@ by_flag {code = code} {i = i} {v = v} {aims = aims} s k one other true closed f 
     (λ f2 at2. subst (λ n. Comes code n f2 v aims (other k s)) (sym there) (past' f2 (λ b. record { pc = (at2 b).pc ∙ ap (address b) there; holds = (at2 b).holds }))))
 
 -- the value in a0 against the limit and the step that wait
-kept_piece : {X : Type 0} {links : Links} {code : List Instr} {i : ℕ} {g : Ground} {v : Services} {h t : ℕ → ℕ} {aims : Aims X} (s : State) (k : ℕ) (one other : Meaning X) (closed : Closed code aims) (temps : Temporaries g) (f : Family) (taken : Taken) (limit step z : ℤ) (behind : ℕ) → IsWide limit → IsWide step → IsWide z → taken.words + 2 ≤ g.words → t taken.words ≡ word limit → t (taken.words + 1) ≡ word step → i + size_of (limit_tested taken None behind) + behind ≤ length code → Linked links code i (limit_tested taken None behind) → ((b : Base) → At b i (Known g v h t (valued (word z)) b) (f b)) → ((f' : Family) → ((b : Base) → At b (i + size_of (limit_tested taken None behind)) (Known g v h t nothing b) (f' b)) → Comes code (i + size_of (limit_tested taken None behind)) f' v aims (one k s)) → ((f' : Family) → ((b : Base) → At b (i + size_of (limit_tested taken None behind) + behind) (Known g v h t nothing b) (f' b)) → Comes code (i + size_of (limit_tested taken None behind) + behind) f' v aims (other k s)) → Comes code i f v aims (choose (has_not_passed limit step z) one other k s)
-kept_piece {code = code} {i = i} {g = g} {v = v} {h = h} {t = t} {aims = aims} s k one other closed temps f taken limit step z behind wl ws wz room at_limit at_step inside l at within past' =
+kept_piece : {X : Type 0} {links : Links} {code : List Instr} {i : ℕ} {g : Ground} {v : Services} {h t :
+    ℕ → ℕ} {aims : Aims X} (s : State) (k : ℕ) (one other : Meaning X) (closed : Closed code aims) (temps :
+    Temporaries g) (f : Family) (taken : Taken) (limit step z : ℤ) (behind : ℕ) → IsWide limit → IsWide step
+    → IsWide z → taken.words + 2 ≤ g.words → t taken.words ≡ word limit → t (taken.words + 1) ≡ word step
+    → i + size_of (limit_tested taken None behind) + behind ≤ length code
+    → Linked links code i (limit_tested taken None behind)
+    → ((b : Base) → At b i (Known g v h t (valued (word z)) b) (f b))
+    → ((f' : Family)
+    → ((b : Base) → At b (i + size_of (limit_tested taken None behind)) (Known g v h t nothing b) (f' b))
+    → Comes code (i + size_of (limit_tested taken None behind)) f' v aims (one k s))
+    → ((f' : Family)
+    → ((b : Base) → At b (i + size_of (limit_tested taken None behind) + behind) (Known g v h t nothing b) (f' b))
+    → Comes code (i + size_of (limit_tested taken None behind) + behind) f' v aims (other k s))
+    → Comes code i f v aims (choose (has_not_passed limit step z) one other k s)
+kept_piece {code = code} {i = i} {g = g} {v = v} {h = h} {t = t} {aims = aims} s k one other closed temps f taken
+    limit step z behind wl ws wz room at_limit at_step inside l at within past' =
     let a = load_word u1 frame_register (limit_place taken) in
     let c = load_word u2 frame_register (step_place taken) in
     let first = registers Op.SetLess u3 u1 a0 ∷ [] in
@@ -161,7 +177,8 @@ as_not : (p : Bool) → (if p then false else true) ≡ not p
 as_not true = refl
 as_not false = refl
 
-not_less : (x y : ℕ) (a c : ℤ) → x ≡ word a → y ≡ word c → IsWide a → IsWide c → (if int_lt (signed x) (signed y) then false else true) ≡ not (int_lt a c)
+not_less : (x y : ℕ) (a c : ℤ) → x ≡ word a → y ≡ word c → IsWide a → IsWide c
+    → (if int_lt (signed x) (signed y) then false else true) ≡ not (int_lt a c)
 not_less x y a c e f wa wc =
     ap (λ u. if int_lt (signed u) (signed y) then false else true) e
     ∙ ap (λ u. if int_lt (signed (word a)) (signed u) then false else true) f
@@ -174,39 +191,85 @@ abbrev beside : (limit z : ℤ) → Base → List (ℕ × ℕ)
 beside limit z b = (6, word limit) ∷ (10, word z) ∷ []
 
 -- past so many words unless one register is at least another
-by_order : {X : Type 0} {links : Links} {code : List Instr} {i : ℕ} {g : Ground} {v : Services} {h t : ℕ → ℕ} {rs : Base → List (ℕ × ℕ)} {aims : Aims X} (s : State) (k : ℕ) (one other : Meaning X) (p : Bool) (closed : Closed code aims) (f : Family) (r q : Register) (behind : ℕ) → i + 3 + behind ≤ length code → Linked links code i (skip_where Test.GreaterOrEqual r q (JumpAhead behind ∷ [])) → ((b : Base) → At b i (Known g v h t rs b) (f b)) → ((b : Base) → (if int_lt (signed ((f b).machine.registers r.index)) (signed ((f b).machine.registers q.index)) then false else true) ≡ not p) → ((f' : Family) → ((b : Base) → At b (i + 3) (Known g v h t nothing b) (f' b)) → Comes code (i + 3) f' v aims (one k s)) → ((f' : Family) → ((b : Base) → At b (i + 3 + behind) (Known g v h t nothing b) (f' b)) → Comes code (i + 3 + behind) f' v aims (other k s)) → Comes code i f v aims (choose (not p) one other k s)
+by_order : {X : Type 0} {links : Links} {code : List Instr} {i : ℕ} {g : Ground} {v : Services} {h t : ℕ → ℕ} {rs :
+    Base → List (ℕ × ℕ)} {aims : Aims X} (s : State) (k : ℕ) (one other : Meaning X) (p : Bool) (closed :
+    Closed code aims) (f : Family) (r q : Register) (behind : ℕ) → i + 3 + behind ≤ length code
+    → Linked links code i (skip_where Test.GreaterOrEqual r q (JumpAhead behind ∷ []))
+    → ((b : Base) → At b i (Known g v h t rs b) (f b))
+    → ((b : Base)
+    → (if int_lt (signed ((f b).machine.registers r.index)) (signed ((f b).machine.registers q.index)) then false else
+    true) ≡ not p) → ((f' : Family) → ((b : Base) → At b (i + 3) (Known g v h t nothing b) (f' b))
+    → Comes code (i + 3) f' v aims (one k s))
+    → ((f' : Family) → ((b : Base) → At b (i + 3 + behind) (Known g v h t nothing b) (f' b))
+    → Comes code (i + 3 + behind) f' v aims (other k s)) → Comes code i f v aims (choose (not p) one other k s)
 unfolding choose
 by_order {i = i} s k one other false closed f r q behind inside l at holds within past' =
     onward closed (skip_taken i f Test.GreaterOrEqual r q (JumpAhead behind ∷ []) l at holds)
     (λ f' at'. within f' (λ b. record { pc = (at' b).pc; holds = record { body = (at' b).holds.body; regs = tt } }))
-by_order {code = code} {i = i} {v = v} {aims = aims} s k one other true closed f r q behind inside l at holds within past' =
+by_order {code = code} {i = i} {v = v} {aims = aims} s k one other true closed f r q behind inside l at holds within
+    past' =
     let there : i + 1 + (2 + behind) ≡ i + 3 + behind = omega arith in
     onward closed (skip_passed i f Test.GreaterOrEqual r q (JumpAhead behind ∷ []) l at holds)
     (λ f1 at1.
     onward closed (ahead_piece (i + 1) f1 behind (omega (arith, inside)) free_far (rest_of _ (JumpAhead behind ∷ []) l)
     (λ b. record { pc = (at1 b).pc; holds = record { body = (at1 b).holds.body; regs = tt } }))
-    (λ f2 at2. subst (λ n. Comes code n f2 v aims (other k s)) (sym there) (past' f2 (λ b. record { pc = (at2 b).pc ∙ ap (address b) there; holds = (at2 b).holds }))))
+    (λ f2 at2. subst (λ n. Comes code n f2 v aims (other k s)) (sym there)
+        (past' f2 (λ b. record { pc = (at2 b).pc ∙ ap (address b) there; holds = (at2 b).holds }))))
 
-by_direction : {X : Type 0} {links : Links} {code : List Instr} {i : ℕ} {g : Ground} {v : Services} {h t : ℕ → ℕ} {aims : Aims X} (s : State) (k : ℕ) (one other : Meaning X) (falls : Bool) (closed : Closed code aims) (f : Family) (limit z : ℤ) (behind : ℕ) → IsWide limit → IsWide z → i + size_of (passed falls behind) + behind ≤ length code → Linked links code i (passed falls behind) → ((b : Base) → At b i (Known g v h t (beside limit z) b) (f b)) → ((f' : Family) → ((b : Base) → At b (i + size_of (passed falls behind)) (Known g v h t nothing b) (f' b)) → Comes code (i + size_of (passed falls behind)) f' v aims (one k s)) → ((f' : Family) → ((b : Base) → At b (i + size_of (passed falls behind) + behind) (Known g v h t nothing b) (f' b)) → Comes code (i + size_of (passed falls behind) + behind) f' v aims (other k s)) → Comes code i f v aims (choose (not (has_passed falls limit z)) one other k s)
+by_direction : {X : Type 0} {links : Links} {code : List Instr} {i : ℕ} {g : Ground} {v : Services} {h t :
+    ℕ → ℕ} {aims : Aims X} (s : State) (k : ℕ) (one other : Meaning X) (falls : Bool) (closed : Closed code aims) (f :
+    Family) (limit z : ℤ) (behind : ℕ) → IsWide limit → IsWide z
+    → i + size_of (passed falls behind) + behind ≤ length code → Linked links code i (passed falls behind)
+    → ((b : Base) → At b i (Known g v h t (beside limit z) b) (f b))
+    → ((f' : Family) → ((b : Base) → At b (i + size_of (passed falls behind)) (Known g v h t nothing b) (f' b))
+    → Comes code (i + size_of (passed falls behind)) f' v aims (one k s))
+    → ((f' : Family)
+    → ((b : Base) → At b (i + size_of (passed falls behind) + behind) (Known g v h t nothing b) (f' b))
+    → Comes code (i + size_of (passed falls behind) + behind) f' v aims (other k s))
+    → Comes code i f v aims (choose (not (has_passed falls limit z)) one other k s)
 by_direction s k one other true closed f limit z behind wl wz inside l at within past' =
-    by_order s k one other (int_lt z limit) closed f a0 u1 behind inside l at (λ b. let o = (at b).holds.regs in not_less _ _ z limit o.1.0 o.0 wz wl) within past'
+    by_order s k one other (int_lt z limit) closed f a0 u1 behind inside l at (λ b. let o =
+        (at b).holds.regs in not_less _ _ z limit o.1.0 o.0 wz wl) within past'
 by_direction s k one other false closed f limit z behind wl wz inside l at within past' =
-    by_order s k one other (int_lt limit z) closed f u1 a0 behind inside l at (λ b. let o = (at b).holds.regs in not_less _ _ limit z o.0 o.1.0 wl wz) within past'
+    by_order s k one other (int_lt limit z) closed f u1 a0 behind inside l at (λ b. let o =
+        (at b).holds.regs in not_less _ _ limit z o.0 o.1.0 wl wz) within past'
 
 -- the value in a0 against the limit that waits, by the step
-pub limit_piece : {X : Type 0} {links : Links} {code : List Instr} {i : ℕ} {g : Ground} {v : Services} {h t : ℕ → ℕ} {aims : Aims X} (s : State) (k : ℕ) (one other : Meaning X) (closed : Closed code aims) (temps : Temporaries g) (f : Family) (taken : Taken) (fixed : Option ℤ) (limit step z : ℤ) (behind : ℕ) → IsWide limit → IsWide step → IsWide z → taken.words + 2 ≤ g.words → t taken.words ≡ word limit → StepWaits fixed step t (taken.words + 1) → i + size_of (limit_tested taken fixed behind) + behind ≤ length code → Linked links code i (limit_tested taken fixed behind) → ((b : Base) → At b i (Known g v h t (valued (word z)) b) (f b)) → ((f' : Family) → ((b : Base) → At b (i + size_of (limit_tested taken fixed behind)) (Known g v h t nothing b) (f' b)) → Comes code (i + size_of (limit_tested taken fixed behind)) f' v aims (one k s)) → ((f' : Family) → ((b : Base) → At b (i + size_of (limit_tested taken fixed behind) + behind) (Known g v h t nothing b) (f' b)) → Comes code (i + size_of (limit_tested taken fixed behind) + behind) f' v aims (other k s)) → Comes code i f v aims (choose (has_not_passed limit step z) one other k s)
-limit_piece s k one other closed temps f taken None limit step z behind wl ws wz room at_limit at_step inside l at within past' =
-    kept_piece s k one other closed temps f taken limit step z behind wl ws wz room at_limit at_step inside l at within past'
-limit_piece {code = code} {i = i} {v = v} {aims = aims} s k one other closed temps f taken (Some c) limit step z behind wl ws wz room at_limit at_step inside l at within past' =
+pub limit_piece : {X : Type 0} {links : Links} {code : List Instr} {i : ℕ} {g : Ground} {v : Services} {h t :
+    ℕ → ℕ} {aims : Aims X} (s : State) (k : ℕ) (one other : Meaning X) (closed : Closed code aims) (temps :
+    Temporaries g) (f : Family) (taken : Taken) (fixed : Option ℤ) (limit step z : ℤ) (behind : ℕ) → IsWide limit
+    → IsWide step → IsWide z → taken.words + 2 ≤ g.words → t taken.words ≡ word limit
+    → StepWaits fixed step t (taken.words + 1) → i + size_of (limit_tested taken fixed behind) + behind ≤ length code
+    → Linked links code i (limit_tested taken fixed behind)
+    → ((b : Base) → At b i (Known g v h t (valued (word z)) b) (f b))
+    → ((f' : Family)
+    → ((b : Base) → At b (i + size_of (limit_tested taken fixed behind)) (Known g v h t nothing b) (f' b))
+    → Comes code (i + size_of (limit_tested taken fixed behind)) f' v aims (one k s))
+    → ((f' : Family)
+    → ((b : Base) → At b (i + size_of (limit_tested taken fixed behind) + behind) (Known g v h t nothing b) (f' b))
+    → Comes code (i + size_of (limit_tested taken fixed behind) + behind) f' v aims (other k s))
+    → Comes code i f v aims (choose (has_not_passed limit step z) one other k s)
+limit_piece s k one other closed temps f taken None limit step z behind wl ws wz room at_limit at_step inside l at
+    within past' =
+    kept_piece s k one other closed temps f taken limit step z behind wl ws wz room at_limit at_step inside l at
+        within past'
+limit_piece {code = code} {i = i} {v = v} {aims = aims} s k one other closed temps f taken (Some c) limit step z
+    behind wl ws wz room at_limit at_step inside l at within past' =
     let a = load_word u1 frame_register (limit_place taken) in
     let falls = int_lt c (pos 0) in
     let last = passed falls behind in
     let size = size_append a last in
     let end' : i + size_of a + size_of last ≡ i + size_of (a ++ last) = omega (arith, size) in
     let end'' : i + size_of a + size_of last + behind ≡ i + size_of (a ++ last) + behind = omega (arith, size) in
-    onward closed (read_piece temps i f u1 taken.words (word limit) (omega (arith, room)) (word_small limit wl) at_limit (record { reserved_stay = λ y u. refl; known_stay = λ b y u q. q; set = λ y u. refl }) (record { reserved_stay = λ y u. refl; known_stay = λ b y u q. q; set = λ y u. refl }) (front_of a last l) at)
+    onward closed (read_piece temps i f u1 taken.words (word limit) (omega (arith, room)) (word_small limit wl)
+        at_limit (record { reserved_stay = λ y u. refl; known_stay = λ b y u q. q; set = λ y u. refl })
+        (record { reserved_stay = λ y u. refl; known_stay = λ b y u q. q; set = λ y u. refl }) (front_of a last l) at)
     (λ f1 at1.
-    subst (λ q. Comes code (i + size_of a) f1 v aims (choose q one other k s)) (sym (not_passed falls limit step z (ap (λ u. int_lt u (pos 0)) at_step)))
-    (by_direction s k one other falls closed f1 limit z behind wl wz (omega (arith, inside, end'')) (back_of a last l) at1
-    (λ f2 at2. subst (λ n. Comes code n f2 v aims (one k s)) (sym end') (within f2 (λ b. record { pc = (at2 b).pc ∙ ap (address b) end'; holds = (at2 b).holds })))
-    (λ f2 at2. subst (λ n. Comes code n f2 v aims (other k s)) (sym end'') (past' f2 (λ b. record { pc = (at2 b).pc ∙ ap (address b) end''; holds = (at2 b).holds })))))
+    subst (λ q. Comes code (i + size_of a) f1 v aims (choose q one other k s))
+        (sym (not_passed falls limit step z (ap (λ u. int_lt u (pos 0)) at_step)))
+    (by_direction s k one other falls closed f1 limit z behind wl wz (omega (arith, inside, end'')) (back_of a last l)
+        at1
+    (λ f2 at2. subst (λ n. Comes code n f2 v aims (one k s)) (sym end')
+        (within f2 (λ b. record { pc = (at2 b).pc ∙ ap (address b) end'; holds = (at2 b).holds })))
+    (λ f2 at2. subst (λ n. Comes code n f2 v aims (other k s)) (sym end'')
+        (past' f2 (λ b. record { pc = (at2 b).pc ∙ ap (address b) end''; holds = (at2 b).holds })))))

@@ -74,19 +74,24 @@ filled_in m at y top own =
 
 pub filled_keeps : {m0 m : List ℕ} (at y top own : ℕ) → Kept at m0 m → Kept at m0 (filled_in m at y top own)
 filled_keeps at y top own kept =
-    kept_store (at + 36) own (omega arith) (kept_store (at + 40) top (omega arith) (kept_store (at + 4) y (omega arith) kept))
+    kept_store (at + 36) own (omega arith)
+        (kept_store (at + 40) top (omega arith) (kept_store (at + 4) y (omega arith) kept))
 
 filled_return : (m : List ℕ) (at y top own back : ℕ) → load 4 m at ≡ back → WordIs (filled_in m at y top own) at back
 filled_return m at y top own back is =
     word_under (at + 36) own (omega arith)
     (word_under (at + 40) top (omega arith) (word_under (at + 4) y (omega arith) (record { is = is })))
 
-filled_below : (m : List ℕ) (at y top own : ℕ) → y < 2 ^ 32 → at + 8 ≤ length m → WordIs (filled_in m at y top own) (at + 4) y
+filled_below : (m : List ℕ) (at y top own : ℕ) → y < 2 ^ 32 → at + 8 ≤ length m
+    → WordIs (filled_in m at y top own) (at + 4) y
 filled_below m at y top own small' inside =
     word_under (at + 36) own (omega arith)
-    (word_under (at + 40) top (omega arith) (record { is = load-store_same 4 m (at + 4) y small' (omega (arith, inside)) }))
+    (word_under (at + 40) top (omega arith)
+        (record { is = load-store_same 4 m (at + 4) y small' (omega (arith, inside)) }))
 
-filled_own : (m : List ℕ) (at y top own : ℕ) → own < 2 ^ 32 → at + 40 ≤ length (store 4 (store 4 m (at + 4) y) (at + 40) top) → load 4 (filled_in m at y top own) (at + 36) ≡ own
+filled_own : (m : List ℕ) (at y top own : ℕ) → own < 2 ^ 32
+    → at + 40 ≤ length (store 4 (store 4 m (at + 4) y) (at + 40) top) → load 4 (filled_in m at y top own) (at + 36)
+    ≡ own
 filled_own m at y top own small' inside =
     load-store_same 4 (store 4 (store 4 m (at + 4) y) (at + 40) top) (at + 36) own small' (omega (arith, inside))
 
@@ -107,13 +112,17 @@ start_words first q above =
     ∙ load-store_other 4 4 first (statics_end + 36) statics_end q (inr (omega (arith, above)))
 
 -- a frame without variables, where the place to return to is saved already
-pub frame_stands : (f : Frame) (first m : List ℕ) (b : Base) (y top own : ℕ) → f.count ≡ 0 → length first ≡ memory_size → Kept f.at (start_memory first) m → load 4 m f.at ≡ address b f.resume → y ≡ b.at + statics_end → own ≡ f.at → Stands f first (λ j. Counted (pos 0)) (first_words first f.at) b (filled_in m f.at y top own)
+pub frame_stands : (f : Frame) (first m : List ℕ) (b : Base) (y top own : ℕ) → f.count ≡ 0
+    → length first ≡ memory_size → Kept f.at (start_memory first) m → load 4 m f.at ≡ address b f.resume
+    → y ≡ b.at + statics_end → own ≡ f.at
+    → Stands f first (λ j. Counted (pos 0)) (first_words first f.at) b (filled_in m f.at y top own)
 frame_stands f first m b y top own none len kept ra below mine =
     let above = f.above_statics in
     let inside = f.inside in
     let v = b.valid.1 in
     let long : length m ≡ memory_size = kept.bytes ∙ start_length first ∙ len in
-    let last : length (store 4 (store 4 m (f.at + 4) y) (f.at + 40) top) ≡ memory_size = length-store 4 (store 4 m (f.at + 4) y) (f.at + 40) top ∙ length-store 4 m (f.at + 4) y ∙ long in
+    let last : length (store 4 (store 4 m (f.at + 4) y) (f.at + 40) top) ≡ memory_size =
+        length-store 4 (store 4 m (f.at + 4) y) (f.at + 40) top ∙ length-store 4 m (f.at + 4) y ∙ long in
     let keeps = filled_keeps f.at y top own kept in
     record {
       statics = λ k h. keeps.under k (omega (arith, above, h)) ∙ start_keeps first k h;
@@ -123,5 +132,7 @@ frame_stands f first m b y top own none len kept ra below mine =
       variables = λ j h. absurd (omega (arith, none, h));
       fits = λ j h. absurd (omega (arith, none, h));
       names = λ j h. absurd (omega (arith, none, h));
-      temporaries = λ j h. load-same 4 (filled_in m f.at y top own) (start_memory first) (f.at - 4 * suc j) (λ k a c. keeps.under k (omega (arith, above, h, c))) ∙ start_words first (f.at - 4 * suc j) (omega (arith, above, h));
+      temporaries = λ j h. load-same 4 (filled_in m f.at y top own) (start_memory first) (f.at - 4 * suc j)
+          (λ k a c. keeps.under k (omega (arith, above, h, c)))
+          ∙ start_words first (f.at - 4 * suc j) (omega (arith, above, h));
     }

@@ -47,7 +47,9 @@ use Rattle.pli_headline.proofs.Gotos.{owner_number}
 use Rattle.pli_headline.proofs.Reach.{Family, Aims, Comes, Closed, before, before_closed, comes_on, onward, never, never_closed}
 use Rattle.pli_headline.proofs.MainGround.{ground_of, no_contents}
 use Rattle.pli_headline.proofs.MainBlock.{main_block, VariablesFit, text_few, types_fit, main_serials}
-use Rattle.pli_headline.proofs.MainProcedure.{main_head, main_procedure, IsAlone, main_environment, main_words, main_plain, declared_at, main_sizes, main_place, statics_meant, main_held}
+use Rattle.pli_headline.proofs.MainProcedure.{main_head, main_procedure, IsAlone, main_environment, main_words}
+use Rattle.pli_headline.proofs.MainProcedure.{main_plain, declared_at, main_sizes, main_place, statics_meant}
+use Rattle.pli_headline.proofs.MainProcedure.{main_held}
 use Rattle.pli_headline.proofs.Holdings.{Counted}
 use Rattle.pli_headline.proofs.TextStates.{KeepsText}
 use Rattle.pli_headline.proofs.VariablePlaces.{room_of, number_place, room_before}
@@ -159,12 +161,31 @@ to_finish_closed : (code : List Instr) (k : ℕ) → Closed code (to_finish code
 to_finish_closed code k =
     before_closed k (λ (u : Option BasicValue). finish {R = Unit {0}} E.Finished) (never_closed code)
 
-statements_piece : {links : Links} {code : List Instr} {i : ℕ} {h t : ℕ → ℕ} (known : Condition → ℕ → Y.Block → ℕ → Type 0) (program : Y.Program) (block line : ℕ) (body : Y.Stmts) (first : List ℕ) (all : AllPlain program.variables) (alone : IsAlone program block line body) (small' : main_words program block body ≤ most_code) (few : main_room program block ≤ 2 ^ 20) (k : ℕ) → BodyDoes known program block line body first all alone small' links code k → 10 ≤ i → Linked links code i (stmts_code (main_environment program block) none_taken body ++ procedure_ended (main_environment program block) (main_head block line) (main_words program block body) (main_held program block body) None) → Linked links code start_resume finish_code → (s : State) → {v : Services} → (g : Family) → Serving k s v line → AllHold (lone (main_frame (main_words program block body) (main_sizes program block) (main_count program block) small' few).at known) (main_serials (main_served program block body small' few)) (storage v) (0 ∷ []) s (main_names program block) (main_types program block) (begin_values (main_kind program block)) → ((b : Base) → At b i (Known (ground_of (main_frame (main_words program block body) (main_sizes program block) (main_count program block) small' few) first (begin_contents (main_kind program block))) v h t nothing b) (g b)) → Comes code i g v (inside (to_finish code k) newest_ended) ((M.list (main_around program k line) body >> M.end_reached (main_around program k line) false) k s)
+statements_piece : {links : Links} {code : List Instr} {i : ℕ} {h t : ℕ → ℕ} (known : Condition → ℕ → Y.Block → ℕ
+    → Type 0) (program : Y.Program) (block line : ℕ) (body : Y.Stmts) (first : List ℕ) (all :
+    AllPlain program.variables) (alone : IsAlone program block line body) (small' :
+    main_words program block body ≤ most_code) (few : main_room program block ≤ 2 ^ 20) (k : ℕ)
+    → BodyDoes known program block line body first all alone small' links code k → 10 ≤ i
+    → Linked links code i (stmts_code (main_environment program block) none_taken body
+    ++ procedure_ended (main_environment program block) (main_head block line) (main_words program block body)
+    (main_held program block body) None) → Linked links code start_resume finish_code → (s : State) → {v : Services}
+    → (g : Family) → Serving k s v line
+    → AllHold
+    (lone (main_frame (main_words program block body) (main_sizes program block) (main_count program block) small'
+    few).at known) (main_serials (main_served program block body small' few)) (storage v) (0 ∷ []) s
+    (main_names program block) (main_types program block) (begin_values (main_kind program block))
+    → ((b : Base)
+    → At b i
+    (Known (ground_of (main_frame (main_words program block body) (main_sizes program block)
+    (main_count program block) small' few) first (begin_contents (main_kind program block))) v h t nothing b) (g b))
+    → Comes code i g v (inside (to_finish code k) newest_ended)
+    ((M.list (main_around program k line) body >> M.end_reached (main_around program k line) false) k s)
 unfolding main_block M.end_reached give ◌>>◌
 statements_piece {links = links} {code = code} {i = i} {h = h} {t = t} known program block line body first all alone small' few k does' later l finish' s g serving holds at =
     let e = main_environment program block in
     let st = stmts_code e none_taken body in
-    let en = procedure_ended e (main_head block line) (main_words program block body) (main_held program block body) None in
+    let en = procedure_ended e (main_head block line) (main_words program block body) (main_held program block body)
+        None in
     let around = main_around program k line in
     let f = main_frame (main_words program block body) (main_sizes program block) (main_count program block) small' few in
     let most = held_few program (main_words program block body) body in
@@ -177,7 +198,10 @@ statements_piece {links = links} {code = code} {i = i} {h = h} {t = t} known pro
     let o = only_activation s'.activations v'.activations serving'.nested (entered_length s'.activations (0 ∷ []) all'.entered) in
     record {
       to =
-          leaving_piece (never_closed code) e block line (main_words program block body) (main_held program block body) f g' (with_world s'.world (newest_ended s')) k o.0 most (omega (arith, small')) (omega arith) (back_of st en l) finish' serving'.world serving'.running serving'.allowed serving'.fits o.1
+          leaving_piece (never_closed code) e block line (main_words program block body)
+              (main_held program block body) f g' (with_world s'.world (newest_ended s')) k o.0 most
+              (omega (arith, small')) (omega arith) (back_of st en l) finish' serving'.world serving'.running
+              serving'.allowed serving'.fits o.1
           (λ b. let p = (at' b).holds in record { pc = (at' b).pc; holds = record { services = p.body.services; regs = (frame_is p.body, (zero_is p.body, tt)); memory = (p.body.memory.resumes, p.body.memory.own) } });
     })
     (record {
@@ -198,7 +222,9 @@ statements_piece {links = links} {code = code} {i = i} {h = h} {t = t} known pro
             near = omega (arith, o1, o2);
             later = omega (arith, later);
             leaves = λ s' v' g' a same running allowed fits only at'.
-                leaving_piece (never_closed code) e block line (main_words program block body) (main_held program block body) f g' (with_world s'.world (newest_ended s')) k a most (omega (arith, small')) (omega arith) ended finish' same running allowed fits only at';
+                leaving_piece (never_closed code) e block line (main_words program block body)
+                    (main_held program block body) f g' (with_world s'.world (newest_ended s')) k a most
+                    (omega (arith, small')) (omega arith) ended finish' same running allowed fits only at';
           };
     }))
 
@@ -286,7 +312,27 @@ main_hold known links code first program block input frame at line same all read
     }
 
 -- behind the variables: the act of the entry, and the statements
-body_piece : {links : Links} {code : List Instr} {i : ℕ} {h t : ℕ → ℕ} (known : Condition → ℕ → Y.Block → ℕ → Type 0) (program : Y.Program) (block line : ℕ) (body : Y.Stmts) (first input : List ℕ) (all : AllPlain program.variables) (alone : IsAlone program block line body) (small' : main_words program block body ≤ most_code) (few : main_room program block ≤ 2 ^ 20) (k : ℕ) → AllReady links code first program block → line < 2 ^ 31 → k + 1 < 2 ^ 64 → BodyDoes known program block line body first all alone small' links code k → 10 ≤ i → Linked links code i (act_code line) → Linked links code (i + size_of (act_code line)) (stmts_code (main_environment program block) none_taken body ++ procedure_ended (main_environment program block) (main_head block line) (main_words program block body) (main_held program block body) None) → Linked links code start_resume finish_code → (at : ℕ) → at ≡ (main_frame (main_words program block body) (main_sizes program block) (main_count program block) small' few).at → (g : Family) → ((b : Base) → At b i (Known (ground_of (main_frame (main_words program block body) (main_sizes program block) (main_count program block) small' few) first (begin_contents (main_kind program block))) (main_services (table_of program) (main_kind program block) input at line (main_count program block)) h t nothing b) (g b)) → Comes code i g (main_services (table_of program) (main_kind program block) input at line (main_count program block)) (inside (to_finish code k) newest_ended) (main_body program k line body k (main_state (main_kind program block) input (main_count program block)))
+body_piece : {links : Links} {code : List Instr} {i : ℕ} {h t : ℕ → ℕ} (known : Condition → ℕ → Y.Block → ℕ
+    → Type 0) (program : Y.Program) (block line : ℕ) (body : Y.Stmts) (first input : List ℕ) (all :
+    AllPlain program.variables) (alone : IsAlone program block line body) (small' :
+    main_words program block body ≤ most_code) (few : main_room program block ≤ 2 ^ 20) (k : ℕ)
+    → AllReady links code first program block → line < 2 ^ 31 → k + 1 < 2 ^ 64
+    → BodyDoes known program block line body first all alone small' links code k → 10 ≤ i
+    → Linked links code i (act_code line)
+    → Linked links code (i + size_of (act_code line)) (stmts_code (main_environment program block) none_taken body
+    ++ procedure_ended (main_environment program block) (main_head block line) (main_words program block body)
+    (main_held program block body) None) → Linked links code start_resume finish_code → (at : ℕ)
+    → at ≡ (main_frame (main_words program block body) (main_sizes program block) (main_count program block) small'
+    few).at → (g : Family)
+    → ((b : Base)
+    → At b i
+    (Known (ground_of (main_frame (main_words program block body) (main_sizes program block)
+    (main_count program block) small' few) first (begin_contents (main_kind program block)))
+    (main_services (table_of program) (main_kind program block) input at line (main_count program block)) h t nothing
+    b) (g b))
+    → Comes code i g (main_services (table_of program) (main_kind program block) input at line
+    (main_count program block)) (inside (to_finish code k) newest_ended)
+    (main_body program k line body k (main_state (main_kind program block) input (main_count program block)))
 unfolding M.entry_act ◌>>◌
 body_piece {links = links} {code = code} known program block line body first input all alone small' few k ready low fits does' later l behind finish' at same g there =
     let n = main_count program block in
@@ -334,7 +380,8 @@ procedure_piece {links} {code} known program block line body first input all alo
     let next' : Unit {0} → Meaning (Unit {0}) = λ u. main_body program k line body in
     let closed = inside_closed newest_ended (to_finish_closed code k) in
     comes_on k (K.variables_made (main_around program k line) 0 (variables_of_block program block) k (main_state (main_kind program block) input 0)) next'
-    (onward (before_closed k next' closed) (begun entry first v f held g (held_few program words body) refl (omega arith) refl len lf at) (λ g1 at1.
+    (onward (before_closed k next' closed) (begun entry first v f held g (held_few program words body) refl
+        (omega arith) refl len lf at) (λ g1 at1.
     onward (before_closed k next' closed) (entered_piece (entry + size_of fb) f first (λ j. Counted (pos 0)) table (main_kind program block) input line g1 low le at1) (λ g2 at2.
     variables_piece (before_closed k next' closed) (main_around program k line) program block line words small' first input (main_kind program block) k n zeros t fits
     (λ j below room. main_place program block line body j all alone below room)

@@ -1,6 +1,7 @@
 -- ON with a unit of the program, in the main procedure's own block: the newest block gets the unit, with the place of its code, over
 -- which the run goes on.
-use Rattle.std.proofs.Common.{◌≡◌, ℕ, suc, ◌+◌, ◌*◌, ◌^◌, ◌<◌, ◌≤◌, List, [], ◌∷◌, ◌++◌, length, true, false, refl, sym, ap, ◌∙◌, subst, arith, lit<, ◌⊎◌, inl, inr, Some}
+use Rattle.std.proofs.Common.{◌≡◌, ℕ, suc, ◌+◌, ◌*◌, ◌^◌, ◌<◌, ◌≤◌, List, [], ◌∷◌, ◌++◌, length, true, false, refl}
+use Rattle.std.proofs.Common.{sym, ap, ◌∙◌, subst, arith, lit<, ◌⊎◌, inl, inr, Some}
 use Rattle.std.specs.Prelude.{cond, ◌==◌}
 use Rattle.std.proofs.lemmas.Bool.Decides.{nat_tests}
 use Rattle.pli_language.specs.declared.condition.Condition.{Condition}
@@ -28,7 +29,8 @@ use Rattle.pli_coding.specs.Arithmetic.{condition_number}
 use Rattle.pli_coding.specs.Allocating.{act_code}
 use Rattle.pli_coding.specs.Entries.{frame_begun, entered_without_texts}
 use Rattle.pli_coding.specs.Environments.{Environment, in_frame, owned_by, none_taken}
-use Rattle.pli_coding.specs.Statements.{condition_given, unit_variables, owner_of_unit, unit_words, unit_mark, unit_left, stmts_words, stmt_code, stmts_code, unit_held}
+use Rattle.pli_coding.specs.Statements.{condition_given, unit_variables, owner_of_unit, unit_words, unit_mark}
+use Rattle.pli_coding.specs.Statements.{unit_left, stmts_words, stmt_code, stmts_code, unit_held}
 use Rattle.pli_coding.specs.Linking.{Links, upper_part, lower_part}
 use Rattle.pli_headline.specs.ProvedSoFar.{Types, Names}
 use Rattle.pli_headline.proofs.Engine.{Base, HasAt, address, call_at}

@@ -23,24 +23,28 @@ use Rattle.pli_headline.proofs.Linking.{times_marked}
 use Rattle.pli_headline.proofs.SymbolsMarked.{symbols_marked, Marks, both_mark, behind, constant_none, plus_none, act_none}
 use Rattle.pli_headline.proofs.Stands.{Stand, all_stands, labels_among, labels_are, EndsApart, ends_apart, no_units}
 use Rattle.pli_headline.proofs.DeclaredNames.{named_in, has_in}
-use Rattle.pli_headline.proofs.StatementMarks.{places_of, called_begun_none, declared_none, statements_mark, all_restored_none}
+use Rattle.pli_headline.proofs.StatementMarks.{places_of, called_begun_none, declared_none, statements_mark}
+use Rattle.pli_headline.proofs.StatementMarks.{all_restored_none}
 use Rattle.pli_headline.proofs.Variables.{HasTypes}
 use Rattle.pli_headline.proofs.PlainInside.{DeclarePlain, declare_plain}
 use Rattle.pli_headline.proofs.MainProcedure.{main_plain}
 
 -- ---- the code of a procedure
 
-begun_none : (e : Environment) (head : Y.BlockHead) (words held : ℕ) → ArePlain (variables_of_block e.program e.block) → Marks (procedure_begun e head words held []) []
+begun_none : (e : Environment) (head : Y.BlockHead) (words held : ℕ) → ArePlain (variables_of_block e.program e.block)
+    → Marks (procedure_begun e head words held []) []
 begun_none e head words held declaring =
     let made = variables_code e head.line in
     let act = act_code head.line in
     let entered = block_entered 0 head.line in
     let nothing : Marks made [] = declared_none e head.line 0 (variables_of_block e.program e.block) declaring in
-    behind (frame_begun words head.level 0 (Some held)) (move u5 a1 ∷ move a3 a2 ∷ (entered ++ (made ++ act))) [] (called_begun_none words head.level held)
+    behind (frame_begun words head.level 0 (Some held)) (move u5 a1 ∷ move a3 a2 ∷ (entered ++ (made ++ act))) []
+        (called_begun_none words head.level held)
     (behind entered (made ++ act) [] (behind (number a2 head.line) (service 4) [] (constant_none a2 (pos head.line)) refl)
     (behind made act [] nothing (act_none head.line)))
 
-pub ended_marks : (e : Environment) (head : Y.BlockHead) (words held : ℕ) → Marks (procedure_ended e head words held None) (ReturnPlace head.number ∷ [])
+pub ended_marks : (e : Environment) (head : Y.BlockHead) (words held : ℕ)
+    → Marks (procedure_ended e head words held None) (ReturnPlace head.number ∷ [])
 ended_marks e head words held =
     let z : ℤ = neg_ℤ (pos (temporary_bytes words)) in
     let up = plus stack_register frame_register z in
@@ -69,7 +73,11 @@ procedure_marks e block types head body named has declaring are bare =
     let ss = places_of (all_stands head.number body) in
     ap (λ us. ProcedureEntry head.number ∷ us)
     (behind begun (code ++ ended) (ss ++ ReturnPlace head.number ∷ []) (begun_none e' head words held declaring)
-    (both_mark code ended ss (ReturnPlace head.number ∷ []) (statements_mark e' none_taken (names_in block types head (variables_of_block block.program head.number)) (types_in types (variables_of_block block.program head.number)) body (named_in block types head (variables_of_block block.program head.number) named) (has_in e block types head named declaring has) are bare) (ended_marks e' head words held)))
+    (both_mark code ended ss (ReturnPlace head.number ∷ [])
+        (statements_mark e' none_taken (names_in block types head (variables_of_block block.program head.number))
+        (types_in types (variables_of_block block.program head.number)) body
+        (named_in block types head (variables_of_block block.program head.number) named)
+        (has_in e block types head named declaring has) are bare) (ended_marks e' head words held)))
 
 pub procedures_mark : (e : Environment) (block : ℕ) (all : List (ℕ × Label)) (called : List ℕ) (ps : List Y.Procedure) → AllPlain e.program.variables → HasTypes e (main_names e.program block) (types_of (variables_of_block e.program block)) → AreInner e.program block all called ps → Marks (procedures_code e ps) (procedure_symbols ps)
 procedures_mark e block all called [] plain has inner = refl

@@ -1,5 +1,6 @@
 -- The code of a program that is proved is no longer than 40 words for each node of its statements and for each variable, and 100.
-use Rattle.std.proofs.Common.{◌≡◌, ℕ, suc, ◌+◌, ◌*◌, ◌≤◌, List, [], ◌∷◌, ◌++◌, length, None, refl, sym, ap, ◌∙◌, subst, arith, Some}
+use Rattle.std.proofs.Common.{◌≡◌, ℕ, suc, ◌+◌, ◌*◌, ◌≤◌, List, [], ◌∷◌, ◌++◌, length, None, refl, sym, ap, ◌∙◌}
+use Rattle.std.proofs.Common.{subst, arith, Some}
 use Rattle.std.specs.Prelude.{ℤ, min, pos, neg_ℤ}
 use Rattle.rv_meaning.specs.declared.instr.Register.{Register}
 use Rattle.rv_meaning.specs.declared.instr.Instr.TheVariants as I
@@ -11,7 +12,8 @@ use Rattle.pli_coding.specs.Instructions.{subtract, move, small, number, load_wo
 use Rattle.pli_coding.specs.Frames.{frame_below, own_offset, lower_top, temporary_bytes, fixed_size, name_bytes, frame_bytes, last_place, automatic_place}
 use Rattle.pli_coding.specs.Environments.{Environment, none_taken}
 use Rattle.pli_coding.specs.Locating.{own_place, table_number}
-use Rattle.pli_coding.specs.Entries.{all_saved, frame_begun, frame_ended, block_entered, constant_made, variables_made, variables_code, all_restored}
+use Rattle.pli_coding.specs.Entries.{all_saved, frame_begun, frame_ended, block_entered, constant_made}
+use Rattle.pli_coding.specs.Entries.{variables_made, variables_code, all_restored}
 use Rattle.pli_coding.specs.Extents.{initial_code}
 use Rattle.pli_coding.specs.Allocating.{act_code}
 use Rattle.pli_coding.specs.Statements.{block_words, stmts_words, stmts_code, block_held}
@@ -103,7 +105,8 @@ returned_most words =
     let s2 = size_append (plus stack_register frame_register z) below in
     omega (arith, a, s1, s2)
 
-ended_most : (e : Environment) (head : Y.BlockHead) (words count : ℕ) → count ≤ 7 → size_of (procedure_ended e head words count None) ≤ 16
+ended_most : (e : Environment) (head : Y.BlockHead) (words count : ℕ) → count ≤ 7
+    → size_of (procedure_ended e head words count None) ≤ 16
 ended_most e head words count few =
     let a = returned_most words in
     let b = restored_size count few in
@@ -111,7 +114,9 @@ ended_most e head words count few =
     omega (arith, few, a, b, s)
 
 -- a procedure at level 0 whose variables are plain
-prologue_most : (e : Environment) (block line count words held : ℕ) → held ≤ 7 → e.block ≡ block → HasPlain e block count → size_of (procedure_begun (outermost e) (main_head block line) words held []) ≤ 33 + 40 * count
+prologue_most : (e : Environment) (block line count words held : ℕ) → held ≤ 7 → e.block ≡ block
+    → HasPlain e block count → size_of (procedure_begun (outermost e) (main_head block line) words held []) ≤ 33
+    + 40 * count
 prologue_most e block line count words held few at has =
     let made = variables_code (outermost e) line in
     let act = act_code line in

@@ -1,5 +1,6 @@
 -- The main procedure's frame is begun: registers are saved, and the frame's words are filled.
-use Rattle.std.proofs.Common.{◌≡◌, ℕ, ◌+◌, ◌*◌, ◌%◌, ◌<◌, ◌≤◌, List, [], ◌∷◌, ◌++◌, length, Some, refl, sym, ap, ◌∙◌, subst, arith}
+use Rattle.std.proofs.Common.{◌≡◌, ℕ, ◌+◌, ◌*◌, ◌%◌, ◌<◌, ◌≤◌, List, [], ◌∷◌, ◌++◌, length, Some, refl, sym, ap, ◌∙◌}
+use Rattle.std.proofs.Common.{subst, arith}
 use Rattle.std.specs.Prelude.{pos}
 use Rattle.rv_meaning.specs.declared.instr.Instr.{Instr}
 use Rattle.rv_meaning.specs.declared.instr.RegisterOp.TheVariants as Op
@@ -120,7 +121,11 @@ saving_at f first =
 abbrev saved_start : List ℕ → Frame → (held : ℕ) → Ground
 saved_start first f held = saved_ground (kept_ground first f.at) f.at (λ b. address b f.resume) zeros held
 
-filled_path : (links : Links) (code : List Instr) (i : ℕ) (first : List ℕ) (v : Services) (f : Frame) (held : ℕ) (b : Base) (w : Whole) → f.count ≡ 0 → length first ≡ memory_size → length code ≤ most_code → Known (saved_start first f held) v zeros zeros (with_frame f (λ b'. address b' f.resume)) b w → Items links code b i frame_filled w (Known (ground_of f first (λ j. Counted (pos 0))) v zeros (first_words first f.at) no_texts b)
+filled_path : (links : Links) (code : List Instr) (i : ℕ) (first : List ℕ) (v : Services) (f : Frame) (held : ℕ) (b :
+    Base) (w : Whole) → f.count ≡ 0 → length first ≡ memory_size → length code ≤ most_code
+    → Known (saved_start first f held) v zeros zeros (with_frame f (λ b'. address b' f.resume)) b w
+    → Items links code b i frame_filled w
+    (Known (ground_of f first (λ j. Counted (pos 0))) v zeros (first_words first f.at) no_texts b)
 filled_path links code i first v f held b w none len small' k =
     let x = w.machine.registers in
     let m = w.machine.memory in
@@ -149,9 +154,11 @@ filled_path links code i first v f held b w none len small' k =
               record {
                 body = record {
                   services = k.body.services;
-                  registers = begun_reserved (x 0) _ _ _ _ _ (ap without_two k.body.registers) (over_sum f b (sum (x 5) (word (pos 0))) 144 (omega arith) e' ∙ omega (arith, empty)) e';
+                  registers = begun_reserved (x 0) _ _ _ _ _ (ap without_two k.body.registers)
+                      (over_sum f b (sum (x 5) (word (pos 0))) 144 (omega arith) e' ∙ omega (arith, empty)) e';
                   bytes = (filled_keeps f.at (x 8) top own kept).bytes ∙ start_length first ∙ len;
-                  memory = frame_stands f first m b (x 8) top own none len kept k.body.memory.1.return fp (own_is f b (sum (x 5) (word (pos 0))) e');
+                  memory = frame_stands f first m b (x 8) top own none len kept k.body.memory.1.return fp
+                      (own_is f b (sum (x 5) (word (pos 0))) e');
                 };
                 regs = (k.regs.1.1.0, tt);
               },
@@ -163,7 +170,14 @@ filled_path links code i first v f held b w none len small' k =
 
 -- ---- the frame is begun
 
-pub begun : {links : Links} {code : List Instr} {i : ℕ} (c : ℕ) (first : List ℕ) (v : Services) (f : Frame) (held : ℕ) (g : Family) → held ≤ 7 → f.count ≡ 0 → f.resume ≤ most_code → f.at ≡ statics_end + 48 + temporary_bytes f.words → length first ≡ memory_size → Linked links code i (frame_begun f.words 0 0 (Some held)) → ((b : Base) → At b i (Known (start_ground first) v zeros zeros (with' 1 (λ b'. address b' f.resume) no_texts) b) (g b)) → Reach code c g v (c + size_of (frame_begun f.words 0 0 (Some held))) v (λ b w. At b (i + size_of (frame_begun f.words 0 0 (Some held))) (Known (ground_of f first (λ j. Counted (pos 0))) v zeros (first_words first f.at) no_texts b) w)
+pub begun : {links : Links} {code : List Instr} {i : ℕ} (c : ℕ) (first : List ℕ) (v : Services) (f : Frame) (held :
+    ℕ) (g : Family) → held ≤ 7 → f.count ≡ 0 → f.resume ≤ most_code
+    → f.at ≡ statics_end + 48 + temporary_bytes f.words → length first ≡ memory_size
+    → Linked links code i (frame_begun f.words 0 0 (Some held))
+    → ((b : Base) → At b i (Known (start_ground first) v zeros zeros (with' 1 (λ b'. address b' f.resume) no_texts) b)
+    (g b)) → Reach code c g v (c + size_of (frame_begun f.words 0 0 (Some held))) v
+    (λ b w. At b (i + size_of (frame_begun f.words 0 0 (Some held)))
+    (Known (ground_of f first (λ j. Counted (pos 0))) v zeros (first_words first f.at) no_texts b) w)
 begun {links} {code} {i} c first v f held g few none near place len l at =
     let n = temporary_bytes f.words in
     let inside = f.inside in
@@ -182,7 +196,10 @@ begun {links} {code} {i} c first v f held g few none near place len l at =
     (record { reserved_stay = λ y u. refl; known_stay = λ b y u o. o; set = λ y u. refl })
     (record { reserved_stay = λ y u. refl; known_stay = λ b y u o. o; set = λ y u. refl })
     (front_of up (saves ++ frame_filled) l) at in
-    let s = saved_piece f.at back (with_frame f back) (record { frame = λ b y k. k.0; return = λ b y k. k.1.0; far = record { reserved_stay = λ y u. refl; known_stay = λ b y u o. o; set = λ y u. refl } }) zeros held few (saving_at f first) (λ b. let v' = b.valid.1 in omega (arith, v', near)) (c + size_of up) (reached r) (front_of saves frame_filled l1)
+    let s = saved_piece f.at back (with_frame f back) (record { frame = λ b y k. k.0; return = λ b y k. k.1.0; far =
+        record { reserved_stay = λ y u. refl; known_stay = λ b y u o. o; set = λ y u. refl } }) zeros held few
+        (saving_at f first) (λ b. let v' = b.valid.1 in omega (arith, v', near)) (c + size_of up) (reached r)
+        (front_of saves frame_filled l1)
     (λ b. let o = reached_holds r b in record {
       pc = o.pc;
       holds = record {
@@ -190,11 +207,15 @@ begun {links} {code} {i} c first v f held g few none near place len l at =
           services = o.holds.body.services;
           registers = o.holds.body.registers;
           bytes = o.holds.body.bytes;
-          memory = subst (λ u. Kept f.at (start_memory first) u) (sym o.holds.body.memory) (kept_same f.at (start_memory first));
+          memory = subst (λ u. Kept f.at (start_memory first) u) (sym o.holds.body.memory)
+              (kept_same f.at (start_memory first));
         };
         regs = o.holds.regs;
       };
     }) in
-    let q = straight (c + size_of up + size_of saves) (reached s) v v (λ b w. Known (ground_of f first (λ j. Counted (pos 0))) v zeros (first_words first f.at) no_texts b w) (back_of saves frame_filled l1) (omega arith) (λ b. (reached_holds s b).pc)
-    (λ b. filled_path links code (i + size_of up + size_of saves) first v f held b (reached s b) none len l.small' (reached_holds s b).holds) in
+    let q = straight (c + size_of up + size_of saves) (reached s) v v
+        (λ b w. Known (ground_of f first (λ j. Counted (pos 0))) v zeros (first_words first f.at) no_texts b w)
+        (back_of saves frame_filled l1) (omega arith) (λ b. (reached_holds s b).pc)
+    (λ b. filled_path links code (i + size_of up + size_of saves) first v f held b (reached s b) none len l.small'
+        (reached_holds s b).holds) in
     reach_moved (omega (arith, n1, n2)) (omega (arith, n1, n2)) (reach_then r (reach_then s q))

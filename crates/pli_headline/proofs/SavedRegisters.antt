@@ -1,4 +1,5 @@
--- A called procedure saves the place to return to, and so many registers that hold temporaries, in its frame, and restores them at its end.
+-- A called procedure saves the place to return to, and so many registers that hold temporaries, in its frame, and
+-- restores them at its end.
 use Rattle.std.proofs.Common.{◌≡◌, ℕ, zero, suc, ◌+◌, ◌*◌, ◌/◌, ◌%◌, ◌^◌, ◌<◌, ◌≤◌, inl, List, [], ◌∷◌, length, Bool, true, false, refl, sym, ap, ◌∙◌, subst, arith}
 use Rattle.std.specs.Prelude.{pos, slice_set, ◌==◌}
 use Rattle.std.proofs.lemmas.Bool.{eqb-true}
@@ -20,7 +21,8 @@ use Rattle.pli_headline.proofs.Engine.{Base}
 use Rattle.pli_headline.proofs.Linking.{size_append}
 use Rattle.pli_headline.proofs.Items.{Linked, At}
 use Rattle.pli_headline.proofs.Numbers.{above_sum, above_small}
-use Rattle.pli_headline.proofs.Bodies.{Ground, Known, Regs, Free, PlaceFrom, IsNear, with', reserved, frame_is, at_place, lose_known, displaced_by, load_piece, store_into}
+use Rattle.pli_headline.proofs.Bodies.{Ground, Known, Regs, Free, PlaceFrom, IsNear, with', reserved, frame_is}
+use Rattle.pli_headline.proofs.Bodies.{at_place, lose_known, displaced_by, load_piece, store_into}
 use Rattle.pli_headline.proofs.Jumps.{front_of, back_of}
 use Rattle.pli_headline.proofs.Temporaries.{nothing, put, held_put, held_is}
 use Rattle.pli_headline.proofs.Reaching.{reach_moved}
@@ -123,7 +125,12 @@ pub record Saving (at : ℕ) (back : Base → ℕ) (rs : Base → List (ℕ × �
   pub return : (b : Base) (y : ℕ → ℕ) → Regs (rs b) y → y 1 ≡ back b
   pub far : Free rs 31
 
-more_saved : {g : Ground} {t : ℕ → ℕ} (at : ℕ) (back : Base → ℕ) (rs : Base → List (ℕ × ℕ)) → Saving at back rs → (h : ℕ → ℕ) (held' : ℕ) → held' ≤ 7 → SavingAt g t at → (left n : ℕ) {links : Links} {code : List Instr} {i : ℕ} {v : Services} (c : ℕ) (f : Family) → n + left ≡ held' → Linked links code i (registers_saved u0 n left) → ((b : Base) → At b i (Known (saved_ground g at back h n) v h t rs b) (f b)) → Reach code c f v (c + size_of (registers_saved u0 n left)) v (λ b w. At b (i + size_of (registers_saved u0 n left)) (Known (saved_ground g at back h held') v h t rs b) w)
+more_saved : {g : Ground} {t : ℕ → ℕ} (at : ℕ) (back : Base → ℕ) (rs : Base → List (ℕ × ℕ)) → Saving at back rs
+    → (h : ℕ → ℕ) (held' : ℕ) → held' ≤ 7 → SavingAt g t at → (left n : ℕ) {links : Links} {code : List Instr} {i :
+    ℕ} {v : Services} (c : ℕ) (f : Family) → n + left ≡ held' → Linked links code i (registers_saved u0 n left)
+    → ((b : Base) → At b i (Known (saved_ground g at back h n) v h t rs b) (f b))
+    → Reach code c f v (c + size_of (registers_saved u0 n left)) v
+    (λ b w. At b (i + size_of (registers_saved u0 n left)) (Known (saved_ground g at back h held') v h t rs b) w)
 more_saved {g} {t} at back rs k h held' most s zero n {code = code} {i = i} {v = v} c f all l there =
     let last : n ≡ held' = omega (arith, all) in
     reach_moved (omega arith) (omega arith)
@@ -149,11 +156,17 @@ more_saved {g} {t} at back rs k h held' most s (suc left) n c f all l there =
     ))
     k.far
     (front_of first rest l) there in
-    let r2 = more_saved at back rs k h held' most s left (suc n) (c + size_of first) (reached r1) (omega (arith, all)) (back_of first rest l) (reached_holds r1) in
+    let r2 = more_saved at back rs k h held' most s left (suc n) (c + size_of first) (reached r1) (omega (arith, all))
+        (back_of first rest l) (reached_holds r1) in
     reach_moved (omega (arith, size)) (omega (arith, size)) (reach_then r1 r2)
 
 -- all of them
-pub saved_piece : {g : Ground} {t : ℕ → ℕ} (at : ℕ) (back : Base → ℕ) (rs : Base → List (ℕ × ℕ)) → Saving at back rs → (h : ℕ → ℕ) (held' : ℕ) → held' ≤ 7 → SavingAt g t at → ((b : Base) → back b < 2 ^ 32) → {links : Links} {code : List Instr} {i : ℕ} {v : Services} (c : ℕ) (f : Family) → Linked links code i (all_saved u0 held') → ((b : Base) → At b i (Known g v h t rs b) (f b)) → Reach code c f v (c + size_of (all_saved u0 held')) v (λ b w. At b (i + size_of (all_saved u0 held')) (Known (saved_ground g at back h held') v h t rs b) w)
+pub saved_piece : {g : Ground} {t : ℕ → ℕ} (at : ℕ) (back : Base → ℕ) (rs : Base → List (ℕ × ℕ)) → Saving at back rs
+    → (h : ℕ → ℕ) (held' : ℕ) → held' ≤ 7 → SavingAt g t at → ((b : Base) → back b < 2 ^ 32)
+    → {links : Links} {code : List Instr} {i : ℕ} {v : Services} (c : ℕ) (f : Family)
+    → Linked links code i (all_saved u0 held') → ((b : Base) → At b i (Known g v h t rs b) (f b))
+    → Reach code c f v (c + size_of (all_saved u0 held')) v
+    (λ b w. At b (i + size_of (all_saved u0 held')) (Known (saved_ground g at back h held') v h t rs b) w)
 saved_piece {g} {t} at back rs k h held' most s fits c f l there =
     let first = store_word u0 return_register return_address in
     let rest = registers_saved u0 0 held' in
@@ -162,7 +175,8 @@ saved_piece {g} {t} at back rs k h held' most s fits c f l there =
     let same : at + 0 ≡ at = omega arith in
     let r1 = store_into (saved_ground g at back h 0) t c f return_register u0 return_address at (at + 0) back
     (frame_place at 0 s.whole s.high s.room refl (omega arith))
-    (omega (arith, room)) (λ y u. refl) (λ b w o. k.frame b w.machine.registers o.regs) (λ y u. refl) (λ b w o. k.return b w.machine.registers o.regs)
+    (omega (arith, room)) (λ y u. refl) (λ b w o. k.frame b w.machine.registers o.regs) (λ y u. refl)
+        (λ b w o. k.return b w.machine.registers o.regs)
     (λ b. refl)
     (λ b m len o. (
       s.keeps b m (at + 0) (back b) (omega arith) o,
@@ -173,7 +187,8 @@ saved_piece {g} {t} at back rs k h held' most s fits c f l there =
     ))
     k.far
     (front_of first rest l) there in
-    let r2 = more_saved at back rs k h held' most s held' 0 (c + size_of first) (reached r1) (omega arith) (back_of first rest l) (reached_holds r1) in
+    let r2 = more_saved at back rs k h held' most s held' 0 (c + size_of first) (reached r1) (omega arith)
+        (back_of first rest l) (reached_holds r1) in
     reach_moved (omega (arith, size)) (omega (arith, size)) (reach_then r1 r2)
 
 -- ---- on the way back
@@ -190,7 +205,13 @@ pub record SavedIn (g : Ground) (t : ℕ → ℕ) (back : Base → ℕ) (saved :
   pub room : g.frame + 164 ≤ 15 * 2 ^ 20
   pub has : (b : Base) (m : List ℕ) → g.memory t b m → Saved g.frame (back b) saved held' m
 
-more_restored : {g : Ground} {t : ℕ → ℕ} (back : Base → ℕ) (saved : ℕ → ℕ) {held' : ℕ} → SavedIn g t back saved held' → (left n : ℕ) {links : Links} {code : List Instr} {i : ℕ} {v : Services} (h : ℕ → ℕ) (c : ℕ) (f : Family) → n + left ≤ held' → Linked links code i (registers_restored n left) → ((b : Base) → At b i (Known g v h t (with' 1 back nothing) b) (f b)) → Reach code c f v (c + size_of (registers_restored n left)) v (λ b w. At b (i + size_of (registers_restored n left)) (Known g v (held_again saved n left h) t (with' 1 back nothing) b) w)
+more_restored : {g : Ground} {t : ℕ → ℕ} (back : Base → ℕ) (saved : ℕ → ℕ) {held' : ℕ} → SavedIn g t back saved held'
+    → (left n : ℕ) {links : Links} {code : List Instr} {i : ℕ} {v : Services} (h : ℕ → ℕ) (c : ℕ) (f : Family)
+    → n + left ≤ held' → Linked links code i (registers_restored n left)
+    → ((b : Base) → At b i (Known g v h t (with' 1 back nothing) b) (f b))
+    → Reach code c f v (c + size_of (registers_restored n left)) v
+    (λ b w. At b (i + size_of (registers_restored n left))
+    (Known g v (held_again saved n left h) t (with' 1 back nothing) b) w)
 more_restored {g} {t} back saved s zero n {code = code} {i = i} {v = v} h c f all l there =
     reach_moved (omega arith) (omega arith)
     (stay code c f v (λ b w. At b i (Known g v h t (with' 1 back nothing) b) w) there)
@@ -215,7 +236,8 @@ more_restored {g} {t} back saved s (suc left) n {v = v} h c f all l there =
           body = record {
             services = k.body.services;
             registers =
-                ap (λ u. reserved (written w.machine.registers (held n).index u)) ((s.has b w.machine.memory k.body.memory).registers n (omega (arith, all)))
+                ap (λ u. reserved (written w.machine.registers (held n).index u))
+                    ((s.has b w.machine.memory k.body.memory).registers n (omega (arith, all)))
                 ∙ held_put n g b h w.machine.registers x few k.body.registers;
             bytes = k.body.bytes;
             memory = k.body.memory;
@@ -230,7 +252,12 @@ more_restored {g} {t} back saved s (suc left) n {v = v} h c f all l there =
     reach_moved (omega (arith, size)) (omega (arith, size)) (reach_then r1 r2)
 
 -- all of them, and the place to return to
-pub restored_piece : {g : Ground} {t : ℕ → ℕ} (back : Base → ℕ) (saved : ℕ → ℕ) {held' : ℕ} → SavedIn g t back saved held' → {links : Links} {code : List Instr} {i : ℕ} {v : Services} (h : ℕ → ℕ) (c : ℕ) (f : Family) → Linked links code i (all_restored held') → ((b : Base) → At b i (Known g v h t nothing b) (f b)) → Reach code c f v (c + size_of (all_restored held')) v (λ b w. At b (i + size_of (all_restored held')) (Known g v (held_again saved 0 held' h) t (with' 1 back nothing) b) w)
+pub restored_piece : {g : Ground} {t : ℕ → ℕ} (back : Base → ℕ) (saved : ℕ → ℕ) {held' : ℕ}
+    → SavedIn g t back saved held' → {links : Links} {code : List Instr} {i : ℕ} {v : Services} (h : ℕ → ℕ) (c :
+    ℕ) (f : Family) → Linked links code i (all_restored held') → ((b : Base) → At b i (Known g v h t nothing b) (f b))
+    → Reach code c f v (c + size_of (all_restored held')) v
+    (λ b w. At b (i + size_of (all_restored held')) (Known g v (held_again saved 0 held' h) t (with' 1 back nothing)
+    b) w)
 restored_piece {g} {t} back saved {held'} s h c f l there =
     let first = load_word return_register frame_register return_address in
     let rest = registers_restored 0 held' in
@@ -241,5 +268,6 @@ restored_piece {g} {t} back saved {held'} s h c f l there =
     (record { reserved_stay = λ y u. refl; known_stay = λ b y u q. q; set = λ y u. refl })
     (record { reserved_stay = λ y u. refl; known_stay = λ b y u q. q; set = λ y u. refl })
     (front_of first rest l) there in
-    let r2 = more_restored back saved s held' 0 h (c + size_of first) (reached r1) (omega arith) (back_of first rest l) (reached_holds r1) in
+    let r2 = more_restored back saved s held' 0 h (c + size_of first) (reached r1) (omega arith)
+        (back_of first rest l) (reached_holds r1) in
     reach_moved (omega (arith, size)) (omega (arith, size)) (reach_then r1 r2)

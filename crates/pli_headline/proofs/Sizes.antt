@@ -17,17 +17,29 @@ use Rattle.pli_meaning.specs.Pictures.{Picture, first_bytes}
 use Rattle.rv_meaning.specs.declared.instr.BranchTest.TheVariants as Test
 use Rattle.pli_coding.specs.Registers.{zero_register, a0, a1, a2, u1, u2, u3, frame_register}
 use Rattle.pli_coding.specs.Assembly.{Code, size_of, JumpAhead, JumpBack}
-use Rattle.pli_coding.specs.Instructions.{is_immediate, skip_where, error_raised, small, constant, number, store_word, move, service, tested_service}
+use Rattle.pli_coding.specs.Instructions.{is_immediate, skip_where, error_raised, small, constant, number, store_word}
+use Rattle.pli_coding.specs.Instructions.{move, service, tested_service}
 use Rattle.pli_coding.specs.Frames.{words_place, buffer_lower, has_constant_size}
 use Rattle.pli_coding.specs.Environments.{Environment, Taken, none_taken, is_register_left, with_number, save, fetch}
 use Rattle.pli_coding.specs.Arithmetic.{signed_code, absolute_code, sign_code, calculated_code, modulo_code, divided_code, extreme_code, negated_code, combined_code, compared_code, fitted_code}
 use Rattle.pli_coding.specs.Expressions.{number_code, extremes_code, bit_code, text_code, reference_code, subscripts_code, given_in, type_in, address_in}
-use Rattle.pli_coding.specs.Storing.{stored_into, is_near, word_stored, top_stored, record_code, record_given, first_leaf, aggregate_code}
+use Rattle.pli_coding.specs.Storing.{stored_into, is_near, word_stored, top_stored, record_code, record_given}
+use Rattle.pli_coding.specs.Storing.{first_leaf, aggregate_code}
 use Rattle.pli_coding.specs.Streams.{has_fixed, get_item_words, get_items_words, get_words, value_put, number_put, text_put, as_text, item_put, items_put, edit_begun, edit_ended, put_pair, put_pairs, put_item_words, put_items_words, put_words, skip_option, field_stored, field_awaited, number_got, bit_got, item_got, items_got, get_pair, get_pairs, value_words, text_got}
 use Rattle.pli_coding.specs.Allocating.{act_code}
-use Rattle.pli_coding.specs.Statements.{if_met, while_met, block_words, stmt_code, stmts_code, stmt_words, stmts_words, marked, once_code, bit_if, in_turns, before_turns, number_if, start_code, limit_code, constant_step, step_kept, step_code, started_code, start_place, step_place, limit_place, turn_of, turns_code, words_back, words_behind_limit, words_behind_condition, limit_kept, while_kept, stepped_code, block_held}
+use Rattle.pli_coding.specs.Statements.{if_met, while_met, block_words, stmt_code, stmts_code, stmt_words}
+use Rattle.pli_coding.specs.Statements.{stmts_words, marked, once_code, bit_if, in_turns, before_turns, number_if}
+use Rattle.pli_coding.specs.Statements.{start_code, limit_code, constant_step, step_kept, step_code, started_code}
+use Rattle.pli_coding.specs.Statements.{start_place, step_place, limit_place, turn_of, turns_code, words_back}
+use Rattle.pli_coding.specs.Statements.{words_behind_limit, words_behind_condition, limit_kept, while_kept}
+use Rattle.pli_coding.specs.Statements.{stepped_code, block_held}
 use Rattle.pli_coding.specs.Temporaries.{number_words, numbers_words, text_words, bit_words, reference_words, subscripts_words}
-use Rattle.pli_headline.specs.ProvedSoFar.{Names, ArePlain, Types, IsOwn, IsProvedNumber, AreProvedNumbers, IsProvedBit, IsProvedText, IsProvedItem, AreProvedItems, AreProvedPairs, IsProvedGetItem, AreProvedGetItems, AreProvedGetPairs, IsProvedStatement, AreProvedStatements, IsProvedBitIf, IsProvedNumberIf, text_leaf, constant_bounds, IsElement, IsPart, IsAssigned, AreSubscripts, array_variable, IsDimension, IsProvedStart, IsAssignedText, IsReadBy}
+use Rattle.pli_headline.specs.ProvedSoFar.{Names, ArePlain, Types, IsOwn, IsProvedNumber, AreProvedNumbers}
+use Rattle.pli_headline.specs.ProvedSoFar.{IsProvedBit, IsProvedText, IsProvedItem, AreProvedItems, AreProvedPairs}
+use Rattle.pli_headline.specs.ProvedSoFar.{IsProvedGetItem, AreProvedGetItems, AreProvedGetPairs, IsProvedStatement}
+use Rattle.pli_headline.specs.ProvedSoFar.{AreProvedStatements, IsProvedBitIf, IsProvedNumberIf, text_leaf}
+use Rattle.pli_headline.specs.ProvedSoFar.{constant_bounds, IsElement, IsPart, IsAssigned, AreSubscripts}
+use Rattle.pli_headline.specs.ProvedSoFar.{array_variable, IsDimension, IsProvedStart, IsAssignedText, IsReadBy}
 use Rattle.pli_coding.specs.Entries.{variables_words}
 use Rattle.pli_coding.specs.Procedures.{procedure_begun, procedure_ended, procedure_in}
 use Rattle.pli_headline.specs.Headline.{FitsMemory}
@@ -42,7 +54,10 @@ use Rattle.pli_headline.proofs.ArrayPlaces.{lower_first, upper_second}
 use Rattle.pli_headline.proofs.ArrayMeant.{element}
 use Rattle.pli_headline.proofs.ArrayElements.{reached_by, size_constant}
 use Rattle.pli_headline.proofs.TextElements.{text_size_constant}
-use Rattle.pli_coding.specs.Locating.{loaded, stored, reached, found_reached, frame_found, frame_in, element_added, leaf_number, is_simple, are_simple, less_lower, range_loaded, place_kept, counted_in, subscript_counted, subscript_given, subscripts_counted, text_pushed, text_stored}
+use Rattle.pli_coding.specs.Locating.{loaded, stored, reached, found_reached, frame_found, frame_in, element_added}
+use Rattle.pli_coding.specs.Locating.{leaf_number, is_simple, are_simple, less_lower, range_loaded, place_kept}
+use Rattle.pli_coding.specs.Locating.{counted_in, subscript_counted, subscript_given, subscripts_counted, text_pushed}
+use Rattle.pli_coding.specs.Locating.{text_stored}
 use Rattle.pli_coding.specs.Extents.{extents_words}
 use Rattle.pli_headline.proofs.Targets.{part_type}
 use Rattle.pli_headline.proofs.ArrayFrames.{held_constant}
@@ -84,7 +99,8 @@ two_size a c last m n h i =
     most _ _ _ (omega (arith, h, s1)) (omega (arith, i, s1, s2))
 
 -- each dimension takes a test
-counted_size : (e : Environment) (t : Taken) (d : ℕ) (xs : Y.Numbers) (bs : List Bounds) → given_in xs ≤ length bs → given_in xs ≤ size_of (subscripts_counted e t d xs (map constant_bounds bs))
+counted_size : (e : Environment) (t : Taken) (d : ℕ) (xs : Y.Numbers) (bs : List Bounds) → given_in xs ≤ length bs
+    → given_in xs ≤ size_of (subscripts_counted e t d xs (map constant_bounds bs))
 counted_size e t d Y.NoNumber bs few = omega arith
 counted_size e t d (Y.NumberThen first rest) [] few = absurd (omega (arith, few))
 counted_size e t d (Y.NumberThen first rest) (b ∷ bs) few =
@@ -105,10 +121,14 @@ counted_size e t d (Y.NumberThen first rest) (b ∷ bs) few =
 
 -- arrays of a type have a constant size
 abbrev IsSized : Y.LeafType → Type 0
-IsSized type = (bs : List Bounds) (initial : List T.InitialItem) → has_constant_size (array_variable type bs initial) ≡ true
+IsSized type = (bs : List Bounds) (initial : List T.InitialItem) → has_constant_size (array_variable type bs initial)
+    ≡ true
 
 -- an element takes what its subscripts do
-element_size : (e : Environment) (t : Taken) (block : Names) (types : Types) (type : Y.LeafType) (r : Y.Reference) (part : IsElement block types type r) → IsSized type → HasTypes e block types → subscripts_words (subscripts_in r) ≤ size_of (subscripts_code e t (subscripts_in r)) + given_in (subscripts_in r) → reference_words r ≤ size_of (reference_code e t r)
+element_size : (e : Environment) (t : Taken) (block : Names) (types : Types) (type : Y.LeafType) (r :
+    Y.Reference) (part : IsElement block types type r) → IsSized type → HasTypes e block types
+    → subscripts_words (subscripts_in r) ≤ size_of (subscripts_code e t (subscripts_in r))
+    + given_in (subscripts_in r) → reference_words r ≤ size_of (reference_code e t r)
 element_size e t block types type r o sized has n =
     let j = o.index in
     let bs = o.bound ∷ o.bounds in
@@ -119,16 +139,23 @@ element_size e t block types type r o sized has n =
     let counted = subscripts_counted e t 0 xs (map constant_bounds bs) in
     let behind = frame_found e (level_of block j) u3 ++ element_added (frame_in e (level_of block j) u3) type xs in
     let eq : reached e t t v whole_part xs ≡ counted ++ behind =
-    ap (λ d. reached_by e t block j xs d) declared.1 ∙ ap (λ q. if q then counted ++ behind else other) (sized bs declared.0) in
-    let n' = subst (λ q. subscripts_words (subscripts_in q) ≤ size_of (subscripts_code e t (subscripts_in q)) + given_in (subscripts_in q)) o.is n in
+    ap (λ d. reached_by e t block j xs d) declared.1
+        ∙ ap (λ q. if q then counted ++ behind else other) (sized bs declared.0) in
+    let n' =
+        subst (λ q. subscripts_words (subscripts_in q) ≤ size_of (subscripts_code e t (subscripts_in q))
+        + given_in (subscripts_in q)) o.is n in
     let few = counted_size e t 0 xs bs (let many = o.many in omega (arith, many)) in
     let s1 = size_append (subscripts_code e t xs) (reached e t t v whole_part xs) in
     let s2 = ap size_of eq in
     let s3 = size_append counted behind in
     subst (λ q. reference_words q ≤ size_of (reference_code e t q)) (sym o.is)
-    (most 0 (0 + subscripts_words xs) (size_of (reference_code e t (element block j o.first o.rest))) (omega arith) (omega (arith, n', few, s1, s2, s3)))
+    (most 0 (0 + subscripts_words xs) (size_of (reference_code e t (element block j o.first o.rest))) (omega arith)
+        (omega (arith, n', few, s1, s2, s3)))
 
-part_size : (e : Environment) (t : Taken) (block : Names) (types : Types) (has : HasTypes e block types) (type : Y.LeafType) (r : Y.Reference) (last : Code) → IsPart block types type r → IsSized type → subscripts_words (subscripts_in r) ≤ size_of (subscripts_code e t (subscripts_in r)) + given_in (subscripts_in r) → reference_words r ≤ size_of (reference_code e t r ++ last) + 1
+part_size : (e : Environment) (t : Taken) (block : Names) (types : Types) (has : HasTypes e block types) (type :
+    Y.LeafType) (r : Y.Reference) (last : Code) → IsPart block types type r → IsSized type
+    → subscripts_words (subscripts_in r) ≤ size_of (subscripts_code e t (subscripts_in r))
+    + given_in (subscripts_in r) → reference_words r ≤ size_of (reference_code e t r ++ last) + 1
 part_size e t block types has type r last (inl o) sized n = let z = own_words block types type r o in omega (arith, z)
 part_size e t block types has type r last (inr o) sized n =
     let m = element_size e t block types type r o sized has n in
@@ -136,18 +163,21 @@ part_size e t block types has type r last (inr o) sized n =
     omega (arith, m, s)
 
 -- a simple number takes no temporaries
-simple_words : (e : Environment) (block : Names) (types : Types) (x : Y.Number) → IsProvedNumber block types x → is_simple e x ≡ true → number_words x ≡ 0
+simple_words : (e : Environment) (block : Names) (types : Types) (x : Y.Number) → IsProvedNumber block types x
+    → is_simple e x ≡ true → number_words x ≡ 0
 simple_words e block types (Y.NumberConstant n) is simple = refl
 simple_words e block types (Y.NumberIn (Y.Referring v locator part subscripts)) is simple = by_part is.0.part
   where
-    by_part : IsPart block types (Y.FixedLeaf is.0.precision) (Y.Referring v locator part subscripts) → reference_words (Y.Referring v locator part subscripts) ≡ 0
+    by_part : IsPart block types (Y.FixedLeaf is.0.precision) (Y.Referring v locator part subscripts)
+        → reference_words (Y.Referring v locator part subscripts) ≡ 0
     by_part (inl o) = own_words block types (Y.FixedLeaf is.0.precision) (Y.Referring v locator part subscripts) o
     by_part (inr o) =
         let none : false ≡ true = subst (λ q. is_simple e (Y.NumberIn q) ≡ true) o.is simple in
         absurd (cc none)
 simple_words e block types _ is simple = absurd (cc simple)
 
-all_simple_words : (e : Environment) (block : Names) (types : Types) (xs : Y.Numbers) → AreProvedNumbers block types xs → are_simple e xs ≡ true → subscripts_words xs ≤ given_in xs
+all_simple_words : (e : Environment) (block : Names) (types : Types) (xs : Y.Numbers)
+    → AreProvedNumbers block types xs → are_simple e xs ≡ true → subscripts_words xs ≤ given_in xs
 all_simple_words e block types Y.NoNumber are simple = omega arith
 all_simple_words e block types (Y.NumberThen first rest) are simple =
     let z = simple_words e block types first are.0 (lower_first (is_simple e first) (are_simple e rest) simple) in
@@ -155,7 +185,12 @@ all_simple_words e block types (Y.NumberThen first rest) are simple =
     most _ _ _ (omega (arith, z)) (omega (arith, n))
 
 -- subscripts take what waits, where not all are simple
-subscripts_by : (q : Bool) (e : Environment) (t : Taken) (first : Y.Number) (rest : Y.Numbers) → (q ≡ true → subscripts_words (Y.NumberThen first rest) ≤ suc (given_in rest)) → number_words first ≤ size_of (number_code e t first) + 1 → subscripts_words rest ≤ size_of (subscripts_code e (with_number t) rest) + given_in rest → subscripts_words (Y.NumberThen first rest) ≤ size_of (cond q [] (number_code e t first ++ (save a0 t ++ subscripts_code e (with_number t) rest))) + suc (given_in rest)
+subscripts_by : (q : Bool) (e : Environment) (t : Taken) (first : Y.Number) (rest : Y.Numbers)
+    → (q ≡ true → subscripts_words (Y.NumberThen first rest) ≤ suc (given_in rest))
+    → number_words first ≤ size_of (number_code e t first) + 1
+    → subscripts_words rest ≤ size_of (subscripts_code e (with_number t) rest) + given_in rest
+    → subscripts_words (Y.NumberThen first rest) ≤ size_of
+    (cond q [] (number_code e t first ++ (save a0 t ++ subscripts_code e (with_number t) rest))) + suc (given_in rest)
 subscripts_by true e t first rest simple n m = let few = simple refl in omega (arith, few)
 subscripts_by false e t first rest simple n m =
     let c = subscripts_code e (with_number t) rest in
@@ -165,11 +200,14 @@ subscripts_by false e t first rest simple n m =
     most _ _ _ (omega (arith, n, one, s1, s2)) (omega (arith, m, one, s1, s2))
 
 mutual
-  pub number_size : (e : Environment) (t : Taken) (block : Names) (types : Types) (has : HasTypes e block types) (x : Y.Number) → IsProvedNumber block types x → number_words x ≤ size_of (number_code e t x) + 1
+  pub number_size : (e : Environment) (t : Taken) (block : Names) (types : Types) (has : HasTypes e block types) (x :
+      Y.Number) → IsProvedNumber block types x → number_words x ≤ size_of (number_code e t x) + 1
   number_size e t block types has (Y.NumberConstant n) is = omega arith
   number_size e t block types has (Y.NumberIn (Y.Referring v locator part subscripts)) is =
       let r = Y.Referring v locator part subscripts in
-      part_size e t block types has (Y.FixedLeaf is.0.precision) r (loaded (type_in e r) a0 (address_in e r)) is.0.part (size_constant (Y.FixedLeaf is.0.precision) tt) (subscripts_size e t block types has subscripts is.1)
+      part_size e t block types has (Y.FixedLeaf is.0.precision) r (loaded (type_in e r) a0 (address_in e r))
+          is.0.part (size_constant (Y.FixedLeaf is.0.precision) tt)
+          (subscripts_size e t block types has subscripts is.1)
   number_size e t block types has (Y.NumberOfBit x) is = bit_size e t block types has x is
   number_size e t block types has (Y.Signed sign x) is =
       let n = number_size e t block types has x is in
@@ -211,15 +249,19 @@ mutual
   number_size e t block types has (Y.VerifyOf searched allowed) is =
       two_size (text_code e t searched) (text_code e t allowed) (small a0 1 ∷ service 25) (text_words searched) (text_words allowed)
       (text_size e t block types has searched is.0) (text_size e t block types has allowed is.1)
-  number_size e t block types has (Y.LowerBound r dimension) is = let z = asked_words block types r dimension is in omega (arith, z)
-  number_size e t block types has (Y.UpperBound r dimension) is = let z = asked_words block types r dimension is in omega (arith, z)
+  number_size e t block types has (Y.LowerBound r dimension) is = let z =
+      asked_words block types r dimension is in omega (arith, z)
+  number_size e t block types has (Y.UpperBound r dimension) is = let z =
+      asked_words block types r dimension is in omega (arith, z)
   number_size e t block types has (Y.ElementsOf r dimension) is =
       let z = asked_words block types r dimension is in
       most _ _ _ (omega arith) (omega (arith, z))
   number_size e t block types has Y.OnCode is = omega arith
   number_size e t block types has _ is = absurd is
 
-  numbers_size : (e : Environment) (t : Taken) (block : Names) (types : Types) (has : HasTypes e block types) (extremum : Y.Extremum) (xs : Y.Numbers) → AreProvedNumbers block types xs → numbers_words xs ≤ size_of (extremes_code e t extremum xs)
+  numbers_size : (e : Environment) (t : Taken) (block : Names) (types : Types) (has :
+      HasTypes e block types) (extremum : Y.Extremum) (xs : Y.Numbers) → AreProvedNumbers block types xs
+      → numbers_words xs ≤ size_of (extremes_code e t extremum xs)
   numbers_size e t block types has extremum Y.NoNumber are = omega arith
   numbers_size e t block types has extremum (Y.NumberThen first rest) are =
       let c = number_code e (with_number t) first in
@@ -235,17 +277,22 @@ mutual
       let s4 = size_append further more in
       most _ _ _ (omega (arith, n, one, s1, s2)) (omega (arith, m, s1, s2, s3, s4))
 
-  subscripts_size : (e : Environment) (t : Taken) (block : Names) (types : Types) (has : HasTypes e block types) (xs : Y.Numbers) → AreProvedNumbers block types xs → subscripts_words xs ≤ size_of (subscripts_code e t xs) + given_in xs
+  subscripts_size : (e : Environment) (t : Taken) (block : Names) (types : Types) (has : HasTypes e block types) (xs :
+      Y.Numbers) → AreProvedNumbers block types xs → subscripts_words xs ≤ size_of (subscripts_code e t xs)
+      + given_in xs
   subscripts_size e t block types has Y.NoNumber are = omega arith
   subscripts_size e t block types has (Y.NumberThen first rest) are =
-      subscripts_by (is_simple e first && are_simple e rest) e t first rest (all_simple_words e block types (Y.NumberThen first rest) are)
+      subscripts_by (is_simple e first && are_simple e rest) e t first rest
+          (all_simple_words e block types (Y.NumberThen first rest) are)
       (number_size e t block types has first are.0) (subscripts_size e (with_number t) block types has rest are.1)
 
-  pub bit_size : (e : Environment) (t : Taken) (block : Names) (types : Types) (has : HasTypes e block types) (x : Y.Bit) → IsProvedBit block types x → bit_words x ≤ size_of (bit_code e t x) + 1
+  pub bit_size : (e : Environment) (t : Taken) (block : Names) (types : Types) (has : HasTypes e block types) (x :
+      Y.Bit) → IsProvedBit block types x → bit_words x ≤ size_of (bit_code e t x) + 1
   bit_size e t block types has (Y.BitConstant b) is = omega arith
   bit_size e t block types has (Y.BitIn (Y.Referring v locator part subscripts)) is =
       let r = Y.Referring v locator part subscripts in
-      part_size e t block types has Y.BitLeaf r (loaded (type_in e r) a0 (address_in e r)) is.0 (size_constant Y.BitLeaf tt) (subscripts_size e t block types has subscripts is.1)
+      part_size e t block types has Y.BitLeaf r (loaded (type_in e r) a0 (address_in e r)) is.0
+          (size_constant Y.BitLeaf tt) (subscripts_size e t block types has subscripts is.1)
   bit_size e t block types has (Y.Negated x) is =
       let n = bit_size e t block types has x is in
       let s = size_append (bit_code e t x) (negated_code ∷ []) in
@@ -269,11 +316,13 @@ mutual
   bit_size e t block types has _ is = absurd is
 
   -- a text takes what its parts take
-  pub text_size : (e : Environment) (t : Taken) (block : Names) (types : Types) (has : HasTypes e block types) (x : Y.Text) → IsProvedText block types x → text_words x ≤ size_of (text_code e t x) + 1
+  pub text_size : (e : Environment) (t : Taken) (block : Names) (types : Types) (has : HasTypes e block types) (x :
+      Y.Text) → IsProvedText block types x → text_words x ≤ size_of (text_code e t x) + 1
   text_size e t block types has (Y.TextConstant bytes) is = omega arith
   text_size e t block types has (Y.TextIn (Y.Referring v locator part subscripts)) is =
       let r = Y.Referring v locator part subscripts in
-      part_size e t block types has (text_leaf is.0.varying is.0.most) r (text_pushed (type_in e r) (address_in e r)) is.0.part (text_size_constant is.0.varying is.0.most) (subscripts_size e t block types has subscripts is.1)
+      part_size e t block types has (text_leaf is.0.varying is.0.most) r (text_pushed (type_in e r) (address_in e r))
+          is.0.part (text_size_constant is.0.varying is.0.most) (subscripts_size e t block types has subscripts is.1)
   text_size e t block types has (Y.TextOfNumber precision x) is =
       let n = number_size e t block types has x is.1 in
       let s = size_append (number_code e t x) (as_text precision) in
@@ -309,14 +358,18 @@ mutual
 
 -- ---- words of statements
 
-value_size : (e : Environment) (t : Taken) (block : Names) (types : Types) (has : HasTypes e block types) (formats : T.Formats) (precision : ℕ) (x : Y.Number) → IsProvedNumber block types x → max 1 (number_words x) ≤ size_of (value_put e t formats (Y.NumberValue precision x)) + 1
+value_size : (e : Environment) (t : Taken) (block : Names) (types : Types) (has : HasTypes e block types) (formats :
+    T.Formats) (precision : ℕ) (x : Y.Number) → IsProvedNumber block types x
+    → max 1 (number_words x) ≤ size_of (value_put e t formats (Y.NumberValue precision x)) + 1
 value_size e t block types has formats precision x is =
     let n = number_size e t block types has x is in
     let s = size_append (number_code e t x) (save a0 t ++ number_put t formats (as_text precision)) in
     most _ _ _ (omega arith) (omega (arith, n, s))
 
-item_size' : (e : Environment) (t : Taken) (block : Names) (types : Types) (has : HasTypes e block types) (formats : T.Formats) (i : Y.PutItem) → IsProvedItem block types i → put_item_words i ≤ size_of (item_put e t formats i) + 1
-item_size' e t block types has formats (Y.PutValue (Y.NumberValue precision x)) is = value_size e t block types has formats precision x is
+item_size' : (e : Environment) (t : Taken) (block : Names) (types : Types) (has : HasTypes e block types) (formats :
+    T.Formats) (i : Y.PutItem) → IsProvedItem block types i → put_item_words i ≤ size_of (item_put e t formats i) + 1
+item_size' e t block types has formats (Y.PutValue (Y.NumberValue precision x)) is =
+    value_size e t block types has formats precision x is
 item_size' e t block types has formats (Y.PutValue (Y.BitValue x)) is =
     let n = bit_size e t block types has x is in
     let s = size_append (bit_code e t x) (save a0 t ++ number_put t formats (as_text 0)) in
@@ -327,7 +380,9 @@ item_size' e t block types has formats (Y.PutValue (Y.TextValue x)) is =
     omega (arith, n, s)
 item_size' e t block types has formats _ is = absurd is
 
-items_size : (e : Environment) (t : Taken) (block : Names) (types : Types) (has : HasTypes e block types) (formats : T.Formats) (is : List Y.PutItem) → AreProvedItems block types is → put_items_words is ≤ size_of (items_put e t formats is) + 1
+items_size : (e : Environment) (t : Taken) (block : Names) (types : Types) (has : HasTypes e block types) (formats :
+    T.Formats) (is : List Y.PutItem) → AreProvedItems block types is
+    → put_items_words is ≤ size_of (items_put e t formats is) + 1
 items_size e t block types has formats [] are = omega arith
 items_size e t block types has formats (i ∷ is) are =
     let a = item_size' e t block types has formats i are.0 in
@@ -335,7 +390,8 @@ items_size e t block types has formats (i ∷ is) are =
     let s = size_append (item_put e t formats i) (items_put e t formats is) in
     most _ _ _ (omega (arith, a, s)) (omega (arith, c, s))
 
-pairs_size : (e : Environment) (t : Taken) (block : Names) (types : Types) (has : HasTypes e block types) (ps : List Y.PutPair) → AreProvedPairs block types ps → put_words ps ≤ size_of (put_pairs e t ps) + 1
+pairs_size : (e : Environment) (t : Taken) (block : Names) (types : Types) (has : HasTypes e block types) (ps :
+    List Y.PutPair) → AreProvedPairs block types ps → put_words ps ≤ size_of (put_pairs e t ps) + 1
 pairs_size e t block types has [] are = omega arith
 pairs_size e t block types has (p ∷ ps) are =
     let items = items_put e t p.formats p.items in
@@ -358,7 +414,10 @@ act_size line =
 pub met_size' : (c : Code) → size_of (if_met c) ≡ 3 + size_of c
 met_size' c = size_append (skip_where Test.NotEqual a0 zero_register (JumpAhead (size_of c) ∷ [])) c
 
-pub once_size : (e : Environment) (t : Taken) (block : Names) (types : Types) (has : HasTypes e block types) (condition : Option Y.Bit) (line : ℕ) (c : Code) → IsProvedBitIf block types condition → (bit_if condition ≤ size_of (once_code e t condition line c) + 1) × (size_of c ≤ size_of (once_code e t condition line c))
+pub once_size : (e : Environment) (t : Taken) (block : Names) (types : Types) (has :
+    HasTypes e block types) (condition : Option Y.Bit) (line : ℕ) (c : Code) → IsProvedBitIf block types condition
+    → (bit_if condition ≤ size_of (once_code e t condition line c) + 1)
+    × (size_of c ≤ size_of (once_code e t condition line c))
 once_size e t block types has None line c is = (omega arith, omega arith)
 once_size e t block types has (Some x) line c is =
     let n = bit_size e t block types has x is in
@@ -367,7 +426,9 @@ once_size e t block types has (Some x) line c is =
     let s3 = met_size' c in
     (omega (arith, n, s1, s2), omega (arith, s1, s2, s3))
 
-pub start_words_size : (e : Environment) (t : Taken) (block : Names) (types : Types) (has : HasTypes e block types) (start : Y.Value) → IsProvedStart block types start → value_words start ≤ size_of (start_code e t start) + 1
+pub start_words_size : (e : Environment) (t : Taken) (block : Names) (types : Types) (has :
+    HasTypes e block types) (start : Y.Value) → IsProvedStart block types start
+    → value_words start ≤ size_of (start_code e t start) + 1
 start_words_size e t block types has (Y.NumberValue precision x) is =
     let n = number_size e (before_turns t) block types has x is in
     let s = size_append (number_code e (before_turns t) x) (store_word frame_register a0 (start_place t)) in
@@ -379,24 +440,32 @@ start_words_size e t block types has (Y.BitValue x) is =
 start_words_size e t block types has (Y.TextValue x) is = text_size e (before_turns t) block types has x is
 start_words_size e t block types has _ is = absurd is
 
-pub limit_words_size : (e : Environment) (t : Taken) (block : Names) (types : Types) (has : HasTypes e block types) (limit : Option Y.Number) → IsProvedNumberIf block types limit → number_if limit ≤ size_of (limit_code e t limit) + 1
+pub limit_words_size : (e : Environment) (t : Taken) (block : Names) (types : Types) (has :
+    HasTypes e block types) (limit : Option Y.Number) → IsProvedNumberIf block types limit
+    → number_if limit ≤ size_of (limit_code e t limit) + 1
 limit_words_size e t block types has None is = omega arith
 limit_words_size e t block types has (Some x) is =
     let n = number_size e (before_turns t) block types has x is in
     let s = size_append (number_code e (before_turns t) x) (store_word frame_register a0 (limit_place t)) in
     omega (arith, n, s)
 
-step_kept_size : (e : Environment) (t : Taken) (block : Names) (types : Types) (has : HasTypes e block types) (step : Y.Number) (fixed : Option ℤ) → constant_step step ≡ fixed → IsProvedNumber block types step → number_words step ≤ size_of (step_kept e t step fixed) + 1
+step_kept_size : (e : Environment) (t : Taken) (block : Names) (types : Types) (has : HasTypes e block types) (step :
+    Y.Number) (fixed : Option ℤ) → constant_step step ≡ fixed → IsProvedNumber block types step
+    → number_words step ≤ size_of (step_kept e t step fixed) + 1
 step_kept_size e t block types has step None same is =
     let n = number_size e (before_turns t) block types has step is in
     let s = size_append (number_code e (before_turns t) step) (store_word frame_register a0 (step_place t)) in
     omega (arith, n, s)
 step_kept_size e t block types has step (Some z) same is = (constant_means block types step z is same).few
 
-pub step_words_size : (e : Environment) (t : Taken) (block : Names) (types : Types) (has : HasTypes e block types) (step : Y.Number) → IsProvedNumber block types step → number_words step ≤ size_of (step_code e t step) + 1
+pub step_words_size : (e : Environment) (t : Taken) (block : Names) (types : Types) (has :
+    HasTypes e block types) (step : Y.Number) → IsProvedNumber block types step
+    → number_words step ≤ size_of (step_code e t step) + 1
 step_words_size e t block types has step is = step_kept_size e t block types has step (constant_step step) refl is
 
-pub condition_words_size : (e : Environment) (t : Taken) (block : Names) (types : Types) (has : HasTypes e block types) (condition : Option Y.Bit) (behind : ℕ) → IsProvedBitIf block types condition → bit_if condition ≤ size_of (while_kept e t condition behind) + 1
+pub condition_words_size : (e : Environment) (t : Taken) (block : Names) (types : Types) (has :
+    HasTypes e block types) (condition : Option Y.Bit) (behind : ℕ) → IsProvedBitIf block types condition
+    → bit_if condition ≤ size_of (while_kept e t condition behind) + 1
 condition_words_size e t block types has None behind is = omega arith
 condition_words_size e t block types has (Some x) behind is =
     let n = bit_size e (in_turns t) block types has x is in
@@ -404,14 +473,17 @@ condition_words_size e t block types has (Some x) behind is =
     omega (arith, n, s)
 
 -- what is assigned to takes what its reference does, whether the value waits or not
-stored_least : (q : Bool) (near waits put' back last : Code) (n : ℕ) → n ≤ size_of near → n ≤ size_of waits → n ≤ size_of (cond q (near ++ last) (put' ++ (waits ++ (back ++ last))))
+stored_least : (q : Bool) (near waits put' back last : Code) (n : ℕ) → n ≤ size_of near → n ≤ size_of waits
+    → n ≤ size_of (cond q (near ++ last) (put' ++ (waits ++ (back ++ last))))
 stored_least true near waits put' back last n h i = let s = size_append near last in omega (arith, h, s)
 stored_least false near waits put' back last n h i =
     let s1 = size_append put' (waits ++ (back ++ last)) in
     let s2 = size_append waits (back ++ last) in
     omega (arith, i, s1, s2)
 
-pub target_size : (e : Environment) (t : Taken) (block : Names) (types : Types) (has : HasTypes e block types) (type : Y.LeafType) → IsNumeric type → (r : Y.Reference) → IsAssigned block types type r → reference_words r ≤ size_of (word_stored e t r)
+pub target_size : (e : Environment) (t : Taken) (block : Names) (types : Types) (has : HasTypes e block types) (type :
+    Y.LeafType) → IsNumeric type → (r : Y.Reference) → IsAssigned block types type r
+    → reference_words r ≤ size_of (word_stored e t r)
 target_size e t block types has type numeric r is = by_part is.0
   where
     by_part : IsPart block types type r → reference_words r ≤ size_of (word_stored e t r)
@@ -421,11 +493,17 @@ target_size e t block types has type numeric r is = by_part is.0
         let are : AreProvedNumbers block types xs = subst (AreSubscripts block types) o.is is.1 in
         let enough : (u : Taken) → reference_words r ≤ size_of (reference_code e u r) = λ u.
         let n = subscripts_size e u block types has xs are in
-        let n' = subst (λ q. subscripts_words (subscripts_in q) ≤ size_of (subscripts_code e u (subscripts_in q)) + given_in (subscripts_in q)) (sym o.is) n in
+        let n' =
+            subst (λ q. subscripts_words (subscripts_in q) ≤ size_of (subscripts_code e u (subscripts_in q))
+            + given_in (subscripts_in q)) (sym o.is) n in
         element_size e u block types type r o (size_constant type numeric) has n' in
-        stored_least (is_near e r) (reference_code e t r) (reference_code e (with_number t) r) (save a0 t) (fetch a0 t) (stored (type_in e r) a0 (address_in e r)) (reference_words r) (enough t) (enough (with_number t))
+        stored_least (is_near e r) (reference_code e t r) (reference_code e (with_number t) r) (save a0 t)
+            (fetch a0 t) (stored (type_in e r) a0 (address_in e r)) (reference_words r) (enough t)
+            (enough (with_number t))
 
-pub text_target_size : (e : Environment) (t : Taken) (block : Names) (types : Types) (has : HasTypes e block types) (r : Y.Reference) → IsAssignedText block types r → reference_words r ≤ size_of (top_stored e t r)
+pub text_target_size : (e : Environment) (t : Taken) (block : Names) (types : Types) (has :
+    HasTypes e block types) (r : Y.Reference) → IsAssignedText block types r
+    → reference_words r ≤ size_of (top_stored e t r)
 text_target_size e t block types has r is = by_part is.0.part
   where
     by_part : IsPart block types (text_leaf is.0.varying is.0.most) r → reference_words r ≤ size_of (top_stored e t r)
@@ -434,13 +512,18 @@ text_target_size e t block types has r is = by_part is.0.part
         let xs = Y.NumberThen o.first o.rest in
         let are : AreProvedNumbers block types xs = subst (AreSubscripts block types) o.is is.1 in
         let n = subscripts_size e t block types has xs are in
-        let n' = subst (λ q. subscripts_words (subscripts_in q) ≤ size_of (subscripts_code e t (subscripts_in q)) + given_in (subscripts_in q)) (sym o.is) n in
-        let m = element_size e t block types (text_leaf is.0.varying is.0.most) r o (text_size_constant is.0.varying is.0.most) has n' in
+        let n' =
+            subst (λ q. subscripts_words (subscripts_in q) ≤ size_of (subscripts_code e t (subscripts_in q))
+            + given_in (subscripts_in q)) (sym o.is) n in
+        let m = element_size e t block types (text_leaf is.0.varying is.0.most) r o
+            (text_size_constant is.0.varying is.0.most) has n' in
         let s = size_append (reference_code e t r) (text_stored (type_in e r) (address_in e r)) in
         omega (arith, m, s)
 
 -- a field's target is stored in the code of the field
-field_size : (e : Environment) (t : Taken) (block : Names) (types : Types) (has : HasTypes e block types) (formats : T.Formats) (type : Y.LeafType) (r : Y.Reference) → IsReadBy (has_fixed formats) type → IsPart block types type r → AreSubscripts block types r → reference_words r ≤ size_of (field_stored e t formats r type)
+field_size : (e : Environment) (t : Taken) (block : Names) (types : Types) (has : HasTypes e block types) (formats :
+    T.Formats) (type : Y.LeafType) (r : Y.Reference) → IsReadBy (has_fixed formats) type → IsPart block types type r
+    → AreSubscripts block types r → reference_words r ≤ size_of (field_stored e t formats r type)
 field_size e t block types has formats (Y.FixedLeaf p) r read part subscripts =
     let z = target_size e t block types has (Y.FixedLeaf p) tt r (part, subscripts) in
     let s1 = size_append (number_got formats) (fitted_code t p ++ word_stored e t r) in
@@ -463,7 +546,8 @@ field_size e t block types has formats _ r read part subscripts = absurd read
 got_item_words : (e : Environment) (t : Taken) (block : Names) (types : Types) (has : HasTypes e block types) (formats : T.Formats) (after : ℕ) (i : Y.GetItem) → IsProvedGetItem block types (has_fixed formats) i → get_item_words i ≤ size_of (item_got e t formats i after)
 got_item_words e t block types has formats after (Y.GetScalar r) is =
     let type = part_type e block types is.type r has is.part in
-    let f = subst (λ u. reference_words r ≤ size_of (field_stored e t formats r u)) (sym type) (field_size e t block types has formats is.type r is.read is.part is.subscripts) in
+    let f = subst (λ u. reference_words r ≤ size_of (field_stored e t formats r u)) (sym type)
+        (field_size e t block types has formats is.type r is.read is.part is.subscripts) in
     let c = field_stored e t formats r (type_in e r) in
     let s = size_append (field_awaited (size_of c + after)) c in
     omega (arith, f, s)
@@ -494,7 +578,8 @@ mutual
   pub statement_size : (e : Environment) (t : Taken) (block : Names) (types : Types) (has : HasTypes e block types) (x : Y.Stmt) → IsProvedStatement block types x → stmt_words x ≤ size_of (stmt_code e t x) + 1
   statement_size e t block types has (Y.Null line) is = omega arith
   statement_size e t block types has (Y.Assign target (Y.StoredNumber precision x) line) is =
-      let z : reference_words target ≤ size_of (stored_into e t target (Y.StoredNumber precision x)) = target_size e t block types has (Y.FixedLeaf precision) tt target is.0 in
+      let z : reference_words target ≤ size_of (stored_into e t target (Y.StoredNumber precision x)) =
+          target_size e t block types has (Y.FixedLeaf precision) tt target is.0 in
       let n = number_size e t block types has x is.1.0 in
       let four = act_size line in
       let code = number_code e t x in
@@ -505,7 +590,8 @@ mutual
       let s3 = size_append code fitted in
       most _ _ _ (most _ _ _ (omega arith) (omega (arith, n, s1, s2, s3))) (omega (arith, z, four, s1, s2))
   statement_size e t block types has (Y.Assign target (Y.StoredBit x) line) is =
-      let z : reference_words target ≤ size_of (stored_into e t target (Y.StoredBit x)) = target_size e t block types has Y.BitLeaf tt target is.0 in
+      let z : reference_words target ≤ size_of (stored_into e t target (Y.StoredBit x)) =
+          target_size e t block types has Y.BitLeaf tt target is.0 in
       let n = bit_size e t block types has x is.1.0 in
       let four = act_size line in
       let code = bit_code e t x in
@@ -514,7 +600,8 @@ mutual
       let s2 = size_append code into in
       most _ _ _ (omega (arith, n, s1, s2)) (omega (arith, z, four, s1, s2))
   statement_size e t block types has (Y.Assign target (Y.StoredText x) line) is =
-      let z : reference_words target ≤ size_of (stored_into e t target (Y.StoredText x)) = text_target_size e t block types has target is.0 in
+      let z : reference_words target ≤ size_of (stored_into e t target (Y.StoredText x)) =
+          text_target_size e t block types has target is.0 in
       let n = text_size e t block types has x is.1.0 in
       let four = act_size line in
       let code = text_code e t x in
@@ -600,7 +687,8 @@ mutual
       let s5 = size_append c back in
       most _ _ _ (omega (arith, n, s1, s2, s3)) (omega (arith, m, s1, s2, s4, s5))
   statement_size e t block types has (Y.DoOnce target (Y.StoredNumber precision x) condition body line) is =
-      let z : reference_words target ≤ size_of (stored_into e t target (Y.StoredNumber precision x)) = target_size e t block types has (Y.FixedLeaf precision) tt target is.0.0 in
+      let z : reference_words target ≤ size_of (stored_into e t target (Y.StoredNumber precision x)) =
+          target_size e t block types has (Y.FixedLeaf precision) tt target is.0.0 in
       let n = number_size e t block types has x is.0.1 in
       let m = statements_size e t block types has body is.1.1.0 in
       let o = once_size e t block types has condition line (stmts_code e t body) is.1.0 in
@@ -617,7 +705,8 @@ mutual
       (most _ _ _ (most _ _ _ (omega arith) (omega (arith, n, s1, s2, s3, s4))) (omega (arith, z, four, s1, s2, s3)))
       (most _ _ _ (let o0 = o.0 in omega (arith, o0, s1, s2)) (let o1 = o.1 in omega (arith, m, o1, s1, s2)))
   statement_size e t block types has (Y.DoOnce target (Y.StoredBit x) condition body line) is =
-      let z : reference_words target ≤ size_of (stored_into e t target (Y.StoredBit x)) = target_size e t block types has Y.BitLeaf tt target is.0.0 in
+      let z : reference_words target ≤ size_of (stored_into e t target (Y.StoredBit x)) =
+          target_size e t block types has Y.BitLeaf tt target is.0.0 in
       let n = bit_size e t block types has x is.0.1 in
       let m = statements_size e t block types has body is.1.1.0 in
       let o = once_size e t block types has condition line (stmts_code e t body) is.1.0 in
@@ -632,7 +721,8 @@ mutual
       (most _ _ _ (omega (arith, n, s1, s2, s3)) (omega (arith, z, four, s1, s2, s3)))
       (most _ _ _ (let o0 = o.0 in omega (arith, o0, s1, s2)) (let o1 = o.1 in omega (arith, m, o1, s1, s2)))
   statement_size e t block types has (Y.DoOnce target (Y.StoredText x) condition body line) is =
-      let z : reference_words target ≤ size_of (stored_into e t target (Y.StoredText x)) = text_target_size e t block types has target is.0.0 in
+      let z : reference_words target ≤ size_of (stored_into e t target (Y.StoredText x)) =
+          text_target_size e t block types has target is.0.0 in
       let n = text_size e t block types has x is.0.1 in
       let m = statements_size e t block types has body is.1.1.0 in
       let o = once_size e t block types has condition line (stmts_code e t body) is.1.0 in
@@ -676,7 +766,8 @@ mutual
       let s11 = size_append c rest in
       let total = size_of (stmt_code e t (Y.DoCount counter start limit step condition body line)) in
       let small1 : max (value_words start) (max (number_if limit) (number_words step)) ≤ total - 3 + 1 =
-      most _ _ _ (omega (arith, n0, four, s1, s2, s3)) (most _ _ _ (omega (arith, n1, four, s1, s2, s3, s4)) (omega (arith, n2, four, s1, s2, s3, s4, s5))) in
+      most _ _ _ (omega (arith, n0, four, s1, s2, s3))
+          (most _ _ _ (omega (arith, n1, four, s1, s2, s3, s4)) (omega (arith, n2, four, s1, s2, s3, s4, s5))) in
       let small2 : max (suc (reference_words target)) (max (bit_if condition) (stmts_words body)) ≤ total - 2 + 1 =
       most _ _ _ (omega (arith, z, four, s0, s1, s2, s8)) (most _ _ _ (omega (arith, n3, four, s1, s2, s8, s9, s10)) (omega (arith, n4, four, s1, s2, s8, s9, s10, s11))) in
       most _ _ _ (omega (arith, small1, four, s1)) (omega (arith, small2, four, s1))

@@ -7,21 +7,34 @@ use Rattle.pli_language.specs.declared.condition.Condition.{Condition}
 use Rattle.pli_language.specs.declared.condition.Condition.TheVariants as C
 use Rattle.pli_typing.specs.TypedTree as Y
 use Rattle.pli_meaning.specs.Control.{Label}
-use Rattle.pli_coding.specs.Registers.{zero_register, stack_register, frame_register, a0, a1, a2, u0, u1, u2, a3, a4, held}
+use Rattle.pli_coding.specs.Registers.{zero_register, stack_register, frame_register, a0, a1, a2, u0, u1, u2, a3, a4}
+use Rattle.pli_coding.specs.Registers.{held}
 use Rattle.pli_coding.specs.Extents.{initial_given, initial_code}
 use Rattle.pli_coding.specs.StaticForms.{initial_datum}
 use Rattle.pli_coding.specs.Assembly.{Datum, Symbol, Plain, BaseIn, ProcedureEntry, LabelPlace, ReturnPlace, JumpTo, CallTo, JumpAhead, JumpBack, Code, size_of}
 use Rattle.pli_coding.specs.Instructions.{add, move, subtract, small, number, plus, load_word, store_word, skip_where, service, tested_service}
 use Rattle.pli_coding.specs.Environments.{Owner, BlockOwner, UnitOwner, Environment, in_frame, owned_by, Taken, none_taken, block_around, with_number, save, fetch}
-use Rattle.pli_coding.specs.Frames.{frame_below, own_offset, lower_top, display, fixed_size, frame_end, temporary_bytes, words_place, name_bytes, frame_bytes, automatic_place, last_place, is_automatic, saved_register}
-use Rattle.pli_coding.specs.Entries.{registers_restored, all_saved, display_copied, display_made, frame_begun, block_left, entered_without_texts, variables_made, variables_code, constant_made, automatic_made, adjustable_made, all_restored, registers_saved}
+use Rattle.pli_coding.specs.Frames.{frame_below, own_offset, lower_top, display, fixed_size, frame_end}
+use Rattle.pli_coding.specs.Frames.{temporary_bytes, words_place, name_bytes, frame_bytes, automatic_place}
+use Rattle.pli_coding.specs.Frames.{last_place, is_automatic, saved_register}
+use Rattle.pli_coding.specs.Entries.{registers_restored, all_saved, display_copied, display_made, frame_begun}
+use Rattle.pli_coding.specs.Entries.{block_left, entered_without_texts, variables_made, variables_code, constant_made}
+use Rattle.pli_coding.specs.Entries.{automatic_made, adjustable_made, all_restored, registers_saved}
 use Rattle.pli_meaning.specs.DeclaredShapes.{variables_of_block}
 use Rattle.pli_coding.specs.Arithmetic.{sum_code, fitted_code}
 use Rattle.pli_coding.specs.Expressions.{frame_given, number_code, bit_code, text_code, call_code}
 use Rattle.pli_coding.specs.Storing.{word_stored, assigned_code, record_code, record_given, first_leaf, aggregate_code}
 use Rattle.pli_coding.specs.Streams.{put_pairs, get_pairs, edit_ended, skip_option}
 use Rattle.pli_coding.specs.Allocating.{act_code}
-use Rattle.pli_coding.specs.Statements.{if_met, while_met, once_code, in_turns, before_turns, constant_step, limit_place, step_place, start_place, start_code, limit_code, step_kept, step_code, start_loaded, started_code, count_begun, passed, passed_by, limit_tested, limit_kept, while_kept, step_added, stepped_code, turn_of, turns_code, words_behind_limit, words_behind_condition, words_back, signal_code, unwound_to, returned_by, goto_outer, goto_code, marked, stmt_code, stmts_code, stmts_words, block_words, begin_environment, begin_code, condition_given, unit_established, unit_left, unit_variables, owner_of_unit, unit_words, unit_mark, unit_held}
+use Rattle.pli_coding.specs.Statements.{if_met, while_met, once_code, in_turns, before_turns, constant_step}
+use Rattle.pli_coding.specs.Statements.{limit_place, step_place, start_place, start_code, limit_code, step_kept}
+use Rattle.pli_coding.specs.Statements.{step_code, start_loaded, started_code, count_begun, passed, passed_by}
+use Rattle.pli_coding.specs.Statements.{limit_tested, limit_kept, while_kept, step_added, stepped_code, turn_of}
+use Rattle.pli_coding.specs.Statements.{turns_code, words_behind_limit, words_behind_condition, words_back}
+use Rattle.pli_coding.specs.Statements.{signal_code, unwound_to, returned_by, goto_outer, goto_code, marked}
+use Rattle.pli_coding.specs.Statements.{stmt_code, stmts_code, stmts_words, block_words, begin_environment}
+use Rattle.pli_coding.specs.Statements.{begin_code, condition_given, unit_established, unit_left, unit_variables}
+use Rattle.pli_coding.specs.Statements.{owner_of_unit, unit_words, unit_mark, unit_held}
 use Rattle.pli_coding.specs.Locating.{own_place, frame_found, frame_in, table_number}
 use Rattle.rv_meaning.specs.declared.instr.Register.{Register}
 use Rattle.pli_headline.proofs.DeclaredNames.{named_in, has_in}
@@ -117,12 +130,14 @@ inner_begun_none words level =
 saved_none : (n left : ℕ) → Marks (registers_saved u0 n left) []
 saved_none n zero = refl
 saved_none n (suc left) =
-    behind (store_word u0 (held n) (saved_register n)) (registers_saved u0 (suc n) left) [] (store_none u0 (held n) (saved_register n)) (saved_none (suc n) left)
+    behind (store_word u0 (held n) (saved_register n)) (registers_saved u0 (suc n) left) []
+        (store_none u0 (held n) (saved_register n)) (saved_none (suc n) left)
 
 restored_none : (n left : ℕ) → Marks (registers_restored n left) []
 restored_none n zero = refl
 restored_none n (suc left) =
-    behind (load_word (held n) frame_register (saved_register n)) (registers_restored (suc n) left) [] (load_none (held n) frame_register (saved_register n)) (restored_none (suc n) left)
+    behind (load_word (held n) frame_register (saved_register n)) (registers_restored (suc n) left) []
+        (load_none (held n) frame_register (saved_register n)) (restored_none (suc n) left)
 
 pub all_saved_none : (count : ℕ) → Marks (all_saved u0 count) []
 all_saved_none count = saved_none 0 count
@@ -134,14 +149,18 @@ pub called_begun_none : (words level count : ℕ) → Marks (frame_begun words l
 called_begun_none words level count =
     let up = plus u0 stack_register (pos (temporary_bytes words)) in
     let saves = all_saved u0 count in
-    let first = store_word u0 frame_register frame_below ++ (load_word u1 frame_register lower_top ++ (move frame_register u0 ∷ store_word frame_register u1 lower_top)) in
+    let first = store_word u0 frame_register frame_below
+        ++ (load_word u1 frame_register lower_top
+        ++ (move frame_register u0 ∷ store_word frame_register u1 lower_top)) in
     let made = display_made level in
     let own = BaseIn u1 ∷ subtract u1 frame_register u1 ∷ store_word frame_register u1 own_offset in
     let raised = plus stack_register frame_register (pos (fixed_size level 0)) in
-    behind up (saves ++ (first ++ (made ++ (own ++ raised)))) [] (plus_none u0 stack_register (pos (temporary_bytes words)))
+    behind up (saves ++ (first ++ (made ++ (own ++ raised)))) []
+        (plus_none u0 stack_register (pos (temporary_bytes words)))
     (behind saves (first ++ (made ++ (own ++ raised))) [] (all_saved_none count)
     (behind first (made ++ (own ++ raised)) [] refl
-    (behind made (own ++ raised) [] (display_none level) (behind own raised [] refl (plus_none stack_register frame_register (pos (fixed_size level 0)))))))
+    (behind made (own ++ raised) [] (display_none level)
+        (behind own raised [] refl (plus_none stack_register frame_register (pos (fixed_size level 0)))))))
 
 -- what makes a variable
 given_none : (r : Register) (start : Option Datum) → Marks (initial_given r start) []
@@ -228,9 +247,11 @@ start_none e t block types precision r (Y.TextValue x) has is = (
 )
 start_none e t block types precision r _ has is = absurd is
 
-step_none : (e : Environment) (t : Taken) (block : Names) (types : Types) (step : Y.Number) (fixed : Option ℤ) → HasTypes e block types → IsProvedNumber block types step → Marks (step_kept e t step fixed) []
+step_none : (e : Environment) (t : Taken) (block : Names) (types : Types) (step : Y.Number) (fixed : Option ℤ)
+    → HasTypes e block types → IsProvedNumber block types step → Marks (step_kept e t step fixed) []
 step_none e t block types step None has is =
-    behind (number_code e (before_turns t) step) (store_word frame_register a0 (step_place t)) [] (number_none e (before_turns t) block types step has is) (store_none frame_register a0 (step_place t))
+    behind (number_code e (before_turns t) step) (store_word frame_register a0 (step_place t)) []
+        (number_none e (before_turns t) block types step has is) (store_none frame_register a0 (step_place t))
 step_none e t block types step (Some z) has is = refl
 
 begun_none : (e : Environment) (t : Taken) (block : Names) (types : Types) (precision : ℕ) (r : Y.Reference) (start : Y.Value) (limit : Option Y.Number) (step : Y.Number) → HasTypes e block types → IsProvedStart block types start → IsProvedNumberIf block types limit → IsProvedNumber block types step → Marks (count_begun e t (Y.NumberCounter precision r) start limit step) []
@@ -249,17 +270,24 @@ passed_none true words = refl
 passed_none false words = refl
 
 passed_by_none : (t : Taken) (fixed : Option ℤ) (words : ℕ) → Marks (passed_by t fixed words) []
-passed_by_none t None words = behind (load_word u2 frame_register (step_place t)) _ [] (load_none u2 frame_register (step_place t)) refl
+passed_by_none t None words =
+    behind (load_word u2 frame_register (step_place t)) _ [] (load_none u2 frame_register (step_place t)) refl
 passed_by_none t (Some z) words = passed_none (int_lt z (pos 0)) words
 
 tested_none : (t : Taken) (fixed : Option ℤ) (words : ℕ) → Marks (limit_tested t fixed words) []
 tested_none t fixed words =
-    behind (load_word u1 frame_register (limit_place t)) (passed_by t fixed words) [] (load_none u1 frame_register (limit_place t)) (passed_by_none t fixed words)
+    behind (load_word u1 frame_register (limit_place t)) (passed_by t fixed words) []
+        (load_none u1 frame_register (limit_place t)) (passed_by_none t fixed words)
 
-kept_none : (e : Environment) (t : Taken) (block : Names) (types : Types) (precision : ℕ) (r : Y.Reference) (limit : Option Y.Number) (fixed : Option ℤ) (words : ℕ) → HasTypes e block types → IsAssigned block types (Y.FixedLeaf precision) r → Marks (limit_kept e t (Y.NumberCounter precision r) limit fixed words) []
+kept_none : (e : Environment) (t : Taken) (block : Names) (types : Types) (precision : ℕ) (r : Y.Reference) (limit :
+    Option Y.Number) (fixed : Option ℤ) (words : ℕ) → HasTypes e block types
+    → IsAssigned block types (Y.FixedLeaf precision) r
+    → Marks (limit_kept e t (Y.NumberCounter precision r) limit fixed words) []
 kept_none e t block types precision r None fixed words has is = refl
 kept_none e t block types precision r (Some x) fixed words has is =
-    behind (number_code e (in_turns t) (Y.NumberIn r)) (limit_tested t fixed words) [] (number_none e (in_turns t) block types (Y.NumberIn r) has (assigned_read block types precision r is)) (tested_none t fixed words)
+    behind (number_code e (in_turns t) (Y.NumberIn r)) (limit_tested t fixed words) []
+        (number_none e (in_turns t) block types (Y.NumberIn r) has (assigned_read block types precision r is))
+        (tested_none t fixed words)
 
 condition_none : (e : Environment) (t : Taken) (block : Names) (types : Types) (condition : Option Y.Bit) (words : ℕ) → HasTypes e block types → IsProvedBitIf block types condition → Marks (while_kept e t condition words) []
 condition_none e t block types None words has is = refl
@@ -268,19 +296,27 @@ condition_none e t block types (Some x) words has is =
 
 added_none : (t : Taken) (fixed : Option ℤ) → Marks (step_added t fixed) []
 added_none t None =
-    behind (load_word a0 frame_register (step_place t)) (sum_code (in_turns t)) [] (load_none a0 frame_register (step_place t)) (overflow_none (in_turns t))
+    behind (load_word a0 frame_register (step_place t)) (sum_code (in_turns t)) []
+        (load_none a0 frame_register (step_place t)) (overflow_none (in_turns t))
 added_none t (Some z) = behind (plus a0 u1 z) _ [] (plus_none a0 u1 z) (overflow_none (in_turns t))
 
-stepped_none : (e : Environment) (t : Taken) (block : Names) (types : Types) (precision : ℕ) (r : Y.Reference) (fixed : Option ℤ) (line : ℕ) → HasTypes e block types → IsAssigned block types (Y.FixedLeaf precision) r → Marks (stepped_code e t (Y.NumberCounter precision r) fixed line) []
+stepped_none : (e : Environment) (t : Taken) (block : Names) (types : Types) (precision : ℕ) (r :
+    Y.Reference) (fixed : Option ℤ) (line : ℕ) → HasTypes e block types
+    → IsAssigned block types (Y.FixedLeaf precision) r
+    → Marks (stepped_code e t (Y.NumberCounter precision r) fixed line) []
 stepped_none e t block types precision r fixed line has is =
     let read = number_code e (in_turns t) (Y.NumberIn r) in
     let added = step_added t fixed in
     let last = fitted_code (in_turns t) precision in
     behind (number a0 line) (small a1 1 ∷ (service 1 ++ (read ++ (added ++ last)))) [] (constant_none a0 (pos line))
-    (behind read (added ++ last) [] (number_none e (in_turns t) block types (Y.NumberIn r) has (assigned_read block types precision r is))
+    (behind read (added ++ last) [] (number_none e (in_turns t) block types (Y.NumberIn r) has
+        (assigned_read block types precision r is))
     (behind added last [] (added_none t fixed) (fitted_none (in_turns t) precision)))
 
-turns_mark : (e : Environment) (t : Taken) (block : Names) (types : Types) (precision : ℕ) (r : Y.Reference) (limit : Option Y.Number) (fixed : Option ℤ) (condition : Option Y.Bit) (line : ℕ) (c : Code) (ss : List Symbol) → HasTypes e block types → IsAssigned block types (Y.FixedLeaf precision) r → IsProvedBitIf block types condition → Marks c ss → Marks (turns_code (turn_of e t (Y.NumberCounter precision r) limit fixed condition line c)) ss
+turns_mark : (e : Environment) (t : Taken) (block : Names) (types : Types) (precision : ℕ) (r : Y.Reference) (limit :
+    Option Y.Number) (fixed : Option ℤ) (condition : Option Y.Bit) (line : ℕ) (c : Code) (ss : List Symbol)
+    → HasTypes e block types → IsAssigned block types (Y.FixedLeaf precision) r → IsProvedBitIf block types condition
+    → Marks c ss → Marks (turns_code (turn_of e t (Y.NumberCounter precision r) limit fixed condition line c)) ss
 turns_mark e t block types precision r limit fixed condition line c ss has target isc h =
     let u = turn_of e t (Y.NumberCounter precision r) limit fixed condition line c in
     let st = word_stored e (in_turns t) r in
@@ -289,9 +325,11 @@ turns_mark e t block types precision r limit fixed condition line c ss has targe
     let sp = stepped_code e t (Y.NumberCounter precision r) fixed line in
     let jump = JumpBack (words_back u) ∷ [] in
     behind (st ++ act_code line) (lim ++ (con ++ (c ++ (sp ++ jump)))) ss (behind st (act_code line) [] (assigned_none e (in_turns t) block types (Y.FixedLeaf precision) r tt has target) (act_none line))
-    (behind lim (con ++ (c ++ (sp ++ jump))) ss (kept_none e t block types precision r limit fixed (words_behind_limit u) has target)
+    (behind lim (con ++ (c ++ (sp ++ jump))) ss
+        (kept_none e t block types precision r limit fixed (words_behind_limit u) has target)
     (behind con (c ++ (sp ++ jump)) ss (condition_none e t block types condition (words_behind_condition u) has isc)
-    (before c (sp ++ jump) ss h (behind sp jump [] (stepped_none e t block types precision r fixed line has target) refl))))
+    (before c (sp ++ jump) ss h (behind sp jump [] (stepped_none e t block types precision r fixed line has target)
+        refl))))
 
 -- ---- on-units
 
@@ -339,8 +377,11 @@ unit_marks e head body are marks =
     let left' = unit_left words count in
     let ss = places_of (all_stands head.number body) in
     let ends = places_of (end_of head head.kind) in
-    let both : Marks (c ++ (mark ++ left')) (ss ++ ends) = both_mark c (mark ++ left') ss ends marks (before mark left' ends (mark_marks head head.kind) (unit_left_none words count)) in
-    behind frame (enter ++ (made ++ (act ++ (c ++ (mark ++ left'))))) (ss ++ ends) (called_begun_none words head.level count)
+    let both : Marks (c ++ (mark ++ left')) (ss ++ ends) =
+        both_mark c (mark ++ left') ss ends marks
+        (before mark left' ends (mark_marks head head.kind) (unit_left_none words count)) in
+    behind frame (enter ++ (made ++ (act ++ (c ++ (mark ++ left'))))) (ss ++ ends)
+        (called_begun_none words head.level count)
     (behind enter (made ++ (act ++ (c ++ (mark ++ left')))) (ss ++ ends) (behind (number a2 head.line) (service 4) [] (constant_none a2 (pos head.line)) refl)
     (behind made (act ++ (c ++ (mark ++ left'))) (ss ++ ends) (made_none e' head head.kind are refl)
     (behind act (c ++ (mark ++ left')) (ss ++ ends) (act_none head.line) both)))
@@ -425,7 +466,8 @@ mutual
       let ls = places_of (all_stands e.block body) in
       behind (act_code line) (ahead ++ turns') ls (act_none line)
       (behind ahead turns' ls (begun_none e t block types precision target start limit step has is.0.1 is.1.0.0 is.1.0.1)
-      (turns_mark e t block types precision target limit (constant_step step) condition line c ls has is.0.0 is.1.1.0 (statements_mark e (in_turns t) block types body named has is.1.1.1.0 bare)))
+      (turns_mark e t block types precision target limit (constant_step step) condition line c ls has is.0.0 is.1.1.0
+          (statements_mark e (in_turns t) block types body named has is.1.1.1.0 bare)))
   statement_marks e t block types (Y.Begin (Y.BlockOf head body)) named has is bare =
       let e' = begin_environment head e in
       let c = stmts_code e' none_taken body in

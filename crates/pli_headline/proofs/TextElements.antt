@@ -73,13 +73,15 @@ text_found e level varying most = L.frame_found e level u3 ++ strides_added vary
 abbrev pub text_element_code : Environment → Taken → (level : ℕ) → (varying : Bool) → (most : ℕ) → List Bounds → Y.Number → Y.Numbers → Code
 text_element_code e t level varying most bs first rest =
     subscripts_code e t (Y.NumberThen first rest)
-    ++ (L.subscripts_counted e t 0 (Y.NumberThen first rest) (map constant_bounds bs) ++ text_found e level varying most)
+    ++ (L.subscripts_counted e t 0 (Y.NumberThen first rest) (map constant_bounds bs)
+        ++ text_found e level varying most)
 
 pub text_size_constant : (varying : Bool) (most : ℕ) (bs : List Bounds) (initial : List T.InitialItem) → has_constant_size (array_variable (text_leaf varying most) bs initial) ≡ true
 text_size_constant false most bs initial = ap (λ q. q && true) (bounds_constant bs)
 text_size_constant true most bs initial = ap (λ q. q && true) (bounds_constant bs)
 
-text_stride_is : (varying : Bool) (most : ℕ) (r : Register) (first : Y.Number) (rest : Y.Numbers) → L.element_added r (text_leaf varying most) (Y.NumberThen first rest) ≡ strides_added varying most r
+text_stride_is : (varying : Bool) (most : ℕ) (r : Register) (first : Y.Number) (rest : Y.Numbers)
+    → L.element_added r (text_leaf varying most) (Y.NumberThen first rest) ≡ strides_added varying most r
 text_stride_is false most r first rest = refl
 text_stride_is true most r first rest = refl
 
@@ -93,7 +95,8 @@ text_element_reached e t block j varying most bs first rest declared =
     let r = L.frame_in e (level_of block j) u3 in
     let other = L.found_reached e t t (own block j) whole_part (L.leaf_number e (own block j) 0) xs in
     ap (λ o. front ++ reached_by e t block j xs o) declared.1
-    ∙ ap (λ q. front ++ (if q then counted ++ (found ++ L.element_added r type xs) else other)) (text_size_constant varying most bs declared.0)
+    ∙ ap (λ q. front ++ (if q then counted ++ (found ++ L.element_added r type xs) else other))
+        (text_size_constant varying most bs declared.0)
     ∙ ap (λ c. front ++ (counted ++ (found ++ c))) (text_stride_is varying most r first rest)
 
 -- what asks a service about an element, behind its address
@@ -142,30 +145,51 @@ times_is : (x y p n : ℕ) → x ≡ p → y ≡ n → p * n < 2 ^ 32 → x * y 
 times_is x y p n e f small' = ap (λ u. u * y % 2 ^ 32) e ∙ ap (λ u. p * u % 2 ^ 32) f ∙ omega (arith, small')
 
 -- the place in u1 becomes a distance in u4
-times_by : (q : Bool) {links : Links} {code : List Instr} {i : ℕ} {g : Ground} {v : Services} {h t : ℕ → ℕ} {ys : Base → List (ℕ × ℕ)} (c : ℕ) (f : Family) (p n : ℕ) → (n == 4) ≡ q → n < 2 ^ 31 → p * n < 2 ^ 32 → Free ys 7 → Free ys 29 → Linked links code i (cond q (shift Shift.Left u4 u1 2 ∷ []) (number u2 n ++ registers Op.Multiply u4 u1 u2 ∷ [])) → ((b : Base) → At b i (Known g v h t (with' 6 (λ b'. p) ys) b) (f b)) → Reach code c f v (c + size_of (cond q (shift Shift.Left u4 u1 2 ∷ []) (number u2 n ++ registers Op.Multiply u4 u1 u2 ∷ []))) v (λ b w. At b (i + size_of (cond q (shift Shift.Left u4 u1 2 ∷ []) (number u2 n ++ registers Op.Multiply u4 u1 u2 ∷ []))) (Known g v h t (with' 29 (λ b'. p * n) ys) b) w)
+times_by : (q : Bool) {links : Links} {code : List Instr} {i : ℕ} {g : Ground} {v : Services} {h t : ℕ → ℕ} {ys :
+    Base → List (ℕ × ℕ)} (c : ℕ) (f : Family) (p n : ℕ) → (n == 4) ≡ q → n < 2 ^ 31 → p * n < 2 ^ 32 → Free ys 7
+    → Free ys 29
+    → Linked links code i (cond q (shift Shift.Left u4 u1 2 ∷ []) (number u2 n ++ registers Op.Multiply u4 u1 u2
+    ∷ [])) → ((b : Base) → At b i (Known g v h t (with' 6 (λ b'. p) ys) b) (f b))
+    → Reach code c f v
+    (c + size_of (cond q (shift Shift.Left u4 u1 2 ∷ []) (number u2 n ++ registers Op.Multiply u4 u1 u2 ∷ []))) v
+    (λ b w. At b
+    (i + size_of (cond q (shift Shift.Left u4 u1 2 ∷ []) (number u2 n ++ registers Op.Multiply u4 u1 u2 ∷ [])))
+    (Known g v h t (with' 29 (λ b'. p * n) ys) b) w)
 times_by true {g = g} {v = v} {h = h} {t = t} {ys = ys} c f p n e few small' free7 free29 l at =
     straight c f v v (λ b. Known g v h t (with' 29 (λ b'. p * n) ys) b) l (omega arith) (λ b. (at b).pc)
     (λ b.
     let k = (at b).holds in
-    set_known (f b) 29 (shifted_left ((f b).machine.registers 6) 2) _ (λ b'. p * n) free29 (ap (λ u. shifted_left u 2) k.regs.0 ∙ shifted_is p n (eqb-true n 4 e) small') (record { body = k.body; regs = k.regs.1 }))
+    set_known (f b) 29 (shifted_left ((f b).machine.registers 6) 2) _ (λ b'. p * n) free29
+        (ap (λ u. shifted_left u 2) k.regs.0 ∙ shifted_is p n (eqb-true n 4 e) small') (record { body = k.body; regs =
+        k.regs.1 }))
 times_by false {i = i} {g = g} {v = v} {h = h} {t = t} {ys = ys} c f p n e few small' free7 free29 l at =
     let first = number u2 n in
     let last = registers Op.Multiply u4 u1 u2 ∷ [] in
     let size = size_append first last in
-    let free : Free (with' 6 (λ b'. p) ys) 7 = record { reserved_stay = free7.reserved_stay; known_stay = λ b y u k. (k.0, free7.known_stay b y u k.1); set = λ y u. refl } in
+    let free : Free (with' 6 (λ b'. p) ys) 7 = record { reserved_stay = free7.reserved_stay; known_stay =
+        λ b y u k. (k.0, free7.known_stay b y u k.1); set = λ y u. refl } in
     let r1 = constant_piece c f u2 (pos n) (word_fits n few) free (front_of first last l) at in
     let r2 = straight (c + size_of first) (reached r1) v v (λ b. Known g v h t (with' 29 (λ b'. p * n) ys) b) (back_of first last l) (omega arith) (λ b. (reached_holds r1 b).pc)
     (λ b.
     let k = (reached_holds r1 b).holds in
     let x = (reached r1 b).machine.registers in
-    set_known (reached r1 b) 29 (x 6 * x 7 % 2 ^ 32) _ (λ b'. p * n) free29 (times_is (x 6) (x 7) p n k.regs.1.0 (k.regs.0 ∙ word_is n few) small') (record { body = k.body; regs = k.regs.1.1 })) in
+    set_known (reached r1 b) 29 (x 6 * x 7 % 2 ^ 32) _ (λ b'. p * n) free29
+        (times_is (x 6) (x 7) p n k.regs.1.0 (k.regs.0 ∙ word_is n few) small') (record { body = k.body; regs =
+        k.regs.1.1 })) in
     reach_moved (omega (arith, size)) (omega (arith, size)) (reach_then r1 r2)
 
 behind_address : (at base d : ℕ) → at + 2 ^ 24 ≤ 2 ^ 32 → base + d < 2 ^ 24 → sum (at + base) d ≡ at + (base + d)
 behind_address at base d valid few = omega (arith, valid, few)
 
 -- from the running frame, or from one that was found
-strides_piece : (q : Bool) {links : Links} {code : List Instr} {i : ℕ} {g : Ground} {v : Services} {h t : ℕ → ℕ} (varying : Bool) (most : ℕ) (c : ℕ) (f : Family) (base p : ℕ) → (q ≡ true → g.frame ≡ base) → base + p * text_stride varying most < memory_size → text_stride varying most < 2 ^ 31 → Linked links code i (strides_added varying most (cond q frame_register u3)) → ((b : Base) → At b i (Known g v h t (with' 6 (λ b'. p) (λ b'. cond q [] ((28, b'.at + base) ∷ []))) b) (f b)) → Reach code c f v (c + size_of (strides_added varying most (cond q frame_register u3))) v (λ b w. At b (i + size_of (strides_added varying most (cond q frame_register u3))) (Known g v h t (addressed (λ b'. b'.at + (base + p * text_stride varying most))) b) w)
+strides_piece : (q : Bool) {links : Links} {code : List Instr} {i : ℕ} {g : Ground} {v : Services} {h t :
+    ℕ → ℕ} (varying : Bool) (most : ℕ) (c : ℕ) (f : Family) (base p : ℕ) → (q ≡ true → g.frame ≡ base)
+    → base + p * text_stride varying most < memory_size → text_stride varying most < 2 ^ 31
+    → Linked links code i (strides_added varying most (cond q frame_register u3))
+    → ((b : Base) → At b i (Known g v h t (with' 6 (λ b'. p) (λ b'. cond q [] ((28, b'.at + base) ∷ []))) b) (f b))
+    → Reach code c f v (c + size_of (strides_added varying most (cond q frame_register u3))) v
+    (λ b w. At b (i + size_of (strides_added varying most (cond q frame_register u3)))
+    (Known g v h t (addressed (λ b'. b'.at + (base + p * text_stride varying most))) b) w)
 strides_piece true {i = i} {g = g} {v = v} {h = h} {t = t} varying most c f base p frame few size l at =
     let n = text_stride varying most in
     let first = L.times_constant n in
@@ -208,7 +232,18 @@ strides_piece false {i = i} {g = g} {v = v} {h = h} {t = t} varying most c f bas
     }) in
     reach_moved (omega (arith, s)) (omega (arith, s)) (reach_then r1 r2)
 
-text_address_piece : (q : Bool) (level : ℕ) {links : Links} {code : List Instr} {i : ℕ} {g : Ground} {v : Services} {h t : ℕ → ℕ} (varying : Bool) (most : ℕ) (c : ℕ) (f : Family) (base p : ℕ) → Reaches q level g base → base + p * text_stride varying most < memory_size → text_stride varying most < 2 ^ 31 → Linked links code i (cond q [] (load_word u3 frame_register (display level)) ++ strides_added varying most (cond q frame_register u3)) → ((b : Base) → At b i (Known g v h t (with' 6 (λ b'. p) nothing) b) (f b)) → Reach code c f v (c + size_of (cond q [] (load_word u3 frame_register (display level)) ++ strides_added varying most (cond q frame_register u3))) v (λ b w. At b (i + size_of (cond q [] (load_word u3 frame_register (display level)) ++ strides_added varying most (cond q frame_register u3))) (Known g v h t (addressed (λ b'. b'.at + (base + p * text_stride varying most))) b) w)
+text_address_piece : (q : Bool) (level : ℕ) {links : Links} {code : List Instr} {i : ℕ} {g : Ground} {v :
+    Services} {h t : ℕ → ℕ} (varying : Bool) (most : ℕ) (c : ℕ) (f : Family) (base p : ℕ) → Reaches q level g base
+    → base + p * text_stride varying most < memory_size → text_stride varying most < 2 ^ 31
+    → Linked links code i (cond q [] (load_word u3 frame_register (display level))
+    ++ strides_added varying most (cond q frame_register u3))
+    → ((b : Base) → At b i (Known g v h t (with' 6 (λ b'. p) nothing) b) (f b))
+    → Reach code c f v
+    (c + size_of (cond q [] (load_word u3 frame_register (display level))
+    ++ strides_added varying most (cond q frame_register u3))) v
+    (λ b w. At b (i + size_of (cond q [] (load_word u3 frame_register (display level))
+    ++ strides_added varying most (cond q frame_register u3)))
+    (Known g v h t (addressed (λ b'. b'.at + (base + p * text_stride varying most))) b) w)
 text_address_piece true level varying most c f base p reaches few size l at =
     strides_piece true varying most c f base p (λ e. reaches) few size l at
 text_address_piece false level {i = i} {g = g} {v = v} {h = h} {t = t} varying most c f base p reaches few size l at =
@@ -250,9 +285,25 @@ bytes_some varying most p count base place below within =
     omega (arith, r, within)
 
 -- an element of it is found: its address comes into u3, or the run ends
-pub text_element_piece : {links : Links} {code : List Instr} {i : ℕ} {g : Ground} {v : Services} {h t : ℕ → ℕ} {s : State} {aims : Aims V.Designated} {e : Environment} {block : Names} {j : ℕ} {varying : Bool} {most : ℕ} {bs : List Bounds} {texts : ℕ → List ℕ} (closed : Closed code aims) (routines : Routines links code) (scope : TextArrayScope g e s block j varying most bs texts) (f : Family) (around : Around) (taken : Taken) (k : ℕ) (first : Y.Number) (rest : Y.Numbers) → AllEvaluate links code g v s k e around (Y.NumberThen first rest) → suc (given_in rest) ≡ length bs → taken.words + subscripts_words (Y.NumberThen first rest) ≤ g.words → Serving k s v around.line → Linked links code i (text_element_code e taken (level_of block j) varying most bs first rest) → ((b : Base) → At b i (Known g v h t nothing b) (f b)) → ((is : List ℤ) (f' : Family) (h' t' : ℕ → ℕ) → is_within bs is ≡ true → Stays taken h t h' t' → ((b : Base) → At b (i + size_of (text_element_code e taken (level_of block j) varying most bs first rest)) (Known g v h' t' (addressed (λ b'. b'.at + (scope.base + element_place bs is * text_stride varying most))) b) (f' b)) → aims.done (i + size_of (text_element_code e taken (level_of block j) varying most bs first rest)) f' v (designated_text varying most bs scope.serial scope.holds.values is) s) → Comes code i f v aims (V.designated around (element block j first rest) k s)
+pub text_element_piece : {links : Links} {code : List Instr} {i : ℕ} {g : Ground} {v : Services} {h t : ℕ → ℕ} {s :
+    State} {aims : Aims V.Designated} {e : Environment} {block : Names} {j : ℕ} {varying : Bool} {most : ℕ} {bs :
+    List Bounds} {texts : ℕ → List ℕ} (closed : Closed code aims) (routines : Routines links code) (scope :
+    TextArrayScope g e s block j varying most bs texts) (f : Family) (around : Around) (taken : Taken) (k :
+    ℕ) (first : Y.Number) (rest : Y.Numbers) → AllEvaluate links code g v s k e around (Y.NumberThen first rest)
+    → suc (given_in rest) ≡ length bs → taken.words + subscripts_words (Y.NumberThen first rest) ≤ g.words
+    → Serving k s v around.line
+    → Linked links code i (text_element_code e taken (level_of block j) varying most bs first rest)
+    → ((b : Base) → At b i (Known g v h t nothing b) (f b))
+    → ((is : List ℤ) (f' : Family) (h' t' : ℕ → ℕ) → is_within bs is ≡ true → Stays taken h t h' t'
+    → ((b : Base) → At b (i + size_of (text_element_code e taken (level_of block j) varying most bs first rest))
+    (Known g v h' t' (addressed (λ b'. b'.at + (scope.base + element_place bs is * text_stride varying most))) b)
+    (f' b)) → aims.done (i + size_of (text_element_code e taken (level_of block j) varying most bs first rest)) f' v
+    (designated_text varying most bs scope.serial scope.holds.values is) s)
+    → Comes code i f v aims (V.designated around (element block j first rest) k s)
 unfolding give
-text_element_piece {code = code} {i = i} {g = g} {v = v} {s = s} {aims = aims} {e = e} {block = block} {j = j} {varying = varying} {most = most} {bs = bs} closed routines scope f around taken k first rest all same room serving l at goal =
+text_element_piece {code = code} {i = i} {g = g} {v = v} {s = s} {aims = aims} {e = e} {block = block} {j =
+    j} {varying = varying} {most = most} {bs = bs} closed routines scope f around taken k first rest all same room
+    serving l at goal =
     let xs = Y.NumberThen first rest in
     let p1 = subscripts_code e taken xs in
     let p2 = L.subscripts_counted e taken 0 xs (map constant_bounds bs) in
@@ -269,7 +320,8 @@ text_element_piece {code = code} {i = i} {g = g} {v = v} {s = s} {aims = aims} {
     (λ is f1 h1 t1 wide many stays gives at1.
     subst (Comes code (i + size_of p1) f1 v aims) (sym (checked_by s block j around is k (text_leaf varying most) bs scope.serial scope.holds.values (same_text_array varying most bs) scope.holds.stands scope.holds.lives (many ∙ same)))
     (comes_on k (R.demanded around 102 (is_within bs is) k s) (λ u. give (designated is))
-    (counted_all bs is first rest e (before_closed k (λ u. give (designated is)) closed) routines f1 around taken k nothing_beside many (many ∙ same) scope.bounds wide scope.few gives (front_of p2 p3 l2) serving at1
+    (counted_all bs is first rest e (before_closed k (λ u. give (designated is)) closed) routines f1 around taken k
+        nothing_beside many (many ∙ same) scope.bounds wide scope.few gives (front_of p2 p3 l2) serving at1
     (λ inside f2 at2.
     let within = bytes_some varying most (element_place bs is) (element_count bs) scope.base (data_place e block j) (place_inside bs is inside) scope.within in
     onward closed (text_address_piece (level_of block j == e.level) (level_of block j) varying most (i + size_of p1 + size_of p2) f2 scope.base (element_place bs is) scope.reach (omega (arith, within)) (stride_few varying most scope.short) (back_of p2 p3 l2) at2)
@@ -307,9 +359,17 @@ bytes_least true most h = omega arith
 
 -- ---- a text is pushed
 
-pub text_element_evaluates : {links : Links} {code : List Instr} {g : Ground} {v : Services} {s : State} {k : ℕ} {e : Environment} (around : Around) {block : Names} {j : ℕ} {varying : Bool} {most : ℕ} {bs : List Bounds} {texts : ℕ → List ℕ} (routines : Routines links code) (serving : Serving k s v around.line) (scope : TextArrayScope g e s block j varying most bs texts) (first : Y.Number) (rest : Y.Numbers) → AllEvaluate links code g v s k e around (Y.NumberThen first rest) → suc (given_in rest) ≡ length bs → EvaluatesText links code g v s k (text_words (Y.TextIn (element block j first rest))) (λ taken. text_code e taken (Y.TextIn (element block j first rest))) (V.text around (Y.TextIn (element block j first rest)))
+pub text_element_evaluates : {links : Links} {code : List Instr} {g : Ground} {v : Services} {s : State} {k : ℕ} {e :
+    Environment} (around : Around) {block : Names} {j : ℕ} {varying : Bool} {most : ℕ} {bs : List Bounds} {texts :
+    ℕ → List ℕ} (routines : Routines links code) (serving : Serving k s v around.line) (scope :
+    TextArrayScope g e s block j varying most bs texts) (first : Y.Number) (rest : Y.Numbers)
+    → AllEvaluate links code g v s k e around (Y.NumberThen first rest) → suc (given_in rest) ≡ length bs
+    → EvaluatesText links code g v s k (text_words (Y.TextIn (element block j first rest)))
+    (λ taken. text_code e taken (Y.TextIn (element block j first rest)))
+    (V.text around (Y.TextIn (element block j first rest)))
 unfolding V.text ◌>>=◌ give
-text_element_evaluates {links = links} {code = code} {g = g} {v = v} {s = s} {k = k} {e = e} around {block} {j} {varying} {most} {bs} {texts} routines serving scope first rest all same =
+text_element_evaluates {links = links} {code = code} {g = g} {v = v} {s = s} {k = k} {e =
+    e} around {block} {j} {varying} {most} {bs} {texts} routines serving scope first rest all same =
     record {
       does = λ {i} {h} {t} {aims} closed f taken room l at goal.
           let r = element block j first rest in
@@ -329,7 +389,8 @@ text_element_evaluates {links = links} {code = code} {g = g} {v = v} {s = s} {k 
           let enough = le-max_right 0 (0 + subscripts_words xs) in
           let next' : V.Designated → Meaning (List ℕ) = λ d. give (text_in (V.value_in d)) in
           comes_on k (V.designated around r k s) next'
-          (text_element_piece (before_closed k next' closed) routines scope f around taken k first rest all same (omega (arith, room, enough)) serving (front_of a (c1 ++ c2) l1) at
+          (text_element_piece (before_closed k next' closed) routines scope f around taken k first rest all same
+              (omega (arith, room, enough)) serving (front_of a (c1 ++ c2) l1) at
           (λ is f1 h1 t1 inside stays at1.
           let p = element_place bs is in
           let below = place_inside bs is inside in
@@ -356,9 +417,35 @@ text_element_evaluates {links = links} {code = code} {g = g} {v = v} {s = s} {k 
 
 -- ---- the top text is stored
 
-pub text_element_stored_piece : {links : Links} {code : List Instr} {i : ℕ} {g : Ground} (g' : ℕ → Ground) {v : Services} {h t : ℕ → ℕ} {s : State} {aims : Aims (Unit {0})} {e : Environment} {block : Names} {j : ℕ} {varying : Bool} {most : ℕ} {bs : List Bounds} {texts : ℕ → List ℕ} (closed : Closed code aims) (routines : Routines links code) (scope : TextArrayScope g e s block j varying most bs texts) (f : Family) (around : Around) (taken : Taken) (text : List ℕ) (k : ℕ) (first : Y.Number) (rest : Y.Numbers) → AllEvaluate links code g (pushed (TextEntry text) v) s k e around (Y.NumberThen first rest) → suc (given_in rest) ≡ length bs → taken.words + subscripts_words (Y.NumberThen first rest) ≤ g.words → Serving k s (pushed (TextEntry text) v) around.line → ((p : ℕ) (b : Base) (h' : ℕ → ℕ) → reserved_are b g h' ≡ reserved_are b (g' p) h') → ((p : ℕ) → p < element_count bs → (t' : ℕ → ℕ) (b : Base) (m : List ℕ) → length m ≡ memory_size → g.memory t' b m → (length (with_bytes (kept_bytes (text_kind_of varying most) (BasicText text)) (scope.base + p * text_stride varying most + data_place e block j) m) ≡ memory_size) × (g' p).memory t' b (with_bytes (kept_bytes (text_kind_of varying most) (BasicText text)) (scope.base + p * text_stride varying most + data_place e block j) m)) → Linked links code i (top_stored e taken (element block j first rest)) → ((b : Base) → At b i (Known g (pushed (TextEntry text) v) h t nothing b) (f b)) → ((is : List ℤ) (f' : Family) (h' t' : ℕ → ℕ) → is_within bs is ≡ true → Stays taken h t h' t' → ((b : Base) → At b (i + size_of (top_stored e taken (element block j first rest))) (Known (g' (element_place bs is)) v h' t' nothing b) (f' b)) → aims.done (i + size_of (top_stored e taken (element block j first rest))) f' v tt (text_element_state s varying most bs scope.serial scope.holds.values is text)) → Comes code i f (pushed (TextEntry text) v) aims (M.assigned around (element block j first rest) (BasicText text) k s)
+pub text_element_stored_piece : {links : Links} {code : List Instr} {i : ℕ} {g : Ground} (g' : ℕ → Ground) {v :
+    Services} {h t : ℕ → ℕ} {s : State} {aims : Aims (Unit {0})} {e : Environment} {block : Names} {j : ℕ} {varying :
+    Bool} {most : ℕ} {bs : List Bounds} {texts : ℕ → List ℕ} (closed : Closed code aims) (routines :
+    Routines links code) (scope : TextArrayScope g e s block j varying most bs texts) (f : Family) (around :
+    Around) (taken : Taken) (text : List ℕ) (k : ℕ) (first : Y.Number) (rest : Y.Numbers)
+    → AllEvaluate links code g (pushed (TextEntry text) v) s k e around (Y.NumberThen first rest)
+    → suc (given_in rest) ≡ length bs → taken.words + subscripts_words (Y.NumberThen first rest) ≤ g.words
+    → Serving k s (pushed (TextEntry text) v) around.line
+    → ((p : ℕ) (b : Base) (h' : ℕ → ℕ) → reserved_are b g h' ≡ reserved_are b (g' p) h')
+    → ((p : ℕ) → p < element_count bs → (t' : ℕ → ℕ) (b : Base) (m : List ℕ) → length m ≡ memory_size
+    → g.memory t' b m
+    → (length (with_bytes (kept_bytes (text_kind_of varying most) (BasicText text))
+    (scope.base + p * text_stride varying most + data_place e block j) m) ≡ memory_size)
+    × (g' p).memory t' b (with_bytes (kept_bytes (text_kind_of varying most) (BasicText text))
+    (scope.base + p * text_stride varying most + data_place e block j) m))
+    → Linked links code i (top_stored e taken (element block j first rest))
+    → ((b : Base) → At b i (Known g (pushed (TextEntry text) v) h t nothing b) (f b))
+    → ((is : List ℤ) (f' : Family) (h' t' : ℕ → ℕ) → is_within bs is ≡ true → Stays taken h t h' t'
+    → ((b : Base)
+    → At b (i + size_of (top_stored e taken (element block j first rest)))
+    (Known (g' (element_place bs is)) v h' t' nothing b) (f' b))
+    → aims.done (i + size_of (top_stored e taken (element block j first rest))) f' v tt
+    (text_element_state s varying most bs scope.serial scope.holds.values is text))
+    → Comes code i f (pushed (TextEntry text) v) aims
+    (M.assigned around (element block j first rest) (BasicText text) k s)
 unfolding M.assigned ◌>>=◌
-text_element_stored_piece {links = links} {code = code} {i = i} {g = g} g' {v = v} {s = s} {aims = aims} {e = e} {block = block} {j = j} {varying = varying} {most = most} {bs = bs} closed routines scope f around taken text k first rest all same room serving alike writes l at goal =
+text_element_stored_piece {links = links} {code = code} {i = i} {g = g} g' {v = v} {s = s} {aims = aims} {e =
+    e} {block = block} {j = j} {varying = varying} {most = most} {bs = bs} closed routines scope f around taken text k
+    first rest all same room serving alike writes l at goal =
     let r = element block j first rest in
     let place = data_place e block j in
     let a = text_element_code e taken (level_of block j) varying most bs first rest in
@@ -374,7 +461,8 @@ text_element_stored_piece {links = links} {code = code} {i = i} {g = g} g' {v = 
     let small' = l.small' in
     let next' : V.Designated → Meaning (Unit {0}) = λ d. P.element_stored d (BasicText text) in
     comes_on k (V.designated around r k s) next'
-    (text_element_piece (before_closed k next' closed) routines scope f around taken k first rest all same room serving (front_of a (c1 ++ c2) l1) at
+    (text_element_piece (before_closed k next' closed) routines scope f around taken k first rest all same room
+        serving (front_of a (c1 ++ c2) l1) at
     (λ is f1 h1 t1 inside stays at1.
     let p = element_place bs is in
     let below = place_inside bs is inside in

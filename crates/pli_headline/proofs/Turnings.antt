@@ -18,7 +18,8 @@ use Rattle.pli_coding.specs.Assembly.{JumpAhead, Code, size_of}
 use Rattle.pli_coding.specs.Instructions.{registers, load_word, skip_where}
 use Rattle.pli_coding.specs.Environments.{Environment, Taken}
 use Rattle.pli_coding.specs.Expressions.{number_code, bit_code}
-use Rattle.pli_coding.specs.Statements.{limit_place, step_place, in_turns, counter_read, passed, passed_by, limit_tested, limit_kept, while_kept, bit_if}
+use Rattle.pli_coding.specs.Statements.{limit_place, step_place, in_turns, counter_read, passed, passed_by}
+use Rattle.pli_coding.specs.Statements.{limit_tested, limit_kept, while_kept, bit_if}
 use Rattle.pli_coding.specs.Temporaries.{reference_words}
 use Rattle.pli_coding.specs.Linking.{Links}
 use Rattle.pli_headline.specs.ProvedSoFar.{Names, Types, IsProvedBitIf, IsProvedNumber}
@@ -68,13 +69,15 @@ passed_size : (falls : Bool) (c d : ℕ) → size_of (passed falls c) ≡ size_o
 passed_size true c d = refl
 passed_size false c d = refl
 
-passed_by_size : (taken : Taken) (step : Option ℤ) (c d : ℕ) → size_of (passed_by taken step c) ≡ size_of (passed_by taken step d)
+passed_by_size : (taken : Taken) (step : Option ℤ) (c d : ℕ) → size_of (passed_by taken step c)
+    ≡ size_of (passed_by taken step d)
 passed_by_size taken None c d =
     let b = load_word u2 frame_register (step_place taken) in
     size_append b (limit_sign c) ∙ sym (size_append b (limit_sign d))
 passed_by_size taken (Some z) c d = passed_size (int_lt z (pos 0)) c d
 
-tested_size : (taken : Taken) (step : Option ℤ) (c d : ℕ) → size_of (limit_tested taken step c) ≡ size_of (limit_tested taken step d)
+tested_size : (taken : Taken) (step : Option ℤ) (c d : ℕ) → size_of (limit_tested taken step c)
+    ≡ size_of (limit_tested taken step d)
 tested_size taken step c d =
     let a = load_word u1 frame_register (limit_place taken) in
     size_append a (passed_by taken step c)
@@ -82,7 +85,9 @@ tested_size taken step c d =
     ∙ sym (size_append a (passed_by taken step d))
 
 -- the code of a test is as long whatever stands behind it
-pub limit_size : (e : Environment) (taken : Taken) (counter : Y.Counter) (limit : Option Y.Number) (step : Option ℤ) (c d : ℕ) → size_of (limit_kept e taken counter limit step c) ≡ size_of (limit_kept e taken counter limit step d)
+pub limit_size : (e : Environment) (taken : Taken) (counter : Y.Counter) (limit : Option Y.Number) (step :
+    Option ℤ) (c d : ℕ) → size_of (limit_kept e taken counter limit step c)
+    ≡ size_of (limit_kept e taken counter limit step d)
 limit_size e taken counter None step c d = refl
 limit_size e taken counter (Some x) step c d =
     size_append (counter_read e taken counter) (limit_tested taken step c)
@@ -95,12 +100,27 @@ condition_size e taken (Some x) c d =
     size_append (bit_code e (in_turns taken) x) (skip_where Test.NotEqual a0 zero_register (JumpAhead c ∷ []))
     ∙ sym (size_append (bit_code e (in_turns taken) x) (skip_where Test.NotEqual a0 zero_register (JumpAhead d ∷ [])))
 
-pub within_piece : {links : Links} {code : List Instr} {i : ℕ} {v : Services} {h t : ℕ → ℕ} {s : State} {aims : Aims Bool} {e : Environment} {block : Names} {types : Types} (bl : Block e block types) (routines : Standing bl links code) (around : Around) (r : Y.Reference) (p : ℕ) (limit : Option Y.Number) (most : Option ℤ) (fixed : Option ℤ) (step : ℤ) (behind : ℕ) (closed : Closed code aims) (n : Values) (f : Family) (k : ℕ) → IsProvedNumber block types (Y.NumberIn r) → LimitWaits limit most t bl.taken.words → IsWide step → StepWaits fixed step t (bl.taken.words + 1) → bl.taken.words + 2 + reference_words r ≤ bl.words → i + size_of (limit_kept e bl.taken (Y.NumberCounter p r) limit fixed behind) + behind ≤ length code → Linked links code i (limit_kept e bl.taken (Y.NumberCounter p r) limit fixed behind) → Serving k s v around.line → AllHold bl.frames bl.serials (storage v) (e.level ∷ bl.depths) s block types n → ((b : Base) → At b i (Known (bl.ground n) v h t nothing b) (f b)) → Met bl n v s h t (i + size_of (limit_kept e bl.taken (Y.NumberCounter p r) limit fixed behind)) (i + size_of (limit_kept e bl.taken (Y.NumberCounter p r) limit fixed behind) + behind) aims → Comes code i f v aims (M.within_limit around (Y.NumberCounter p r) most step k s)
+pub within_piece : {links : Links} {code : List Instr} {i : ℕ} {v : Services} {h t : ℕ → ℕ} {s : State} {aims :
+    Aims Bool} {e : Environment} {block : Names} {types : Types} (bl : Block e block types) (routines :
+    Standing bl links code) (around : Around) (r : Y.Reference) (p : ℕ) (limit : Option Y.Number) (most :
+    Option ℤ) (fixed : Option ℤ) (step : ℤ) (behind : ℕ) (closed : Closed code aims) (n : Values) (f : Family) (k : ℕ)
+    → IsProvedNumber block types (Y.NumberIn r) → LimitWaits limit most t bl.taken.words → IsWide step
+    → StepWaits fixed step t (bl.taken.words + 1) → bl.taken.words + 2 + reference_words r ≤ bl.words
+    → i + size_of (limit_kept e bl.taken (Y.NumberCounter p r) limit fixed behind) + behind ≤ length code
+    → Linked links code i (limit_kept e bl.taken (Y.NumberCounter p r) limit fixed behind) → Serving k s v around.line
+    → AllHold bl.frames bl.serials (storage v) (e.level ∷ bl.depths) s block types n
+    → ((b : Base) → At b i (Known (bl.ground n) v h t nothing b) (f b))
+    → Met bl n v s h t (i + size_of (limit_kept e bl.taken (Y.NumberCounter p r) limit fixed behind))
+    (i + size_of (limit_kept e bl.taken (Y.NumberCounter p r) limit fixed behind) + behind) aims
+    → Comes code i f v aims (M.within_limit around (Y.NumberCounter p r) most step k s)
 unfolding M.within_limit M.counter_number V.number ◌>>=◌ give
-within_piece {i = i} {v = v} {h = h} {t = t} {s = s} {aims = aims} bl routines around r p None None fixed step behind closed n f k mine waits ws at_step room inside l serving all at met =
+within_piece {i = i} {v = v} {h = h} {t = t} {s = s} {aims = aims} bl routines around r p None None fixed step behind
+    closed n f k mine waits ws at_step room inside l serving all at met =
     let same : i ≡ i + 0 = omega arith in
     record { to = subst (λ u. aims.done u f v true s) (sym same) (met.0 f h t (stays_same (in_turns bl.taken) h t) (λ b. record { pc = (at b).pc ∙ ap (address b) same; holds = (at b).holds })) }
-within_piece {code = code} {i = i} {v = v} {h = h} {t = t} {s = s} {aims = aims} {e = e} {block = block} {types = types} bl routines around r p (Some x) (Some limit) fixed step behind closed n f k mine waits ws at_step room inside l serving all at met =
+within_piece {code = code} {i = i} {v = v} {h = h} {t = t} {s = s} {aims = aims} {e = e} {block = block} {types =
+    types} bl routines around r p (Some x) (Some limit) fixed step behind closed n f k mine waits ws at_step room
+    inside l serving all at met =
     let a = number_code e (in_turns bl.taken) (Y.NumberIn r) in
     let c = limit_tested bl.taken fixed behind in
     let size = size_append a c in
@@ -111,11 +131,16 @@ within_piece {code = code} {i = i} {v = v} {h = h} {t = t} {s = s} {aims = aims}
     ((number_does (Y.NumberIn r) {e = e} {around = around} (setting bl routines n all serving) mine).does (before_closed k (λ z. give (has_not_passed limit step z)) closed) f (in_turns bl.taken) (omega (arith, room, w)) (front_of a c l) at
     (λ z f1 h1 t1 wz stays at1.
     subst (Comes code (i + size_of a) f1 v aims) (given_as_chosen (has_not_passed limit step z) k s)
-    (limit_piece s k (give true) (give false) closed (bl.temps n) f1 bl.taken fixed limit step z behind waits.0 ws wz (omega (arith, room, w)) (stays.words bl.taken.words (omega arith) ∙ waits.1) (step_stays fixed step t t1 (bl.taken.words + 1) (stays.words (bl.taken.words + 1) (omega arith)) at_step) (omega (arith, inside, place')) (back_of a c l) at1
+    (limit_piece s k (give true) (give false) closed (bl.temps n) f1 bl.taken fixed limit step z behind waits.0 ws wz
+        (omega (arith, room, w)) (stays.words bl.taken.words (omega arith) ∙ waits.1)
+        (step_stays fixed step t t1 (bl.taken.words + 1) (stays.words (bl.taken.words + 1) (omega arith)) at_step)
+        (omega (arith, inside, place')) (back_of a c l) at1
     (λ f2 at2. record { to = subst (λ u. aims.done u f2 v true s) (sym place) (met.0 f2 h1 t1 stays (λ b. record { pc = (at2 b).pc ∙ ap (address b) place; holds = (at2 b).holds })) })
     (λ f2 at2. record { to = subst (λ u. aims.done u f2 v false s) (sym place') (met.1 f2 h1 t1 stays (λ b. record { pc = (at2 b).pc ∙ ap (address b) place'; holds = (at2 b).holds })) }))))
-within_piece bl routines around r p None (Some limit) fixed step behind closed n f k mine waits ws at_step room inside l serving all at met = absurd waits
-within_piece bl routines around r p (Some x) None fixed step behind closed n f k mine waits ws at_step room inside l serving all at met = absurd waits
+within_piece bl routines around r p None (Some limit) fixed step behind closed n f k mine waits ws at_step room inside
+    l serving all at met = absurd waits
+within_piece bl routines around r p (Some x) None fixed step behind closed n f k mine waits ws at_step room inside l
+    serving all at met = absurd waits
 
 -- ---- WHILE
 

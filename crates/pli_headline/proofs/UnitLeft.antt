@@ -82,7 +82,13 @@ held_apart (suc (suc (suc (suc (suc zero))))) l y u = refl
 held_apart (suc (suc (suc (suc (suc (suc zero)))))) l y u = refl
 held_apart (suc (suc (suc (suc (suc (suc (suc n))))))) l y u = absurd (omega (arith, l))
 
-more_restored : {g : Ground} {t : ℕ → ℕ} (to back : Base → ℕ) (saved : ℕ → ℕ) {held' : ℕ} → SavedIn g t back saved held' → (left n : ℕ) {links : Links} {code : List Instr} {i : ℕ} {v : Services} (h : ℕ → ℕ) (c : ℕ) (f : Family) → n + left ≤ held' → Linked links code i (registers_restored n left) → ((b : Base) → At b i (Known g v h t (with' 10 to nothing) b) (f b)) → Reach code c f v (c + size_of (registers_restored n left)) v (λ b w. At b (i + size_of (registers_restored n left)) (Known g v (held_again saved n left h) t (with' 10 to nothing) b) w)
+more_restored : {g : Ground} {t : ℕ → ℕ} (to back : Base → ℕ) (saved : ℕ → ℕ) {held' : ℕ}
+    → SavedIn g t back saved held' → (left n : ℕ) {links : Links} {code : List Instr} {i : ℕ} {v : Services} (h :
+    ℕ → ℕ) (c : ℕ) (f : Family) → n + left ≤ held' → Linked links code i (registers_restored n left)
+    → ((b : Base) → At b i (Known g v h t (with' 10 to nothing) b) (f b))
+    → Reach code c f v (c + size_of (registers_restored n left)) v
+    (λ b w. At b (i + size_of (registers_restored n left))
+    (Known g v (held_again saved n left h) t (with' 10 to nothing) b) w)
 more_restored {g} {t} to back saved s zero n {code = code} {i = i} {v = v} h c f all l there =
     reach_moved (omega arith) (omega arith)
     (stay code c f v (λ b w. At b i (Known g v h t (with' 10 to nothing) b) w) there)
@@ -107,7 +113,8 @@ more_restored {g} {t} to back saved s (suc left) n {v = v} h c f all l there =
           body = record {
             services = k.body.services;
             registers =
-                ap (λ u. reserved (written w.machine.registers (held n).index u)) ((s.has b w.machine.memory k.body.memory).registers n (omega (arith, all)))
+                ap (λ u. reserved (written w.machine.registers (held n).index u))
+                    ((s.has b w.machine.memory k.body.memory).registers n (omega (arith, all)))
                 ∙ held_put n g b h w.machine.registers x few k.body.registers;
             bytes = k.body.bytes;
             memory = k.body.memory;
@@ -203,7 +210,15 @@ resumed_piece {code = code} {i = i} {g = g} {v = v} {h = h} {t = t} c f resume n
     reach_then r1 r2
 
 -- the registers hold again what they held where the condition was raised, as far as a word holds it, whatever the stack's register is
-pub unit_left_piece : {e : Environment} {block : Names} {types : Types} (bl : Block e block types) (callee : Callee bl) (back : Base → ℕ) (resume : ℕ) (n : Values) (free : ℕ) {links : Links} {code : List Instr} {i : ℕ} {v : Services} {h0 h t0 t : ℕ → ℕ} (c : ℕ) (f : Family) (a : S.Activation) (rest : List S.Activation) (number : ℕ) → resume ≤ most_code → v.activations ≡ a ∷ rest → a.kind ≡ S.OnUnitBlock number (4 * resume) → Linked links code i (unit_left callee.words callee.held) → ((b : Base) → At b i (Known (ending_ground bl callee back h0 t0 n free) v h t nothing b) (f b)) → Reach code c f v (c + 2 + size_of (registers_restored 0 callee.held) + size_of (frame_ended callee.words) + 4) (ended_services v a rest) (λ b w. At b resume (Known (bl.ground n) (ended_services v a rest) (held_again h0 0 callee.held h) t0 nothing b) w)
+pub unit_left_piece : {e : Environment} {block : Names} {types : Types} (bl : Block e block types) (callee :
+    Callee bl) (back : Base → ℕ) (resume : ℕ) (n : Values) (free : ℕ) {links : Links} {code : List Instr} {i : ℕ} {v :
+    Services} {h0 h t0 t : ℕ → ℕ} (c : ℕ) (f : Family) (a : S.Activation) (rest : List S.Activation) (number : ℕ)
+    → resume ≤ most_code → v.activations ≡ a ∷ rest → a.kind ≡ S.OnUnitBlock number (4 * resume)
+    → Linked links code i (unit_left callee.words callee.held)
+    → ((b : Base) → At b i (Known (ending_ground bl callee back h0 t0 n free) v h t nothing b) (f b))
+    → Reach code c f v (c + 2 + size_of (registers_restored 0 callee.held) + size_of (frame_ended callee.words) + 4)
+    (ended_services v a rest)
+    (λ b w. At b resume (Known (bl.ground n) (ended_services v a rest) (held_again h0 0 callee.held h) t0 nothing b) w)
 unit_left_piece bl callee back resume n free {h0 = h0} {h = h} {t0 = t0} {t = t} c f a rest number near e kind l there =
     let to : Base → ℕ = λ b. 4 * resume in
     let asked = service 31 in
@@ -212,7 +227,8 @@ unit_left_piece bl callee back resume n free {h0 = h0} {h = h} {t0 = t0} {t = t}
     let l1 = back_of asked (restored ++ (lower ++ jump_on)) l in
     let l2 = back_of restored (lower ++ jump_on) l1 in
     let r1 = asked_piece bl callee back n free c f a rest number (4 * resume) e kind (front_of asked (restored ++ (lower ++ jump_on)) l) there in
-    let r2 = more_restored to back h0 (ending_saved bl callee back h0 t0 n free t) callee.held 0 h (c + 2) (reached r1) (omega arith) (front_of restored (lower ++ jump_on) l1) (reached_holds r1) in
+    let r2 = more_restored to back h0 (ending_saved bl callee back h0 t0 n free t) callee.held 0 h (c + 2)
+        (reached r1) (omega arith) (front_of restored (lower ++ jump_on) l1) (reached_holds r1) in
     let r3 = lowered_piece bl callee to back n free (c + 2 + size_of restored) (reached r2) (front_of lower jump_on l2) (reached_holds r2) in
     let r4 = resumed_piece (c + 2 + size_of restored + size_of lower) (reached r3) resume near (back_of lower jump_on l2) (reached_holds r3) in
     reach_then r1 (reach_then r2 (reach_then r3 r4))

@@ -125,7 +125,9 @@ pub record Raisable {e : Environment} {block : Names} {types : Types} (bl : Bloc
   pub index : ℕ
   pub at_is : at ≡ 4 * index
   pub later : 19 ≤ index
-  pub linked : Linked links code index (unit_with callee.words callee.held head.line (unit_made e head head.kind) (stmts_code (unit_environment head e) none_taken body) (unit_mark head head.kind))
+  pub linked :
+      Linked links code index (unit_with callee.words callee.held head.line (unit_made e head head.kind)
+      (stmts_code (unit_environment head e) none_taken body) (unit_mark head head.kind))
   pub makes : UnitMakes bl callee head level main mains has (unit_declares e.program head head.kind)
   pub stand : (kind' : Way) (back : Base → ℕ) (h0 t0 : ℕ → ℕ) (n : Values) → ConstantsStand links code ((unit_block bl callee kind' back h0 t0 head level main mains has).ground n)
   pub does : (m : ℕ) → more ≡ suc m → suc (length bl.depths) < most_activations → (kind' : Way) (back : Base → ℕ) (h0 t0 : ℕ → ℕ) (serial : ℕ) → Does (made_block (unit_block bl callee kind' back h0 t0 head level main mains has) (unit_declares e.program head head.kind) (makes kind' back h0 t0) serial) links code (suc m) (stmts_code (unit_environment head e) none_taken body) (M.list (inner_around e.program m head.line) body)
@@ -138,7 +140,16 @@ Resumed {e} {block} {types} bl k count t i aims =
     (s : State) (v : Services) (line : ℕ) (n : Values) (h : ℕ → ℕ) (f : Family) → Serving k s v line → AllHold bl.frames bl.serials (storage v) (e.level ∷ bl.depths) s block types n → length v.edits ≡ count → ((b : Base) → At b i (Known (bl.ground n) v h t nothing b) (f b)) → aims.done i f v tt s
 
 -- it is left, and the run goes on where its raise said with the credits of that place
-leave_piece : {e : Environment} {block : Names} {types : Types} (bl : Block e block types) {links : Links} {code : List Instr} {level : ℕ} (callee : Callee bl) (k i resume oncode count : ℕ) (h t : ℕ → ℕ) {aims : Aims (Unit {0})} (closed : Closed code aims) → resume ≤ most_code → i + 2 + size_of (registers_restored 0 callee.held) + size_of (frame_ended callee.words) + 4 ≤ resume + length code → Linked links code i (unit_left callee.words callee.held) → Resumed bl k count t resume aims → (s : State) (v : Services) (line : ℕ) (n : Values) (h1 t1 : ℕ → ℕ) (f : Family) (free : ℕ) → Serving k s v line → AllHold (atop callee.at (S.OnUnitBlock oncode (4 * resume), count) bl.frames) bl.serials (storage v) (level ∷ e.level ∷ bl.depths) s block types n → ((b : Base) → At b i (Known (ending_ground bl callee (λ b'. address b' resume) h t n free) v h1 t1 nothing b) (f b)) → (owing code (length code) aims).done i f v tt (with_world s.world (newest_ended s))
+leave_piece : {e : Environment} {block : Names} {types : Types} (bl : Block e block types) {links : Links} {code :
+    List Instr} {level : ℕ} (callee : Callee bl) (k i resume oncode count : ℕ) (h t : ℕ → ℕ) {aims :
+    Aims (Unit {0})} (closed : Closed code aims) → resume ≤ most_code
+    → i + 2 + size_of (registers_restored 0 callee.held) + size_of (frame_ended callee.words) + 4 ≤ resume
+    + length code → Linked links code i (unit_left callee.words callee.held) → Resumed bl k count t resume aims
+    → (s : State) (v : Services) (line : ℕ) (n : Values) (h1 t1 : ℕ → ℕ) (f : Family) (free : ℕ) → Serving k s v line
+    → AllHold (atop callee.at (S.OnUnitBlock oncode (4 * resume), count) bl.frames) bl.serials (storage v)
+    (level ∷ e.level ∷ bl.depths) s block types n
+    → ((b : Base) → At b i (Known (ending_ground bl callee (λ b'. address b' resume) h t n free) v h1 t1 nothing b)
+    (f b)) → (owing code (length code) aims).done i f v tt (with_world s.world (newest_ended s))
 leave_piece {e} {block} {types} bl {code = code} callee k i resume oncode count h t closed near few l goal s v line n h1 t1 f free serving all at =
     let o = left_all s (storage v) serving.nested (inl callee.outer) (λ j kind at'. bl.owners j at') all in
     let kind = newest_kind o.newest o.rest o.are o.some all in
@@ -278,7 +289,8 @@ limited_piece {e} bl {code = code} main mains has around more m can enter {s} {v
     let i0 = can.index in
     let fb = frame_begun callee.words 1 0 (Some callee.held) in
     let ec = entered_without_texts 2 head.line in
-    let rest = (unit_made e head head.kind ++ (act_code head.line ++ stmts_code e' none_taken body)) ++ (mark ++ unit_left callee.words callee.held) in
+    let rest = (unit_made e head head.kind ++ (act_code head.line ++ stmts_code e' none_taken body))
+        ++ (mark ++ unit_left callee.words callee.held) in
     let lf = front_of fb (ec ++ rest) can.linked in
     let le = front_of ec rest (back_of fb (ec ++ rest) can.linked) in
     let room = le.inside in
@@ -312,7 +324,10 @@ raised_unit {e} {block} {types} bl {links} {code} routines main mains has around
     let placed = can.linked.inside in
     let fb = frame_begun can.callee.words 1 0 (Some can.callee.held) in
     let ec = entered_without_texts 2 can.head.line in
-    let rest = ec ++ ((unit_made e can.head can.head.kind ++ (act_code can.head.line ++ stmts_code (unit_environment can.head e) none_taken can.body)) ++ (unit_mark can.head can.head.kind ++ unit_left can.callee.words can.callee.held)) in
+    let rest =
+        ec ++ ((unit_made e can.head can.head.kind
+        ++ (act_code can.head.line ++ stmts_code (unit_environment can.head e) none_taken can.body))
+        ++ (unit_mark can.head can.head.kind ++ unit_left can.callee.words can.callee.held)) in
     let total = size_append fb rest in
     let some : 0 < size_of rest = omega arith in
     let later = can.later in

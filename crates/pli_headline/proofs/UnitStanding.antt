@@ -12,7 +12,8 @@ use Rattle.pli_coding.specs.Allocating.{act_code}
 use Rattle.pli_coding.specs.Entries.{frame_begun, entered_without_texts}
 use Rattle.pli_coding.specs.Environments.{BlockPlace, UnitOwner, Environment, in_frame, owned_by, none_taken}
 use Rattle.pli_coding.specs.Images.{blocks_among}
-use Rattle.pli_coding.specs.Statements.{unit_environment, unit_variables, unit_words, unit_mark, unit_left, stmts_words, stmts_code, held_with}
+use Rattle.pli_coding.specs.Statements.{unit_environment, unit_variables, unit_words, unit_mark, unit_left}
+use Rattle.pli_coding.specs.Statements.{stmts_words, stmts_code, held_with}
 use Rattle.pli_coding.specs.Linking.{Links}
 use Rattle.pli_headline.specs.ProvedSoFar.{Types, main_outer, times, IsLine, IsUnitBody, AreProvedStatements, AllJumpAround, AllCallAmong, ArePlain, Names, names_in, types_in, unit_declares, inner_bytes, bytes_of}
 use Rattle.pli_headline.specs.EndUnits.{HasUnitFor}
@@ -56,7 +57,11 @@ pub record UnitStands (e : Environment) (block : Names) (types : Types) (all : L
   pub index : ℕ
   pub at_is : at ≡ 4 * index
   pub later : 19 ≤ index
-  pub linked : Linked links code index (unit_with (words_of_unit head.kind (stmts_words body)) (held_with e.program (words_of_unit head.kind (stmts_words body)) body) head.line (unit_made e head head.kind) (stmts_code (unit_environment head e) none_taken body) (unit_mark head head.kind))
+  pub linked :
+      Linked links code index
+      (unit_with (words_of_unit head.kind (stmts_words body))
+      (held_with e.program (words_of_unit head.kind (stmts_words body)) body) head.line (unit_made e head head.kind)
+      (stmts_code (unit_environment head e) none_taken body) (unit_mark head head.kind))
 
 -- a block's units are such, in the frame of the main procedure
 abbrev pub Tells : (e : Environment) (block : Names) (types : Types) (all : List (ℕ × Label)) (procedure : ℕ) (may : List ℕ) (links : Links) (code : List Instr) (base : ℕ) (known : Condition → ℕ → Y.Block → ℕ → Type 0) → Type 0
@@ -88,14 +93,20 @@ joined : (frame enter made act statements ended : Code) → frame ++ (enter ++ (
 joined frame enter made act statements ended =
     ap (λ c. frame ++ (enter ++ c)) (ap (λ c. made ++ c) (sym (code_joined act statements ended)) ∙ sym (code_joined made (act ++ statements) ended))
 
-pub unit_is : (e : Environment) (head : Y.BlockHead) (body : Y.Stmts) → ArePlain (unit_declares e.program head head.kind) → head.level ≡ 1 → unit_by e head body head.kind head.level ≡ unit_with (words_of_unit head.kind (stmts_words body)) (held_with e.program (words_of_unit head.kind (stmts_words body)) body) head.line (unit_made e head head.kind) (stmts_code (unit_environment head e) none_taken body) (unit_mark head head.kind)
+pub unit_is : (e : Environment) (head : Y.BlockHead) (body : Y.Stmts)
+    → ArePlain (unit_declares e.program head head.kind) → head.level ≡ 1 → unit_by e head body head.kind head.level
+    ≡ unit_with (words_of_unit head.kind (stmts_words body))
+    (held_with e.program (words_of_unit head.kind (stmts_words body)) body) head.line (unit_made e head head.kind)
+    (stmts_code (unit_environment head e) none_taken body) (unit_mark head head.kind)
 unit_is e head body are level =
     let st = stmts_code (unit_environment head e) none_taken body in
     let mark = unit_mark head head.kind in
     let made = unit_made e head head.kind in
     let words = words_of_unit head.kind (stmts_words body) in
     let held = held_with e.program words body in
-    ap (λ n. code_with e.program head body (unit_variables (unit_environment head e) head head.kind) st mark n head.level) (words_are e head head.kind (stmts_words body) are)
+    ap (λ n. code_with e.program head body (unit_variables (unit_environment head e) head head.kind) st mark n
+        head.level) (words_are e head head.kind (stmts_words body) are)
     ∙ ap (λ c. code_with e.program head body c st mark words head.level) (made_is e head head.kind)
     ∙ ap (λ l. code_with e.program head body made st mark words l) level
-    ∙ joined (frame_begun words 1 0 (Some held)) (entered_without_texts 2 head.line) made (act_code head.line) st (mark ++ unit_left words held)
+    ∙ joined (frame_begun words 1 0 (Some held)) (entered_without_texts 2 head.line) made (act_code head.line) st
+        (mark ++ unit_left words held)

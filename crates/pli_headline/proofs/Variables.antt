@@ -19,7 +19,8 @@ use Rattle.pli_coding.specs.Assembly.{Code}
 use Rattle.pli_coding.specs.Instructions.{displaced}
 use Rattle.pli_coding.specs.Environments.{Environment, Taken, no_declaration, with_number, save, fetch}
 use Rattle.pli_coding.specs.Expressions.{number_code, bit_code, reference_code, type_in, address_in}
-use Rattle.pli_coding.specs.Locating.{Address, no_leaf, leaf_number, leaf_place, found_reached, frame_found, frame_in, loaded, simple_loaded, stored}
+use Rattle.pli_coding.specs.Locating.{Address, no_leaf, leaf_number, leaf_place, found_reached, frame_found, frame_in}
+use Rattle.pli_coding.specs.Locating.{loaded, simple_loaded, stored}
 use Rattle.pli_coding.specs.Storing.{is_near, word_stored}
 use Rattle.pli_coding.specs.Frames.{automatic_place, has_constant_size}
 use Rattle.pli_headline.specs.ProvedSoFar.{Names, variable_at, plain_variable, array_variable, Kind, Types}
@@ -127,7 +128,8 @@ address_from e block index o =
 abbrev pub reached_from : Environment → Taken → (block : Names) (index : ℕ) → Option Y.DeclaredVariable → Code
 reached_from e t block index o =
     let v = own block index in
-    if has_constant_size (declared_in o) then base_found e (level_of block index) else found_reached e t t v whole_part (leaf_number e v 0) Y.NoNumber
+    if has_constant_size (declared_in o) then base_found e (level_of block index) else found_reached e t t v
+        whole_part (leaf_number e v 0) Y.NoNumber
 
 -- what loads and stores a variable of a type, from a frame of any level
 abbrev pub scalar_loaded : Y.LeafType → Environment → (level place : ℕ) → Code
@@ -165,10 +167,14 @@ simple_from e block index o =
     ++ loaded (type_by o) u1
     (record {
       register = frame_in e (level_of block index) u1;
-      displacement = pos (automatic_place e.parts e.program (block.at index).number (block.at index).level (block.at index).index + 16 + leaf_place (declared_in o) 0);
+      displacement =
+          pos (automatic_place e.parts e.program (block.at index).number (block.at index).level (block.at index).index
+          + 16 + leaf_place (declared_in o) 0);
     })
 
-pub simple_loaded_is : (e : Environment) (block : Names) (index p : ℕ) → IsDeclared e block index (Y.FixedLeaf p) → simple_loaded e u1 (Y.NumberIn (whole (own block index))) ≡ brought (Y.FixedLeaf p) e (level_of block index) (data_place e block index)
+pub simple_loaded_is : (e : Environment) (block : Names) (index p : ℕ) → IsDeclared e block index (Y.FixedLeaf p)
+    → simple_loaded e u1 (Y.NumberIn (whole (own block index)))
+    ≡ brought (Y.FixedLeaf p) e (level_of block index) (data_place e block index)
 simple_loaded_is e block index p declared = ap (simple_from e block index) declared.1
 
 pub bit_loaded : (e : Environment) (t : Taken) (block : Names) (index : ℕ) → IsDeclared e block index Y.BitLeaf → bit_code e t (Y.BitIn (whole (own block index))) ≡ scalar_loaded Y.BitLeaf e (level_of block index) (data_place e block index)
@@ -176,14 +182,18 @@ bit_loaded e t block index declared =
     ap (λ o. reached_from e t block index o ++ loaded (type_by o) a0 (address_from e block index o)) declared.1
 
 -- what is left to do before the store
-scalar_found : (e : Environment) (t : Taken) (block : Names) (index : ℕ) (type : Y.LeafType) → IsNumeric type → IsDeclared e block index type → reference_code e t (whole (own block index)) ≡ base_found e (level_of block index)
+scalar_found : (e : Environment) (t : Taken) (block : Names) (index : ℕ) (type : Y.LeafType) → IsNumeric type
+    → IsDeclared e block index type → reference_code e t (whole (own block index)) ≡ base_found e (level_of block index)
 scalar_found e t block index type =
     by_type (λ u. IsDeclared e block index u → reference_code e t (whole (own block index)) ≡ base_found e (level_of block index))
     (λ p declared. ap (reached_from e t block index) declared.1)
     (λ declared. ap (reached_from e t block index) declared.1)
     type
 
-scalar_kept : (e : Environment) (block : Names) (index : ℕ) (type : Y.LeafType) → IsNumeric type → IsDeclared e block index type → stored (type_in e (whole (own block index))) a0 (address_in e (whole (own block index))) ≡ scalar_stored type e (level_of block index) (data_place e block index)
+scalar_kept : (e : Environment) (block : Names) (index : ℕ) (type : Y.LeafType) → IsNumeric type
+    → IsDeclared e block index type
+    → stored (type_in e (whole (own block index))) a0 (address_in e (whole (own block index)))
+    ≡ scalar_stored type e (level_of block index) (data_place e block index)
 scalar_kept e block index type =
     by_type (λ u. IsDeclared e block index u → stored (type_in e (whole (own block index))) a0 (address_in e (whole (own block index))) ≡ scalar_stored u e (level_of block index) (data_place e block index))
     (λ p declared. ap (λ o. stored (type_by o) a0 (address_from e block index o)) declared.1)
@@ -191,14 +201,17 @@ scalar_kept e block index type =
     type
 
 -- a value in a0 stays there until it is stored
-scalar_near : (e : Environment) (block : Names) (index : ℕ) (type : Y.LeafType) → IsNumeric type → IsDeclared e block index type → is_near e (whole (own block index)) ≡ true
+scalar_near : (e : Environment) (block : Names) (index : ℕ) (type : Y.LeafType) → IsNumeric type
+    → IsDeclared e block index type → is_near e (whole (own block index)) ≡ true
 scalar_near e block index type =
     by_type (λ u. IsDeclared e block index u → is_near e (whole (own block index)) ≡ true)
     (λ p declared. ap (λ o. has_constant_size (declared_in o) && true) declared.1)
     (λ declared. ap (λ o. has_constant_size (declared_in o) && true) declared.1)
     type
 
-pub scalar_stored_is : (e : Environment) (t : Taken) (block : Names) (index : ℕ) (type : Y.LeafType) → IsNumeric type → IsDeclared e block index type → word_stored e t (whole (own block index)) ≡ base_found e (level_of block index) ++ scalar_stored type e (level_of block index) (data_place e block index)
+pub scalar_stored_is : (e : Environment) (t : Taken) (block : Names) (index : ℕ) (type : Y.LeafType) → IsNumeric type
+    → IsDeclared e block index type → word_stored e t (whole (own block index)) ≡ base_found e (level_of block index)
+    ++ scalar_stored type e (level_of block index) (data_place e block index)
 scalar_stored_is e t block index type numeric declared =
     let r = whole (own block index) in
     let written = stored (type_in e r) a0 (address_in e r) in

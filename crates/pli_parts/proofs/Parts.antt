@@ -5,14 +5,16 @@ use Rattle.std.specs.List.{list_all, range_with_len}
 use Rattle.std.proofs.lemmas.Bool.Decides.{nat_tests}
 use Rattle.pli_meaning.specs.Contents.{Shape}
 use Rattle.pli_meaning.specs.Evaluating.{Designated, leaf_at}
-use Rattle.pli_serving.specs.Aggregates.{Aggregate, PartFound, has_part, is_there, leaf_elements, leaf_numbers, part_found, part_of_leaves, subscripts_given}
+use Rattle.pli_serving.specs.Aggregates.{Aggregate, PartFound, has_part, is_there, leaf_elements, leaf_numbers}
+use Rattle.pli_serving.specs.Aggregates.{part_found, part_of_leaves, subscripts_given}
 use Rattle.pli_serving.specs.Finding.{Call, Found, FoundAt, named}
 use Rattle.pli_serving.specs.Outcomes.{then_found}
 use Rattle.pli_aggregates.specs.Parts.{subscripts_left}
 use Rattle.pli_parts.specs.Found.{designated_from}
 use Rattle.pli_parts.specs.Leaves.{ArePartLeaves, IsPartLeaf, has_leaf, is_leaf_there}
 use Rattle.pli_parts.specs.declared.leaf.PartLeaf.{PartLeaf}
-use Rattle.pli_aggregates.proofs.Lists.{all_alike, all_flat, all_in, all_mapped, both, first_of_both, not_first, not_second, one_out, second_of_both}
+use Rattle.pli_aggregates.proofs.Lists.{all_alike, all_flat, all_in, all_mapped, both, first_of_both, not_first}
+use Rattle.pli_aggregates.proofs.Lists.{not_second, one_out, second_of_both}
 
 pub part_has : (c : Call) (a : Aggregate) (f : Found) (first count : ℕ) (is : List ℤ)
     → has_part (designated_from c a f first count is) ≡ (nat_le (first + count) (length a.shape.signature.leaves) && list_all (λ n. has_leaf a.shape a.extent f is (first + n)) (range_with_len 0 count))

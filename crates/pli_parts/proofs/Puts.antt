@@ -1,5 +1,7 @@
 -- What is put into a part, leaf by leaf.
-use Rattle.std.proofs.Common.{◌≡◌, ℕ, zero, suc, ◌+◌, ◌*◌, ◌<◌, ◌≤◌, ℤ, Bool, true, false, List, [], ◌∷◌, ◌++◌, length, take, drop, get_or, map, refl, sym, ap, ap₂, subst, ◌∙◌, arith, zip, min, ◌≢◌, mul-le-mul_left}
+use Rattle.std.proofs.Common.{◌≡◌, ℕ, zero, suc, ◌+◌, ◌*◌, ◌<◌, ◌≤◌, ℤ, Bool, true, false, List, [], ◌∷◌, ◌++◌}
+use Rattle.std.proofs.Common.{length, take, drop, get_or, map, refl, sym, ap, ap₂, subst, ◌∙◌, arith, zip, min, ◌≢◌}
+use Rattle.std.proofs.Common.{mul-le-mul_left}
 use Rattle.std.specs.Prelude.{◌&&◌, ◌||◌, ◌==◌, nat_le, nat_lt, slice_get, unwrap_or}
 use Rattle.std.specs.List.{range_with_len}
 use Rattle.std.proofs.lemmas.Bool.Decides.{nat_tests}
@@ -10,7 +12,8 @@ use Rattle.pli_meaning.specs.Evaluating.{leaf_at}
 use Rattle.pli_meaning.specs.Placing.{all_same_bounds, bounds_left}
 use Rattle.pli_meaning.specs.Unreachable.{unreachable_leaf}
 use Rattle.pli_serving.specs.Aggregates.{Aggregate, PartFound, element_at, leaf_elements}
-use Rattle.pli_serving.specs.AggregateServices.{Store, goes_into, leaves_go_into, stored_in, stores_of, taken_bytes, taken_value}
+use Rattle.pli_serving.specs.AggregateServices.{Store, goes_into, leaves_go_into, stored_in, stores_of, taken_bytes}
+use Rattle.pli_serving.specs.AggregateServices.{taken_value}
 use Rattle.pli_serving.specs.Bytes.{with_bytes}
 use Rattle.pli_serving.specs.Finding.{Call, Found}
 use Rattle.pli_serving.specs.Stored.{kept_bytes}
@@ -205,18 +208,22 @@ pub no_more_elements : (target source : LeafKind) (bytes : List ℕ) (n : ℕ) (
 no_more_elements target source bytes n addresses m h = ap (λ as'. elements_put target source bytes n as' m) (drop_all n addresses h)
 
 -- a leaf without bytes keeps nothing
-none_put : (target source : LeafKind) (bytes : List ℕ) (n : ℕ) (addresses m : List ℕ) → leaf_bytes target ≡ 0 → elements_put target source bytes n addresses m ≡ m
+none_put : (target source : LeafKind) (bytes : List ℕ) (n : ℕ) (addresses m : List ℕ) → leaf_bytes target ≡ 0
+    → elements_put target source bytes n addresses m ≡ m
 none_put target source bytes n [] m e = refl
 none_put target source bytes n (a ∷ as') m e =
-    ap (elements_put target source bytes (suc n) as') (ap (λ bs. with_bytes bs a m) (no_bytes target (value_again source bytes n) e) ∙ with_none a m)
+    ap (elements_put target source bytes (suc n) as')
+        (ap (λ bs. with_bytes bs a m) (no_bytes target (value_again source bytes n) e) ∙ with_none a m)
     ∙ none_put target source bytes (suc n) as' m e
 
 pub no_leaf_put : (l : PartLeaf) (t : TakenLeaf) (m : List ℕ) → leaf_bytes (kind_of l.kind) ≡ 0 → m ≡ leaf_put l t m
 no_leaf_put l t m e = sym (none_put (kind_of l.kind) (kind_of t.kind) t.bytes.items 0 (addresses_of l) m e)
 
-pub whole_bytes : (l : PartLeaf) (t : TakenLeaf) → 0 < leaf_bytes (kind_of l.kind) → is_whole l t ≡ true → element_size (kind_of t.kind) * l.run.count ≤ length t.bytes.items
+pub whole_bytes : (l : PartLeaf) (t : TakenLeaf) → 0 < leaf_bytes (kind_of l.kind) → is_whole l t ≡ true
+    → element_size (kind_of t.kind) * l.run.count ≤ length t.bytes.items
 whole_bytes l t some w = go (leaf_bytes (kind_of l.kind)) some w
   where
-    go : (n : ℕ) → 0 < n → (n == 0 || nat_le (element_size (kind_of t.kind) * l.run.count) (length t.bytes.items)) ≡ true → element_size (kind_of t.kind) * l.run.count ≤ length t.bytes.items
+    go : (n : ℕ) → 0 < n → (n == 0 || nat_le (element_size (kind_of t.kind) * l.run.count) (length t.bytes.items))
+        ≡ true → element_size (kind_of t.kind) * l.run.count ≤ length t.bytes.items
     go zero s e = absurd (omega (arith, s))
     go (suc n) s e = grind (arith, nat_tests, e)

@@ -1,5 +1,6 @@
 -- Service 40 by the leaves of its part.
-use Rattle.std.proofs.Common.{◌≡◌, ℕ, suc, ◌+◌, ℤ, Bool, true, false, List, [], ◌∷◌, length, map, take, drop, Option, Some, None, Ok, ◌≤◌, refl, sym, ap, ap₂, subst, ◌∙◌, arith}
+use Rattle.std.proofs.Common.{◌≡◌, ℕ, suc, ◌+◌, ℤ, Bool, true, false, List, [], ◌∷◌, length, map, take, drop, Option}
+use Rattle.std.proofs.Common.{Some, None, Ok, ◌≤◌, refl, sym, ap, ap₂, subst, ◌∙◌, arith}
 use Rattle.std.specs.Prelude.{◌==◌, MatchOption, Vec, option_map, ⊤, if◌then◌else◌}
 use Rattle.std.specs.declared.alloc.Global.{Global}
 use Rattle.std.specs.List.{list_all, range_with_len}
@@ -9,7 +10,8 @@ use Rattle.pli_meaning.specs.Codes.{shape_code}
 use Rattle.pli_meaning.specs.Evaluating.{Designated}
 use Rattle.pli_meaning.specs.Placing.{all_same_bounds, bounds_left, part_bounds}
 use Rattle.pli_serving.specs.Aggregates.{PartFound, aggregate_at, leaf_numbers, part_of_leaves}
-use Rattle.pli_serving.specs.AggregateServices.{aggregate_served, assigned_by, goes_into, kind_of_nth, leaves_go_into, part_put, part_taken, stored_in, stores_of, taken_leaf}
+use Rattle.pli_serving.specs.AggregateServices.{aggregate_served, assigned_by, goes_into, kind_of_nth, leaves_go_into}
+use Rattle.pli_serving.specs.AggregateServices.{part_put, part_taken, stored_in, stores_of, taken_leaf}
 use Rattle.pli_serving.specs.Answers.{Answer, Done, Bad}
 use Rattle.pli_serving.specs.Finding.{Call}
 use Rattle.pli_serving.specs.Outcomes.{answering, bad_unless, becoming, or_bad, pushed, then_found, with_entries}

@@ -1,5 +1,6 @@
 -- What is taken of a part, leaf by leaf.
-use Rattle.std.proofs.Common.{◌≡◌, ℕ, zero, suc, ◌+◌, ◌<◌, ◌≤◌, get_or, ℤ, true, List, [], ◌∷◌, ◌++◌, length, map, refl, sym, ap, ap₂, subst, ◌∙◌, arith}
+use Rattle.std.proofs.Common.{◌≡◌, ℕ, zero, suc, ◌+◌, ◌<◌, ◌≤◌, get_or, ℤ, true, List, [], ◌∷◌, ◌++◌, length, map}
+use Rattle.std.proofs.Common.{refl, sym, ap, ap₂, subst, ◌∙◌, arith}
 use Rattle.std.specs.Prelude.{◌&&◌}
 use Rattle.std.specs.List.{list_all, range_with_len}
 use Rattle.pli_typing.specs.Signatures.{Bounds, Leaf, LeafKind, element_count, leaf_bytes}
@@ -73,7 +74,9 @@ all_have_values c a f end first count n is (l ∷ ls) p =
 
 -- ---- as code holds it
 
-pub leaf_gathered : (l : PartLeaf) (t : TakenLeaf) (m : List ℕ) → t.kind ≡ l.kind → t.bounds.items ≡ l.bounds.items → IsGathered (kind_of l.kind) m l.run (element_count (map pair_of l.bounds.items)) t.bytes.items → leaf_of t ≡ leaf_taken m l
+pub leaf_gathered : (l : PartLeaf) (t : TakenLeaf) (m : List ℕ) → t.kind ≡ l.kind → t.bounds.items ≡ l.bounds.items
+    → IsGathered (kind_of l.kind) m l.run (element_count (map pair_of l.bounds.items)) t.bytes.items
+    → leaf_of t ≡ leaf_taken m l
 leaf_gathered l t m k b g =
     let kind = kind_of l.kind in
     let bounds = map pair_of l.bounds.items in
@@ -94,7 +97,8 @@ within_as bytes end other most (a ∷ as') e h w = let first = w.0 in (omega (ar
 readable : (s : Shape) (z : ℤ) (f : Found) (given : List ℤ) (end leaf most : ℕ) (l : PartLeaf) → end ≤ most → IsPartLeaf s z f given end leaf l → IsReadable most l
 readable s z f given end leaf most l h i =
     record {
-      within = within_as (leaf_bytes (leaf_at s z leaf).kind) end (leaf_bytes (kind_of l.kind)) most (addresses_of l) (ap leaf_bytes (sym i.kind)) h i.within;
+      within = within_as (leaf_bytes (leaf_at s z leaf).kind) end (leaf_bytes (kind_of l.kind)) most (addresses_of l)
+          (ap leaf_bytes (sym i.kind)) h i.within;
       counted = subst (λ kind. CountsAs kind l.run (element_count (map pair_of l.bounds.items))) (sym i.kind) i.counted;
     }
 

@@ -26,7 +26,8 @@ are_short most m = list_all (λ at. nat_le (load 2 m at) most)
 
 -- the value of each element of a run stands at its place in a buffer
 abbrev pub IsCopiedOf : LeafKind → (memory : List ℕ) → Run → (count : ℕ) → (buffer : List ℕ) → Type 0
-IsCopiedOf kind m r n buffer = (p : ℕ) → p < n → AreSame (leaf_bytes kind) (r.at + r.step * p) m (element_size kind * p) buffer
+IsCopiedOf kind m r n buffer = (p : ℕ) → p < n
+    → AreSame (leaf_bytes kind) (r.at + r.step * p) m (element_size kind * p) buffer
 
 -- and the buffer has room for all
 pub record IsCopied (kind : LeafKind) (memory : List ℕ) (r : Run) (buffer : List ℕ) : Type 0 where

@@ -33,7 +33,8 @@ pub record IsPartLeaf (s : Shape) (extent : ℤ) (f : Found) (given : List ℤ) 
   pub there : is_leaf_there s extent f given leaf ≡ true
   pub kind : kind_of l.kind ≡ (leaf_at s extent leaf).kind
   pub bounds : map pair_of l.bounds.items ≡ drop (length given) (leaf_at s extent leaf).bounds
-  pub stand : addresses_of l ≡ map (λ is. element_at s f (leaf, given ++ is)) (subscripts_left (leaf_at s extent leaf) given)
+  pub stand : addresses_of l
+      ≡ map (λ is. element_at s f (leaf, given ++ is)) (subscripts_left (leaf_at s extent leaf) given)
   pub within : AreWithin (leaf_bytes (leaf_at s extent leaf).kind) end (addresses_of l)
   pub counted : CountsAs (leaf_at s extent leaf).kind l.run (element_count (map pair_of l.bounds.items))
 

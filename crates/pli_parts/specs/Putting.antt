@@ -1,5 +1,6 @@
 -- What is put into leaves that were found, of leaves that were taken.
-use Rattle.std.specs.Prelude.{◌≡◌, ℕ, suc, ◌*◌, ◌^◌, ◌<◌, ◌≤◌, Bool, true, ◌&&◌, ◌||◌, ◌==◌, nat_le, List, [], ◌∷◌, length, map}
+use Rattle.std.specs.Prelude.{◌≡◌, ℕ, suc, ◌*◌, ◌^◌, ◌<◌, ◌≤◌, Bool, true, ◌&&◌, ◌||◌, ◌==◌, nat_le, List, [], ◌∷◌}
+use Rattle.std.specs.Prelude.{length, map}
 use Rattle.pli_typing.specs.Signatures.{Bounds, LeafKind, Fixed, Offset, leaf_bytes}
 use Rattle.pli_types.specs.View.{pair_of}
 use Rattle.pli_meaning.specs.BasicValues.{BasicValue, Name, NullName, VariableName, BasedName}
@@ -47,7 +48,8 @@ leaves_put _ _ m = m
 
 -- a buffer has all elements of a leaf that has bytes
 abbrev pub is_whole : PartLeaf → TakenLeaf → Bool
-is_whole l t = leaf_bytes (kind_of l.kind) == 0 || nat_le (element_size (kind_of t.kind) * l.run.count) (length t.bytes.items)
+is_whole l t = leaf_bytes (kind_of l.kind) == 0 || nat_le (element_size (kind_of t.kind) * l.run.count)
+    (length t.bytes.items)
 
 abbrev pub are_whole : List PartLeaf → List TakenLeaf → Bool
 are_whole (l ∷ ls) (t ∷ ts) = is_whole l t && are_whole ls ts

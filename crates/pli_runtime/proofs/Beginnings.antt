@@ -1,5 +1,7 @@
 -- Signatures that are filled in, and what holds before the first call.
-use Rattle.std.proofs.Common.{◌≡◌, ◌∙◌, ℕ, zero, suc, reverse, ◌≤◌, Bool, true, false, List, [], length, map, replicate, Option, Some, None, Result, Ok, Err, refl, sym, slice_get, subst, ap, arith, nat_lt}
+use Rattle.std.proofs.Common.{◌≡◌, ◌∙◌, ℕ, zero, suc, reverse, ◌≤◌, Bool, true, false, List, [], length, map}
+use Rattle.std.proofs.Common.{replicate, Option, Some, None, Result, Ok, Err, refl, sym, slice_get, subst, ap, arith}
+use Rattle.std.proofs.Common.{nat_lt}
 use Rattle.area_keeper.specs.Keeper.{Keeper}
 use Rattle.std.proofs.lemmas.List.{length-replicate}
 use Rattle.std.proofs.Math.Path.{fun_ext}

@@ -1,5 +1,7 @@
 -- Blocks that end: what their services' answers tell of the entries, and how the services carry out their calls.
-use Rattle.std.proofs.Common.{◌≡◌, ℕ, zero, suc, ◌<◌, ◌≤◌, ◌^◌, Bool, true, false, nat_le, List, [], ◌∷◌, take, length, Option, Some, None, Ok, Err, refl, sym, subst, ap, ◌∙◌, arith, unwrap_or, if◌then◌else◌}
+use Rattle.std.proofs.Common.{◌≡◌, ℕ, zero, suc, ◌<◌, ◌≤◌, ◌^◌, Bool, true, false, nat_le, List, [], ◌∷◌, take}
+use Rattle.std.proofs.Common.{length, Option, Some, None, Ok, Err, refl, sym, subst, ap, ◌∙◌, arith, unwrap_or}
+use Rattle.std.proofs.Common.{if◌then◌else◌}
 use Rattle.std.proofs.lemmas.Bool.{ne_eqb}
 use Rattle.std.proofs.lemmas.Grind.{common_steps}
 use Rattle.std.proofs.lemmas.Bool.Decides.{nat_tests}

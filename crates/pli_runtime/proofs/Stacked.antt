@@ -1,5 +1,6 @@
 -- How services of entries carry out calls.
-use Rattle.std.proofs.Common.{◌≡◌, ℕ, ◌-◌, ◌<◌, List, [], ◌∷◌, drop, length, map, Some, Result, Ok, refl, sym, subst, ap, arith}
+use Rattle.std.proofs.Common.{◌≡◌, ℕ, ◌-◌, ◌<◌, List, [], ◌∷◌, drop, length, map, Some, Result, Ok, refl, sym, subst}
+use Rattle.std.proofs.Common.{ap, arith}
 use Rattle.area_keeper.specs.Keeper.{Keeper}
 use Rattle.pli_aggregates.specs.Scalars.{with_all}
 use Rattle.pli_answering.specs.Answering.{Answers}

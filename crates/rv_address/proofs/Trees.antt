@@ -9,7 +9,8 @@ use Rattle.pli_typing.specs.TypedTree as Y
 use Rattle.pli_typing.specs.TypedView.{variable_of, part_of, number_of, numbers_of, reference_of}
 use Rattle.pli_coding.specs.Registers.{u3, u4}
 use Rattle.pli_coding.specs.Instructions.{constant, add}
-use Rattle.pli_coding.specs.Locating.{is_direct, is_simple, are_simple, simple_loaded, variable_loaded, times_stride, element_added}
+use Rattle.pli_coding.specs.Locating.{is_direct, is_simple, are_simple, simple_loaded, variable_loaded, times_stride}
+use Rattle.pli_coding.specs.Locating.{element_added}
 
 -- by which walks over lists of numbers end
 abbrev pub count_of : Numbers → ℕ
@@ -18,23 +19,29 @@ count_of (Q.More' a n b ns) = suc (count_of ns)
 
 -- ---- references
 
-pub simple-whole : (e : _) (v : _) (p : _) → is_simple e (Y.NumberIn (reference_of (R.Plain v p Q.End))) ≡ is_direct e (variable_of v)
+pub simple-whole : (e : _) (v : _) (p : _) → is_simple e (Y.NumberIn (reference_of (R.Plain v p Q.End)))
+    ≡ is_direct e (variable_of v)
 unfolding reference_of numbers_of
 simple-whole e v p = refl
 
-pub simple-element : (e : _) (v : _) (p : _) (a : _) (n : _) (b : _) (ns : _) → is_simple e (Y.NumberIn (reference_of (R.Plain v p (Q.More' a n b ns)))) ≡ false
+pub simple-element : (e : _) (v : _) (p : _) (a : _) (n : _) (b : _) (ns : _)
+    → is_simple e (Y.NumberIn (reference_of (R.Plain v p (Q.More' a n b ns)))) ≡ false
 unfolding reference_of numbers_of
 simple-element e v p a n b ns = refl
 
-pub simple-Located : (e : _) (a : _) (l : _) (v : _) (p : _) (ns : _) → is_simple e (Y.NumberIn (reference_of (R.Located' a l v p ns))) ≡ false
+pub simple-Located : (e : _) (a : _) (l : _) (v : _) (p : _) (ns : _)
+    → is_simple e (Y.NumberIn (reference_of (R.Located' a l v p ns))) ≡ false
 unfolding reference_of
 simple-Located e a l v p ns = refl
 
-pub loaded-Plain : (e : _) (r : _) (v : _) (p : _) (ns : _) → simple_loaded e r (Y.NumberIn (reference_of (R.Plain v p ns))) ≡ variable_loaded e r (variable_of v) (part_of p)
+pub loaded-Plain : (e : _) (r : _) (v : _) (p : _) (ns : _)
+    → simple_loaded e r (Y.NumberIn (reference_of (R.Plain v p ns))) ≡ variable_loaded e r (variable_of v) (part_of p)
 unfolding reference_of
 loaded-Plain e r v p ns = refl
 
-pub loaded-Located : (e : _) (r : _) (a : _) (l : _) (v : _) (p : _) (ns : _) → simple_loaded e r (Y.NumberIn (reference_of (R.Located' a l v p ns))) ≡ variable_loaded e r (variable_of v) (part_of p)
+pub loaded-Located : (e : _) (r : _) (a : _) (l : _) (v : _) (p : _) (ns : _)
+    → simple_loaded e r (Y.NumberIn (reference_of (R.Located' a l v p ns)))
+    ≡ variable_loaded e r (variable_of v) (part_of p)
 unfolding reference_of
 loaded-Located e r a l v p ns = refl
 
@@ -46,7 +53,8 @@ pub all-End : (e : _) → are_simple e (numbers_of Q.End) ≡ true
 unfolding numbers_of
 all-End e = refl
 
-pub all-More : (e : _) (a : _) (n : _) (b : _) (ns : _) → are_simple e (numbers_of (Q.More' a n b ns)) ≡ (is_simple e (number_of n) && are_simple e (numbers_of ns))
+pub all-More : (e : _) (a : _) (n : _) (b : _) (ns : _) → are_simple e (numbers_of (Q.More' a n b ns))
+    ≡ (is_simple e (number_of n) && are_simple e (numbers_of ns))
 unfolding numbers_of
 all-More e a n b ns = refl
 
@@ -54,7 +62,8 @@ pub added-End : (r : _) (k : _) → element_added r k (numbers_of Q.End) ≡ []
 unfolding numbers_of
 added-End r k = refl
 
-pub added-More : (r : _) (k : _) (a : _) (n : _) (b : _) (ns : _) → element_added r k (numbers_of (Q.More' a n b ns)) ≡ times_stride k ++ add u3 r u4 ∷ []
+pub added-More : (r : _) (k : _) (a : _) (n : _) (b : _) (ns : _) → element_added r k (numbers_of (Q.More' a n b ns))
+    ≡ times_stride k ++ add u3 r u4 ∷ []
 unfolding numbers_of
 added-More r k a n b ns = refl
 
@@ -74,7 +83,8 @@ pub form-In : (e : _) (a : _) (r : _) → is_simple e (number_of (N.In' a r)) �
 unfolding number_of
 form-In e a r = refl
 
-pub code-In : (e : _) (r : _) (a : _) (u : _) → simple_loaded e r (number_of (N.In' a u)) ≡ simple_loaded e r (Y.NumberIn (reference_of u))
+pub code-In : (e : _) (r : _) (a : _) (u : _) → simple_loaded e r (number_of (N.In' a u))
+    ≡ simple_loaded e r (Y.NumberIn (reference_of u))
 unfolding number_of
 code-In e r a u = refl
 
@@ -110,11 +120,13 @@ pub code-Signed : (e : _) (r : _) (s : _) (a : _) (n : _) → simple_loaded e r 
 unfolding number_of
 code-Signed e r s a n = refl
 
-pub form-Calculated : (e : _) (op : _) (a : _) (l : _) (b : _) (r : _) → is_simple e (number_of (N.Calculated' op a l b r)) ≡ false
+pub form-Calculated : (e : _) (op : _) (a : _) (l : _) (b : _) (r : _)
+    → is_simple e (number_of (N.Calculated' op a l b r)) ≡ false
 unfolding number_of
 form-Calculated e op a l b r = refl
 
-pub code-Calculated : (e : _) (r : _) (op : _) (a : _) (l : _) (b : _) (u : _) → simple_loaded e r (number_of (N.Calculated' op a l b u)) ≡ []
+pub code-Calculated : (e : _) (r : _) (op : _) (a : _) (l : _) (b : _) (u : _)
+    → simple_loaded e r (number_of (N.Calculated' op a l b u)) ≡ []
 unfolding number_of
 code-Calculated e r op a l b u = refl
 
@@ -138,7 +150,8 @@ pub form-Extreme : (e : _) (w : _) (a : _) (n : _) (more : _) → is_simple e (n
 unfolding number_of
 form-Extreme e w a n more = refl
 
-pub code-Extreme : (e : _) (r : _) (w : _) (a : _) (n : _) (more : _) → simple_loaded e r (number_of (N.Extreme' w a n more)) ≡ []
+pub code-Extreme : (e : _) (r : _) (w : _) (a : _) (n : _) (more : _)
+    → simple_loaded e r (number_of (N.Extreme' w a n more)) ≡ []
 unfolding number_of
 code-Extreme e r w a n more = refl
 
@@ -146,15 +159,18 @@ pub form-Modulo : (e : _) (a : _) (l : _) (b : _) (r : _) → is_simple e (numbe
 unfolding number_of
 form-Modulo e a l b r = refl
 
-pub code-Modulo : (e : _) (r : _) (a : _) (l : _) (b : _) (u : _) → simple_loaded e r (number_of (N.Modulo' a l b u)) ≡ []
+pub code-Modulo : (e : _) (r : _) (a : _) (l : _) (b : _) (u : _) → simple_loaded e r (number_of (N.Modulo' a l b u))
+    ≡ []
 unfolding number_of
 code-Modulo e r a l b u = refl
 
-pub form-Divided : (e : _) (p : _) (a : _) (l : _) (b : _) (r : _) → is_simple e (number_of (N.Divided' p a l b r)) ≡ false
+pub form-Divided : (e : _) (p : _) (a : _) (l : _) (b : _) (r : _) → is_simple e (number_of (N.Divided' p a l b r))
+    ≡ false
 unfolding number_of
 form-Divided e p a l b r = refl
 
-pub code-Divided : (e : _) (r : _) (p : _) (a : _) (l : _) (b : _) (u : _) → simple_loaded e r (number_of (N.Divided' p a l b u)) ≡ []
+pub code-Divided : (e : _) (r : _) (p : _) (a : _) (l : _) (b : _) (u : _)
+    → simple_loaded e r (number_of (N.Divided' p a l b u)) ≡ []
 unfolding number_of
 code-Divided e r p a l b u = refl
 
@@ -170,7 +186,8 @@ pub form-IndexOf : (e : _) (a : _) (s : _) (b : _) (t : _) → is_simple e (numb
 unfolding number_of
 form-IndexOf e a s b t = refl
 
-pub code-IndexOf : (e : _) (r : _) (a : _) (s : _) (b : _) (t : _) → simple_loaded e r (number_of (N.IndexOf' a s b t)) ≡ []
+pub code-IndexOf : (e : _) (r : _) (a : _) (s : _) (b : _) (t : _)
+    → simple_loaded e r (number_of (N.IndexOf' a s b t)) ≡ []
 unfolding number_of
 code-IndexOf e r a s b t = refl
 
@@ -178,7 +195,8 @@ pub form-VerifyOf : (e : _) (a : _) (s : _) (b : _) (t : _) → is_simple e (num
 unfolding number_of
 form-VerifyOf e a s b t = refl
 
-pub code-VerifyOf : (e : _) (r : _) (a : _) (s : _) (b : _) (t : _) → simple_loaded e r (number_of (N.VerifyOf' a s b t)) ≡ []
+pub code-VerifyOf : (e : _) (r : _) (a : _) (s : _) (b : _) (t : _)
+    → simple_loaded e r (number_of (N.VerifyOf' a s b t)) ≡ []
 unfolding number_of
 code-VerifyOf e r a s b t = refl
 
@@ -222,4 +240,9 @@ pub code-OnCode : (e : _) (r : _) → simple_loaded e r (number_of N.OnCode) ≡
 unfolding number_of
 code-OnCode e r = refl
 
-pub ruleset forms = (form-Constant, code-Constant, form-In, code-In, form-From, code-From, form-OfText, code-OfText, form-OfBit, code-OfBit, form-Signed, code-Signed, form-Calculated, code-Calculated, form-Absolute, code-Absolute, form-SignOf, code-SignOf, form-Extreme, code-Extreme, form-Modulo, code-Modulo, form-Divided, code-Divided, form-LengthOf, code-LengthOf, form-IndexOf, code-IndexOf, form-VerifyOf, code-VerifyOf, form-LowerBound, code-LowerBound, form-UpperBound, code-UpperBound, form-ElementsOf, code-ElementsOf, form-AllocationsOf, code-AllocationsOf, form-OnCode, code-OnCode, append_assoc, append-nil)
+pub ruleset forms = (form-Constant, code-Constant, form-In, code-In, form-From, code-From, form-OfText, code-OfText,
+    form-OfBit, code-OfBit, form-Signed, code-Signed, form-Calculated, code-Calculated, form-Absolute, code-Absolute,
+    form-SignOf, code-SignOf, form-Extreme, code-Extreme, form-Modulo, code-Modulo, form-Divided, code-Divided,
+    form-LengthOf, code-LengthOf, form-IndexOf, code-IndexOf, form-VerifyOf, code-VerifyOf, form-LowerBound,
+    code-LowerBound, form-UpperBound, code-UpperBound, form-ElementsOf, code-ElementsOf, form-AllocationsOf,
+    code-AllocationsOf, form-OnCode, code-OnCode, append_assoc, append-nil)

@@ -9,7 +9,8 @@ use Rattle.pli_coding.specs.Assembly.{BaseIn, Code}
 use Rattle.pli_coding.specs.Instructions.{add, subtract, move, load_word, store_word, service, status_tested, skip_where, error_raised}
 use Rattle.pli_coding.specs.Frames.{buffer_lower, buffer_upper, automatic_place}
 use Rattle.pli_coding.specs.Environments.{Environment, Taken}
-use Rattle.pli_coding.specs.Locating.{Address, place_behind, waiting_number, bound_loaded, direct_base, place_kept, subscript_given, subscript_counted, subscripts_counted, element_added}
+use Rattle.pli_coding.specs.Locating.{Address, place_behind, waiting_number, bound_loaded, direct_base, place_kept}
+use Rattle.pli_coding.specs.Locating.{subscript_given, subscript_counted, subscripts_counted, element_added}
 
 -- the distance of bounds that aren't both constant
 abbrev pub range_held : Y.Bounds → (dimension : ℕ) → Code
@@ -31,7 +32,8 @@ direct_start e v _ = automatic_place e.parts e.program v.block v.level v.index
 
 -- what stands behind a leaf that was found
 abbrev pub found_added : Environment → Taken → Y.Leaf → (subscripts : Y.Numbers) → Code
-found_added e t l subscripts = subscripts_counted e t 0 subscripts l.bounds ++ (BaseIn u0 ∷ add u3 u3 u0 ∷ element_added u3 l.type subscripts)
+found_added e t l subscripts = subscripts_counted e t 0 subscripts l.bounds
+    ++ (BaseIn u0 ∷ add u3 u3 u0 ∷ element_added u3 l.type subscripts)
 
 -- the nth word of a name
 abbrev pub word_loaded : Address → (n : ℕ) → Code
@@ -45,9 +47,12 @@ abbrev pub newest_kept : Taken → Code
 newest_kept t = service 18 ++ (store_word frame_register a1 (waiting_number t) ++ (move a1 a0 ∷ status_tested))
 
 -- one dimension
-unfoldable pub dimension_counted : Environment → Taken → (dimension : ℕ) → Y.Number → (behind : Y.Numbers) → Y.Bounds → Code
-dimension_counted e t dimension x behind b = place_kept dimension ++ (subscript_given e t x behind ++ subscript_counted dimension b)
+unfoldable pub dimension_counted : Environment → Taken → (dimension : ℕ) → Y.Number → (behind : Y.Numbers) → Y.Bounds
+    → Code
+dimension_counted e t dimension x behind b =
+    place_kept dimension ++ (subscript_given e t x behind ++ subscript_counted dimension b)
 
 -- from a subscript on
-unfoldable pub some_counted : Environment → Taken → (dimension : ℕ) → Y.Number → (behind : Y.Numbers) → List Y.Bounds → Code
+unfoldable pub some_counted : Environment → Taken → (dimension : ℕ) → Y.Number → (behind : Y.Numbers) → List Y.Bounds
+    → Code
 some_counted e t dimension x behind bs = subscripts_counted e t dimension (Y.NumberThen x behind) bs

@@ -26,18 +26,25 @@ pub ruleset again = (raised-size, again-is)
 behind : (before asked : ℕ) → before + asked - before ≡ asked
 behind before asked = omega arith
 
-pub in_area : (code between after : Code) (e : Environment) (t : Taken) (v area : Y.Variable) (name : NamePlace) → between ≡ code ++ asked e t v (Some area) name → after ≡ between ++ tried_again (size_of between - size_of code) → after ≡ code ++ placed e t v (Some area) name
+pub in_area : (code between after : Code) (e : Environment) (t : Taken) (v area : Y.Variable) (name : NamePlace)
+    → between ≡ code ++ asked e t v (Some area) name → after ≡ between ++ tried_again (size_of between - size_of code)
+    → after ≡ code ++ placed e t v (Some area) name
 unfolding placed asked tried_again area_raised
 in_area code between after e t v area name h k =
-    let words : size_of between - size_of code ≡ size_of (asked e t v (Some area) name) = ap (λ n. n - size_of code) (ap size_of h ∙ size_append code (asked e t v (Some area) name)) ∙ behind (size_of code) (size_of (asked e t v (Some area) name)) in
+    let words : size_of between - size_of code ≡ size_of (asked e t v (Some area) name) =
+        ap (λ n. n - size_of code) (ap size_of h ∙ size_append code (asked e t v (Some area) name))
+        ∙ behind (size_of code) (size_of (asked e t v (Some area) name)) in
     k
     ∙ ap (λ n. between ++ tried_again n) words
     ∙ ap (λ u. u ++ tried_again (size_of (asked e t v (Some area) name))) h
     ∙ append_assoc code (asked e t v (Some area) name) (tried_again (size_of (asked e t v (Some area) name)))
 
-pub in_heap : (code between after : Code) (e : Environment) (t : Taken) (v : Y.Variable) (name : NamePlace) → between ≡ code ++ asked e t v None name → after ≡ between ++ status_tested → after ≡ code ++ placed e t v None name
+pub in_heap : (code between after : Code) (e : Environment) (t : Taken) (v : Y.Variable) (name : NamePlace)
+    → between ≡ code ++ asked e t v None name → after ≡ between ++ status_tested
+    → after ≡ code ++ placed e t v None name
 unfolding placed asked
-in_heap code between after e t v name h k = k ∙ ap (λ u. u ++ status_tested) h ∙ append_assoc code (asked e t v None name) status_tested
+in_heap code between after e t v name h k = k ∙ ap (λ u. u ++ status_tested) h
+    ∙ append_assoc code (asked e t v None name) status_tested
 
 pub still_behind : (start : ℕ) (code between piece : Code) → start ≡ size_of code → between ≡ code ++ piece → start ≤ size_of between
 still_behind start code between piece h k =

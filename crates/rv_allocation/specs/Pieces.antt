@@ -14,7 +14,8 @@ use Rattle.pli_coding.specs.Locating.{NamePlace, FrameName, controlled_number, n
 use Rattle.pli_coding.specs.Expressions.{pointer_code}
 use Rattle.pli_coding.specs.Storing.{area_name}
 use Rattle.pli_coding.specs.Extents.{initial_code}
-use Rattle.pli_coding.specs.Allocating.{allocated_extent, allocated_number, amounts_code, based_code, controlled_code, generation_freed, locator_set, placing_asked, placing_code}
+use Rattle.pli_coding.specs.Allocating.{allocated_extent, allocated_number, amounts_code, based_code, controlled_code}
+use Rattle.pli_coding.specs.Allocating.{generation_freed, locator_set, placing_asked, placing_code}
 use Rattle.rv_assignment.specs.Pieces.{name_put}
 
 -- ---- the two words
@@ -89,7 +90,8 @@ controlled_made e t line v = controlled_code e t line v
 unfoldable pub generation_ended : Environment → Taken → NamePlace → Y.Variable → Option Y.Variable → Code
 generation_ended e t name v area = generation_freed e t name v area
 
-unfoldable pub located_freed : Environment → Taken → Y.Variable → Y.Pointer → Option Y.Variable → Option NamePlace → Code
+unfoldable pub located_freed : Environment → Taken → Y.Variable → Y.Pointer → Option Y.Variable → Option NamePlace
+    → Code
 located_freed e t v locator area (Some name) = generation_ended e t name v area
 located_freed e t v locator area None =
     pointer_code e t locator ++ generation_ended e t (FrameName e.level (waiting_name t)) v area

@@ -1,5 +1,6 @@
 -- The code that stores by its pieces.
-use Rattle.std.proofs.Common.{◌≡◌, ◌++◌, false, refl, sym, ap, append_assoc, append-nil, ◌<◌, ℕ, ℤ, zero, suc, true, not, Option, Some, None, arith}
+use Rattle.std.proofs.Common.{◌≡◌, ◌++◌, false, refl, sym, ap, append_assoc, append-nil, ◌<◌, ℕ, ℤ, zero, suc, true}
+use Rattle.std.proofs.Common.{not, Option, Some, None, arith}
 use Rattle.std.specs.Prelude.{◌&&◌, if◌then◌else◌}
 use Rattle.pli_typing.specs.declared.typed.Numbers as Q
 use Rattle.pli_typing.specs.declared.typed.Reference as R
@@ -11,23 +12,34 @@ use Rattle.pli_coding.specs.Assembly.{Code}
 use Rattle.pli_coding.specs.Instructions.{service, tested_service}
 use Rattle.pli_coding.specs.Environments.{Environment, Taken, save, with_number, with_words}
 use Rattle.pli_coding.specs.Locating.{behind_locator, leaf_number, is_direct, are_simple, is_referred}
-use Rattle.pli_coding.specs.Expressions.{given_in, reference_code, stored_code, subscripts_code, pointer_code, pointer_to}
-use Rattle.pli_coding.specs.Storing.{aggregate_given, behind_record, behind_value, first_leaf, is_near, leaf_count, record_code, record_stored, stored_into, subscript_count, subscripts_recorded, value_saved, assigned_code, assignment_code, is_written_last, name_assigned, place_assigned}
+use Rattle.pli_coding.specs.Expressions.{given_in, reference_code, stored_code, subscripts_code, pointer_code}
+use Rattle.pli_coding.specs.Expressions.{pointer_to}
+use Rattle.pli_coding.specs.Storing.{aggregate_given, behind_record, behind_value, first_leaf, is_near, leaf_count}
+use Rattle.pli_coding.specs.Storing.{record_code, record_stored, stored_into, subscript_count, subscripts_recorded}
+use Rattle.pli_coding.specs.Storing.{value_saved, assigned_code, assignment_code, is_written_last, name_assigned}
+use Rattle.pli_coding.specs.Storing.{place_assigned}
 use Rattle.rv_expr.specs.Forms.{locator_of}
-use Rattle.rv_assignment.specs.Pieces.{aggregate_put, counted_recorded, elements_put, elements_stored, name_kept, name_put, part_put, part_recorded, part_taken, record_made, subscripts_made, text_kept, top_put, value_kept, value_stored, word_put, pointer_assigned, tells_no_extent}
+use Rattle.rv_assignment.specs.Pieces.{aggregate_put, counted_recorded, elements_put, elements_stored, name_kept}
+use Rattle.rv_assignment.specs.Pieces.{name_put, part_put, part_recorded, part_taken, record_made, subscripts_made}
+use Rattle.rv_assignment.specs.Pieces.{text_kept, top_put, value_kept, value_stored, word_put, pointer_assigned}
+use Rattle.rv_assignment.specs.Pieces.{tells_no_extent}
 use Rattle.pli_typing.specs.declared.typed.Pointer as P
 
 -- ---- elements
 
-pub word-is : (e : _) (t : _) (r : _) → word_put e t r ≡ (if is_near e r then reference_code e t r ++ value_stored e r else save a0 t ++ (reference_code e (with_number t) r ++ value_kept e t r))
+pub word-is : (e : _) (t : _) (r : _)
+    → word_put e t r ≡ (if is_near e r then reference_code e t r ++ value_stored e r else save a0 t
+    ++ (reference_code e (with_number t) r ++ value_kept e t r))
 unfolding word_put value_kept value_stored
 word-is e t r = refl
 
-pub near-Plain : (e : _) (v : _) (p : _) (ns : _) → is_near e (reference_of (R.Plain v p ns)) ≡ (is_direct e (variable_of v) && are_simple e (numbers_of ns))
+pub near-Plain : (e : _) (v : _) (p : _) (ns : _) → is_near e (reference_of (R.Plain v p ns))
+    ≡ (is_direct e (variable_of v) && are_simple e (numbers_of ns))
 unfolding reference_of
 near-Plain e v p ns = refl
 
-pub near-Located : (e : _) (a : _) (l : _) (v : _) (p : _) (ns : _) → is_near e (reference_of (R.Located' a l v p ns)) ≡ false
+pub near-Located : (e : _) (a : _) (l : _) (v : _) (p : _) (ns : _) → is_near e (reference_of (R.Located' a l v p ns))
+    ≡ false
 unfolding reference_of
 near-Located e a l v p ns = refl
 
@@ -83,7 +95,8 @@ pub written-From : (e : _) (c : _) (a : _) (xs : _) → is_written_last e (point
 unfolding pointer_of
 written-From e c a xs = refl
 
-pub written-AddressOf : (e : _) (a : _) (r : _) → is_written_last e (pointer_of (P.AddressOf' a r)) ≡ tells_no_extent e (reference_of r)
+pub written-AddressOf : (e : _) (a : _) (r : _) → is_written_last e (pointer_of (P.AddressOf' a r))
+    ≡ tells_no_extent e (reference_of r)
 unfolding pointer_of
 written-AddressOf e a r = written_is e (reference_of r)
 
@@ -91,50 +104,61 @@ pub written-Into : (e : _) (a : _) (o : _) (area : _) → is_written_last e (poi
 unfolding pointer_of
 written-Into e a o area = refl
 
-pub extent-Plain : (e : _) (v : _) (p : _) (ns : _) → tells_no_extent e (reference_of (R.Plain v p ns)) ≡ not (is_referred e (variable_of v) (part_of p))
+pub extent-Plain : (e : _) (v : _) (p : _) (ns : _) → tells_no_extent e (reference_of (R.Plain v p ns))
+    ≡ not (is_referred e (variable_of v) (part_of p))
 unfolding reference_of tells_no_extent
 extent-Plain e v p ns = refl
 
-pub extent-Located : (e : _) (a : _) (l : _) (v : _) (p : _) (ns : _) → tells_no_extent e (reference_of (R.Located' a l v p ns)) ≡ not (is_referred e (variable_of v) (part_of p))
+pub extent-Located : (e : _) (a : _) (l : _) (v : _) (p : _) (ns : _)
+    → tells_no_extent e (reference_of (R.Located' a l v p ns)) ≡ not (is_referred e (variable_of v) (part_of p))
 unfolding reference_of tells_no_extent
 extent-Located e a l v p ns = refl
 
-pub ruleset written = (written-Null, written-In, written-From, written-AddressOf, written-Into, extent-Plain, extent-Located)
+pub ruleset written = (written-Null, written-In, written-From, written-AddressOf, written-Into, extent-Plain,
+    extent-Located)
 
 pub pointer-Some : (e : _) (t : _) (r : _) (x : _) (z : _) → pointer_assigned e t r x (Some z) ≡ pointer_to e t z x
 unfolding pointer_assigned
 pointer-Some e t r x z = refl
 
-pub pointer-None : (e : _) (t : _) (r : _) (x : _) → pointer_assigned e t r x None ≡ pointer_code e t x ++ name_put e t r
+pub pointer-None : (e : _) (t : _) (r : _) (x : _) → pointer_assigned e t r x None ≡ pointer_code e t x
+    ++ name_put e t r
 unfolding pointer_assigned
 pointer-None e t r x = refl
 
-assigned_is : (e : Environment) (t : Taken) (r : Y.Reference) (x : Y.Pointer) (o : Option ℤ) → name_assigned e t r x o ≡ pointer_assigned e t r x o
+assigned_is : (e : Environment) (t : Taken) (r : Y.Reference) (x : Y.Pointer) (o : Option ℤ) → name_assigned e t r x o
+    ≡ pointer_assigned e t r x o
 unfolding pointer_assigned name_put
 assigned_is e t r x (Some z) = refl
 assigned_is e t r x None = refl
 
-pub assignment-Number : (e : _) (t : _) (r : _) (p : _) (n : _) → assignment_code e t r (stored_of (S.Number p n)) ≡ assigned_code e t r (stored_of (S.Number p n))
+pub assignment-Number : (e : _) (t : _) (r : _) (p : _) (n : _) → assignment_code e t r (stored_of (S.Number p n))
+    ≡ assigned_code e t r (stored_of (S.Number p n))
 unfolding stored_of
 assignment-Number e t r p n = refl
 
-pub assignment-Text : (e : _) (t : _) (r : _) (x : _) → assignment_code e t r (stored_of (S.Text x)) ≡ assigned_code e t r (stored_of (S.Text x))
+pub assignment-Text : (e : _) (t : _) (r : _) (x : _) → assignment_code e t r (stored_of (S.Text x))
+    ≡ assigned_code e t r (stored_of (S.Text x))
 unfolding stored_of
 assignment-Text e t r x = refl
 
-pub assignment-Bit : (e : _) (t : _) (r : _) (x : _) → assignment_code e t r (stored_of (S.Bit x)) ≡ assigned_code e t r (stored_of (S.Bit x))
+pub assignment-Bit : (e : _) (t : _) (r : _) (x : _) → assignment_code e t r (stored_of (S.Bit x))
+    ≡ assigned_code e t r (stored_of (S.Bit x))
 unfolding stored_of
 assignment-Bit e t r x = refl
 
-pub assignment-Pointer : (e : _) (t : _) (r : _) (x : _) → assignment_code e t r (stored_of (S.Pointer x)) ≡ pointer_assigned e t r (pointer_of x) (place_assigned e r (pointer_of x))
+pub assignment-Pointer : (e : _) (t : _) (r : _) (x : _) → assignment_code e t r (stored_of (S.Pointer x))
+    ≡ pointer_assigned e t r (pointer_of x) (place_assigned e r (pointer_of x))
 unfolding stored_of
 assignment-Pointer e t r x = assigned_is e t r (pointer_of x) (place_assigned e r (pointer_of x))
 
-pub assignment-Offset : (e : _) (t : _) (r : _) (x : _) → assignment_code e t r (stored_of (S.Offset x)) ≡ assigned_code e t r (stored_of (S.Offset x))
+pub assignment-Offset : (e : _) (t : _) (r : _) (x : _) → assignment_code e t r (stored_of (S.Offset x))
+    ≡ assigned_code e t r (stored_of (S.Offset x))
 unfolding stored_of
 assignment-Offset e t r x = refl
 
-pub ruleset assignments = (pointer-Some, pointer-None, assignment-Number, assignment-Text, assignment-Bit, assignment-Pointer, assignment-Offset, append_assoc, append-nil)
+pub ruleset assignments = (pointer-Some, pointer-None, assignment-Number, assignment-Text, assignment-Bit,
+    assignment-Pointer, assignment-Offset, append_assoc, append-nil)
 
 -- ---- parts
 
@@ -182,11 +206,14 @@ pub ruleset parts = (first-Plain, first-Located, count-Plain, count-Located, giv
 
 -- ---- records
 
-pub recorded-End : (e : _) (t : _) (w : _) (v : _) (p : _) → subscripts_recorded e t w v p (numbers_of Q.End) ≡ record_stored t 2 zero_register
+pub recorded-End : (e : _) (t : _) (w : _) (v : _) (p : _) → subscripts_recorded e t w v p (numbers_of Q.End)
+    ≡ record_stored t 2 zero_register
 unfolding numbers_of
 recorded-End e t w v p = refl
 
-pub recorded-More : (e : _) (t : _) (w : _) (v : _) (p : _) (a : _) (n : _) (b : _) (ns : _) → subscripts_recorded e t w v p (numbers_of (Q.More' a n b ns)) ≡ counted_recorded e t w (leaf_number e v p.first) (numbers_of (Q.More' a n b ns))
+pub recorded-More : (e : _) (t : _) (w : _) (v : _) (p : _) (a : _) (n : _) (b : _) (ns : _)
+    → subscripts_recorded e t w v p (numbers_of (Q.More' a n b ns))
+    ≡ counted_recorded e t w (leaf_number e v p.first) (numbers_of (Q.More' a n b ns))
 unfolding numbers_of
 recorded-More e t w v p a n b ns = refl
 

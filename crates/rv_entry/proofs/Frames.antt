@@ -1,5 +1,6 @@
 -- The code of frames, register by register and level by level.
-use Rattle.std.proofs.Common.{◌≡◌, ◌<◌, ◌≤◌, ℕ, zero, suc, ◌+◌, ◌-◌, [], ◌∷◌, Option, ◌++◌, refl, sym, ap, ◌∙◌, append_assoc, append-nil, add-one, arith}
+use Rattle.std.proofs.Common.{◌≡◌, ◌<◌, ◌≤◌, ℕ, zero, suc, ◌+◌, ◌-◌, [], ◌∷◌, Option, ◌++◌, refl, sym, ap, ◌∙◌}
+use Rattle.std.proofs.Common.{append_assoc, append-nil, add-one, arith}
 use Rattle.rv_meaning.specs.declared.instr.Register.{Register}
 use Rattle.pli_coding.specs.Registers.{frame_register, held, a0, u1}
 use Rattle.pli_coding.specs.Assembly.{Code}
@@ -11,31 +12,43 @@ use Rattle.rv_entry.specs.Pieces.{display_ended, display_kept, display_read, dis
 
 -- ---- registers
 
-saved_from : (r : Register) (n count : ℕ) → n < count → registers_saved r n (count - n) ≡ register_saved r n ++ registers_saved r (n + 1) (count - (n + 1))
+saved_from : (r : Register) (n count : ℕ) → n < count → registers_saved r n (count - n) ≡ register_saved r n
+    ++ registers_saved r (n + 1) (count - (n + 1))
 unfolding register_saved
 saved_from r n count h =
     ap (registers_saved r n) (one_less n count h)
     ∙ ap (λ m. store_word r (held n) (saved_register n) ++ registers_saved r m (count - (n + 1))) (sym (add-one n))
 
-pub next_saved : (r : Register) (n count : ℕ) (code after target : Code) → n < count → after ≡ code ++ register_saved r n → code ++ registers_saved r n (count - n) ≡ target → after ++ registers_saved r (n + 1) (count - (n + 1)) ≡ target
+pub next_saved : (r : Register) (n count : ℕ) (code after target : Code) → n < count
+    → after ≡ code ++ register_saved r n → code ++ registers_saved r n (count - n) ≡ target
+    → after ++ registers_saved r (n + 1) (count - (n + 1)) ≡ target
 next_saved r n count code after target h a is =
-    step code after (register_saved r n) (registers_saved r (n + 1) (count - (n + 1))) (registers_saved r n (count - n)) target a (saved_from r n count h) is
+    step code after (register_saved r n) (registers_saved r (n + 1) (count - (n + 1)))
+        (registers_saved r n (count - n)) target a (saved_from r n count h) is
 
-pub all_are_saved : (r : Register) (n count : ℕ) (code target : Code) → count ≤ n → code ++ registers_saved r n (count - n) ≡ target → code ≡ target
-all_are_saved r n count code target h is = sym (append-nil code) ∙ ap (λ m. code ++ registers_saved r n m) (sym (nothing n count h)) ∙ is
+pub all_are_saved : (r : Register) (n count : ℕ) (code target : Code) → count ≤ n
+    → code ++ registers_saved r n (count - n) ≡ target → code ≡ target
+all_are_saved r n count code target h is = sym (append-nil code)
+    ∙ ap (λ m. code ++ registers_saved r n m) (sym (nothing n count h)) ∙ is
 
-restored_from : (n count : ℕ) → n < count → registers_restored n (count - n) ≡ register_restored n ++ registers_restored (n + 1) (count - (n + 1))
+restored_from : (n count : ℕ) → n < count → registers_restored n (count - n) ≡ register_restored n
+    ++ registers_restored (n + 1) (count - (n + 1))
 unfolding register_restored
 restored_from n count h =
     ap (registers_restored n) (one_less n count h)
-    ∙ ap (λ m. load_word (held n) frame_register (saved_register n) ++ registers_restored m (count - (n + 1))) (sym (add-one n))
+    ∙ ap (λ m. load_word (held n) frame_register (saved_register n) ++ registers_restored m (count - (n + 1)))
+        (sym (add-one n))
 
-pub next_restored : (n count : ℕ) (code after target : Code) → n < count → after ≡ code ++ register_restored n → code ++ registers_restored n (count - n) ≡ target → after ++ registers_restored (n + 1) (count - (n + 1)) ≡ target
+pub next_restored : (n count : ℕ) (code after target : Code) → n < count → after ≡ code ++ register_restored n
+    → code ++ registers_restored n (count - n) ≡ target → after ++ registers_restored (n + 1) (count - (n + 1)) ≡ target
 next_restored n count code after target h a is =
-    step code after (register_restored n) (registers_restored (n + 1) (count - (n + 1))) (registers_restored n (count - n)) target a (restored_from n count h) is
+    step code after (register_restored n) (registers_restored (n + 1) (count - (n + 1)))
+        (registers_restored n (count - n)) target a (restored_from n count h) is
 
-pub all_are_restored : (n count : ℕ) (code target : Code) → count ≤ n → code ++ registers_restored n (count - n) ≡ target → code ≡ target
-all_are_restored n count code target h is = sym (append-nil code) ∙ ap (λ m. code ++ registers_restored n m) (sym (nothing n count h)) ∙ is
+pub all_are_restored : (n count : ℕ) (code target : Code) → count ≤ n → code ++ registers_restored n (count - n)
+    ≡ target → code ≡ target
+all_are_restored n count code target h is = sym (append-nil code)
+    ∙ ap (λ m. code ++ registers_restored n m) (sym (nothing n count h)) ∙ is
 
 -- ---- the display
 
@@ -69,7 +82,9 @@ some_level (suc outer) h = ap (display_copied 0) (omega arith)
 
 pub begun-is : (words level parameters : ℕ) (saved : Option ℕ)
     → frame_begun words level parameters saved
-    ≡ frame_placed words ++ (saved_if saved ++ (frame_linked ++ (display_made level ++ (frame_measured ++ stack_raised level parameters))))
+    ≡ frame_placed words
+        ++ (saved_if saved
+        ++ (frame_linked ++ (display_made level ++ (frame_measured ++ stack_raised level parameters))))
 unfolding frame_placed frame_linked frame_measured stack_raised
 begun-is words level parameters saved = refl
 

@@ -1,5 +1,6 @@
 -- The code of each form by that of its parts.
-use Rattle.std.proofs.Common.{◌≡◌, ℕ, suc, ◌+◌, negsuc, true, false, [], ◌∷◌, ◌++◌, refl, sym, ap, ◌∙◌, append_assoc, append-nil, add-one, ℤ, Bool, Option, Some, None, unwrap_or, if◌then◌else◌}
+use Rattle.std.proofs.Common.{◌≡◌, ℕ, suc, ◌+◌, negsuc, true, false, [], ◌∷◌, ◌++◌, refl, sym, ap, ◌∙◌, append_assoc}
+use Rattle.std.proofs.Common.{append-nil, add-one, ℤ, Bool, Option, Some, None, unwrap_or, if◌then◌else◌}
 use Rattle.std.specs.Prelude.{◌&&◌, if◌then◌else◌}
 use Rattle.pli_typing.specs.declared.typed.Number as N
 use Rattle.pli_typing.specs.declared.typed.Numbers as Q
@@ -18,48 +19,87 @@ use Rattle.pli_coding.specs.Assembly.{Code}
 use Rattle.pli_coding.specs.Instructions.{constant, number, service, tested_service}
 use Rattle.pli_coding.specs.Environments.{Environment, Taken, with_words, with_number, save, fetch}
 use Rattle.pli_coding.specs.Arithmetic.{calculated_code, fitted_code, divided_code, signed_code, absolute_code, sign_code, modulo_code, extreme_code, negated_code, combined_code, compared_code}
-use Rattle.pli_coding.specs.Locating.{behind_locator, is_simple, are_simple, waiting_name, NamePlace, FrameName, based_located, based_reached, is_referred, reached, where_standing}
-use Rattle.pli_coding.specs.Expressions.{ArgumentList, BoundAsked, LowerAsked, UpperAsked, ElementsAsked, list_words, list_at, is_copy, name_to_argument, value_to_argument, constant_pushed, number_code, extremes_code, text_code, bit_code, pointer_code, offset_code, reference_code, subscripts_code, asked_code, call_code, arguments_code, argument_code, stored_code, is_null, left_standing, name_checked, name_to_offset as found_to_offset, name_written, own_standing, standing_behind, standing_locator, standing_name, where_waiting, pointer_to, locator_code}
-use Rattle.rv_operation.specs.Pieces.{arguments_entered, bit_constant, bit_pushed, bound_told, element_reached, end_cut, extreme_kept, generations_counted, index_found, name_kept, name_to_offset, null_kept, number_pushed, offset_to_name, offsets_compared, part_given, part_named, result_kept, substring_cut, text_loaded, text_measured, text_to_bit, text_to_number, texts_compared, value_loaded, verified, null_compared, places_compared, standing_named, standing_reached}
-use Rattle.rv_expr.specs.Forms.{both_numbers, both_bits, locator_of, subscripted, address_kept, located_reached, names_told, null_told, offset_told, operand_kept, pointers_compared}
+use Rattle.pli_coding.specs.Locating.{behind_locator, is_simple, are_simple, waiting_name, NamePlace, FrameName}
+use Rattle.pli_coding.specs.Locating.{based_located, based_reached, is_referred, reached, where_standing}
+use Rattle.pli_coding.specs.Expressions.{ArgumentList, BoundAsked, LowerAsked, UpperAsked, ElementsAsked, list_words}
+use Rattle.pli_coding.specs.Expressions.{list_at, is_copy, name_to_argument, value_to_argument, constant_pushed}
+use Rattle.pli_coding.specs.Expressions.{number_code, extremes_code, text_code, bit_code, pointer_code, offset_code}
+use Rattle.pli_coding.specs.Expressions.{reference_code, subscripts_code, asked_code, call_code, arguments_code}
+use Rattle.pli_coding.specs.Expressions.{argument_code, stored_code, is_null, left_standing, name_checked}
+use Rattle.pli_coding.specs.Expressions.{name_to_offset as found_to_offset, name_written, own_standing}
+use Rattle.pli_coding.specs.Expressions.{standing_behind, standing_locator, standing_name, where_waiting, pointer_to}
+use Rattle.pli_coding.specs.Expressions.{locator_code}
+use Rattle.rv_operation.specs.Pieces.{arguments_entered, bit_constant, bit_pushed, bound_told, element_reached}
+use Rattle.rv_operation.specs.Pieces.{end_cut, extreme_kept, generations_counted, index_found, name_kept}
+use Rattle.rv_operation.specs.Pieces.{name_to_offset, null_kept, number_pushed, offset_to_name, offsets_compared}
+use Rattle.rv_operation.specs.Pieces.{part_given, part_named, result_kept, substring_cut, text_loaded, text_measured}
+use Rattle.rv_operation.specs.Pieces.{text_to_bit, text_to_number, texts_compared, value_loaded, verified}
+use Rattle.rv_operation.specs.Pieces.{null_compared, places_compared, standing_named, standing_reached}
+use Rattle.rv_expr.specs.Forms.{both_numbers, both_bits, locator_of, subscripted, address_kept, located_reached}
+use Rattle.rv_expr.specs.Forms.{names_told, null_told, offset_told, operand_kept, pointers_compared}
 use Rattle.rv_operation.specs.Standing.{locator_in}
 
 regroup : (a b c d e : Code) → a ++ (b ++ (c ++ (d ++ e))) ≡ (a ++ (b ++ (c ++ d))) ++ e
 regroup a b c d e = sym (append_assoc a (b ++ (c ++ d)) e ∙ ap (λ u. a ++ u) (append_assoc b (c ++ d) e) ∙ ap (λ u. a ++ (b ++ u)) (append_assoc c d e))
 
-kept_is : (e : Environment) (t : Taken) (p : Y.Pointer) (o : Option ℤ) → where_waiting o (pointer_code e t p) ≡ operand_kept e t p o
+kept_is : (e : Environment) (t : Taken) (p : Y.Pointer) (o : Option ℤ) → where_waiting o (pointer_code e t p)
+    ≡ operand_kept e t p o
 unfolding operand_kept
 kept_is e t p (Some place) = refl
 kept_is e t p None = refl
 
-compared_by : (e : Environment) (t : Taken) (q : Bool) (l r : Y.Pointer) (b : Bool) → (if b then where_waiting (own_standing e l) (pointer_code e t l) ++ null_compared q (unwrap_or (own_standing e l) (waiting_name t)) else where_waiting (left_standing e l r) (pointer_code e t l) ++ (where_waiting (own_standing e r) (pointer_code e (with_words 4 t) r) ++ places_compared q (unwrap_or (left_standing e l r) (waiting_name t)) (unwrap_or (own_standing e r) (waiting_name (with_words 4 t)))))
-    ≡ (if b then null_told e t q l (own_standing e l) else names_told e t q l r (left_standing e l r) (own_standing e r))
+compared_by : (e : Environment) (t : Taken) (q : Bool) (l r : Y.Pointer) (b : Bool)
+    → (if b then where_waiting (own_standing e l) (pointer_code e t l)
+    ++ null_compared q (unwrap_or (own_standing e l) (waiting_name t)) else where_waiting (left_standing e l r)
+    (pointer_code e t l) ++ (where_waiting (own_standing e r) (pointer_code e (with_words 4 t) r)
+    ++ places_compared q (unwrap_or (left_standing e l r) (waiting_name t))
+    (unwrap_or (own_standing e r) (waiting_name (with_words 4 t)))))
+    ≡ (if b then null_told e t q l (own_standing e l) else names_told e t q l r (left_standing e l r)
+        (own_standing e r))
 unfolding null_told names_told
-compared_by e t q l r true = ap (λ u. u ++ null_compared q (unwrap_or (own_standing e l) (waiting_name t))) (kept_is e t l (own_standing e l))
+compared_by e t q l r true = ap (λ u. u ++ null_compared q (unwrap_or (own_standing e l) (waiting_name t)))
+    (kept_is e t l (own_standing e l))
 compared_by e t q l r false =
-    let places = places_compared q (unwrap_or (left_standing e l r) (waiting_name t)) (unwrap_or (own_standing e r) (waiting_name (with_words 4 t))) in
-    ap (λ u. u ++ (where_waiting (own_standing e r) (pointer_code e (with_words 4 t) r) ++ places)) (kept_is e t l (left_standing e l r))
-    ∙ ap (λ u. operand_kept e t l (left_standing e l r) ++ (u ++ places)) (kept_is e (with_words 4 t) r (own_standing e r))
+    let places = places_compared q (unwrap_or (left_standing e l r) (waiting_name t))
+        (unwrap_or (own_standing e r) (waiting_name (with_words 4 t))) in
+    ap (λ u. u ++ (where_waiting (own_standing e r) (pointer_code e (with_words 4 t) r) ++ places))
+        (kept_is e t l (left_standing e l r))
+    ∙ ap (λ u. operand_kept e t l (left_standing e l r) ++ (u ++ places))
+        (kept_is e (with_words 4 t) r (own_standing e r))
 
-compared_is : (e : Environment) (t : Taken) (q : Bool) (l r : Y.Pointer) → bit_code e t (Y.PointersCompared q l r) ≡ pointers_compared e t q l r
+compared_is : (e : Environment) (t : Taken) (q : Bool) (l r : Y.Pointer) → bit_code e t (Y.PointersCompared q l r)
+    ≡ pointers_compared e t q l r
 unfolding pointers_compared null_compared places_compared
 compared_is e t q l r = compared_by e t q l r (is_null r)
 
-at_locator : (e : Environment) (t : Taken) (place : ℤ) (v : Y.Variable) (part : Y.Part) (locator : Y.Locator) (subscripts : Y.Numbers) (o : Option NamePlace) → where_standing o (λ name. name_checked e (based_located e v name) place (is_referred e v part)) (locator_code e t locator ++ name_written e t v part place) ≡ address_kept e t place (Y.Referring v locator part subscripts) o
+at_locator : (e : Environment) (t : Taken) (place : ℤ) (v : Y.Variable) (part : Y.Part) (locator :
+    Y.Locator) (subscripts : Y.Numbers) (o : Option NamePlace)
+    → where_standing o (λ name. name_checked e (based_located e v name) place (is_referred e v part))
+    (locator_code e t locator ++ name_written e t v part place)
+    ≡ address_kept e t place (Y.Referring v locator part subscripts) o
 unfolding address_kept locator_of part_named standing_named
 at_locator e t place v part locator subscripts (Some name) = refl
 at_locator e t place v part locator subscripts None = refl
 
-address_is : (e : Environment) (t : Taken) (place : ℤ) (r : Y.Reference) → pointer_to e t place (Y.AddressOf r) ≡ address_kept e t place r (locator_in e r)
+address_is : (e : Environment) (t : Taken) (place : ℤ) (r : Y.Reference) → pointer_to e t place (Y.AddressOf r)
+    ≡ address_kept e t place r (locator_in e r)
 unfolding locator_in
-address_is e t place (Y.Referring v locator part subscripts) = at_locator e t place v part locator subscripts (standing_locator e locator)
+address_is e t place (Y.Referring v locator part subscripts) =
+    at_locator e t place v part locator subscripts (standing_locator e locator)
 
-at_name : (e : Environment) (t : Taken) (p : Y.Pointer) (area : Y.Variable) (o : Option NamePlace) → where_standing o (λ name. found_to_offset e t name area) (pointer_code e t p ++ found_to_offset e t (FrameName e.level (waiting_name t)) area) ≡ offset_told e t p area o
+at_name : (e : Environment) (t : Taken) (p : Y.Pointer) (area : Y.Variable) (o : Option NamePlace)
+    → where_standing o (λ name. found_to_offset e t name area) (pointer_code e t p
+    ++ found_to_offset e t (FrameName e.level (waiting_name t)) area) ≡ offset_told e t p area o
 unfolding offset_told name_to_offset
 at_name e t p area (Some name) = refl
 at_name e t p area None = refl
 
-at_pointer : (e : Environment) (t : Taken) (p : Y.Pointer) (v : Y.Variable) (part : Y.Part) (subscripts : Y.Numbers) (o : Option NamePlace) → where_standing o (λ name. subscripts_code e t subscripts ++ based_reached e name t v part subscripts) (pointer_code e t p ++ (subscripts_code e (behind_locator v t) subscripts ++ reached e t (behind_locator v t) v part subscripts)) ≡ located_reached e t p v part subscripts o
+at_pointer : (e : Environment) (t : Taken) (p : Y.Pointer) (v : Y.Variable) (part : Y.Part) (subscripts :
+    Y.Numbers) (o : Option NamePlace)
+    → where_standing o (λ name. subscripts_code e t subscripts ++ based_reached e name t v part subscripts)
+    (pointer_code e t p
+    ++ (subscripts_code e (behind_locator v t) subscripts ++ reached e t (behind_locator v t) v part subscripts))
+    ≡ located_reached e t p v part subscripts o
 unfolding located_reached subscripted element_reached standing_reached
 at_pointer e t p v part subscripts (Some name) = refl
 at_pointer e t p v part subscripts None = refl
@@ -245,7 +285,8 @@ pub bit-BitsCompared : (e : _) (t : _) (op : _) (a : _) (l : _) (b : _) (r : _) 
 unfolding bit_of both_bits
 bit-BitsCompared e t op a l b r = regroup (bit_code e t (bit_of l)) (save a0 t) (bit_code e (with_number t) (bit_of r)) (fetch u1 t) (compared_code (comparison_of op))
 
-pub bit-PointersCompared : (e : _) (t : _) (q : _) (a : _) (l : _) (b : _) (r : _) → bit_code e t (bit_of (B.PointersCompared' q a l b r)) ≡ pointers_compared e t q (pointer_of l) (pointer_of r)
+pub bit-PointersCompared : (e : _) (t : _) (q : _) (a : _) (l : _) (b : _) (r : _)
+    → bit_code e t (bit_of (B.PointersCompared' q a l b r)) ≡ pointers_compared e t q (pointer_of l) (pointer_of r)
 unfolding bit_of
 bit-PointersCompared e t q a l b r = compared_is e t q (pointer_of l) (pointer_of r)
 
@@ -269,19 +310,24 @@ pub pointer-Null : (e : _) (t : _) (z : _) → pointer_to e t z (pointer_of (P.N
 unfolding pointer_of null_kept
 pointer-Null e t z = refl
 
-pub pointer-In : (e : _) (t : _) (z : _) (a : _) (r : _) → pointer_to e t z (pointer_of (P.In' a r)) ≡ reference_code e t (reference_of r) ++ name_kept e z (reference_of r)
+pub pointer-In : (e : _) (t : _) (z : _) (a : _) (r : _) → pointer_to e t z (pointer_of (P.In' a r))
+    ≡ reference_code e t (reference_of r) ++ name_kept e z (reference_of r)
 unfolding pointer_of name_kept
 pointer-In e t z a r = refl
 
-pub pointer-From : (e : _) (t : _) (z : _) (c : _) (a : _) (xs : _) → pointer_to e t z (pointer_of (P.From' c a xs)) ≡ call_code e t (Y.Calling c.procedure c.level (arguments_of xs)) ++ result_kept z
+pub pointer-From : (e : _) (t : _) (z : _) (c : _) (a : _) (xs : _) → pointer_to e t z (pointer_of (P.From' c a xs))
+    ≡ call_code e t (Y.Calling c.procedure c.level (arguments_of xs)) ++ result_kept z
 unfolding pointer_of result_kept
 pointer-From e t z c a xs = refl
 
-pub pointer-AddressOf : (e : _) (t : _) (z : _) (a : _) (r : _) → pointer_to e t z (pointer_of (P.AddressOf' a r)) ≡ address_kept e t z (reference_of r) (locator_in e (reference_of r))
+pub pointer-AddressOf : (e : _) (t : _) (z : _) (a : _) (r : _) → pointer_to e t z (pointer_of (P.AddressOf' a r))
+    ≡ address_kept e t z (reference_of r) (locator_in e (reference_of r))
 unfolding pointer_of
 pointer-AddressOf e t z a r = address_is e t z (reference_of r)
 
-pub pointer-Into : (e : _) (t : _) (z : _) (a : _) (o : _) (area : _) → pointer_to e t z (pointer_of (P.Into' a o area)) ≡ offset_code e t (offset_of o) ++ offset_to_name e t z (variable_of area)
+pub pointer-Into : (e : _) (t : _) (z : _) (a : _) (o : _) (area : _)
+    → pointer_to e t z (pointer_of (P.Into' a o area)) ≡ offset_code e t (offset_of o)
+    ++ offset_to_name e t z (variable_of area)
 unfolding pointer_of offset_to_name
 pointer-Into e t z a o area = refl
 
@@ -299,7 +345,8 @@ pub offset-From : (e : _) (t : _) (c : _) (a : _) (xs : _) → offset_code e t (
 unfolding offset_of
 offset-From e t c a xs = refl
 
-pub offset-Into : (e : _) (t : _) (a : _) (p : _) (area : _) → offset_code e t (offset_of (O.Into' a p area)) ≡ offset_told e t (pointer_of p) (variable_of area) (standing_name e (pointer_of p))
+pub offset-Into : (e : _) (t : _) (a : _) (p : _) (area : _) → offset_code e t (offset_of (O.Into' a p area))
+    ≡ offset_told e t (pointer_of p) (variable_of area) (standing_name e (pointer_of p))
 unfolding offset_of
 offset-Into e t a p area = at_name e t (pointer_of p) (variable_of area) (standing_name e (pointer_of p))
 
@@ -309,18 +356,24 @@ pub reference-Plain : (e : _) (t : _) (v : _) (p : _) (ns : _) → reference_cod
 unfolding reference_of subscripted element_reached
 reference-Plain e t v p ns = refl
 
-pub reference-Located : (e : _) (t : _) (a : _) (l : _) (v : _) (p : _) (ns : _) → reference_code e t (reference_of (R.Located' a l v p ns)) ≡ located_reached e t (pointer_of l) (variable_of v) (part_of p) (numbers_of ns) (standing_behind e (pointer_of l) (numbers_of ns))
+pub reference-Located : (e : _) (t : _) (a : _) (l : _) (v : _) (p : _) (ns : _)
+    → reference_code e t (reference_of (R.Located' a l v p ns))
+    ≡ located_reached e t (pointer_of l) (variable_of v) (part_of p) (numbers_of ns)
+    (standing_behind e (pointer_of l) (numbers_of ns))
 unfolding reference_of
 reference-Located e t a l v p ns =
-    at_pointer e t (pointer_of l) (variable_of v) (part_of p) (numbers_of ns) (standing_behind e (pointer_of l) (numbers_of ns))
+    at_pointer e t (pointer_of l) (variable_of v) (part_of p) (numbers_of ns)
+        (standing_behind e (pointer_of l) (numbers_of ns))
 
 pub ruleset references = (reference-Plain, reference-Located, append_assoc, append-nil)
 
-pub reached-Some : (e : _) (t : _) (p : _) (v : _) (part : _) (ns : _) (n : _) → located_reached e t p v part ns (Some n) ≡ subscripts_code e t ns ++ standing_reached e n t v part ns
+pub reached-Some : (e : _) (t : _) (p : _) (v : _) (part : _) (ns : _) (n : _)
+    → located_reached e t p v part ns (Some n) ≡ subscripts_code e t ns ++ standing_reached e n t v part ns
 unfolding located_reached
 reached-Some e t p v part ns n = refl
 
-pub reached-None : (e : _) (t : _) (p : _) (v : _) (part : _) (ns : _) → located_reached e t p v part ns None ≡ pointer_code e t p ++ subscripted e t v part ns
+pub reached-None : (e : _) (t : _) (p : _) (v : _) (part : _) (ns : _) → located_reached e t p v part ns None
+    ≡ pointer_code e t p ++ subscripted e t v part ns
 unfolding located_reached
 reached-None e t p v part ns = refl
 
@@ -336,15 +389,20 @@ pub told-Some : (e : _) (t : _) (p : _) (area : _) (n : _) → offset_told e t p
 unfolding offset_told
 told-Some e t p area n = refl
 
-pub told-None : (e : _) (t : _) (p : _) (area : _) → offset_told e t p area None ≡ pointer_code e t p ++ name_to_offset e t (FrameName e.level (waiting_name t)) area
+pub told-None : (e : _) (t : _) (p : _) (area : _) → offset_told e t p area None ≡ pointer_code e t p
+    ++ name_to_offset e t (FrameName e.level (waiting_name t)) area
 unfolding offset_told
 told-None e t p area = refl
 
-pub null_told-is : (e : _) (t : _) (q : _) (p : _) (z : _) → null_told e t q p z ≡ operand_kept e t p z ++ null_compared q (unwrap_or z (waiting_name t))
+pub null_told-is : (e : _) (t : _) (q : _) (p : _) (z : _) → null_told e t q p z ≡ operand_kept e t p z
+    ++ null_compared q (unwrap_or z (waiting_name t))
 unfolding null_told
 null_told-is e t q p z = refl
 
-pub names_told-is : (e : _) (t : _) (q : _) (l : _) (r : _) (y : _) (z : _) → names_told e t q l r y z ≡ operand_kept e t l y ++ (operand_kept e (with_words 4 t) r z ++ places_compared q (unwrap_or y (waiting_name t)) (unwrap_or z (waiting_name (with_words 4 t))))
+pub names_told-is : (e : _) (t : _) (q : _) (l : _) (r : _) (y : _) (z : _) → names_told e t q l r y z
+    ≡ operand_kept e t l y
+    ++ (operand_kept e (with_words 4 t) r z ++ places_compared q (unwrap_or y (waiting_name t))
+    (unwrap_or z (waiting_name (with_words 4 t))))
 unfolding names_told
 names_told-is e t q l r y z = refl
 
@@ -358,7 +416,8 @@ operand-None e t p = refl
 
 pub ruleset compared = (null_told-is, names_told-is, operand-Some, operand-None, append_assoc, append-nil)
 
-pub ruleset standing = (reached-Some, reached-None, kept-Some, kept-None, told-Some, told-None, append_assoc, append-nil)
+pub ruleset standing = (reached-Some, reached-None, kept-Some, kept-None, told-Some, told-None, append_assoc,
+    append-nil)
 
 pub subscripted-is : (e : _) (t : _) (v : _) (p : _) (ns : _) → subscripted e t v p ns ≡ subscripts_code e (behind_locator v t) ns ++ element_reached e t (behind_locator v t) v p ns
 unfolding subscripted
@@ -368,7 +427,10 @@ pub subscripts-End : (e : _) (t : _) → subscripts_code e t (numbers_of Q.End) 
 unfolding numbers_of
 subscripts-End e t = refl
 
-pub subscripts-More : (e : _) (t : _) (a : _) (n : _) (b : _) (ns : _) → subscripts_code e t (numbers_of (Q.More' a n b ns)) ≡ (if is_simple e (number_of n) && are_simple e (numbers_of ns) then [] else number_code e t (number_of n) ++ (save a0 t ++ subscripts_code e (with_number t) (numbers_of ns)))
+pub subscripts-More : (e : _) (t : _) (a : _) (n : _) (b : _) (ns : _)
+    → subscripts_code e t (numbers_of (Q.More' a n b ns))
+    ≡ (if is_simple e (number_of n) && are_simple e (numbers_of ns) then [] else number_code e t (number_of n)
+    ++ (save a0 t ++ subscripts_code e (with_number t) (numbers_of ns)))
 unfolding numbers_of
 subscripts-More e t a n b ns = refl
 

@@ -5,8 +5,10 @@ use Rattle.pli_coding.specs.Registers.{a0, u1}
 use Rattle.pli_coding.specs.Assembly.{Code}
 use Rattle.pli_coding.specs.Environments.{Environment, Taken, with_words, with_number, save, fetch}
 use Rattle.pli_coding.specs.Locating.{NamePlace, FrameName, behind_locator, waiting_name}
-use Rattle.pli_coding.specs.Expressions.{bit_code, is_null, left_standing, locator_code, number_code, own_standing, pointer_code, subscripts_code}
-use Rattle.rv_operation.specs.Pieces.{element_reached, name_to_offset, null_compared, part_named, places_compared, standing_named, standing_reached}
+use Rattle.pli_coding.specs.Expressions.{bit_code, is_null, left_standing, locator_code, number_code, own_standing}
+use Rattle.pli_coding.specs.Expressions.{pointer_code, subscripts_code}
+use Rattle.rv_operation.specs.Pieces.{element_reached, name_to_offset, null_compared, part_named, places_compared}
+use Rattle.rv_operation.specs.Pieces.{standing_named, standing_reached}
 
 -- the left operand in u1 and the right one in a0
 unfoldable pub both_numbers : Environment → Taken → Y.Number → Y.Number → Code
@@ -25,7 +27,8 @@ unfoldable pub locator_of : Environment → Taken → Y.Reference → Code
 locator_of e t (Y.Referring v locator part subscripts) = locator_code e t locator
 
 -- an element of a BASED variable behind its locator, whose name stands there, or waits
-unfoldable pub located_reached : Environment → Taken → Y.Pointer → Y.Variable → Y.Part → Y.Numbers → Option NamePlace → Code
+unfoldable pub located_reached : Environment → Taken → Y.Pointer → Y.Variable → Y.Part → Y.Numbers → Option NamePlace
+    → Code
 located_reached e t p v part subscripts (Some name) =
     subscripts_code e t subscripts ++ standing_reached e name t v part subscripts
 located_reached e t p v part subscripts None = pointer_code e t p ++ subscripted e t v part subscripts
@@ -38,7 +41,8 @@ operand_kept e t p None = pointer_code e t p
 unfoldable pub null_told : Environment → Taken → (equal : Bool) → Y.Pointer → Option ℤ → Code
 null_told e t equal p place = operand_kept e t p place ++ null_compared equal (unwrap_or place (waiting_name t))
 
-unfoldable pub names_told : Environment → Taken → (equal : Bool) → (left right : Y.Pointer) → (place other : Option ℤ) → Code
+unfoldable pub names_told : Environment → Taken → (equal : Bool) → (left right : Y.Pointer) → (place other : Option ℤ)
+    → Code
 names_told e t equal left right place other =
     operand_kept e t left place
     ++ (operand_kept e (with_words 4 t) right other

@@ -1,5 +1,6 @@
 -- Kinds among the leaves of a part.
-use Rattle.std.proofs.Common.{◌≡◌, ◌<◌, ◌+◌, ℕ, Bool, true, false, ◌||◌, List, ◌∷◌, map, length, get_or, take, drop, refl, sym, ap, ◌∙◌}
+use Rattle.std.proofs.Common.{◌≡◌, ◌<◌, ◌+◌, ℕ, Bool, true, false, ◌||◌, List, ◌∷◌, map, length, get_or, take, drop}
+use Rattle.std.proofs.Common.{refl, sym, ap, ◌∙◌}
 use Rattle.std.specs.List.{list_any, take-map, drop-map}
 use Rattle.rv_meaning.specs.declared.image.TableKind.{TableKind}
 use Rattle.pli_typing.specs.declared.typed.Leaf.{Leaf}

@@ -9,15 +9,18 @@ use Rattle.rv_operation.specs.Standing.{leaf_standing, locator_in}
 
 -- ---- references
 
-pub in-Plain : (e : _) (v : _) (p : _) → standing_in e (reference_of (R.Plain v p Q.End)) ≡ leaf_standing e (variable_of v) (part_of p).first
+pub in-Plain : (e : _) (v : _) (p : _) → standing_in e (reference_of (R.Plain v p Q.End))
+    ≡ leaf_standing e (variable_of v) (part_of p).first
 unfolding reference_of numbers_of
 in-Plain e v p = refl
 
-pub in-Element : (e : _) (v : _) (p : _) (a : _) (n : _) (b : _) (ns : _) → standing_in e (reference_of (R.Plain v p (Q.More' a n b ns))) ≡ None
+pub in-Element : (e : _) (v : _) (p : _) (a : _) (n : _) (b : _) (ns : _)
+    → standing_in e (reference_of (R.Plain v p (Q.More' a n b ns))) ≡ None
 unfolding reference_of numbers_of
 in-Element e v p a n b ns = refl
 
-pub in-Located : (e : _) (a : _) (l : _) (v : _) (p : _) (ns : _) → standing_in e (reference_of (R.Located' a l v p ns)) ≡ None
+pub in-Located : (e : _) (a : _) (l : _) (v : _) (p : _) (ns : _)
+    → standing_in e (reference_of (R.Located' a l v p ns)) ≡ None
 unfolding reference_of
 in-Located e a l v p ns = refl
 
@@ -25,7 +28,8 @@ pub locator-Plain : (e : _) (v : _) (p : _) (ns : _) → locator_in e (reference
 unfolding reference_of locator_in
 locator-Plain e v p ns = refl
 
-pub locator-Located : (e : _) (a : _) (l : _) (v : _) (p : _) (ns : _) → locator_in e (reference_of (R.Located' a l v p ns)) ≡ standing_name e (pointer_of l)
+pub locator-Located : (e : _) (a : _) (l : _) (v : _) (p : _) (ns : _)
+    → locator_in e (reference_of (R.Located' a l v p ns)) ≡ standing_name e (pointer_of l)
 unfolding reference_of locator_in
 locator-Located e a l v p ns = refl
 

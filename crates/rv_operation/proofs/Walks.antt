@@ -38,19 +38,23 @@ pub given-More : (a : _) (n : _) (b : _) (ns : _) → given_in (numbers_of (Q.Mo
 unfolding numbers_of
 given-More a n b ns = sym (add-one (given_in (numbers_of ns)))
 
-pub named-Plain : (e : _) (t : _) (z : _) (v : _) (p : _) (ns : _) → part_named e t z (reference_of (R.Plain v p ns)) ≡ name_written e t (variable_of v) (part_of p) z
+pub named-Plain : (e : _) (t : _) (z : _) (v : _) (p : _) (ns : _) → part_named e t z (reference_of (R.Plain v p ns))
+    ≡ name_written e t (variable_of v) (part_of p) z
 unfolding reference_of part_named
 named-Plain e t z v p ns = refl
 
-pub named-Located : (e : _) (t : _) (z : _) (a : _) (l : _) (v : _) (p : _) (ns : _) → part_named e t z (reference_of (R.Located' a l v p ns)) ≡ name_written e t (variable_of v) (part_of p) z
+pub named-Located : (e : _) (t : _) (z : _) (a : _) (l : _) (v : _) (p : _) (ns : _)
+    → part_named e t z (reference_of (R.Located' a l v p ns)) ≡ name_written e t (variable_of v) (part_of p) z
 unfolding reference_of part_named
 named-Located e t z a l v p ns = refl
 
-pub standing-Plain : (e : _) (n : _) (z : _) (v : _) (p : _) (ns : _) → standing_named e n z (reference_of (R.Plain v p ns)) ≡ based_named e n z (variable_of v) (part_of p)
+pub standing-Plain : (e : _) (n : _) (z : _) (v : _) (p : _) (ns : _)
+    → standing_named e n z (reference_of (R.Plain v p ns)) ≡ based_named e n z (variable_of v) (part_of p)
 unfolding reference_of standing_named
 standing-Plain e n z v p ns = refl
 
-pub standing-Located : (e : _) (n : _) (z : _) (a : _) (l : _) (v : _) (p : _) (ns : _) → standing_named e n z (reference_of (R.Located' a l v p ns)) ≡ based_named e n z (variable_of v) (part_of p)
+pub standing-Located : (e : _) (n : _) (z : _) (a : _) (l : _) (v : _) (p : _) (ns : _)
+    → standing_named e n z (reference_of (R.Located' a l v p ns)) ≡ based_named e n z (variable_of v) (part_of p)
 unfolding reference_of standing_named
 standing-Located e n z a l v p ns = refl
 
@@ -94,6 +98,7 @@ pub texts-More : (a : _) (x : _) (b : _) (xs : _) → text_count (arguments_of (
 unfolding arguments_of
 texts-More a x b xs = turned (text_copies (argument_of x)) (text_count (arguments_of xs))
 
-pub ruleset parts = (type-Plain, type-Located, place-Plain, place-Located, given-End, given-More, named-Plain, named-Located, standing-Plain, standing-Located, told-Plain, told-Located, part_given-Plain, part_given-Located)
+pub ruleset parts = (type-Plain, type-Located, place-Plain, place-Located, given-End, given-More, named-Plain,
+    named-Located, standing-Plain, standing-Located, told-Plain, told-Located, part_given-Plain, part_given-Located)
 
 pub ruleset lists = (last-End, last-More, list-End, list-More, texts-End, texts-More, append_assoc, append-nil)

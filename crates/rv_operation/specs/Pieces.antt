@@ -10,10 +10,17 @@ use Rattle.pli_coding.specs.Assembly.{ProcedureEntry, CallTo, Item, Code}
 use Rattle.pli_coding.specs.Instructions.{immediate, load_word, registers, add, move, small, number, plus, store_word, service, tested_service, skip_where}
 use Rattle.pli_coding.specs.Frames.{words_place}
 use Rattle.pli_coding.specs.Environments.{Environment, Taken, fetch}
-use Rattle.pli_coding.specs.Locating.{Address, controlled_number, in_own_frame, loaded, name_copied, own_place, place_behind, reached, text_pushed, NamePlace, based_located, based_reached, is_referred}
-use Rattle.pli_coding.specs.Arithmetic.{order_of_sum, overflow_raised, quotient_checked, narrowed_code, absolute_bits, compared_code, equal_code, extreme_code}
+use Rattle.pli_coding.specs.Locating.{Address, controlled_number, in_own_frame, loaded, name_copied, own_place}
+use Rattle.pli_coding.specs.Locating.{place_behind, reached, text_pushed, NamePlace, based_located, based_reached}
+use Rattle.pli_coding.specs.Locating.{is_referred}
+use Rattle.pli_coding.specs.Arithmetic.{order_of_sum, overflow_raised, quotient_checked, narrowed_code, absolute_bits}
+use Rattle.pli_coding.specs.Arithmetic.{compared_code, equal_code, extreme_code}
 use Rattle.pli_coding.specs.Storing.{area_name}
-use Rattle.pli_coding.specs.Expressions.{ArgumentList, BoundAsked, address_in, all_converted_last, argument_stored, by_reference, dimension_code, entered, frame_given, is_text, name_written, names_compared as compared_in_frame, null_name, text_count, type_in, name_checked, name_to_offset as found_to_offset, null_compared as null_in_frame}
+use Rattle.pli_coding.specs.Expressions.{ArgumentList, BoundAsked, address_in, all_converted_last, argument_stored}
+use Rattle.pli_coding.specs.Expressions.{by_reference, dimension_code, entered, frame_given, is_text, name_written}
+use Rattle.pli_coding.specs.Expressions.{names_compared as compared_in_frame, null_name, text_count, type_in}
+use Rattle.pli_coding.specs.Expressions.{name_checked, name_to_offset as found_to_offset}
+use Rattle.pli_coding.specs.Expressions.{null_compared as null_in_frame}
 
 -- ---- arithmetic
 

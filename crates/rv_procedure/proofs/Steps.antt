@@ -1,5 +1,6 @@
 -- What each step of procedures and routines gives, by what is known of it.
-use Rattle.std.proofs.Common.{◌≡◌, ℕ, ◌+◌, ◌<◌, Bool, true, false, List, [], ◌∷◌, ◌++◌, length, map, Some, drop, get_or, refl, sym, ap, ◌∙◌, append_assoc, append-nil, add-one, arith}
+use Rattle.std.proofs.Common.{◌≡◌, ℕ, ◌+◌, ◌<◌, Bool, true, false, List, [], ◌∷◌, ◌++◌, length, map, Some, drop}
+use Rattle.std.proofs.Common.{get_or, refl, sym, ap, ◌∙◌, append_assoc, append-nil, add-one, arith}
 use Rattle.std.specs.Prelude.{◌==◌, min, if◌then◌else◌}
 use Rattle.pli_typing.specs.declared.typed.DeclaredVariable.{DeclaredVariable}
 use Rattle.pli_typing.specs.declared.typed.Evaluation.{Evaluation}
@@ -45,8 +46,11 @@ none_is_main t n h = none_among (program_of t).variables t.procedures.items n h
 
 -- ---- procedures
 
-pub begun : (e : Environment) (head : Y.BlockHead) (words held : ℕ) (ps : List ℕ) (c0 c1 c2 c3 c4 c5 c6 c7 c8 : Code) → c1 ≡ c0 ++ frame_begun words head.level (length ps) (Some held) → c2 ≡ c1 ++ list_taken → c3 ≡ c2 ++ parameters_given head.level 0 ps → c4 ≡ c3 ++ texts_counted
-    → c5 ≡ c4 ++ block_entered 0 head.line → c6 ≡ c5 ++ arguments_copied e ps → c7 ≡ c6 ++ variables_code e head.line → c8 ≡ c7 ++ act_code head.line → c8 ≡ c0 ++ procedure_begun e head words held ps
+pub begun : (e : Environment) (head : Y.BlockHead) (words held : ℕ) (ps : List ℕ) (c0 c1 c2 c3 c4 c5 c6 c7 c8 : Code)
+    → c1 ≡ c0 ++ frame_begun words head.level (length ps) (Some held) → c2 ≡ c1 ++ list_taken
+    → c3 ≡ c2 ++ parameters_given head.level 0 ps → c4 ≡ c3 ++ texts_counted
+    → c5 ≡ c4 ++ block_entered 0 head.line → c6 ≡ c5 ++ arguments_copied e ps → c7 ≡ c6 ++ variables_code e head.line
+        → c8 ≡ c7 ++ act_code head.line → c8 ≡ c0 ++ procedure_begun e head words held ps
 begun e head words held ps c0 c1 c2 c3 c4 c5 c6 c7 c8 e1 e2 e3 e4 e5 e6 e7 e8 =
     let p1 : Code = frame_begun words head.level (length ps) (Some held) in
     let p3 : Code = parameters_given head.level 0 ps in
@@ -62,8 +66,12 @@ begun e head words held ps c0 c1 c2 c3 c4 c5 c6 c7 c8 e1 e2 e3 e4 e5 e6 e7 e8 =
     let a2' : c8 ≡ c1 ++ (list_taken ++ (p3 ++ (texts_counted ++ (p5 ++ (p6 ++ (p7 ++ p8)))))) = behind c1 c2 c8 list_taken (p3 ++ (texts_counted ++ (p5 ++ (p6 ++ (p7 ++ p8))))) e2 a3' in
     behind c0 c1 c8 p1 (list_taken ++ (p3 ++ (texts_counted ++ (p5 ++ (p6 ++ (p7 ++ p8)))))) e1 a2'
 
-pub procedure_is : (code after : Code) (e inner : Environment) (p : Procedure) (words held : ℕ) → inner ≡ procedure_environment (block_head_of p.block.head) e → words ≡ block_words inner p.block.head.number (stmts_words (stmts_of p.block.body)) → held ≡ held_with inner.program words (stmts_of p.block.body)
-    → after ≡ code ++ procedure_with inner (block_head_of p.block.head) (stmts_of p.block.body) words held (procedure_of p).parameters (procedure_of p).result
+pub procedure_is : (code after : Code) (e inner : Environment) (p : Procedure) (words held : ℕ)
+    → inner ≡ procedure_environment (block_head_of p.block.head) e
+    → words ≡ block_words inner p.block.head.number (stmts_words (stmts_of p.block.body))
+    → held ≡ held_with inner.program words (stmts_of p.block.body)
+    → after ≡ code ++ procedure_with inner (block_head_of p.block.head) (stmts_of p.block.body) words held
+        (procedure_of p).parameters (procedure_of p).result
     → after ≡ code ++ procedure_of_block e (procedure_of p).block (procedure_of p).parameters (procedure_of p).result
 unfolding procedure_with
 procedure_is code after e inner p words held is n k h =
@@ -71,8 +79,10 @@ procedure_is code after e inner p words held is n k h =
     let body = stmts_of p.block.body in
     h
     ∙ ap (λ m. code ++ procedure_with inner head body words m (procedure_of p).parameters (procedure_of p).result) k
-    ∙ ap (λ m. code ++ procedure_with inner head body m (held_with inner.program m body) (procedure_of p).parameters (procedure_of p).result) n
-    ∙ ap (λ i. code ++ procedure_with i head body (block_words i p.block.head.number (stmts_words body)) (block_held i p.block.head.number body) (procedure_of p).parameters (procedure_of p).result) is
+    ∙ ap (λ m. code ++ procedure_with inner head body m (held_with inner.program m body) (procedure_of p).parameters
+        (procedure_of p).result) n
+    ∙ ap (λ i. code ++ procedure_with i head body (block_words i p.block.head.number (stmts_words body))
+        (block_held i p.block.head.number body) (procedure_of p).parameters (procedure_of p).result) is
 
 pub next_procedure : (e : Environment) (xs : List Procedure) (i : ℕ) (x : Procedure) (code after target : Code) → i < length xs → x ≡ get_or xs i x → after ≡ code ++ procedure_of_block e (procedure_of x).block (procedure_of x).parameters (procedure_of x).result
     → code ++ procedures_code e (map procedure_of (drop i xs)) ≡ target → after ++ procedures_code e (map procedure_of (drop (i + 1) xs)) ≡ target
@@ -89,7 +99,10 @@ pub extents_at : (code after : Code) (e : Environment) (index : ℕ) (v : Y.Vari
 unfolding extents_told
 extents_at code after e index v t is n h = h ∙ ap (λ u. code ++ extents_code e t (declaration_of e u)) is ∙ ap (λ u. code ++ extents_code e u (declared_at e e.block index)) n
 
-pub routine_whole : (e : Environment) (index words held : ℕ) (d : Y.DeclaredVariable) (c0 c1 c2 c3 c4 c5 : Code) → c1 ≡ c0 ++ routine_marked e.block index → c2 ≡ c1 ++ frame_begun words e.level 0 (Some held) → c3 ≡ c2 ++ extents_told e index → c4 ≡ c3 ++ amounts_given d → c5 ≡ c4 ++ frame_returned words held → held ≡ min held_registers words
+pub routine_whole : (e : Environment) (index words held : ℕ) (d : Y.DeclaredVariable) (c0 c1 c2 c3 c4 c5 : Code)
+    → c1 ≡ c0 ++ routine_marked e.block index → c2 ≡ c1 ++ frame_begun words e.level 0 (Some held)
+    → c3 ≡ c2 ++ extents_told e index → c4 ≡ c3 ++ amounts_given d → c5 ≡ c4 ++ frame_returned words held
+    → held ≡ min held_registers words
     → c5 ≡ c0 ++ routine_with e index words d
 unfolding routine_with
 routine_whole e index words held d c0 c1 c2 c3 c4 c5 e1 e2 e3 e4 e5 kept =

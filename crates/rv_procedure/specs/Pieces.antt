@@ -25,10 +25,12 @@ list_taken = move u5 a1 ∷ []
 abbrev pub texts_counted : Code
 texts_counted = move a3 a2 ∷ []
 
-unfoldable pub procedure_with : Environment → Y.BlockHead → Y.Stmts → (words held : ℕ) → List ℕ → Option Y.LeafType → Code
+unfoldable pub procedure_with : Environment → Y.BlockHead → Y.Stmts → (words held : ℕ) → List ℕ → Option Y.LeafType
+    → Code
 procedure_with e head body words held parameters type =
     Mark (ProcedureEntry head.number)
-    ∷ (procedure_begun e head words held parameters ++ (stmts_code e none_taken body ++ procedure_ended e head words held type))
+    ∷ (procedure_begun e head words held parameters
+        ++ (stmts_code e none_taken body ++ procedure_ended e head words held type))
 
 -- ---- the routine of a variable by its place
 

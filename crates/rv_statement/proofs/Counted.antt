@@ -7,8 +7,10 @@ use Rattle.pli_coding.specs.Registers.{a0, a1, u1, u3}
 use Rattle.pli_coding.specs.Instructions.{number, registers, service, small}
 use Rattle.pli_coding.specs.Environments.{Environment, Taken}
 use Rattle.pli_coding.specs.Arithmetic.{fitted_code}
-use Rattle.pli_coding.specs.Statements.{counter_converted, counter_read, in_turns, number_started, passed_by, step_added}
-use Rattle.rv_statement.specs.Pieces.{act_begun, flag_tested, limit_compared, start_read, step_beside, stepped, summed_by, turned_if_negative}
+use Rattle.pli_coding.specs.Statements.{counter_converted, counter_read, in_turns, number_started, passed_by}
+use Rattle.pli_coding.specs.Statements.{step_added}
+use Rattle.rv_statement.specs.Pieces.{act_begun, flag_tested, limit_compared, start_read, step_beside, stepped}
+use Rattle.rv_statement.specs.Pieces.{summed_by, turned_if_negative}
 
 pub number_started_is : (t : Taken) (p : ℕ) (v : Y.Value) → number_started t p v ≡ start_read t v ++ fitted_code (in_turns t) p
 number_started_is t p (Y.NumberValue q x) = refl
@@ -18,10 +20,12 @@ number_started_is t p (Y.PointerValue x) = refl
 number_started_is t p (Y.OffsetValue a x) = refl
 number_started_is t p Y.NullValue = refl
 
-pub stepped-is : (e : Environment) (t : Taken) (c : Y.Counter) (step : Option ℤ) (line : ℕ) → stepped e t c step line ≡ act_begun line ++ (counter_read e t c ++ (summed_by t step ++ counter_converted t c))
+pub stepped-is : (e : Environment) (t : Taken) (c : Y.Counter) (step : Option ℤ) (line : ℕ) → stepped e t c step line
+    ≡ act_begun line ++ (counter_read e t c ++ (summed_by t step ++ counter_converted t c))
 unfolding act_begun summed_by stepped
 stepped-is e t c step line =
-    sym (append_assoc (number a0 line) (small a1 1 ∷ service 1) (counter_read e t c ++ (step_added t step ++ counter_converted t c)))
+    sym (append_assoc (number a0 line) (small a1 1 ∷ service 1) (counter_read e t c
+        ++ (step_added t step ++ counter_converted t c)))
 
 pub ruleset steps = (stepped-is, append_assoc, append-nil)
 

@@ -25,7 +25,8 @@ some_label (l ∷ ls) some = refl
 
 -- ---- statements
 
-turns_held : (program : Y.Program) (t : Turns) (body : Y.Stmts) (n : ℕ) → stmt_held program (do_statement t body n) ≡ stmts_held program body
+turns_held : (program : Y.Program) (t : Turns) (body : Y.Stmts) (n : ℕ) → stmt_held program (do_statement t body n)
+    ≡ stmts_held program body
 turns_held program (OneTurn r s b) body n = refl
 turns_held program (CountedTurns c s l step b) body n = refl
 
@@ -57,7 +58,8 @@ pub held-If : (p : _) (b : _) (a : _) (u : _) (n : _) → stmt_held p (stmt_of (
 unfolding stmt_of
 held-If p b a u n = refl
 
-pub held-IfElse : (p : _) (b : _) (a : _) (u : _) (c : _) (o : _) (n : _) → stmt_held p (stmt_of (S.IfElse' b a u c o n)) ≡ max (stmt_held p (stmt_of u)) (stmt_held p (stmt_of o))
+pub held-IfElse : (p : _) (b : _) (a : _) (u : _) (c : _) (o : _) (n : _)
+    → stmt_held p (stmt_of (S.IfElse' b a u c o n)) ≡ max (stmt_held p (stmt_of u)) (stmt_held p (stmt_of o))
 unfolding stmt_of
 held-IfElse p b a u c o n = refl
 
@@ -65,15 +67,19 @@ pub held-Do : (p : _) (body : _) (n : _) → stmt_held p (stmt_of (S.Do body n))
 unfolding stmt_of
 held-Do p body n = refl
 
-pub held-DoWhile : (p : _) (b : _) (body : _) (n : _) → stmt_held p (stmt_of (S.DoWhile b body n)) ≡ stmts_held p (stmts_of body)
+pub held-DoWhile : (p : _) (b : _) (body : _) (n : _) → stmt_held p (stmt_of (S.DoWhile b body n))
+    ≡ stmts_held p (stmts_of body)
 unfolding stmt_of
 held-DoWhile p b body n = refl
 
-pub held-DoTurns : (p : _) (t : _) (body : _) (n : _) → stmt_held p (stmt_of (S.DoTurns t body n)) ≡ stmts_held p (stmts_of body)
+pub held-DoTurns : (p : _) (t : _) (body : _) (n : _) → stmt_held p (stmt_of (S.DoTurns t body n))
+    ≡ stmts_held p (stmts_of body)
 unfolding stmt_of
 held-DoTurns p t body n = turns_held p (turns_of t) (stmts_of body) n
 
-pub held-Begin : (p : _) (h : _) (body : _) → stmt_held p (stmt_of (S.Begin h body)) ≡ max (max (variables_words (variables_of_block p h.number)) (stmts_words (stmts_of body))) (stmts_held p (stmts_of body))
+pub held-Begin : (p : _) (h : _) (body : _) → stmt_held p (stmt_of (S.Begin h body))
+    ≡ max (max (variables_words (variables_of_block p h.number)) (stmts_words (stmts_of body)))
+    (stmts_held p (stmts_of body))
 unfolding stmt_of
 held-Begin p h body = refl
 
@@ -131,18 +137,25 @@ held-Put p skip pairs n = refl
 
 -- ---- lists
 
-pub list_held-End : (p : _) (labels : _) → stmts_held p (stmts_of (L.End labels)) ≡ labels_held (letters_of (map name_of labels.now))
+pub list_held-End : (p : _) (labels : _) → stmts_held p (stmts_of (L.End labels))
+    ≡ labels_held (letters_of (map name_of labels.now))
 unfolding stmts_of
 list_held-End p labels = refl
 
-pub list_held-More : (p : _) (labels : _) (a : _) (s : _) (b : _) (rest : _) → stmts_held p (stmts_of (L.More' labels a s b rest)) ≡ max (labels_held (letters_of (map name_of labels.now))) (max (stmt_held p (stmt_of s)) (stmts_held p (stmts_of rest)))
+pub list_held-More : (p : _) (labels : _) (a : _) (s : _) (b : _) (rest : _)
+    → stmts_held p (stmts_of (L.More' labels a s b rest)) ≡ max (labels_held (letters_of (map name_of labels.now)))
+    (max (stmt_held p (stmt_of s)) (stmts_held p (stmts_of rest)))
 unfolding stmts_of
 list_held-More p labels a s b rest = refl
 
-pub both_held : (labels first here held under : ℕ) → here ≡ max labels first → labels ≡ held → first ≡ under → here ≡ max held under
+pub both_held : (labels first here held under : ℕ) → here ≡ max labels first → labels ≡ held → first ≡ under
+    → here ≡ max held under
 both_held labels first here held under is l f = is ∙ ap (λ n. max n first) l ∙ ap (λ n. max held n) f
 
 pub one_more : (now labels here rest : ℕ) → max (max now (max labels here)) rest ≡ max now (max labels (max here rest))
 one_more now labels here rest = omega arith
 
-pub ruleset held = (held-Null, held-Assign, held-AssignElements, held-AssignAggregate, held-AssignArea, held-EmptyArea, held-If, held-IfElse, held-Do, held-DoWhile, held-DoTurns, held-Begin, held-OnSystem, held-OnUnit, held-Call, held-Return, held-ReturnValue, held-Goto, held-Stop, held-Signal, held-Revert, held-Allocate, held-Free, held-Get, held-Put)
+pub ruleset held = (held-Null, held-Assign, held-AssignElements, held-AssignAggregate, held-AssignArea,
+    held-EmptyArea, held-If, held-IfElse, held-Do, held-DoWhile, held-DoTurns, held-Begin, held-OnSystem, held-OnUnit,
+    held-Call, held-Return, held-ReturnValue, held-Goto, held-Stop, held-Signal, held-Revert, held-Allocate,
+    held-Free, held-Get, held-Put)

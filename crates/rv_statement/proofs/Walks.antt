@@ -8,7 +8,8 @@ use Rattle.pli_typing.specs.Resolving.{letters_of}
 use Rattle.pli_typing.specs.TypedView.{bit_of, call_of, leaf_type_of, reference_of, stored_of, variable_of}
 use Rattle.pli_typing.specs.TypedStatementView.{allocation_of, block_head_of, freeing_of, get_pair_of, put_pair_of, stmt_of, stmts_of, turns_of}
 use Rattle.pli_coding.specs.Environments.{none_taken}
-use Rattle.pli_coding.specs.Statements.{begin_environment, block_words, in_turns, marked, stmt_code, stmts_code, stmts_words, unit_environment, unit_held, unit_words}
+use Rattle.pli_coding.specs.Statements.{begin_environment, block_words, in_turns, marked, stmt_code, stmts_code}
+use Rattle.pli_coding.specs.Statements.{stmts_words, unit_environment, unit_held, unit_words}
 use Rattle.rv_assignment.specs.Pieces.{aggregate_put, elements_put}
 use Rattle.rv_statement.specs.Pieces.{acted, aggregate_statement, allocate_statement, area_statement, assign_statement, begin_statement, call_statement, count_statement, elements_statement, emptied_statement, free_statement, get_statement, goto_statement, if_else_statement, if_statement, once_statement, put_statement, return_statement, revert_statement, signal_statement, stop_statement, system_statement, turns_statement, unit_statement, value_statement, while_statement}
 
@@ -64,7 +65,11 @@ pub stmt-OnSystem : (e : _) (t : _) (c : _) (n : _) → stmt_code e t (stmt_of (
 unfolding stmt_of acted system_statement
 stmt-OnSystem e t c n = refl
 
-pub stmt-OnUnit : (e : _) (t : _) (c : _) (h : _) (body : _) (n : _) → stmt_code e t (stmt_of (S.OnUnit c h body n)) ≡ unit_statement e c (block_head_of h) (unit_words e (block_head_of h) (block_head_of h).kind (stmts_words (stmts_of body))) (unit_held e (block_head_of h) (block_head_of h).kind (stmts_of body)) (stmts_code (unit_environment (block_head_of h) e) none_taken (stmts_of body)) n
+pub stmt-OnUnit : (e : _) (t : _) (c : _) (h : _) (body : _) (n : _) → stmt_code e t (stmt_of (S.OnUnit c h body n))
+    ≡ unit_statement e c (block_head_of h)
+    (unit_words e (block_head_of h) (block_head_of h).kind (stmts_words (stmts_of body)))
+    (unit_held e (block_head_of h) (block_head_of h).kind (stmts_of body))
+    (stmts_code (unit_environment (block_head_of h) e) none_taken (stmts_of body)) n
 unfolding stmt_of unit_statement
 stmt-OnUnit e t c h body n = refl
 

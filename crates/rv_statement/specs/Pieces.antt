@@ -16,7 +16,12 @@ use Rattle.pli_coding.specs.Storing.{area_code', assignment_code, emptied_code}
 use Rattle.pli_coding.specs.Allocating.{act_code, allocations_code, freeings_code}
 use Rattle.pli_coding.specs.Entries.{block_left, entered_without_texts, frame_begun, frame_ended, registers_restored, variables_code}
 use Rattle.pli_coding.specs.Streams.{get_code, put_code}
-use Rattle.pli_coding.specs.Statements.{begin_code, condition_given, constant_step, count_begun, counter_read, counter_stored, goto_code, goto_outer, if_met, in_turns, limit_place, limit_tested, once_code, one_of, returned_by, signal_code, start_loaded, start_place, step_added, step_place, stepped_code, stmt_code, text_cut, turn_of, turns_code, unit_code, unit_established, unit_mark, unit_variables, value_returned, while_met}
+use Rattle.pli_coding.specs.Statements.{begin_code, condition_given, constant_step, count_begun, counter_read}
+use Rattle.pli_coding.specs.Statements.{counter_stored, goto_code, goto_outer, if_met, in_turns, limit_place}
+use Rattle.pli_coding.specs.Statements.{limit_tested, once_code, one_of, returned_by, signal_code, start_loaded}
+use Rattle.pli_coding.specs.Statements.{start_place, step_added, step_place, stepped_code, stmt_code, text_cut}
+use Rattle.pli_coding.specs.Statements.{turn_of, turns_code, unit_code, unit_established, unit_mark, unit_variables}
+use Rattle.pli_coding.specs.Statements.{value_returned, while_met}
 use Rattle.rv_assignment.specs.Pieces.{aggregate_put, elements_put}
 
 -- ---- RETURN and GOTO
@@ -215,12 +220,14 @@ once_statement e t variable start condition body line =
 unfoldable pub count_statement : Environment → Taken → Y.Counter → Y.Value → Option Y.Number → Y.Number → Option Y.Bit → (body : Code) → (line : ℕ) → Code
 count_statement e t counter start limit step condition body line =
     act_code line
-    ++ (count_begun e t counter start limit step ++ turns_code (turn_of e t counter limit (constant_step step) condition line body))
+    ++ (count_begun e t counter start limit step
+        ++ turns_code (turn_of e t counter limit (constant_step step) condition line body))
 
 unfoldable pub begin_statement : Environment → Y.BlockHead → (words : ℕ) → (body : Code) → Code
 begin_statement e head words body = act_code head.line ++ begin_code e head words body
 
-unfoldable pub unit_statement : Environment → Condition → Y.BlockHead → (words held : ℕ) → (body : Code) → (line : ℕ) → Code
+unfoldable pub unit_statement : Environment → Condition → Y.BlockHead → (words held : ℕ) → (body : Code) → (line : ℕ)
+    → Code
 unit_statement e c head words held body line = act_code line ++ unit_established c (unit_code e head words held body)
 
 -- DO, by what it says of its turns

@@ -17,7 +17,8 @@ use Rattle.rv_stream.specs.Exits.{counted_exit, counted_kept}
 
 put_is : (e : Environment) (t : Taken) (formats : Formats) (r : Y.Reference)
     → counted_put e t formats r
-    ≡ by_distance t (leaf_number e (variable_in r) (part_in r).first) (counted_element_put e t formats (variable_in r) (part_in r))
+    ≡ by_distance t (leaf_number e (variable_in r) (part_in r).first)
+        (counted_element_put e t formats (variable_in r) (part_in r))
 put_is e t formats (Y.Referring v locator part subscripts) = refl
 
 got_is : (e : Environment) (t : Taken) (formats : Formats) (r : Y.Reference)
@@ -40,7 +41,8 @@ put_all e t formats r l before is =
 got_all : (e : Environment) (t : Taken) (formats : Formats) (r : Y.Reference) (l : Y.Leaf) (before : Code)
     → l ≡ leaf_number e (variable_in r) (part_in r).first
     → element_counted (size_of (before ++ save zero_register t)) t l
-    (((before ++ save zero_register t) ++ field_awaited 0) ++ counted_element_got e t formats (variable_in r) (part_in r))
+    (((before ++ save zero_register t) ++ field_awaited 0) ++ counted_element_got e t formats (variable_in r)
+        (part_in r))
     ≡ before ++ counted_kept e t formats r
 got_all e t formats r l before is =
     let inner : Code = counted_element_got e t formats (variable_in r) (part_in r) in
@@ -50,7 +52,8 @@ got_all e t formats r l before is =
 
 -- ---- as they are written, step by step
 
-pub put_whole : (e : Environment) (t : Taken) (formats : Formats) (r : Y.Reference) (v : Y.Variable) (p : Y.Part) (l : Y.Leaf)
+pub put_whole : (e : Environment) (t : Taken) (formats : Formats) (r : Y.Reference) (v : Y.Variable) (p : Y.Part) (l :
+    Y.Leaf)
     (z : Register) (start : ℕ) (before saved each whole : Code)
     → z ≡ zero_register → v ≡ variable_in r → p ≡ part_in r → l ≡ leaf_number e v p.first
     → saved ≡ before ++ save z t → start ≡ size_of saved → each ≡ saved ++ counted_element_put e t formats v p
@@ -59,13 +62,16 @@ put_whole e t formats r v p l z start before saved each whole zero is part leaf 
     last
     ∙ ap (element_counted start t l) every
     ∙ ap (λ n. element_counted n t l (saved ++ counted_element_put e t formats v p)) size
-    ∙ ap (λ c. element_counted (size_of c) t l (c ++ counted_element_put e t formats v p)) (s ∙ ap (λ x. before ++ save x t) zero)
+    ∙ ap (λ c. element_counted (size_of c) t l (c ++ counted_element_put e t formats v p)) (s
+        ∙ ap (λ x. before ++ save x t) zero)
     ∙ ap (λ c. element_counted (size_of (before ++ save zero_register t)) t l ((before ++ save zero_register t) ++ c))
-    (ap (λ u. counted_element_put e t formats u p) is ∙ ap (λ q. counted_element_put e t formats (variable_in r) q) part)
+    (ap (λ u. counted_element_put e t formats u p) is
+        ∙ ap (λ q. counted_element_put e t formats (variable_in r) q) part)
     ∙ put_all e t formats r l before
     (leaf ∙ ap (λ u. leaf_number e u p.first) is ∙ ap (λ (q : Y.Part). leaf_number e (variable_in r) q.first) part)
 
-pub got_whole : (e : Environment) (t : Taken) (formats : Formats) (r : Y.Reference) (v : Y.Variable) (p : Y.Part) (l : Y.Leaf)
+pub got_whole : (e : Environment) (t : Taken) (formats : Formats) (r : Y.Reference) (v : Y.Variable) (p : Y.Part) (l :
+    Y.Leaf)
     (z : Register) (start : ℕ) (before saved awaited each whole : Code)
     → z ≡ zero_register → v ≡ variable_in r → p ≡ part_in r → l ≡ leaf_number e v p.first
     → saved ≡ before ++ save z t → start ≡ size_of saved → awaited ≡ saved ++ field_awaited 0
@@ -77,8 +83,10 @@ got_whole e t formats r v p l z start before saved awaited each whole zero is pa
     ∙ ap (λ n. element_counted n t l ((saved ++ field_awaited 0) ++ counted_element_got e t formats v p)) size
     ∙ ap (λ c. element_counted (size_of c) t l ((c ++ field_awaited 0) ++ counted_element_got e t formats v p))
     (s ∙ ap (λ x. before ++ save x t) zero)
-    ∙ ap (λ c. element_counted (size_of (before ++ save zero_register t)) t l (((before ++ save zero_register t) ++ field_awaited 0) ++ c))
-    (ap (λ u. counted_element_got e t formats u p) is ∙ ap (λ q. counted_element_got e t formats (variable_in r) q) part)
+    ∙ ap (λ c. element_counted (size_of (before ++ save zero_register t)) t l
+        (((before ++ save zero_register t) ++ field_awaited 0) ++ c))
+    (ap (λ u. counted_element_got e t formats u p) is
+        ∙ ap (λ q. counted_element_got e t formats (variable_in r) q) part)
     ∙ got_all e t formats r l before
     (leaf ∙ ap (λ u. leaf_number e u p.first) is ∙ ap (λ (q : Y.Part). leaf_number e (variable_in r) q.first) part)
 

@@ -1,5 +1,6 @@
 -- Lists of what GET reads, and their jumps to the exit.
-use Rattle.std.proofs.Common.{◌≡◌, ◌<◌, ℕ, ◌+◌, ◌-◌, List, [], ◌∷◌, ◌++◌, map, length, get_or, drop, refl, sym, ap, ◌∙◌, subst, arith, append_assoc}
+use Rattle.std.proofs.Common.{◌≡◌, ◌<◌, ℕ, ◌+◌, ◌-◌, List, [], ◌∷◌, ◌++◌, map, length, get_or, drop, refl, sym, ap}
+use Rattle.std.proofs.Common.{◌∙◌, subst, arith, append_assoc}
 use Rattle.pli_language.specs.Tree.{Formats}
 use Rattle.pli_typing.specs.TypedTree as Y
 use Rattle.pli_typing.specs.declared.typed.GetItem.{GetItem}

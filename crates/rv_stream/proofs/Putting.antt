@@ -1,5 +1,6 @@
 -- Lists of what PUT writes, from their front.
-use Rattle.std.proofs.Common.{◌≡◌, ◌<◌, ℕ, ◌+◌, List, [], ◌++◌, map, length, get_or, drop, sym, ap, ◌∙◌, append_assoc, append-nil}
+use Rattle.std.proofs.Common.{◌≡◌, ◌<◌, ℕ, ◌+◌, List, [], ◌++◌, map, length, get_or, drop, sym, ap, ◌∙◌, append_assoc}
+use Rattle.std.proofs.Common.{append-nil}
 use Rattle.pli_language.specs.Tree.{Formats}
 use Rattle.pli_typing.specs.declared.typed.PutItem.{PutItem}
 use Rattle.pli_typing.specs.declared.typed.PutPair.{PutPair}

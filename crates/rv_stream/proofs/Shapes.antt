@@ -1,5 +1,6 @@
 -- Code that differs in the distances of its jumps alone has the same length and size.
-use Rattle.std.proofs.Common.{◌≡◌, ℕ, ◌+◌, Bool, true, false, List, [], ◌∷◌, ◌++◌, length, refl, sym, ap, ◌∙◌, length-append}
+use Rattle.std.proofs.Common.{◌≡◌, ℕ, ◌+◌, Bool, true, false, List, [], ◌∷◌, ◌++◌, length, refl, sym, ap, ◌∙◌}
+use Rattle.std.proofs.Common.{length-append}
 use Rattle.std.specs.Prelude.{if◌then◌else◌}
 use Rattle.pli_language.specs.Tree.{Formats}
 use Rattle.pli_typing.specs.TypedTree as Y
@@ -8,12 +9,15 @@ use Rattle.pli_coding.specs.Assembly.{Code, size_of}
 use Rattle.pli_coding.specs.Instructions.{small}
 use Rattle.pli_coding.specs.Environments.{Environment, Taken, save}
 use Rattle.pli_coding.specs.Storing.{record_code}
-use Rattle.pli_coding.specs.Streams.{Elements, controls_carried_out, counted_got, is_counted, element_got, elements_begun, elements_got, elements_of, field_awaited, item_got, items_got, next_asked, turns}
+use Rattle.pli_coding.specs.Streams.{Elements, controls_carried_out, counted_got, is_counted, element_got}
+use Rattle.pli_coding.specs.Streams.{elements_begun, elements_got, elements_of, field_awaited, item_got, items_got}
+use Rattle.pli_coding.specs.Streams.{next_asked, turns}
 use Rattle.rv_assembly.specs.declared.place.Place.{Place}
 use Rattle.rv_assembly.specs.Places.{jump_place}
 use Rattle.rv_assembly.proofs.Growing.{size_append}
 use Rattle.rv_item.specs.Ends.{end_first, exit_behind}
-use Rattle.rv_stream.specs.Exits.{counted_exit, counted_kept, elements_exit, elements_kept, item_exit, item_kept, items_exits, items_kept, scalar_kept}
+use Rattle.rv_stream.specs.Exits.{counted_exit, counted_kept, elements_exit, elements_kept, item_exit, item_kept}
+use Rattle.rv_stream.specs.Exits.{items_exits, items_kept, scalar_kept}
 use Rattle.rv_item.specs.Turns.{turn_begun}
 
 -- ---- appended code
@@ -55,7 +59,8 @@ same_exit a b h =
     same_jump (a ++ (controls_carried_out ++ (small u1 3 ∷ end_first))) (b ++ (controls_carried_out ++ (small u1 3 ∷ end_first)))
     (alike_before a b (controls_carried_out ++ (small u1 3 ∷ end_first)) h)
 
-same_elements : (e : Environment) (l : Elements) (r : Y.Reference) (a b : Code) → Alike a b → elements_exit e l r a ≡ elements_exit e l r b
+same_elements : (e : Environment) (l : Elements) (r : Y.Reference) (a b : Code) → Alike a b → elements_exit e l r a
+    ≡ elements_exit e l r b
 unfolding elements_exit
 same_elements e l r a b h =
     let begun : Code = record_code e l.taken r ++ (elements_begun l ++ turn_begun (next_asked e l r)) in
@@ -63,14 +68,17 @@ same_elements e l r a b h =
 
 same_counted : (t : Taken) (a b : Code) → Alike a b → counted_exit t a ≡ counted_exit t b
 unfolding counted_exit
-same_counted t a b h = same_exit (a ++ save zero_register t) (b ++ save zero_register t) (alike_before a b (save zero_register t) h)
+same_counted t a b h =
+    same_exit (a ++ save zero_register t) (b ++ save zero_register t) (alike_before a b (save zero_register t) h)
 
 same_aggregate : (counted : Bool) (e : Environment) (t : Taken) (r : Y.Reference) (a b : Code) → Alike a b
-    → (if counted then counted_exit t a else elements_exit e (elements_of t r) r a) ≡ (if counted then counted_exit t b else elements_exit e (elements_of t r) r b)
+    → (if counted then counted_exit t a else elements_exit e (elements_of t r) r a)
+        ≡ (if counted then counted_exit t b else elements_exit e (elements_of t r) r b)
 same_aggregate true e t r a b h = same_counted t a b h
 same_aggregate false e t r a b h = same_elements e (elements_of t r) r a b h
 
-pub same_item : (e : Environment) (t : Taken) (i : Y.GetItem) (a b : Code) → Alike a b → item_exit e t a i ≡ item_exit e t b i
+pub same_item : (e : Environment) (t : Taken) (i : Y.GetItem) (a b : Code) → Alike a b → item_exit e t a i
+    ≡ item_exit e t b i
 same_item e t (Y.GetScalar r) a b h = same_exit a b h
 same_item e t (Y.GetAggregate r) a b h = same_aggregate (is_counted e r) e t r a b h
 
@@ -93,12 +101,15 @@ unfolding elements_kept
 elements_alike e l formats r behind =
     alike_behind (record_code e l.taken r) _ _ (alike_behind (elements_begun l) _ _ (turn_alike l (next_asked e l r) (element_got e l formats r) _))
 
-counted_alike : (e : Environment) (t : Taken) (formats : Formats) (r : Y.Reference) (behind : ℕ) → Alike (counted_got e t formats r behind) (counted_kept e t formats r)
+counted_alike : (e : Environment) (t : Taken) (formats : Formats) (r : Y.Reference) (behind : ℕ)
+    → Alike (counted_got e t formats r behind) (counted_kept e t formats r)
 unfolding counted_kept
-counted_alike e t formats (Y.Referring v locator part subscripts) behind = alike_behind (save zero_register t) _ _ (record { lengths = refl; sizes = refl })
+counted_alike e t formats (Y.Referring v locator part subscripts) behind =
+    alike_behind (save zero_register t) _ _ (record { lengths = refl; sizes = refl })
 
 aggregate_alike : (counted : Bool) (e : Environment) (t : Taken) (formats : Formats) (r : Y.Reference) (behind : ℕ)
-    → Alike (if counted then counted_got e t formats r behind else elements_got e (elements_of t r) formats r behind) (if counted then counted_kept e t formats r else elements_kept e (elements_of t r) formats r)
+    → Alike (if counted then counted_got e t formats r behind else elements_got e (elements_of t r) formats r behind)
+        (if counted then counted_kept e t formats r else elements_kept e (elements_of t r) formats r)
 aggregate_alike true e t formats r behind = counted_alike e t formats r behind
 aggregate_alike false e t formats r behind = elements_alike e (elements_of t r) formats r behind
 

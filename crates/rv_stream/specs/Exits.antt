@@ -8,7 +8,9 @@ use Rattle.pli_coding.specs.Environments.{Environment, Taken, save}
 use Rattle.pli_coding.specs.Locating.{leaf_number}
 use Rattle.pli_coding.specs.Expressions.{type_in}
 use Rattle.pli_coding.specs.Storing.{record_code}
-use Rattle.pli_coding.specs.Streams.{Elements, by_distance, counted_element_got, is_counted, edit_begun, edit_ended, element_got, elements_begun, elements_of, field_awaited, field_stored, for_elements, next_asked}
+use Rattle.pli_coding.specs.Streams.{Elements, by_distance, counted_element_got, is_counted, edit_begun, edit_ended}
+use Rattle.pli_coding.specs.Streams.{element_got, elements_begun, elements_of, field_awaited, field_stored}
+use Rattle.pli_coding.specs.Streams.{for_elements, next_asked}
 use Rattle.rv_assembly.specs.declared.place.Place.{Place}
 use Rattle.rv_assembly.specs.Places.{IsPlace, patched}
 use Rattle.rv_item.specs.Ends.{exit_behind}
@@ -34,10 +36,12 @@ unfoldable pub counted_exit : Taken → (before : Code) → Place
 counted_exit t before = exit_behind (before ++ save zero_register t)
 
 abbrev pub aggregate_kept : Environment → Taken → Formats → Y.Reference → Code
-aggregate_kept e t formats r = if is_counted e r then counted_kept e t formats r else elements_kept e (elements_of t r) formats r
+aggregate_kept e t formats r = if is_counted e r then counted_kept e t formats r else elements_kept e
+    (elements_of t r) formats r
 
 abbrev pub aggregate_exit : Environment → Taken → (before : Code) → Y.Reference → Place
-aggregate_exit e t before r = if is_counted e r then counted_exit t before else elements_exit e (elements_of t r) r before
+aggregate_exit e t before r = if is_counted e r then counted_exit t before else elements_exit e (elements_of t r) r
+    before
 
 abbrev pub item_kept : Environment → Taken → Formats → Y.GetItem → Code
 item_kept e t formats (Y.GetScalar r) = scalar_kept e t formats r

@@ -1,5 +1,7 @@
 use Rattle.std.proofs.Common.{◌+◌, ◌*◌}
-use Rattle.rv_operation.proofs.Weights.{number_weight, numbers_weight, text_weight, bit_weight, pointer_weight, offset_weight, reference_weight, argument_weight, arguments_weight, stored_weight}
+use Rattle.rv_operation.proofs.Weights.{number_weight, numbers_weight, text_weight, bit_weight, pointer_weight}
+use Rattle.rv_operation.proofs.Weights.{offset_weight, reference_weight, argument_weight, arguments_weight}
+use Rattle.rv_operation.proofs.Weights.{stored_weight}
 use Rattle.rv_expr.proofs.+walk.Given as goal
 
 abbrev pub decreases-expression::number_code : goal.decreases-expression::number_code

@@ -7,12 +7,14 @@ use Rattle.pli_parts.proofs.gathering.are_in_elements.Goals as goal
 pub are_short-requires : goal.are_short-requires
 are_short-requires c =
     let run = c.args.run in
-    lengths_within (kind_of c.args.kind) c.in-Some.most (length c.args.memory.now) (standing run.at run.step run.count) c.in-Some.ensures c.requires
+    lengths_within (kind_of c.args.kind) c.in-Some.most (length c.args.memory.now)
+        (standing run.at run.step run.count) c.in-Some.ensures c.requires
 
 pub returns-in-Some : goal.returns-in-Some
 returns-in-Some c =
     let run = c.args.run in
-    c.are_short.ensures ∙ short_so (kind_of c.args.kind) c.in-Some.most c.args.memory.now (standing run.at run.step run.count) c.in-Some.ensures
+    c.are_short.ensures ∙ short_so (kind_of c.args.kind) c.in-Some.most c.args.memory.now
+        (standing run.at run.step run.count) c.in-Some.ensures
 
 pub returns-in-None : goal.returns-in-None
 returns-in-None c =

@@ -7,7 +7,8 @@ pub returns-in_ok-leaf-in-Some : goal.returns-in_ok-leaf-in-Some
 returns-in_ok-leaf-in-Some c =
     let p = c.args.placed.now in
     let given = c.args.given.now in
-    let stand : StandAt p given c.in-Some.run' = subst (λ (o : Option Run). HasElements p given (Ok o)) c.in-Some.is c.in_ok-found.ensures in
+    let stand : StandAt p given c.in-Some.run' = subst (λ (o : Option Run). HasElements p given (Ok o)) c.in-Some.is
+        c.in_ok-found.ensures in
     record {
       kind = c.in_ok-leaf-in-Some.ensures.kind;
       bounds = c.in_ok-leaf-in-Some.ensures.bounds;
@@ -15,4 +16,5 @@ returns-in_ok-leaf-in-Some c =
     }
 
 pub returns-in-None : goal.returns-in-None
-returns-in-None c = subst (λ (o : Option Run). HasElements c.args.placed.now c.args.given.now (Ok o)) c.in-None.is c.in_ok-found.ensures
+returns-in-None c = subst (λ (o : Option Run). HasElements c.args.placed.now c.args.given.now (Ok o)) c.in-None.is
+    c.in_ok-found.ensures

@@ -9,7 +9,9 @@ put_leaf-requires-clause-readable c =
     let l = c.index-leaves-number.result in
     let there : c.loop-number.number < length c.args.leaves.now = grind (arith, c.min-both.ensures, c.loop-number-test.true) in
     let same : length c.args.memory.now ≡ length c.loop-number.memory = omega (arith, c.loop-number.auto.memory) in
-    subst (λ (n : ℕ). IsReadable n l) same (readable_at (length c.args.memory.now) c.args.leaves.now c.loop-number.number l c.requires.readable there c.index-leaves-number.is)
+    subst (λ (n : ℕ). IsReadable n l) same
+        (readable_at (length c.args.memory.now) c.args.leaves.now c.loop-number.number l c.requires.readable there
+        c.index-leaves-number.is)
 
 pub put_leaf-requires-clause-whole : goal.put_leaf-requires-clause-whole
 put_leaf-requires-clause-whole c =

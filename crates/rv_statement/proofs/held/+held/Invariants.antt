@@ -15,5 +15,6 @@ decreases-stmts_held l = stmts_weight l.body.now
 abbrev pub invariant-stmts_held-loop-rest : goal.invariant-stmts_held-loop-rest
 invariant-stmts_held-loop-rest l = record {
   no_larger : stmts_weight l.rest ≤ stmts_weight l.body;
-  counted : max l.count (stmts_held (environment_of l.environment).program (stmts_of l.rest)) ≡ stmts_held (environment_of l.environment).program (stmts_of l.body);
+  counted : max l.count (stmts_held (environment_of l.environment).program (stmts_of l.rest))
+      ≡ stmts_held (environment_of l.environment).program (stmts_of l.body);
 }

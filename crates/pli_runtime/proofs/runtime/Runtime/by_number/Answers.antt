@@ -47,16 +47,22 @@ pub returns-in-15 : goal.returns-in-15
 returns-in-15 g c = rw c.in-15.is (by_memory _ _ _ _ _ _ c.requires.standing c.refer.ensures c.refer.auto.memory)
 
 pub returns-in-16 : goal.returns-in-16
-returns-in-16 g c = rw c.in-16.is (by_held _ _ _ _ _ _ _ c.requires.standing c.push.ensures.answers c.push.auto.memory c.push.ensures.kept c.push.ensures.as_many)
+returns-in-16 g c =
+    rw c.in-16.is (by_held _ _ _ _ _ _ _ c.requires.standing c.push.ensures.answers c.push.auto.memory
+    c.push.ensures.kept c.push.ensures.as_many)
 
 pub returns-in-17 : goal.returns-in-17
-returns-in-17 g c = rw c.in-17.is (by_controlled _ _ _ _ _ _ _ c.requires.standing c.pop.ensures.answers c.pop.auto.memory c.pop.ensures.kept c.pop.ensures.as_many)
+returns-in-17 g c =
+    rw c.in-17.is (by_controlled _ _ _ _ _ _ _ c.requires.standing c.pop.ensures.answers c.pop.auto.memory
+    c.pop.ensures.kept c.pop.ensures.as_many)
 
 pub returns-in-18 : goal.returns-in-18
 returns-in-18 g c = rw c.in-18.is (by_memory _ _ _ _ _ _ c.requires.standing c.newest.ensures c.newest.auto.memory)
 
 pub returns-in-19 : goal.returns-in-19
-returns-in-19 g c = rw c.in-19.is (by_memory _ _ _ _ _ _ c.requires.standing (c.count.ensures g.K.AreaKeeper.keeper c.args.memory.now) refl)
+returns-in-19 g c =
+    rw c.in-19.is (by_memory _ _ _ _ _ _ c.requires.standing (c.count.ensures g.K.AreaKeeper.keeper c.args.memory.now)
+    refl)
 
 pub returns-in-20 : goal.returns-in-20
 returns-in-20 g c = rw c.in-20.is (c.push_text.ensures)
@@ -83,19 +89,23 @@ pub returns-in-27 : goal.returns-in-27
 returns-in-27 g c = rw c.in-27.is (c.store_text.ensures)
 
 pub returns-in-28 : goal.returns-in-28
-returns-in-28 g c = rw c.in-28.is (by_level _ _ _ _ _ _ c.requires.standing c.establish.ensures.answers c.establish.ensures.height)
+returns-in-28 g c =
+    rw c.in-28.is (by_level _ _ _ _ _ _ c.requires.standing c.establish.ensures.answers c.establish.ensures.height)
 
 pub returns-in-29 : goal.returns-in-29
-returns-in-29 g c = rw c.in-29.is (by_level _ _ _ _ _ _ c.requires.standing c.revert.ensures.answers c.revert.ensures.height)
+returns-in-29 g c =
+    rw c.in-29.is (by_level _ _ _ _ _ _ c.requires.standing c.revert.ensures.answers c.revert.ensures.height)
 
 pub returns-in-30 : goal.returns-in-30
-returns-in-30 g c = rw c.in-30.is (by_level _ _ _ _ _ _ c.requires.standing c.raise.ensures.answers c.raise.ensures.height)
+returns-in-30 g c =
+    rw c.in-30.is (by_level _ _ _ _ _ _ c.requires.standing c.raise.ensures.answers c.raise.ensures.height)
 
 pub returns-in-31 : goal.returns-in-31
 returns-in-31 g c = rw c.in-31.is (c.return_from.ensures _ _ c.requires.standing)
 
 pub returns-in-32 : goal.returns-in-32
-returns-in-32 g c = rw c.in-32.is (by_level _ _ _ _ _ _ c.requires.standing c.retry.ensures.answers c.retry.ensures.height)
+returns-in-32 g c =
+    rw c.in-32.is (by_level _ _ _ _ _ _ c.requires.standing c.retry.ensures.answers c.retry.ensures.height)
 
 pub returns-in-33 : goal.returns-in-33
 returns-in-33 g c = rw c.in-33.is (by_level _ _ _ _ _ _ c.requires.standing c.oncode.ensures refl)
@@ -113,7 +123,9 @@ pub returns-in-37 : goal.returns-in-37
 returns-in-37 g c = rw c.in-37.is (by_taking _ _ _ _ _ _ _ _ c.requires.standing c.text.ensures)
 
 pub returns-in-38 : goal.returns-in-38
-returns-in-38 g c = rw c.in-38.is (by_streams _ _ _ _ _ c.args.self.now.flow.shown _ c.requires.standing (λ c'. c.end-in-38.ensures c' c.args.self.now.flow.shown))
+returns-in-38 g c =
+    rw c.in-38.is (by_streams _ _ _ _ _ c.args.self.now.flow.shown _ c.requires.standing
+    (λ c'. c.end-in-38.ensures c' c.args.self.now.flow.shown))
 
 pub returns-in-39 : goal.returns-in-39
 returns-in-39 g c = rw c.in-39.is (by_streams _ _ _ _ _ _ _ c.requires.standing c.skip.ensures)
@@ -127,14 +139,25 @@ returns-in-41 g c = rw c.in-41.is (c.store_scalar.ensures)
 pub returns-in_default : goal.returns-in_default
 returns-in_default g c =
     by_none _ _ _ _ c.requires.standing
-    (served_none c.args.number (call_of g.K.AreaKeeper.keeper c.args.self.now c.args.memory.now) (slice_index c.args.registers.now) c.requires.no_act
-    (λ e. absurd (omega (arith, e))) (λ e. absurd (omega (arith, e))) (λ e. absurd (omega (arith, e))) (λ e. absurd (omega (arith, e)))
-    (λ e. absurd (omega (arith, e))) (λ e. absurd (omega (arith, e))) (λ e. absurd (omega (arith, e))) (λ e. absurd (omega (arith, e)))
-    (λ e. absurd (omega (arith, e))) (λ e. absurd (omega (arith, e))) (λ e. absurd (omega (arith, e))) (λ e. absurd (omega (arith, e)))
-    (λ e. absurd (omega (arith, e))) (λ e. absurd (omega (arith, e))) (λ e. absurd (omega (arith, e))) (λ e. absurd (omega (arith, e)))
-    (λ e. absurd (omega (arith, e))) (λ e. absurd (omega (arith, e))) (λ e. absurd (omega (arith, e))) (λ e. absurd (omega (arith, e)))
-    (λ e. absurd (omega (arith, e))) (λ e. absurd (omega (arith, e))) (λ e. absurd (omega (arith, e))) (λ e. absurd (omega (arith, e)))
-    (λ e. absurd (omega (arith, e))) (λ e. absurd (omega (arith, e))) (λ e. absurd (omega (arith, e))) (λ e. absurd (omega (arith, e)))
-    (λ e. absurd (omega (arith, e))) (λ e. absurd (omega (arith, e))) (λ e. absurd (omega (arith, e))) (λ e. absurd (omega (arith, e)))
-    (λ e. absurd (omega (arith, e))) (λ e. absurd (omega (arith, e))) (λ e. absurd (omega (arith, e))) (λ e. absurd (omega (arith, e)))
-    (λ e. absurd (omega (arith, e))) (λ e. absurd (omega (arith, e))) (λ e. absurd (omega (arith, e))) (λ e. absurd (omega (arith, e))))
+    (served_none c.args.number (call_of g.K.AreaKeeper.keeper c.args.self.now c.args.memory.now)
+        (slice_index c.args.registers.now) c.requires.no_act
+    (λ e. absurd (omega (arith, e))) (λ e. absurd (omega (arith, e))) (λ e. absurd (omega (arith, e)))
+        (λ e. absurd (omega (arith, e)))
+    (λ e. absurd (omega (arith, e))) (λ e. absurd (omega (arith, e))) (λ e. absurd (omega (arith, e)))
+        (λ e. absurd (omega (arith, e)))
+    (λ e. absurd (omega (arith, e))) (λ e. absurd (omega (arith, e))) (λ e. absurd (omega (arith, e)))
+        (λ e. absurd (omega (arith, e)))
+    (λ e. absurd (omega (arith, e))) (λ e. absurd (omega (arith, e))) (λ e. absurd (omega (arith, e)))
+        (λ e. absurd (omega (arith, e)))
+    (λ e. absurd (omega (arith, e))) (λ e. absurd (omega (arith, e))) (λ e. absurd (omega (arith, e)))
+        (λ e. absurd (omega (arith, e)))
+    (λ e. absurd (omega (arith, e))) (λ e. absurd (omega (arith, e))) (λ e. absurd (omega (arith, e)))
+        (λ e. absurd (omega (arith, e)))
+    (λ e. absurd (omega (arith, e))) (λ e. absurd (omega (arith, e))) (λ e. absurd (omega (arith, e)))
+        (λ e. absurd (omega (arith, e)))
+    (λ e. absurd (omega (arith, e))) (λ e. absurd (omega (arith, e))) (λ e. absurd (omega (arith, e)))
+        (λ e. absurd (omega (arith, e)))
+    (λ e. absurd (omega (arith, e))) (λ e. absurd (omega (arith, e))) (λ e. absurd (omega (arith, e)))
+        (λ e. absurd (omega (arith, e)))
+    (λ e. absurd (omega (arith, e))) (λ e. absurd (omega (arith, e))) (λ e. absurd (omega (arith, e)))
+        (λ e. absurd (omega (arith, e))))
