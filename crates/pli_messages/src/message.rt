@@ -1,0 +1,65 @@
+// A refusal of a source, in the words that are asked for.
+
+use crate::ordinary::advice;
+use crate::place::{Excerpt, at_column, first_line, from_line};
+use crate::topic::refusal;
+use pli_language::fault::{SourceFault, SourceKind};
+use std::fmt;
+
+/// How a refusal is told.
+#[derive(Clone, Copy, PartialEq, Eq, Debug)]
+pub enum Style {
+    /// Its line alone: `1:24: 7 Undeclared`.
+    Short,
+    /// Its line, the source's line with a caret, the usual cause and what to do.
+    Long,
+    /// With the file's name, as compilers tell errors to editors: `F:1:24: error: 7 Undeclared`.
+    Gcc,
+}
+
+/// A refusal of a source that stands in a file. Want of memory has no place.
+#[derive(Clone, Copy, Debug)]
+pub struct Message<'a> {
+    pub style: Style,
+    pub file: &'a str,
+    pub source: &'a [u8],
+    pub fault: SourceFault,
+}
+
+impl Message<'_> {
+    fn explain<W: fmt::Write>(&self, f: &mut fmt::Formatter<W>) -> fmt::Result {
+        let rest = from_line(self.source, self.fault.line);
+        let line = first_line(rest);
+        let column = self.fault.column;
+        let excerpt = Excerpt { line, column };
+        write!(f, "\n{excerpt}")?;
+        if let Some(topic) = refusal(self.fault.kind) {
+            write!(f, "\n{topic}")?;
+        }
+        match advice(self.fault.kind, column, at_column(rest, column).1) {
+            Some(instead) => write!(f, "\nInstead: {instead}."),
+            None => Ok(()),
+        }
+    }
+}
+
+impl fmt::Display for Message<'_> {
+    fn fmt<W: fmt::Write>(&self, f: &mut fmt::Formatter<W>) -> fmt::Result {
+        let fault = self.fault;
+        if fault.kind == SourceKind::Memory {
+            return f.write_str("MEMORY");
+        }
+        match self.style {
+            Style::Short => write!(f, "{fault}"),
+            Style::Long => {
+                write!(f, "{fault}")?;
+                self.explain(f)
+            }
+            Style::Gcc => {
+                let SourceFault { line, column, kind } = fault;
+                let file = self.file;
+                write!(f, "{file}:{line}:{column}: error: {kind}")
+            }
+        }
+    }
+}

@@ -1,0 +1,65 @@
+// What users see beside a refusal's line.
+
+use crate::message::{Message, Style};
+use crate::ordinary::advice;
+use crate::topic::{ERRORS, REFUSALS};
+use pli_language::fault::{SourceFault, SourceKind};
+use std::test::Fail;
+
+const SOURCE: &str = "T: PROC OPTIONS(MAIN);\n\tPUT LIST (\u{e9});\nEND;\n";
+
+fn told(rt: &HostRuntime, style: Style, kind: SourceKind) -> Result<String, Fail> {
+    let message = Message {
+        style,
+        file: "t.pli",
+        source: SOURCE.as_bytes(),
+        fault: SourceFault {
+            line: 2,
+            column: 6,
+            kind,
+        },
+    };
+    Ok(message.to_string(rt.alloc())?)
+}
+
+#[test]
+fn refusals_are_told_in_each_style(rt: HostRuntime) -> Result<(), Fail> {
+    let short = told(&rt, Style::Short, SourceKind::LeftOut)?;
+    assert_eq!(rt; short.as_str(), "2:6: 11 LeftOut");
+    let gcc = told(&rt, Style::Gcc, SourceKind::LeftOut)?;
+    assert_eq!(rt; gcc.as_str(), "t.pli:2:6: error: 11 LeftOut");
+    let memory = told(&rt, Style::Long, SourceKind::Memory)?;
+    assert_eq!(rt; memory.as_str(), "MEMORY");
+    let long = told(&rt, Style::Long, SourceKind::LeftOut)?;
+    assert_eq!(rt; long.as_str(), "2:6: 11 LeftOut\n PUT LIST (??);\n     ^\nUsual cause: a form of PL/I that this language leaves out.\nWhat to do: see Porting in GUIDE.\nInstead: EDIT with a format: EDIT (X) (F(6)).");
+    Ok(())
+}
+
+#[test]
+fn ordinary_forms_have_other_words(rt: HostRuntime) -> Result<(), Fail> {
+    for (kind, rest, wanted) in [
+        (SourceKind::Syntax, "put page;", Some("PUT SKIP; the output has lines, and no pages")),
+        (SourceKind::Syntax, "PUT SKIP; PUT PAGE;", None),
+        (SourceKind::Syntax, "PUT 'PAGE' SKIP", None),
+        (SourceKind::LeftOut, "** 2;", Some("a loop that multiplies")),
+        (SourceKind::BadByte, "\"A\"", Some("texts stand in single quotes: 'TEXT'")),
+        (SourceKind::BadByte, "", None),
+        (SourceKind::TypeMismatch, "LIST", None),
+    ] {
+        assert_eq!(rt; advice(kind, 1, rest.as_bytes()), wanted, "{rest}");
+    }
+    let numbered = advice(SourceKind::Syntax, 73, b"00010000");
+    assert!(rt; numbered.is_some());
+    Ok(())
+}
+
+#[test]
+fn topics_are_called_by_number_and_name(rt: HostRuntime) -> Result<(), Fail> {
+    let called = |word: &str| REFUSALS.iter().filter(|topic| topic.is_called(word)).count();
+    for (word, count) in [("11", 1), ("leftout", 1), ("LeftOut", 1), ("0", 0), ("", 0), ("LEFT", 0)] {
+        assert_eq!(rt; called(word), count, "{word}");
+    }
+    assert!(rt; ERRORS.iter().any(|topic| topic.is_called("area") && topic.number == 10));
+    assert!(rt; !ERRORS.iter().any(|topic| topic.is_called("")));
+    Ok(())
+}
