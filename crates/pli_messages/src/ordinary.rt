@@ -338,9 +338,12 @@ impl<'a> Words<'a> {
     // Whether one of the words is this one.
     fn have(self, wanted: &str) -> bool {
         let mut left = self;
-        while let Some(word) = left.take() {
-            if word.eq_ignore_ascii_case(wanted.as_bytes()) {
-                return true;
+        // (a word has one byte at least)
+        for _ in 0..self.rest.len() {
+            match left.take() {
+                Some(word) if word.eq_ignore_ascii_case(wanted.as_bytes()) => return true,
+                Some(_) => {}
+                None => return false,
             }
         }
         false
