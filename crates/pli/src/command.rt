@@ -1,6 +1,7 @@
 // The words of the command line.
 
-use clap::{Arg, ArgAction, Command, value_parser};
+use clap::{Arg, ArgAction, Command, ValueParser, value_parser};
+use pli_messages::message::STYLES;
 use std::alloc::{AllocError, Global};
 
 pub const SOURCE: &str = "SRC";
@@ -15,11 +16,29 @@ pub const BOUND: &str = "bound";
 
 pub const BASE: &str = "base";
 
+pub const MESSAGES: &str = "messages";
+
+pub const NOTES: &str = "notes";
+
+pub const LINES: &str = "source";
+
+pub const WORD: &str = "WORD";
+
 fn source<'a>(alloc: Global) -> Arg<'a> {
     Arg::new(alloc, SOURCE)
         .required(true)
         .action(ArgAction::Set)
         .help("The source")
+}
+
+fn messages<'a>(alloc: Global) -> Arg<'a> {
+    Arg::new(alloc, MESSAGES)
+        .long(MESSAGES)
+        .value_name("STYLE")
+        .action(ArgAction::Set)
+        .value_parser(ValueParser::Names(&STYLES))
+        .default_value("short")
+        .help("How a refusal is told")
 }
 
 // What a run is told beside what it runs.
@@ -56,13 +75,15 @@ fn compile<'a>(alloc: Global) -> Result<Command<'a>, AllocError> {
     Command::new(alloc, "compile")
         .about("Compiles a source to an image")
         .arg(source(alloc))?
+        .arg(messages(alloc))?
         .arg(output)
 }
 
 fn run<'a>(alloc: Global) -> Result<Command<'a>, AllocError> {
     let command = Command::new(alloc, "run")
         .about("Compiles a source and runs it")
-        .arg(source(alloc))?;
+        .arg(source(alloc))?
+        .arg(messages(alloc))?;
     with_run(command, alloc)
 }
 
@@ -78,9 +99,42 @@ fn exec<'a>(alloc: Global) -> Result<Command<'a>, AllocError> {
 }
 
 fn list<'a>(alloc: Global) -> Result<Command<'a>, AllocError> {
+    let notes = Arg::new(alloc, NOTES)
+        .long(NOTES)
+        .action(ArgAction::SetTrue)
+        .help("Procedures, labels, services and lines beside the words");
+    let lines = Arg::new(alloc, LINES)
+        .long(LINES)
+        .action(ArgAction::SetTrue)
+        .help("The source's lines before their words");
     Command::new(alloc, "list")
         .about("Compiles a source and lists its code words")
-        .arg(source(alloc))
+        .arg(source(alloc))?
+        .arg(messages(alloc))?
+        .arg(notes)?
+        .arg(lines)
+}
+
+fn check<'a>(alloc: Global) -> Result<Command<'a>, AllocError> {
+    let sources = Arg::new(alloc, SOURCE)
+        .required(true)
+        .num_args(1..)
+        .action(ArgAction::Append)
+        .help("The sources");
+    Command::new(alloc, "check")
+        .about("Tells of each source whether it is accepted")
+        .arg(sources)?
+        .arg(messages(alloc))
+}
+
+fn explain<'a>(alloc: Global) -> Result<Command<'a>, AllocError> {
+    let word = Arg::new(alloc, WORD)
+        .required(true)
+        .action(ArgAction::Set)
+        .help("A number or a name");
+    Command::new(alloc, "explain")
+        .about("Tells what a refusal, an error or a limit means, and what to do")
+        .arg(word)
 }
 
 /// `pli` with its subcommands.
@@ -92,5 +146,7 @@ pub fn command<'a>(alloc: Global) -> Result<Command<'a>, AllocError> {
         .subcommand(compile(alloc)?)?
         .subcommand(run(alloc)?)?
         .subcommand(exec(alloc)?)?
-        .subcommand(list(alloc)?)
+        .subcommand(list(alloc)?)?
+        .subcommand(check(alloc)?)?
+        .subcommand(explain(alloc)?)
 }

@@ -14,8 +14,8 @@ const SERVICE: u8 = 17;
 /// The service that begins an act, or raises a condition, by its number.
 const ACT: i32 = 1;
 
-/// A call of a service: the word that calls it, the first word of the constants in front of it, the service's number, and the line of
-/// the statement that it begins, if it does.
+/// A call of a service: the word that calls it, the first word of the constants in front of it, the service's
+/// number, and the line of the statement that it begins, if it does.
 #[derive(Clone, Copy, Debug)]
 pub struct Call {
     pub place: usize,
@@ -115,10 +115,16 @@ pub fn calls_of(alloc: Global, words: &[u32]) -> Result<Vec<Call>, AllocError> {
         known = match decode(*word) {
             Some(Instr::Ecall) => {
                 calls.push(known.call(place))?;
-                Constants { from: None, ..known }
+                Constants {
+                    from: None,
+                    ..known
+                }
             }
             Some(instr) => known.behind(place, instr),
-            None => Constants { from: None, ..known },
+            None => Constants {
+                from: None,
+                ..known
+            },
         };
     }
     Ok(calls)

@@ -6,7 +6,6 @@ mod duty;
 pub mod listing;
 mod note;
 mod source;
-pub mod word;
-
 #[cfg(test)]
 mod tests;
+pub mod word;

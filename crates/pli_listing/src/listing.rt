@@ -9,8 +9,8 @@ use rv_assembly::code::Code;
 use rv_image::image::Image;
 use std::alloc::{AllocError, Global};
 
-/// What a listing has beside the words: procedures, labels, services and the lines of acts behind them, and the lines of the source
-/// before the words of their statements.
+/// What a listing has beside the words: procedures, labels, services and the lines of acts behind them, and the
+/// lines of the source before the words of their statements.
 #[derive(Clone, Copy, Debug)]
 pub struct Beside<'a> {
     pub notes: bool,
@@ -87,9 +87,51 @@ fn push_call(text: &mut String, call: Call) -> Result<(), AllocError> {
     }
 }
 
-/// A line for each code word: its offset in bytes and the word, each in eight hexadecimal digits. Where notes are asked for, behind it the
-/// procedure or label that begins there, and for a call of a service its duty, or the line of the statement. Where the source is asked for,
-/// its lines before the words of the statements that begin in them.
+// All that a listing is made from beside the words.
+#[derive(Drop)]
+struct Listing<'a> {
+    notes: Vec<Note>,
+    calls: Vec<Call>,
+    lines: Lines<'a>,
+    beside: Beside<'a>,
+}
+
+impl Listing<'_> {
+    // The line of a word, with what stands before and behind it; how far the listing has come then.
+    fn push_word(
+        &self,
+        text: &mut String,
+        listed: ListedWord,
+        place: usize,
+        from: Behind,
+    ) -> Result<Behind, AllocError> {
+        let mut behind = from;
+        let next = self.calls.get(behind.calls).copied();
+        if let (Some(call), true) = (next, self.beside.source.is_some()) {
+            behind.line = push_line(text, &self.lines, call, place, behind.line)?;
+        }
+        write!(text, "{listed}")?;
+        if self.beside.notes {
+            behind.notes = push_notes(text, &self.notes, behind.notes, place)?;
+        }
+        match next {
+            Some(call) if call.place == place => {
+                behind.calls = behind.calls.saturating_add(1);
+                if self.beside.notes {
+                    push_call(text, call)?;
+                }
+            }
+            _ => {}
+        }
+        text.push('\n')?;
+        Ok(behind)
+    }
+}
+
+/// A line for each code word: its offset in bytes and the word, each in eight hexadecimal digits. Where notes are
+/// asked for, behind it the procedure or label that begins there, and for a call of a service its duty, or the line
+/// of the statement. Where the source is asked for, its lines before the words of the statements that begin in
+/// them.
 pub fn listing(
     alloc: Global,
     names: &[Vec<u8>],
@@ -97,39 +139,24 @@ pub fn listing(
     image: &Image,
     beside: Beside<'_>,
 ) -> Result<String, AllocError> {
-    let notes = notes_of(alloc, names, code)?;
-    let calls = calls_of(alloc, image.code())?;
-    let lines = Lines::new(alloc, beside.source.unwrap_or(&[]))?;
+    let listing = Listing {
+        notes: notes_of(alloc, names, code)?,
+        calls: calls_of(alloc, image.code())?,
+        lines: Lines::new(alloc, beside.source.unwrap_or(&[]))?,
+        beside,
+    };
     let mut text = String::new(alloc);
     let mut behind = Behind {
         notes: 0,
         calls: 0,
         line: 0,
     };
-    for (index, word) in image.code().iter().enumerate() {
-        let next = calls.get(behind.calls).copied();
-        if let (Some(call), true) = (next, beside.source.is_some()) {
-            behind.line = push_line(&mut text, &lines, call, index, behind.line)?;
-        }
-        let offset = 4 * index;
-        let word = ListedWord {
-            offset,
+    for (place, word) in image.code().iter().enumerate() {
+        let listed = ListedWord {
+            offset: 4 * place,
             word: *word,
         };
-        write!(text, "{word}")?;
-        if beside.notes {
-            behind.notes = push_notes(&mut text, &notes, behind.notes, index)?;
-        }
-        match next {
-            Some(call) if call.place == index => {
-                behind.calls = behind.calls.saturating_add(1);
-                if beside.notes {
-                    push_call(&mut text, call)?;
-                }
-            }
-            _ => {}
-        }
-        text.push('\n')?;
+        behind = listing.push_word(&mut text, listed, place, behind)?;
     }
     Ok(text)
 }

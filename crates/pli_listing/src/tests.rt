@@ -36,7 +36,14 @@ fn calls_have_their_line_and_begin_with_their_constants(rt: HostRuntime) -> Resu
 #[test]
 fn lines_are_found_by_number(rt: HostRuntime) -> Result<(), Fail> {
     let lines = Lines::new(rt.alloc(), b"one\n\nthree")?;
-    for (number, wanted) in [(1, "one"), (2, ""), (3, "three"), (4, ""), (0, "one"), (-1, "one")] {
+    for (number, wanted) in [
+        (1, "one"),
+        (2, ""),
+        (3, "three"),
+        (4, ""),
+        (0, "one"),
+        (-1, "one"),
+    ] {
         assert_eq!(rt; lines.line(number), wanted.as_bytes(), "{number}");
     }
     Ok(())

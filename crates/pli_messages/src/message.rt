@@ -17,6 +17,20 @@ pub enum Style {
     Gcc,
 }
 
+/// The words for the styles, the first of which is the one that is taken where none is said.
+pub const STYLES: [&str; 3] = ["short", "long", "gcc"];
+
+impl Style {
+    /// The style that a word asks for.
+    pub fn named(word: &str) -> Style {
+        match word {
+            "long" => Style::Long,
+            "gcc" => Style::Gcc,
+            _ => Style::Short,
+        }
+    }
+}
+
 /// A refusal of a source that stands in a file. Want of memory has no place.
 #[derive(Clone, Copy, Debug)]
 pub struct Message<'a> {

@@ -2,7 +2,8 @@
 
 use pli_language::fault::SourceKind;
 
-/// A form by the word that a refusal of it stands at, a word that the statement has behind it, or none, and what to write instead.
+/// A form by the word that a refusal of it stands at, a word that the statement has behind it, or none, and what to
+/// write instead.
 struct Form {
     at: &'static str,
     has: &'static str,
@@ -377,12 +378,17 @@ fn instead_of_byte(byte: u8) -> Option<&'static str> {
     }
 }
 
-/// What to write instead of what was refused at a column, where the rest of the source from there on begins with a form of ordinary PL/I.
+/// What to write instead of what was refused at a column, where the rest of the source from there on begins with a
+/// form of ordinary PL/I.
 pub fn advice(kind: SourceKind, column: u32, rest: &[u8]) -> Option<&'static str> {
     match kind {
         SourceKind::BadByte => instead_of_byte(*rest.first()?),
-        SourceKind::Syntax | SourceKind::LeftOut | SourceKind::Undeclared => match instead_of(rest) {
-            None if column >= 73 => Some("columns 73 to 80 are read like all others: take sequence numbers out"),
+        SourceKind::Syntax | SourceKind::LeftOut | SourceKind::Undeclared => match instead_of(
+            rest,
+        ) {
+            None if column >= 73 => Some(
+                "columns 73 to 80 are read like all others: take sequence numbers out",
+            ),
             found => found,
         },
         _ => None,

@@ -43,8 +43,8 @@ fn last(bytes: &[u8], most: usize) -> &[u8] {
     bytes.split_at(bytes.len().saturating_sub(most)).1
 }
 
-/// A line with a caret below a column of it. A byte that is no printable ASCII is shown as a blank or a question mark, so that the caret
-/// stands right; of a long line only what stands around the column is shown.
+/// A line with a caret below a column of it. A byte that is no printable ASCII is shown as a blank or a question
+/// mark, so that the caret stands right; of a long line only what stands around the column is shown.
 #[derive(Clone, Copy, Debug)]
 pub struct Excerpt<'a> {
     pub line: &'a [u8],

@@ -1,6 +1,7 @@
 // What users see beside a refusal's line.
 
-use crate::message::{Message, Style};
+use crate::explain::explanation;
+use crate::message::{Message, STYLES, Style};
 use crate::ordinary::advice;
 use crate::topic::{ERRORS, REFUSALS};
 use pli_language::fault::{SourceFault, SourceKind};
@@ -31,18 +32,31 @@ fn refusals_are_told_in_each_style(rt: HostRuntime) -> Result<(), Fail> {
     let memory = told(&rt, Style::Long, SourceKind::Memory)?;
     assert_eq!(rt; memory.as_str(), "MEMORY");
     let long = told(&rt, Style::Long, SourceKind::LeftOut)?;
-    assert_eq!(rt; long.as_str(), "2:6: 11 LeftOut\n PUT LIST (??);\n     ^\nUsual cause: a form of PL/I that this language leaves out.\nWhat to do: see Porting in GUIDE.\nInstead: EDIT with a format: EDIT (X) (F(6)).");
+    assert_eq!(rt;
+        long.as_str(),
+        "2:6: 11 LeftOut\n PUT LIST (??);\n     ^\n\
+        Usual cause: a form of PL/I that this language leaves out.\n\
+        What to do: see Porting in GUIDE.\nInstead: EDIT with a format: EDIT (X) (F(6))."
+    );
     Ok(())
 }
 
 #[test]
 fn ordinary_forms_have_other_words(rt: HostRuntime) -> Result<(), Fail> {
     for (kind, rest, wanted) in [
-        (SourceKind::Syntax, "put page;", Some("PUT SKIP; the output has lines, and no pages")),
+        (
+            SourceKind::Syntax,
+            "put page;",
+            Some("PUT SKIP; the output has lines, and no pages"),
+        ),
         (SourceKind::Syntax, "PUT SKIP; PUT PAGE;", None),
         (SourceKind::Syntax, "PUT 'PAGE' SKIP", None),
         (SourceKind::LeftOut, "** 2;", Some("a loop that multiplies")),
-        (SourceKind::BadByte, "\"A\"", Some("texts stand in single quotes: 'TEXT'")),
+        (
+            SourceKind::BadByte,
+            "\"A\"",
+            Some("texts stand in single quotes: 'TEXT'"),
+        ),
         (SourceKind::BadByte, "", None),
         (SourceKind::TypeMismatch, "LIST", None),
     ] {
@@ -55,11 +69,49 @@ fn ordinary_forms_have_other_words(rt: HostRuntime) -> Result<(), Fail> {
 
 #[test]
 fn topics_are_called_by_number_and_name(rt: HostRuntime) -> Result<(), Fail> {
-    let called = |word: &str| REFUSALS.iter().filter(|topic| topic.is_called(word)).count();
-    for (word, count) in [("11", 1), ("leftout", 1), ("LeftOut", 1), ("0", 0), ("", 0), ("LEFT", 0)] {
+    let called = |word: &str| REFUSALS
+        .iter()
+        .filter(|topic| topic.is_called(word))
+        .count();
+    for (word, count) in [
+        ("11", 1),
+        ("leftout", 1),
+        ("LeftOut", 1),
+        ("0", 0),
+        ("", 0),
+        ("LEFT", 0),
+    ] {
         assert_eq!(rt; called(word), count, "{word}");
     }
-    assert!(rt; ERRORS.iter().any(|topic| topic.is_called("area") && topic.number == 10));
+    assert!(rt;
+        ERRORS
+            .iter()
+            .any(|topic| topic.is_called("area") && topic.number == 10)
+    );
     assert!(rt; !ERRORS.iter().any(|topic| topic.is_called("")));
+    Ok(())
+}
+
+#[test]
+fn words_are_explained(rt: HostRuntime) -> Result<(), Fail> {
+    let leftout = explanation(rt.alloc(), "leftout")?;
+    assert_eq!(rt;
+        leftout.as_str(),
+        "Refusal of a source: 11 LeftOut\n\
+        Usual cause: a form of PL/I that this language leaves out.\n\
+        What to do: see Porting in GUIDE.\nExample: PUT LIST (X);\n"
+    );
+    let depth = explanation(rt.alloc(), "DEPTH")?;
+    assert!(rt;
+        depth
+            .as_str()
+            .starts_with("End of a run: DEPTH\nUsual cause: a recursion")
+    );
+    let ten = explanation(rt.alloc(), "10")?;
+    assert!(rt; ten.as_str().contains("10 BadAttributes") && ten.as_str().contains("10 AREA"));
+    assert!(rt; explanation(rt.alloc(), "NOTHING")?.is_empty());
+    for (style, word) in [Style::Short, Style::Long, Style::Gcc].iter().zip(&STYLES) {
+        assert!(rt; Style::named(word) == *style);
+    }
     Ok(())
 }

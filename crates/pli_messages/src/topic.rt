@@ -4,10 +4,11 @@ ghost use Rattle.std.specs.Prelude.{◌≡◌, IfSome};
 ghost use Rattle.pli_messages.specs.Numbers.{number_of};
 
 use pli_language::fault::SourceKind;
+use std::alloc::AllocError;
 use std::fmt;
 
-/// A refusal, an error or a limit: its number, 0 where it has none, and its name, which is empty where it has none; the
-/// usual cause; a piece of a source that comes to it, or none; and what to do.
+/// A refusal, an error or a limit: its number, 0 where it has none, and its name, which is empty where it has none;
+/// the usual cause; a piece of a source that comes to it, or none; and what to do.
 #[derive(Clone, Copy, Debug)]
 pub struct Topic {
     pub number: u16,
@@ -24,6 +25,27 @@ impl Topic {
             return true;
         }
         !self.name.is_empty() && self.name.eq_ignore_ascii_case(word)
+    }
+
+    /// Adds number and name, each behind a blank, where they are there.
+    pub(crate) fn push_title(&self, text: &mut String) -> Result<(), AllocError> {
+        let Topic { number, name, .. } = *self;
+        if number != 0 {
+            write!(text, " {number}")?;
+        }
+        if !name.is_empty() {
+            write!(text, " {name}")?;
+        }
+        Ok(())
+    }
+
+    /// Adds the example on a line of its own, where there is one.
+    pub(crate) fn push_example(&self, text: &mut String) -> Result<(), AllocError> {
+        let example = self.example;
+        if example.is_empty() {
+            return Ok(());
+        }
+        writeln!(text, "Example: {example}")
     }
 }
 
@@ -306,21 +328,21 @@ pub const ERRORS: [Topic; 16] = [
 pub const LIMITS: [Topic; 4] = [
     Topic {
         number: 0,
-        name: "BOUND REACHED",
+        name: "BOUND",
         cause: "a loop without an end, or a long run: 1000000000 instructions are allowed",
         example: "",
         remedy: "--bound N",
     },
     Topic {
         number: 0,
-        name: "LIMIT DEPTH",
+        name: "DEPTH",
         cause: "a recursion without an end: 500 blocks may be active, on-units among them",
         example: "",
         remedy: "a loop in place of the recursion",
     },
     Topic {
         number: 0,
-        name: "LIMIT AUTOMATIC",
+        name: "AUTOMATIC",
         cause: "AUTOMATIC variables and copies of arguments of over 1 MiB, each rounded up to 16 bytes and 16 more",
         example: "",
         remedy: "STATIC, or an area",

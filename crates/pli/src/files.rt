@@ -1,0 +1,29 @@
+// What the program reads.
+
+use std::fs::File;
+use std::io::Read;
+use std::{fs, io};
+
+/// How many bytes of a source are read at most: one more than a source may have, which tells that it is too long.
+const MOST_OF_A_SOURCE: u64 = 1_048_577;
+
+/// A source, of which no more is read than tells that it is too long.
+pub fn source_of(rt: &HostRuntime, name: &str) -> io::Result<Vec<u8>> {
+    let mut bytes = Vec::new(rt.alloc());
+    File::open(rt, name)?
+        .take(MOST_OF_A_SOURCE)
+        .read_to_end(&mut bytes)?;
+    Ok(bytes)
+}
+
+/// The whole input: of the file that is named, or standard input.
+pub fn input_of(rt: &HostRuntime, file: Option<&str>) -> io::Result<Vec<u8>> {
+    match file {
+        Some(name) => fs::read(rt, name),
+        None => {
+            let mut bytes = Vec::new(rt.alloc());
+            rt.reader().read_to_end(&mut bytes)?;
+            Ok(bytes)
+        }
+    }
+}

@@ -1,0 +1,90 @@
+// `pli run`, `pli compile` and `pli exec`.
+
+use crate::command;
+use crate::files::{input_of, source_of};
+use crate::image_file::{compiled_bytes, run_bytes};
+use crate::source_run::compile_and_run;
+use crate::tell::{message_of, tell, tell_refusal, unread_for};
+use clap::ArgMatches;
+use pli_meaning::outcome::Outcome;
+use pli_run::report::{refused_image, report, unwritten};
+use pli_run::run::RunFault;
+use std::fs;
+
+fn output_of(ran: &Result<Outcome, RunFault>) -> &[u8] {
+    match ran {
+        Ok(outcome) => &outcome.output,
+        Err(RunFault::Memory { output, .. } | RunFault::Machine { output, .. }) => output,
+        Err(_) => &[],
+    }
+}
+
+// Writes what a run has shown and tells how it ended; what is told of the run comes first.
+fn shown(rt: &HostRuntime, ran: &Result<Outcome, RunFault>) -> u8 {
+    let written = rt.write_all(output_of(ran));
+    let notice = report(ran);
+    if written.is_err() && notice.line.is_none() {
+        return tell(rt, unwritten("stdout"));
+    }
+    tell(rt, notice)
+}
+
+/// `pli run`.
+pub fn run(rt: &HostRuntime, matches: &ArgMatches<'_>) -> u8 {
+    let name = matches.get_str(command::SOURCE).unwrap_or("");
+    let source = match source_of(rt, name) {
+        Ok(source) => source,
+        Err(error) => return tell(rt, unread_for(name, &error)),
+    };
+    let file = matches.get_str(command::INPUT);
+    let input = match input_of(rt, file) {
+        Ok(input) => input,
+        Err(error) => return tell(rt, unread_for(file.unwrap_or("stdin"), &error)),
+    };
+    let bound = matches.get_one::<u64>(command::BOUND).unwrap_or(0);
+    let base = matches.get_one::<u32>(command::BASE).unwrap_or(0);
+    match compile_and_run(rt.alloc(), &source, &input, base, bound) {
+        Err(RunFault::Source(fault)) => {
+            tell_refusal(rt, message_of(matches, name, &source, fault))
+        }
+        ran => shown(rt, &ran),
+    }
+}
+
+/// `pli compile`.
+pub fn write_image(rt: &HostRuntime, matches: &ArgMatches<'_>) -> u8 {
+    let name = matches.get_str(command::SOURCE).unwrap_or("");
+    let source = match source_of(rt, name) {
+        Ok(source) => source,
+        Err(error) => return tell(rt, unread_for(name, &error)),
+    };
+    let bytes = match compiled_bytes(rt.alloc(), &source) {
+        Ok(bytes) => bytes,
+        Err(fault) => return tell_refusal(rt, message_of(matches, name, &source, fault)),
+    };
+    let file = matches.get_str(command::OUTPUT).unwrap_or("");
+    match fs::write(rt, file, bytes.as_slice()) {
+        Ok(()) => 0,
+        Err(_) => tell(rt, unwritten(file)),
+    }
+}
+
+/// `pli exec`.
+pub fn exec(rt: &HostRuntime, matches: &ArgMatches<'_>) -> u8 {
+    let name = matches.get_str(command::IMAGE).unwrap_or("");
+    let image = match fs::read(rt, name) {
+        Ok(image) => image,
+        Err(error) => return tell(rt, unread_for(name, &error)),
+    };
+    let file = matches.get_str(command::INPUT);
+    let input = match input_of(rt, file) {
+        Ok(input) => input,
+        Err(error) => return tell(rt, unread_for(file.unwrap_or("stdin"), &error)),
+    };
+    let bound = matches.get_one::<u64>(command::BOUND).unwrap_or(0);
+    let base = matches.get_one::<u32>(command::BASE).unwrap_or(0);
+    match run_bytes(rt.alloc(), &image, &input, base, bound) {
+        Ok(ran) => shown(rt, &ran),
+        Err(fault) => tell(rt, refused_image(fault)),
+    }
+}

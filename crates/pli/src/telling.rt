@@ -1,0 +1,116 @@
+// `pli list`, `pli check` and `pli explain`.
+
+use crate::command;
+use crate::files::source_of;
+use crate::tell::{NO_MEMORY, message_of, tell, tell_refusal, unread_for};
+use clap::ArgMatches;
+use pli_compile::compile::compile;
+use pli_compile::named::named_code;
+use pli_language::fault::{SourceFault, SourceKind};
+use pli_listing::listing::{Beside, listing};
+use pli_messages::explain::explanation;
+use pli_messages::message::{Message, Style};
+use pli_run::report::{refused_source, unwritten};
+use std::io;
+
+/// The status where the words ask for nothing that the program does.
+pub const USAGE: u8 = 64;
+
+// The listing of a source.
+fn listing_of(
+    rt: &HostRuntime,
+    source: &[u8],
+    beside: Beside<'_>,
+) -> io::Result<Result<String, SourceFault>> {
+    let named = match named_code(rt.alloc(), source) {
+        Ok(named) => named,
+        Err(fault) => return Ok(Err(fault)),
+    };
+    match compile(rt.alloc(), source) {
+        Ok(image) => {
+            let text = listing(rt.alloc(), &named.names, &named.code, &image, beside)?;
+            Ok(Ok(text))
+        }
+        Err(fault) => Ok(Err(fault)),
+    }
+}
+
+/// `pli list`.
+pub fn list(rt: &HostRuntime, matches: &ArgMatches<'_>) -> io::Result<u8> {
+    let name = matches.get_str(command::SOURCE).unwrap_or("");
+    let source = match source_of(rt, name) {
+        Ok(source) => source,
+        Err(error) => return Ok(tell(rt, unread_for(name, &error))),
+    };
+    let beside = Beside {
+        notes: matches.get_flag(command::NOTES),
+        source: matches
+            .get_flag(command::LINES)
+            .then_some(source.as_slice()),
+    };
+    let text = match listing_of(rt, &source, beside)? {
+        Ok(text) => text,
+        Err(fault) => return Ok(tell_refusal(rt, message_of(matches, name, &source, fault))),
+    };
+    match rt.write_all(text.as_bytes()) {
+        Ok(()) => Ok(0),
+        Err(_) => Ok(tell(rt, unwritten("stdout"))),
+    }
+}
+
+// What is told of a source that is checked, and its status.
+fn judged(rt: &HostRuntime, message: Message<'_>) -> io::Result<u8> {
+    let file = message.file;
+    match message.style {
+        Style::Gcc => println!(rt; "{message}")?,
+        _ => println!(rt; "{file}:{message}")?,
+    }
+    Ok(refused_source(message.fault).status)
+}
+
+// Whether a source is accepted, by its file's name; its status.
+fn check_source(rt: &HostRuntime, matches: &ArgMatches<'_>, name: &str) -> io::Result<u8> {
+    let source = match source_of(rt, name) {
+        Ok(source) => source,
+        Err(error) => return Ok(tell(rt, unread_for(name, &error))),
+    };
+    match compile(rt.alloc(), &source) {
+        Ok(_) => {
+            println!(rt; "{name}: accepted")?;
+            Ok(0)
+        }
+        Err(
+            SourceFault {
+                kind: SourceKind::Memory,
+                ..
+            },
+        ) => Ok(tell(rt, NO_MEMORY)),
+        Err(fault) => judged(rt, message_of(matches, name, &source, fault)),
+    }
+}
+
+/// `pli check`: the greatest status of a source.
+pub fn check(rt: &HostRuntime, matches: &ArgMatches<'_>) -> u8 {
+    let mut greatest = 0;
+    for name in matches.get_strs(command::SOURCE).unwrap_or(&[]) {
+        match check_source(rt, matches, name) {
+            Ok(status) => greatest = status.max(greatest),
+            Err(_) => return tell(rt, unwritten("stdout")),
+        }
+    }
+    greatest
+}
+
+/// `pli explain`.
+pub fn explain(rt: &HostRuntime, matches: &ArgMatches<'_>) -> io::Result<u8> {
+    let word = matches.get_str(command::WORD).unwrap_or("");
+    let text = explanation(rt.alloc(), word)?;
+    if text.is_empty() {
+        let _ = eprintln!(rt; "error: no number or name of a refusal, an error or a limit: {word}");
+        return Ok(USAGE);
+    }
+    match rt.write_all(text.as_bytes()) {
+        Ok(()) => Ok(0),
+        Err(_) => Ok(tell(rt, unwritten("stdout"))),
+    }
+}
