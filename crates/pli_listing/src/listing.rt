@@ -89,14 +89,14 @@ fn push_call(text: &mut String, call: Call) -> Result<(), AllocError> {
 
 // All that a listing is made from beside the words.
 #[derive(Drop)]
-struct Listing<'a> {
+struct Layout<'a> {
     notes: Vec<Note>,
     calls: Vec<Call>,
     lines: Lines<'a>,
     beside: Beside<'a>,
 }
 
-impl Listing<'_> {
+impl Layout<'_> {
     // The line of a word, with what stands before and behind it; how far the listing has come then.
     fn push_word(
         &self,
@@ -139,7 +139,7 @@ pub fn listing(
     image: &Image,
     beside: Beside<'_>,
 ) -> Result<String, AllocError> {
-    let listing = Listing {
+    let layout = Layout {
         notes: notes_of(alloc, names, code)?,
         calls: calls_of(alloc, image.code())?,
         lines: Lines::new(alloc, beside.source.unwrap_or(&[]))?,
@@ -156,7 +156,7 @@ pub fn listing(
             offset: 4 * place,
             word: *word,
         };
-        behind = listing.push_word(&mut text, listed, place, behind)?;
+        behind = layout.push_word(&mut text, listed, place, behind)?;
     }
     Ok(text)
 }
