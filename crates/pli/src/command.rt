@@ -1,6 +1,7 @@
 // The words of the command line.
 
-use clap::{Arg, ArgAction, Command, ValueParser, value_parser};
+use clap::builder::ValueParser;
+use clap::{Arg, ArgAction, Command, value_parser};
 use pli_messages::message::STYLES;
 use std::alloc::{AllocError, Global};
 
