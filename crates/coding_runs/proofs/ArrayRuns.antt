@@ -45,14 +45,14 @@ numbers_program =
     program ([] ∷
     (array Y.AutomaticClass (Y.FixedLeaf 31) (up_to 3 ∷ [])
     ∷ array Y.AutomaticClass (Y.FixedLeaf 15) (bounds (Y.ConstantExtent (negsuc 0)) (const 0)
-        ∷ bounds (const 5) (const 7) ∷ [])
+    ∷ bounds (const 5) (const 7) ∷ [])
     ∷ array Y.AutomaticClass (Y.FixedLeaf 31) (bounds (const 7) (const 7) ∷ []) ∷ []) ∷ [])
     (main
     (get_with (got a ∷ got b ∷ got o ∷ [])
-        (format_then (T.FixedFormat 2)
-        (format_then (T.SpaceFormat 1) (format_then (T.TextFormat (Some 3)) (format (T.SkipFormat 1)))))
+    (format_then (T.FixedFormat 2)
+    (format_then (T.SpaceFormat 1) (format_then (T.TextFormat (Some 3)) (format (T.SkipFormat 1)))))
     ∷ put_with (shown o ∷ shown b ∷ shown a ∷ [])
-        (format_then (T.FixedFormat 3) (format_then (T.TextFormat None) (fixed 5)))
+    (format_then (T.FixedFormat 3) (format_then (T.TextFormat None) (fixed 5)))
     ∷ put_with (shown a ∷ text_item (text (codes "!")) ∷ []) (format_then (T.SkipFormat 1) any)
     ∷ put_with (shown b ∷ []) (fixed 2)
     ∷ []) ∷ [])
@@ -95,9 +95,9 @@ kinds_program =
     (get_with (got (static 1 0 0) ∷ got (static 1 0 1) ∷ []) (format_then (T.TextFormat (Some 1)) (texts_of 2))
     ∷ get_with (got (automatic 1 0 2) ∷ got (automatic 1 0 3) ∷ []) (format_then (T.FixedFormat 2) (texts_of 1))
     ∷ put_with (shown (automatic 1 0 2) ∷ shown (static 1 0 0) ∷ shown (automatic 1 0 3) ∷ shown (static 1 0 1) ∷ [])
-        (format_then (T.TextFormat None) (texts_of 3))
+    (format_then (T.TextFormat None) (texts_of 3))
     ∷ put_with (shown (static 1 0 0) ∷ shown (static 1 0 1) ∷ [])
-        (format_then (T.FixedFormat 2) (format_then (T.SpaceFormat 1) any))
+    (format_then (T.FixedFormat 2) (format_then (T.SpaceFormat 1) any))
     ∷ []) ∷ [])
 
 kinds_agree : run_of (fitted kinds_program 1024 64) 40000 kinds_program (codes "11 0ab1cd 1 2 3 ")
@@ -130,10 +130,10 @@ nested_program =
     ∷ [] ∷ [] ∷ [])
     (procedure (Y.BlockOf (head Y.ProcedureBlock 1 0 1) (list
     (do_call 2 0 [] ∷ put_with (Y.PutAggregate (Y.Referring a Y.NotLocated (part 0 2) Y.NoNumber) ∷ []) (fixed 4)
-        ∷ []))) [] None
+    ∷ []))) [] None
     ∷ procedure (Y.BlockOf (head Y.ProcedureBlock 2 1 1) (list
     (Y.OnUnit C.FixedOverflow
-        (simple_unit 3 2 (Y.Get None (get_pair (Y.GetAggregate inner ∷ []) (fixed 1) ∷ []) line)) line
+    (simple_unit 3 2 (Y.Get None (get_pair (Y.GetAggregate inner ∷ []) (fixed 1) ∷ []) line)) line
     ∷ get_with (Y.GetAggregate inner ∷ []) (fixed 3)
     ∷ put_with (Y.PutAggregate inner ∷ []) (fixed 4)
     ∷ []))) [] None ∷ [])

@@ -104,7 +104,7 @@ around_the_ends =
     (goes_on
     ∷ counts i 31 (n 2147483646) (Some highest) (n 1) (below j 4) (plus_one j ∷ put_numbers (num i ∷ []) ∷ [])
     ∷ counts i 31 (Y.Calculated Y.Sum lowest (n 1)) (Some lowest) (minus (n 1)) (below j 7)
-        (plus_one j ∷ put_numbers (num i ∷ []) ∷ [])
+    (plus_one j ∷ put_numbers (num i ∷ []) ∷ [])
     ∷ counts i 31 (n 2147480000) None (n 5000) (below j 9) (plus_one j ∷ put_numbers (num i ∷ []) ∷ [])
     ∷ counts i 31 (n 1) (Some (n 0)) (minus highest) (below j 12) (plus_one j ∷ put_numbers (num i ∷ []) ∷ [])
     ∷ put_numbers (num i ∷ [])
@@ -158,13 +158,13 @@ other_counters =
     (goes_on
     ∷ counts s 15 (n 32766) (Some (n 32767)) (n 1) (below j 3) (plus_one j ∷ put_numbers (num s ∷ []) ∷ [])
     ∷ counts s 15 (minus (n 32767)) (Some (minus (n 32768))) (minus (n 1)) (below j 5)
-        (plus_one j ∷ put_numbers (num s ∷ []) ∷ [])
+    (plus_one j ∷ put_numbers (num s ∷ []) ∷ [])
     ∷ Y.DoCount (Y.NumberCounter 31 second) (Y.NumberValue 31 (n 1)) (Some (n 2)) (n 1) None
-        (list (put_numbers (Y.NumberIn second ∷ []) ∷ [])) line
+    (list (put_numbers (Y.NumberIn second ∷ []) ∷ [])) line
     ∷ Y.DoCount (Y.TextCounter (whole c)) (Y.TextValue (text (codes "7"))) (Some (n 9)) (n 2) None
-        (list (put_texts (txt c ∷ []) ∷ [])) line
+    (list (put_texts (txt c ∷ []) ∷ [])) line
     ∷ Y.DoCount (Y.TextCounter (whole c)) (Y.TextValue (text (codes "2"))) (Some (n 1)) (minus (n 1)) None
-        (list (put_texts (txt c ∷ []) ∷ [])) line
+    (list (put_texts (txt c ∷ []) ∷ [])) line
     ∷ [])
 
 other_counters_agree : run_of (fitted other_counters 1024 64) 20000 other_counters [] ≡ machine_shows other_counters []

@@ -75,7 +75,7 @@ abbrev pointing_variables : List Y.DeclaredVariable
 pointing_variables =
     pointer ∷ pointer ∷ scalar Y.StaticClass Y.PointerLeaf
     ∷ declared Y.AutomaticClass (member 0 0 ∷ member 1 0 ∷ member 1 0 ∷ []) (plain (Y.FixedLeaf 31)
-        ∷ plain Y.PointerLeaf ∷ []) None []
+    ∷ plain Y.PointerLeaf ∷ []) None []
     ∷ pointers 2 ∷ based_number ∷ number ∷ []
 
 abbrev standing_program : Y.Program
@@ -87,7 +87,7 @@ standing_program =
     ∷ set (x_at q) 31 (n 2) ∷ set (x_at r) 31 (n 3)
     ∷ set (located (Y.PointerIn l) x) 31 (n 4) ∷ set (located (Y.PointerIn (e (n 2))) x) 31 (n 5)
     ∷ put_numbers (value_at (ptr q) ∷ value_at (ptr r) ∷ value_at (Y.PointerIn l) ∷ value_at (Y.PointerIn (e (num i)))
-        ∷ [])
+    ∷ [])
     ∷ [])
     ∷ [])
 
@@ -198,7 +198,7 @@ abbrev full_program : Y.Program
 full_program =
     program ([]
     ∷ (pointer ∷ pointers 2 ∷ area ∷ area ∷ scalar Y.AutomaticClass (Y.OffsetLeaf (Some a)) ∷ based_number ∷ []) ∷ []
-        ∷ [])
+    ∷ [])
     (main
     (Y.OnUnit C.Area
     (Y.BlockOf (head Y.UnitBlock 2 1 2)
@@ -244,7 +244,7 @@ failing_program =
     program ([]
     ∷ (pointer ∷ pointer
     ∷ declared Y.AutomaticClass (member 0 0 ∷ []) (leaf (Y.FixedLeaf 31) [] (initial 1 (T.InitialNumber (pos 3)) ∷ [])
-        ∷ []) None []
+    ∷ []) None []
     ∷ declared Y.BasedClass (member 0 0 ∷ member 1 0 ∷ member 1 1 ∷ [])
     (plain (Y.FixedLeaf 31) ∷ leaf (Y.FixedLeaf 31) (bounds (const 1) Y.ReferExtent ∷ []) [] ∷ [])
     (Some (refer 0 (Y.EvaluatedExtent 0)))

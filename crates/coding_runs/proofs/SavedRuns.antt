@@ -40,7 +40,7 @@ abbrev saving : Y.Program
 saving =
     program ([]
     ∷ (declared Y.ControlledClass (member 0 1 ∷ [])
-        (leaf (Y.FixedLeaf 31) (bounds (const 1) (Y.EvaluatedExtent 0) ∷ []) [] ∷ []) None
+    (leaf (Y.FixedLeaf 31) (bounds (const 1) (Y.EvaluatedExtent 0) ∷ []) [] ∷ []) None
     (evaluation (others 11) (Y.BoundsCheck (bounds (const 1) (Y.EvaluatedExtent 0))) ∷ []) ∷ [])
     ∷ [] ∷ [] ∷ [] ∷ [] ∷ [] ∷ [] ∷ [] ∷ [] ∷ [])
     (procedure
@@ -59,7 +59,7 @@ saving =
     (list (Y.If (Y.NumbersCompared Y.IsLess (others 2) (n 100)) (Y.Goto 1 (codes "L") line) line ∷ []))) [] None
     ∷ function 6
     (list (Y.Allocate (Y.AllocateControlled (controlled 1 0 0) ∷ []) line
-        ∷ Y.Free (Y.FreeControlled (controlled 1 0 0) ∷ []) line ∷ returned (n 8) ∷ []))
+    ∷ Y.Free (Y.FreeControlled (controlled 1 0 0) ∷ []) line ∷ returned (n 8) ∷ []))
     ∷ [])
 
 saving_agrees : run_of (fitted saving 2048 256) 20000 saving [] ≡ machine_shows saving []

@@ -46,7 +46,7 @@ with_function statements =
     (procedure (Y.BlockOf (head Y.ProcedureBlock 1 0 1) (list statements)) [] None
     ∷ procedure
     (Y.BlockOf (head Y.ProcedureBlock 2 1 2)
-        (list (set (whole k) 31 (n 1) ∷ Y.ReturnValue (Y.FixedLeaf 31) (Y.StoredNumber 31 (n 3)) line ∷ [])))
+    (list (set (whole k) 31 (n 1) ∷ Y.ReturnValue (Y.FixedLeaf 31) (Y.StoredNumber 31 (n 3)) line ∷ [])))
     [] (Some (Y.FixedLeaf 31)) ∷ [])
 
 abbrev changed : Y.Number

@@ -221,7 +221,7 @@ labelled = Y.EndOfList (codes "L" ∷ [])
 registers_are_counted :
     map (block_held (within 1 0) 1)
     (Y.EndOfList [] ∷ one (tested 2) ∷ one (tested 8) ∷ one (begun (one (tested 2)))
-        ∷ one (begun (one (begun (one (tested 3)))))
+    ∷ one (begun (one (begun (one (tested 3)))))
     ∷ one (begun labelled) ∷ labelled ∷ Y.StmtThen (codes "L" ∷ []) (Y.Null 1) (Y.EndOfList []) ∷ [])
     ≡ (0 ∷ 3 ∷ 7 ∷ 3 ∷ 4 ∷ 7 ∷ 7 ∷ 7 ∷ [])
 registers_are_counted = refl
@@ -231,7 +231,7 @@ registers_of_groups_are_counted :
     map (λ s. block_held (within 1 0) 1 (one s))
     (Y.Do (one (begun (one (tested 2)))) 1 ∷ Y.DoWhile (Y.BitConstant true) (one (begun (one (tested 2)))) 1
     ∷ Y.If (Y.BitConstant true) (begun (one (tested 2))) 1 ∷ Y.IfElse (Y.BitConstant true) (tested 1)
-        (begun (one (tested 2))) 1
+    (begun (one (tested 2))) 1
     ∷ Y.IfElse (Y.BitConstant true) (Y.Do labelled 1) (begun (one (tested 2))) 1
     ∷ Y.OnUnit C.Area (Y.BlockOf (head Y.UnitBlock 3 1 3) (one (tested 2))) 1 ∷ [])
     ≡ (3 ∷ 3 ∷ 3 ∷ 3 ∷ 7 ∷ 0 ∷ [])
@@ -298,9 +298,9 @@ rows =
     (scalar Y.AutomaticClass (Y.FixedLeaf 31)
     ∷ declared Y.AutomaticClass (member 0 1 ∷ []) (leaf (Y.FixedLeaf 31) (between (pos 0) (pos 3) ∷ []) [] ∷ []) None []
     ∷ declared Y.AutomaticClass (member 0 1 ∷ []) (leaf (Y.FixedLeaf 15) (between (negsuc 4) (pos 5) ∷ []) [] ∷ [])
-        None []
+    None []
     ∷ declared Y.AutomaticClass (member 0 1 ∷ []) (leaf (Y.CharacterLeaf (Y.ConstantExtent (pos 3))) (up_to 2 ∷ []) []
-        ∷ []) None []
+    ∷ []) None []
     ∷ scalar Y.StaticClass (Y.FixedLeaf 15) ∷ []) ∷ [])
     (procedure (Y.BlockOf (head Y.ProcedureBlock 1 0 1) (Y.EndOfList [])) [] None ∷ [])
 
@@ -427,8 +427,8 @@ first_two is = is
 locator_stands_where_it_is :
     first_two (reference_code among_pointers none_taken (behind q (variable Y.BasedClass 1 0 4) 1 Y.NoNumber))
     ∷ first_two
-        (reference_code among_pointers none_taken (behind (variable Y.StaticClass 1 0 2) (variable Y.BasedClass 1 0 4)
-        1 Y.NoNumber))
+    (reference_code among_pointers none_taken (behind (variable Y.StaticClass 1 0 2) (variable Y.BasedClass 1 0 4)
+    1 Y.NoNumber))
     ∷ []
     ≡ ((Plain (I.Load Load.Word R.a0 R.frame_register (pos 36)) ∷ Plain (I.Immediate Imm.Add R.a0 R.a0 (pos 192)) ∷ [])
     ∷ (OffsetOf R.a0 (DataPlace (StaticStorage 1 2 16)) ∷ Plain (I.Immediate Imm.Add R.a0 R.a0 (pos 16)) ∷ [])
@@ -443,7 +443,7 @@ subscripted_by i =
 locator_waits_where_it_may_change :
     map (λ i. stores_in (subscripted_by i))
     (number 2 ∷ number_in (automatic 1 0 7) ∷ plus (number 1) (number 1) ∷ Y.NumberFrom (Y.Calling 1 0 Y.NoArgument)
-        ∷ [])
+    ∷ [])
     ≡ (0 ∷ 0 ∷ 4 ∷ 4 ∷ [])
 locator_waits_where_it_may_change = refl
 
@@ -462,8 +462,8 @@ made_for target =
 -- the name comes into Q at once; into an element it is copied once the generation was placed
 name_comes_last :
     stores_in (made_for (whole q))
-        ∷ stores_in
-        (made_for (Y.Referring (automatic 1 0 3) Y.NotLocated (part 0 1) (Y.NumberThen (number 2) Y.NoNumber))) ∷ []
+    ∷ stores_in
+    (made_for (Y.Referring (automatic 1 0 3) Y.NotLocated (part 0 1) (Y.NumberThen (number 2) Y.NoNumber))) ∷ []
     ≡ (2 ∷ 6 ∷ [])
 name_comes_last = refl
 
@@ -479,7 +479,7 @@ copy_comes_last = refl
 name_is_assigned_once_all_is_tested :
     map (λ r. stores_in (assignment_code among_pointers none_taken (whole q) (Y.StoredPointer (Y.AddressOf r))))
     (behind (automatic 1 0 0) (variable Y.BasedClass 1 0 4) 1 Y.NoNumber
-        ∷ behind (automatic 1 0 0) (variable Y.BasedClass 1 0 6) 2 Y.NoNumber ∷ [])
+    ∷ behind (automatic 1 0 0) (variable Y.BasedClass 1 0 6) 2 Y.NoNumber ∷ [])
     ≡ (0 ∷ 4 ∷ [])
 name_is_assigned_once_all_is_tested = refl
 
@@ -560,10 +560,10 @@ abbrev others : Y.Program
 others =
     program ([] ∷
     (declared Y.AutomaticClass (member 0 1 ∷ []) (leaf (Y.CharacterLeaf (Y.ConstantExtent (pos 0))) (up_to 3 ∷ []) []
-        ∷ []) None []
+    ∷ []) None []
     ∷ declared Y.StaticClass (member 0 1 ∷ member 1 0 ∷ member 1 1 ∷ [])
     (leaf Y.BitLeaf (up_to 3 ∷ []) [] ∷ leaf (Y.VaryingLeaf (Y.ConstantExtent (pos 5))) (up_to 3 ∷ up_to 2 ∷ []) []
-        ∷ []) None []
+    ∷ []) None []
     ∷ []) ∷ []) []
 
 abbrev members : (first count : ℕ) → Y.Reference
@@ -572,8 +572,8 @@ members first count = Y.Referring (variable Y.StaticClass 1 0 1) Y.NotLocated (p
 what_is_counted :
     map (is_counted (within 2 1))
     (array ∷ Y.Referring (automatic 1 0 1) Y.NotLocated (part 0 1) (Y.NumberThen (number 1) Y.NoNumber)
-        ∷ whole (parameter 2 1 0) ∷ [])
+    ∷ whole (parameter 2 1 0) ∷ [])
     ++ map (is_counted (record (environment_of parts others) { block = 1; level = 0 })) (whole (automatic 1 0 0)
-        ∷ members 0 2 ∷ members 0 1 ∷ members 1 1 ∷ [])
+    ∷ members 0 2 ∷ members 0 1 ∷ members 1 1 ∷ [])
     ≡ (true ∷ false ∷ false ∷ false ∷ false ∷ true ∷ true ∷ [])
 what_is_counted = refl

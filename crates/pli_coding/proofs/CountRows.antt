@@ -35,7 +35,7 @@ anywhere =
 -- 5, +5, -5, -0 and -(-5)
 constants_with_a_sign_are_steps :
     map constant_step (number 5 ∷ Y.Signed Y.Positive (number 5) ∷ minus (number 5) ∷ minus (number 0)
-        ∷ minus (minus (number 5)) ∷ [])
+    ∷ minus (minus (number 5)) ∷ [])
     ≡ (Some (pos 5) ∷ Some (pos 5) ∷ Some (negsuc 4) ∷ Some (pos 0) ∷ None ∷ [])
 constants_with_a_sign_are_steps = refl
 
@@ -50,7 +50,7 @@ constant_step_waits_nowhere = refl
 abbrev tested_by : (r s : Register) → Code
 tested_by r s =
     Plain (I.Load Load.Word R.u1 R.frame_register (negsuc 3)) ∷ Plain (I.Branch Test.GreaterOrEqual r s (pos 12))
-        ∷ JumpAhead 9 ∷ []
+    ∷ JumpAhead 9 ∷ []
 
 -- up with 1 and with 0, down with -1
 limit_is_tested_by_the_sign :

@@ -383,7 +383,7 @@ abbrev pub times_size : (more : ℕ) → Code
 times_size more =
     load_word u2 frame_register buffer_size
     ++ (immediate Imm.Add u2 u2 (pos (more + 3)) ∷ immediate Imm.And u2 u2 (negsuc 3) ∷ registers Op.Multiply u4 u1 u2
-        ∷ [])
+    ∷ [])
 
 -- the distance of an element from the first one
 abbrev pub times_stride : Y.LeafType → Code

@@ -74,12 +74,12 @@ abbrev pub procedure_with : Environment → Y.BlockHead → Y.Stmts → (words h
 procedure_with e head body words held parameters type =
     Mark (ProcedureEntry head.number)
     ∷ (procedure_begun e head words held parameters
-        ++ (stmts_code e none_taken body ++ procedure_ended e head words held type))
+    ++ (stmts_code e none_taken body ++ procedure_ended e head words held type))
 
 abbrev pub procedure_in : Environment → Y.BlockHead → Y.Stmts → List ℕ → Option Y.LeafType → Code
 procedure_in e head body parameters type =
     procedure_with e head body (block_words e head.number (stmts_words body)) (block_held e head.number body)
-        parameters type
+    parameters type
 
 abbrev pub procedure_of_block : Environment → Y.Block → List ℕ → Option Y.LeafType → Code
 procedure_of_block e (Y.BlockOf head body) parameters type =
@@ -108,7 +108,7 @@ abbrev pub routine_code : Environment → (index : ℕ) → Y.DeclaredVariable �
 routine_code e index d =
     Mark (ExtentRoutine e.block index)
     ∷ (routine_begun e d
-        ++ (extents_code e none_taken d ++ (amounts_given d ++ frame_returned (routine_words d) (routine_held d))))
+    ++ (extents_code e none_taken d ++ (amounts_given d ++ frame_returned (routine_words d) (routine_held d))))
 
 abbrev pub has_routine : Y.StorageClass → Bool
 has_routine Y.BasedClass = true

@@ -77,7 +77,7 @@ element_assigned_piece {links = links} {code = code} {i = i} g' {v = v} {s = s} 
     (stores.does (before_closed k next' closed) f taken room (front_of a (stored_into e taken target source) l) at
     (λ z f1 h1 t1 fits stays at1.
     element_stored_piece (g' z) closed routines temps scope f1 around taken z k words first rest all same fits some
-        serving (alike z) (λ p below t' b m len o. writes z p fits below t' b m len o) l2 at1
+    serving (alike z) (λ p below t' b m len o. writes z p fits below t' b m len o) l2 at1
     (λ is f2 h2 t2 inside stays2 at2.
     subst (λ u. aims.done u f2 v tt (element_state s type bs scope.serial scope.holds.values is z)) (sym there)
     (goal z is f2 h2 t2 fits inside (stays_then stays stays2) (λ b. record { pc = (at2 b).pc ∙ ap (address b) there; holds = (at2 b).holds })))))

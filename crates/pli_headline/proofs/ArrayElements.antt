@@ -88,8 +88,8 @@ abbrev pub reached_by : Environment → Taken → (block : Names) (index : ℕ) 
 reached_by e t block index xs o =
     let v = own block index in
     if has_constant_size (declared_in o) then L.subscripts_counted e t 0 xs (leaf_in o).bounds
-        ++ (L.frame_found e (level_of block index) u3 ++ L.element_added (L.frame_in e (level_of block index) u3)
-        (leaf_in o).type xs)
+    ++ (L.frame_found e (level_of block index) u3 ++ L.element_added (L.frame_in e (level_of block index) u3)
+    (leaf_in o).type xs)
     else L.found_reached e t t v whole_part (L.leaf_number e v 0) xs
 
 abbrev pub address_by : Environment → (block : Names) (index : ℕ) → Option Y.DeclaredVariable → L.Address
@@ -115,7 +115,7 @@ stride_is : (type : Y.LeafType) → IsNumeric type → (r : Register) (first : Y
     → L.element_added r type (Y.NumberThen first rest) ≡ words_added r
 stride_is type is r first rest =
     by_type (λ u. L.element_added r u (Y.NumberThen first rest) ≡ words_added r) (λ p. stride_by (nat_le p 15) r) refl
-        type is
+    type is
 
 pub element_reached : (e : Environment) (t : Taken) (block : Names) (j : ℕ) (type : Y.LeafType) (bs : List Bounds) (first : Y.Number) (rest : Y.Numbers) → IsNumeric type → IsDeclaredArray e block j type bs → reference_code e t (element block j first rest) ≡ element_code e t (level_of block j) bs first rest
 element_reached e t block j type bs first rest is declared =
@@ -127,7 +127,7 @@ element_reached e t block j type bs first rest is declared =
     let other = L.found_reached e t t (own block j) whole_part (L.leaf_number e (own block j) 0) xs in
     ap (λ o. front ++ reached_by e t block j xs o) declared.1
     ∙ ap (λ q. front ++ (if q then counted ++ (found ++ L.element_added r type xs) else other))
-        (size_constant type is bs declared.0)
+    (size_constant type is bs declared.0)
     ∙ ap (λ c. front ++ (counted ++ (found ++ c))) (stride_is type is r first rest)
 
 abbrev pub element_loaded : Environment → (block : Names) (index : ℕ) → Y.LeafType → Code
@@ -173,33 +173,33 @@ address_piece : (q : Bool) (level : ℕ) {links : Links} {code : List Instr} {i 
     ++ words_added (cond q frame_register u3))) (Known g v h t (with' 28 (λ b'. b'.at + (base + 4 * p)) ys) b) w)
 address_piece true level {g = g} {v = v} {h = h} {t = t} {ys = ys} c f base p beside reaches few l at =
     straight c f v v (λ b. Known g v h t (with' 28 (λ b'. b'.at + (base + 4 * p)) ys) b) l (omega arith)
-        (λ b. (at b).pc)
+    (λ b. (at b).pc)
     (λ b.
     let o = (at b).holds in
     let k = set_known (f b) 29 (shifted_left ((f b).machine.registers 6) 2) (f b).machine.pc (λ b'. shifted_left p 2)
-        beside.free4 (ap (λ u. shifted_left u 2) o.regs.0) (record { body = o.body; regs = o.regs.1 }) in
+    beside.free4 (ap (λ u. shifted_left u 2) o.regs.0) (record { body = o.body; regs = o.regs.1 }) in
     set_known _ 28 _ _ (λ b'. b'.at + (base + 4 * p)) beside.free3
-        (sum_of _ _ (b.at + base) (shifted_left p 2) (frame_is k.body ∙ ap (λ u. b.at + u) reaches) k.regs.0
-        ∙ address_sum b.at base p b.valid.1 few) (record { body = k.body; regs = k.regs.1 }))
+    (sum_of _ _ (b.at + base) (shifted_left p 2) (frame_is k.body ∙ ap (λ u. b.at + u) reaches) k.regs.0
+    ∙ address_sum b.at base p b.valid.1 few) (record { body = k.body; regs = k.regs.1 }))
 address_piece false level {i = i} {g = g} {v = v} {h = h} {t = t} {ys = ys} c f base p beside reaches few l at =
     let first = load_word u3 frame_register (display level) in
     let last = words_added u3 in
     let size = size_append first last in
     let r1 = load_piece c f u3 (display level) (g.frame + (144 + 4 * level)) (λ b. b.at + base) reaches.0 (λ b m k. reaches.1 t b m k)
     (free_with 6 (λ b. p) (λ x y. refl) beside.free3) (free_with 6 (λ b. p) (λ x y. refl) beside.far)
-        (front_of first last l) at in
+    (front_of first last l) at in
     let r2 =
-        straight (c + size_of first) (reached r1) v v (λ b. Known g v h t (with' 28 (λ b'. b'.at + (base + 4 * p)) ys)
-        b) (back_of first last l) (omega arith) (λ b. (reached_holds r1 b).pc)
+    straight (c + size_of first) (reached r1) v v (λ b. Known g v h t (with' 28 (λ b'. b'.at + (base + 4 * p)) ys)
+    b) (back_of first last l) (omega arith) (λ b. (reached_holds r1 b).pc)
     (λ b.
     let o = (reached_holds r1 b).holds in
     let w = reached r1 b in
     let k = set_known w 29 (shifted_left (w.machine.registers 6) 2) w.machine.pc (λ b'. shifted_left p 2)
-        (free_with 28 (λ b'. b'.at + base) (λ x y. refl) beside.free4) (ap (λ u. shifted_left u 2) o.regs.1.0)
-        (record { body = o.body; regs = (o.regs.0, o.regs.1.1) }) in
+    (free_with 28 (λ b'. b'.at + base) (λ x y. refl) beside.free4) (ap (λ u. shifted_left u 2) o.regs.1.0)
+    (record { body = o.body; regs = (o.regs.0, o.regs.1.1) }) in
     set_known _ 28 _ _ (λ b'. b'.at + (base + 4 * p)) beside.free3
-        (sum_of _ _ (b.at + base) (shifted_left p 2) k.regs.1.0 k.regs.0 ∙ address_sum b.at base p b.valid.1 few)
-        (record { body = k.body; regs = k.regs.1.1 })) in
+    (sum_of _ _ (b.at + base) (shifted_left p 2) k.regs.1.0 k.regs.0 ∙ address_sum b.at base p b.valid.1 few)
+    (record { body = k.body; regs = k.regs.1.1 })) in
     reach_moved (omega (arith, size)) (omega (arith, size)) (reach_then r1 r2)
 
 -- ---- an array around an expression
@@ -245,12 +245,12 @@ counted_element_piece {code = code} {i = i} {v = v} {s = s} {aims = aims} {e = e
     subst (Comes code i f v aims) (sym (element_checked around is k scope.holds (many ∙ same)))
     (comes_on k (R.demanded around 102 (is_within bs is) k s) (λ u. give designated)
     (counted_all bs is first rest e (before_closed k (λ u. give designated) closed) routines f around taken k beside
-        many (many ∙ same) scope.bounds wide scope.few gives (front_of p2 p3 l) serving at
+    many (many ∙ same) scope.bounds wide scope.few gives (front_of p2 p3 l) serving at
     (λ inside f2 at2.
     let below = place_inside bs is inside in
     let within = scope.within in
     onward closed (address_piece (level_of block j == e.level) (level_of block j) (i + size_of p2) f2 scope.base
-        (element_place bs is) beside scope.reach (omega (arith, within, below)) (back_of p2 p3 l) at2)
+    (element_place bs is) beside scope.reach (omega (arith, within, below)) (back_of p2 p3 l) at2)
     (λ f3 at3.
     record {
       to =
@@ -286,7 +286,7 @@ element_piece {code = code} {i = i} {v = v} {s = s} {aims = aims} {e = e} {block
     (all.does (before_closed k checks closed) f taken room (front_of p1 p2 l) at
     (λ is f1 h1 t1 wide many stays gives at1.
     counted_element_piece closed routines scope f1 around taken k first rest is nothing_beside wide many same gives
-        serving (back_of p1 p2 l) at1
+    serving (back_of p1 p2 l) at1
     (λ f2 inside at2.
     subst (λ u. aims.done u f2 v (designated_element type bs scope.serial scope.holds.values is) s) (sym there)
     (goal is f2 h1 t1 inside stays (λ b. record { pc = (at2 b).pc ∙ ap (address b) there; holds = (at2 b).holds }))))))
@@ -331,7 +331,7 @@ element_evaluates {kind = kind} {read = read} {links = links} {code = code} {g =
           let next' : V.Designated → Meaning _ = λ d. give (read (V.value_in d)) in
           comes_on k (V.designated around r k s) next'
           (element_piece (before_closed k next' closed) routines scope f around taken k words first rest all same room
-              serving (front_of a c l1) at
+          serving (front_of a c l1) at
           (λ is f1 h1 t1 inside stays at1.
           let p = element_place bs is in
           let below = place_inside bs is inside in
@@ -379,7 +379,7 @@ element_near : (e : Environment) (block : Names) (j : ℕ) (type : Y.LeafType) (
 element_near e block j type bs first rest is declared =
     let simple = L.are_simple e (Y.NumberThen first rest) in
     ap (λ o. has_constant_size (declared_in o) && simple) declared.1
-        ∙ ap (λ q. q && simple) (size_constant type is bs declared.0)
+    ∙ ap (λ q. q && simple) (size_constant type is bs declared.0)
 
 pub stored_is : (e : Environment) (taken : Taken) (block : Names) (j : ℕ) (type : Y.LeafType) (bs :
     List Bounds) (first : Y.Number) (rest : Y.Numbers) → IsNumeric type → IsDeclaredArray e block j type bs
@@ -392,15 +392,15 @@ stored_is e taken block j type bs first rest is declared =
     let near = element_code e taken (level_of block j) bs first rest in
     let waits = element_code e (with_number taken) (level_of block j) bs first rest in
     ap (λ q. cond q (reference_code e taken r ++ written) (save a0 taken
-        ++ (reference_code e (with_number taken) r ++ (fetch a0 taken ++ written))))
-        (element_near e block j type bs first rest is declared)
+    ++ (reference_code e (with_number taken) r ++ (fetch a0 taken ++ written))))
+    (element_near e block j type bs first rest is declared)
     ∙ ap (λ c. cond simple (c ++ written) (save a0 taken
-        ++ (reference_code e (with_number taken) r ++ (fetch a0 taken ++ written))))
-        (element_reached e taken block j type bs first rest is declared)
+    ++ (reference_code e (with_number taken) r ++ (fetch a0 taken ++ written))))
+    (element_reached e taken block j type bs first rest is declared)
     ∙ ap (λ c. cond simple (near ++ written) (save a0 taken ++ (c ++ (fetch a0 taken ++ written))))
-        (element_reached e (with_number taken) block j type bs first rest is declared)
+    (element_reached e (with_number taken) block j type bs first rest is declared)
     ∙ ap (λ c. cond simple (near ++ c) (save a0 taken ++ (waits ++ (fetch a0 taken ++ c))))
-        (kept_is e block j type bs first rest is declared)
+    (kept_is e block j type bs first rest is declared)
 
 valued_beside : (x : ℕ) → Beside (valued x)
 valued_beside x =
@@ -452,32 +452,35 @@ stored_by_piece true {links = links} {code = code} {i = i} {g = g} g' {v = v} {h
     let whole' = ap size_of eq in
     let size = size_append a last in
     let there : i + size_of a + size_of last ≡ i + size_of (near_code e block j type bs first rest taken) =
-        omega (arith, whole', size) in
+    omega (arith, whole', size) in
     let checks : List ℤ → Meaning V.Designated = λ js. V.variable_designated around (own block j) None whole_part js in
     let next' : V.Designated → Meaning (Unit {0}) = λ d. P.element_stored d (value_as type z) in
     let meant = element_meant around block j first rest k s ∙ ap (λ q. flow_on k q checks) one.meant in
     subst (λ q. Comes code i f v aims (flow_on k q next')) (sym meant)
     (comes_on k (checks is k s) next'
     (counted_element_piece (before_closed k next' closed) routines scope f around taken k first rest is
-        (valued_beside (word z)) one.wide one.many same (one.gives taken h t) serving (front_of a last l1) at
+    (valued_beside (word z)) one.wide one.many same (one.gives taken h t) serving (front_of a last l1) at
     (λ f2 inside at2.
     let below = place_inside bs is inside in
     let within = scope.within in
     let w = narrow_store_into (g' p) t (i + size_of a) f2 a0 u3 (store_kind type) (pos place) (scope.base + 4 * p)
-        (scope.base + 4 * p + place) (λ b. word z) (scope.places p below) (omega (arith, within, below)) (λ y u. refl)
-        (λ b w' o. o.regs.0) (λ y u. refl) (λ b w' o. o.regs.1.0) (λ b. alike p b h)
-        (λ b m len o. writes p below t b m len o)
+    (scope.base + 4 * p + place) (λ b. word z) (scope.places p below) (omega (arith, within, below)) (λ y u. refl)
+    (λ b w' o. o.regs.0) (λ y u. refl) (λ b w' o. o.regs.1.0) (λ b. alike p b h)
+    (λ b m len o. writes p below t b m len o)
     (record { reserved_stay = λ y u. refl; known_stay = λ b y u o. (o.0, (o.1.0, tt)); set = λ y u. refl })
     (back_of a last l1) at2 in
     onward closed w (λ f3 at3.
     subst (Comes code (i + size_of a + size_of last) f3 v aims)
-        (sym (element_stored type bs scope.serial scope.holds.values is z k s))
+    (sym (element_stored type bs scope.serial scope.holds.values is z k s))
     (record {
       to =
           subst (λ u. aims.done u f3 v tt (element_state s type bs scope.serial scope.holds.values is z)) (sym there)
           (goal is f3 h t inside (stays_same taken h t)
-          (λ b. record { pc = (at3 b).pc ∙ ap (address b) there; holds =
-              record { body = (at3 b).holds.body; regs = tt } }));
+          (λ b. record {
+            pc = (at3 b).pc ∙ ap (address b) there;
+            holds =
+                record { body = (at3 b).holds.body; regs = tt };
+          }));
     })))))
 stored_by_piece false {links = links} {code = code} {i = i} {g = g} g' {v = v} {h = h} {t = t} {s = s} {aims =
     aims} {e = e} {block = block} {j = j} {type = type} {bs = bs} closed routines temps scope f around taken z k words
@@ -495,19 +498,19 @@ stored_by_piece false {links = links} {code = code} {i = i} {g = g} g' {v = v} {
     let e2 = size_append a (back ++ last) in
     let e3 = size_append back last in
     let there : i + size_of put' + size_of a + size_of back + size_of last
-        ≡ i + size_of (put' ++ (a ++ (back ++ last))) = omega (arith, e1, e2, e3) in
+    ≡ i + size_of (put' ++ (a ++ (back ++ last))) = omega (arith, e1, e2, e3) in
     let more = with_words_most taken in
     let one : is_register_left taken ≡ false → taken.words < g.words = λ none. omega (arith, room) in
     let h1 = held_with taken (word z) h in
     let t1 = words_with taken (word z) t in
     let next' : V.Designated → Meaning (Unit {0}) = λ d. P.element_stored d (value_as type z) in
     onward closed (save_piece temps i f a0 taken (word z) one (word_small z wide) (λ y u. refl) (λ b w' o. o.regs.0)
-        (record { reserved_stay = λ y u. refl; known_stay = λ b y u q. q; set = λ y u. refl })
-        (front_of put' (a ++ (back ++ last)) l) at)
+    (record { reserved_stay = λ y u. refl; known_stay = λ b y u q. q; set = λ y u. refl })
+    (front_of put' (a ++ (back ++ last)) l) at)
     (λ f1 at1.
     comes_on k (V.designated around r k s) next'
     (element_piece (before_closed k next' closed) routines scope f1 around (with_number taken) k words first rest all
-        same (omega (arith, room, more)) serving (front_of a (back ++ last) l2) at1
+    same (omega (arith, room, more)) serving (front_of a (back ++ last) l2) at1
     (λ is f2 h2 t2 inside stays at2.
     let p = element_place bs is in
     let below = place_inside bs is inside in
@@ -557,9 +560,9 @@ element_stored_piece {links = links} {code = code} {i = i} g' {v = v} {h = h} {t
     let eq = stored_is e taken block j type bs first rest scope.holds.numeric scope.declared in
     let size = ap size_of eq in
     let there : i + size_of (stored_by simple e block j type bs first rest taken)
-        ≡ i + size_of (word_stored e taken r) = omega (arith, size) in
+    ≡ i + size_of (word_stored e taken r) = omega (arith, size) in
     stored_by_piece simple g' closed routines temps scope f around taken z k words first rest all refl same fits room
-        serving alike writes (subst (Linked links code i) eq l) at
+    serving alike writes (subst (Linked links code i) eq l) at
     (λ is f1 h1 t1 inside stays at1.
     subst (λ u. aims.done u f1 v tt (element_state s type bs scope.serial scope.holds.values is z)) (sym there)
     (goal is f1 h1 t1 inside stays (λ b. record { pc = (at1 b).pc ∙ ap (address b) there; holds = (at1 b).holds })))

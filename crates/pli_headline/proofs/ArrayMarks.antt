@@ -37,8 +37,8 @@ dimension_none d b =
     let range = constant u2 (b.upper -ℤ b.lower) in
     let rest = tested_skip ++ L.counted_in d in
     behind less (range ++ rest) [] (either (same_int b.lower (pos 0)) [] (plus u1 u1 (neg_ℤ b.lower)) refl
-        (plus_none u1 u1 (neg_ℤ b.lower))) (behind range rest [] (constant_none u2 (b.upper -ℤ b.lower))
-        (counted_none d))
+    (plus_none u1 u1 (neg_ℤ b.lower))) (behind range rest [] (constant_none u2 (b.upper -ℤ b.lower))
+    (counted_none d))
 
 -- what is loaded straight
 frame_none : (e : Environment) (level : ℕ) (r : Register) → Marks (L.frame_found e level r) []
@@ -63,10 +63,13 @@ loaded_none _ r a = load_none r a.register a.displacement
 simple_none : (e : Environment) (r : Register) (x : Y.Number) → Marks (L.simple_loaded e r x) []
 simple_none e r (Y.NumberConstant n) = constant_none r (pos n)
 simple_none e r (Y.NumberIn (Y.Referring v locator part subscripts)) =
-    let a : L.Address = record { register = L.direct_register e r v v.class; displacement =
-        pos (L.direct_place e v v.class part.first) } in
+    let a : L.Address = record {
+      register = L.direct_register e r v v.class;
+      displacement =
+          pos (L.direct_place e v v.class part.first);
+    } in
     behind (L.direct_base e r v v.class) (L.loaded (L.leaf_number e v part.first).type r a) []
-        (base_none e r v v.class) (loaded_none (L.leaf_number e v part.first).type r a)
+    (base_none e r v v.class) (loaded_none (L.leaf_number e v part.first).type r a)
 simple_none e r _ = refl
 
 place_none : (d : ℕ) → Marks (L.place_kept d) []
@@ -77,7 +80,7 @@ given_none : (e : Environment) (t : Taken) (first : Y.Number) (rest : Y.Numbers)
     → Marks (L.subscript_given e t first rest) []
 given_none e t first rest =
     either (L.is_simple e first && L.are_simple e rest) (L.simple_loaded e u1 first) (fetch u1 t)
-        (simple_none e u1 first) (fetched_none u1 t)
+    (simple_none e u1 first) (fetched_none u1 t)
 
 pub dimensions_none : (e : Environment) (t : Taken) (d : ℕ) (xs : Y.Numbers) (bs : List Bounds)
     → Marks (L.subscripts_counted e t d xs (map constant_bounds bs)) []
@@ -103,7 +106,7 @@ next_none e t first rest one others =
     let all = number_code e t first ++ (save a0 t ++ subscripts_code e (with_number t) rest) in
     either (L.is_simple e first && L.are_simple e rest) [] all refl
     (behind (number_code e t first) (save a0 t ++ subscripts_code e (with_number t) rest) [] one
-        (behind (save a0 t) (subscripts_code e (with_number t) rest) [] (saved_none a0 t) others))
+    (behind (save a0 t) (subscripts_code e (with_number t) rest) [] (saved_none a0 t) others))
 
 pub element_none : (e : Environment) (t : Taken) (level : ℕ) (bs : List Bounds) (first : Y.Number) (rest : Y.Numbers) → Marks (subscripts_code e t (Y.NumberThen first rest)) [] → Marks (element_code e t level bs first rest) []
 element_none e t level bs first rest none =
@@ -136,7 +139,7 @@ kept_element_none e t block j type bs first rest is declared near waits =
     let kept_none : Marks kept [] = either (is_immediate (pos (data_place e block j))) _ _ refl refl in
     subst (λ c. Marks c []) (sym (stored_is e t block j type bs first rest is declared))
     (either (L.are_simple e (Y.NumberThen first rest)) (found ++ kept) (save a0 t
-        ++ (behind_value ++ (fetch a0 t ++ kept)))
+    ++ (behind_value ++ (fetch a0 t ++ kept)))
     (behind found kept [] (element_none e t (level_of block j) bs first rest near) kept_none)
     (behind (save a0 t) (behind_value ++ (fetch a0 t ++ kept)) [] (saved_none a0 t)
     (behind behind_value (fetch a0 t ++ kept) [] (element_none e (with_number t) (level_of block j) bs first rest waits)

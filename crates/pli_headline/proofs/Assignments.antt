@@ -126,17 +126,20 @@ stored_piece {links = links} {code = code} {i = i} g' {v = v} {h = h} {t = t} {s
     let whole_size = ap size_of eq in
     let l1 = subst (Linked links code i) eq l in
     let there : i + size_of written ≡ i + size_of (word_stored e taken (whole (own block j))) =
-        omega (arith, whole_size) in
+    omega (arith, whole_size) in
     let paid : credits + size_of written ≡ credits + size_of (word_stored e taken (whole (own block j))) =
-        omega (arith, whole_size) in
+    omega (arith, whole_size) in
     subst (Comes code credits f v aims) (sym (assigned_gives around s j block type (held.numbers j) z k holds))
     (onward closed (write_based (level_of block j == e.level) (level_of block j) g' credits f (scope.base j)
-        (store_kind type) (pos place) (scope.base j + place) (word z) (scope.reach j below) (scope.within j below)
-        (scope.places j below) (λ b. same b h) (λ b m len o. writes t b m len o) l1 at)
+    (store_kind type) (pos place) (scope.base j + place) (word z) (scope.reach j below) (scope.within j below)
+    (scope.places j below) (λ b. same b h) (λ b m len o. writes t b m len o) l1 at)
     (λ f1 at1.
     record {
       to =
           subst (λ u. aims.done u f1 v tt (assigned_state s type holds.serial holds.values z)) (sym paid)
-          (goal f1 h t (stays_same taken h t) (λ b. record { pc = (at1 b).pc ∙ ap (address b) there; holds =
-              (at1 b).holds }));
+          (goal f1 h t (stays_same taken h t) (λ b. record {
+            pc = (at1 b).pc ∙ ap (address b) there;
+            holds =
+                (at1 b).holds;
+          }));
     }))

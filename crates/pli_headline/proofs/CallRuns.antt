@@ -84,9 +84,9 @@ abbrev code_with : Environment → Y.BlockHead → Y.Stmts → (level words : �
 code_with e head body level words =
     Mark (ProcedureEntry head.number)
     ∷ ((frame_begun words level 0 (Some (held_with e.program words body))
-        ++ (called_entry head.line ++ (called_variables e head ++ act_code head.line)))
+    ++ (called_entry head.line ++ (called_variables e head ++ act_code head.line)))
     ++ (stmts_code (procedure_environment head e) none_taken body
-        ++ (Mark (ReturnPlace head.number) ∷ called_ended words (held_with e.program words body))))
+    ++ (Mark (ReturnPlace head.number) ∷ called_ended words (held_with e.program words body))))
 
 joined : (frame enter made act code ended : Code) → (frame ++ (enter ++ (made ++ act))) ++ (code ++ ended) ≡ frame ++ (enter ++ ((made ++ (act ++ code)) ++ ended))
 joined frame enter made act code ended =
@@ -103,9 +103,9 @@ called_code_is e head body next are =
     ap (λ n. code_with e head body head.level (max n (stmts_words body))) (no_words (vars_of e head) are)
     ∙ ap (λ level. code_with e head body level words) next
     ∙ ap (λ c. Mark (ProcedureEntry head.number) ∷ c)
-        (joined (frame_begun words 1 0 (Some held)) (called_entry head.line) (called_variables e head)
-        (act_code head.line) (stmts_code (procedure_environment head e) none_taken body)
-        (Mark (ReturnPlace head.number) ∷ called_ended words held))
+    (joined (frame_begun words 1 0 (Some held)) (called_entry head.line) (called_variables e head)
+    (act_code head.line) (stmts_code (procedure_environment head e) none_taken body)
+    (Mark (ReturnPlace head.number) ∷ called_ended words held))
 
 -- where it stands
 pub record StandsAt (links : Links) (code : List Instr) (e : Environment) (head : Y.BlockHead) (words held :
@@ -349,8 +349,8 @@ limited_call {e} bl {code = code} around more head body callee stands list fits 
     let fb = frame_begun callee.words 1 0 (Some callee.held) in
     let ec = called_entry head.line in
     let behind' =
-        (called_variables e head ++ (act_code head.line ++ stmts_code (procedure_environment head e) none_taken body))
-        ++ (Mark (ReturnPlace head.number) ∷ called_ended callee.words callee.held) in
+    (called_variables e head ++ (act_code head.line ++ stmts_code (procedure_environment head e) none_taken body))
+    ++ (Mark (ReturnPlace head.number) ∷ called_ended callee.words callee.held) in
     let mark : i0 + 0 ≡ i0 = omega arith in
     let l0 = linked_at i0 (fb ++ (ec ++ behind')) mark (rest_of (Mark (ProcedureEntry head.number)) (fb ++ (ec ++ behind')) stands.linked) in
     let le = front_of ec behind' (back_of fb (ec ++ behind') l0) in

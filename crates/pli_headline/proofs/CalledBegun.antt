@@ -230,9 +230,13 @@ called_frame bl callee back fits texts n {links} {code} {i} {v} {h} {t0} c f lat
     (front_of up r1 l) there in
     let c1 = c + size_of up in
     let s2 = saved_piece callee.at back (called_regs callee.at bl.base texts back)
-        (record { frame = λ b y k. k.0; return = λ b y k. k.1.1.1.0; far =
-        record { reserved_stay = λ y u. refl; known_stay = λ b y u o. o; set = λ y u. refl } }) h callee.held
-        callee.few (saving_at bl callee n t0) fits c1 (reached s1) (front_of saves r2 l1) (reached_holds s1) in
+    (record {
+      frame = λ b y k. k.0;
+      return = λ b y k. k.1.1.1.0;
+      far =
+          record { reserved_stay = λ y u. refl; known_stay = λ b y u o. o; set = λ y u. refl };
+    }) h callee.held
+    callee.few (saving_at bl callee n t0) fits c1 (reached s1) (front_of saves r2 l1) (reached_holds s1) in
     let c2 = c1 + size_of saves in
     let s3 = straight c2 (reached s2) v v (λ b w. Known (filled_ground bl callee back h t0 n) v h unknown (with_texts texts) b w) (front_of filled_code raised l2) (omega arith) (λ b. (reached_holds s2 b).pc)
     (λ b. filled_path bl callee back texts n links code (i + size_of up + size_of saves) v h t0 b (reached s2 b) (omega (arith, later)) l.small' (reached_holds s2 b).holds) in

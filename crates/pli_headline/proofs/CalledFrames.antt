@@ -311,16 +311,20 @@ called_block_as {e} bl callee back h0 t0 owner kind head next o c seen =
         above = omega arith;
         over = omega (arith, lowest, above);
         keeps = λ n t b m w p x over o. record {
-          kept = (bl.stack.keeps n t0 b m w p x (omega (arith, above, over)) o.kept.0,
-              saved_behind w p x callee.few (omega (arith, over)) o.kept.1);
+          kept = (
+            bl.stack.keeps n t0 b m w p x (omega (arith, above, over)) o.kept.0,
+            saved_behind w p x callee.few (omega (arith, over)) o.kept.1,
+          );
           below = load-store_other w 4 m p x (callee.at + 4) (inl (omega (arith, over))) ∙ o.below;
           own = load-store_other w 4 m p x (callee.at + 36) (inl (omega (arith, over))) ∙ o.own;
           shown = λ i h. load-store_other w 4 m p x (callee.at + (144 + 4 * i)) (inl (omega (arith, over, h))) ∙ o.shown i h;
           temporaries = λ i h known. load-store_other w 4 m p x (callee.at - 4 * suc i) (inl (omega (arith, over, above, h))) ∙ o.temporaries i h known;
         };
         keeps_bytes = λ n t b m bytes p over room o. record {
-          kept = (bl.stack.keeps_bytes n t0 b m bytes p (omega (arith, above, over)) room o.kept.0,
-              saved_behind_bytes bytes p room callee.few (omega (arith, over)) o.kept.1);
+          kept = (
+            bl.stack.keeps_bytes n t0 b m bytes p (omega (arith, above, over)) room o.kept.0,
+            saved_behind_bytes bytes p room callee.few (omega (arith, over)) o.kept.1,
+          );
           below = load-with_other 4 bytes m p (callee.at + 4) room (inl (omega (arith, over))) ∙ o.below;
           own = load-with_other 4 bytes m p (callee.at + 36) room (inl (omega (arith, over))) ∙ o.own;
           shown = λ i h. load-with_other 4 bytes m p (callee.at + (144 + 4 * i)) room (inl (omega (arith, over, h))) ∙ o.shown i h;

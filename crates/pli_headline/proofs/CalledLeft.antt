@@ -164,9 +164,9 @@ called_left bl callee resume n free {h0 = h0} {h = h} {t0 = t0} {t = t} c f a re
     let l2 = back_of restored ended l1 in
     let r1 = asked_piece bl callee back n free c f a rest e (front_of asked (restored ++ ended) l) there in
     let r2 = restored_piece back h0 (ending_saved bl callee back h0 t0 n free t) h (c + 3) (reached r1)
-        (front_of restored ended l1) (reached_holds r1) in
+    (front_of restored ended l1) (reached_holds r1) in
     let r3 = lowered_piece bl callee back n free (c + 3 + size_of restored) (reached r2) (front_of lower jump_back l2)
-        (reached_holds r2) in
+    (reached_holds r2) in
     let r4 = returned_piece (c + 3 + size_of restored + size_of lower) (reached r3) resume near
-        (back_of lower jump_back l2) (reached_holds r3) in
+    (back_of lower jump_back l2) (reached_holds r3) in
     reach_then r1 (reach_then r2 (reach_then r3 r4))

@@ -246,13 +246,13 @@ registers_saved_none : (n left : ℕ) → Names (registers_saved u0 n left) []
 registers_saved_none n zero = refl
 registers_saved_none n (suc left) =
     behind (store_word u0 (held n) (saved_register n)) (registers_saved u0 (suc n) left) []
-        (store_none u0 (held n) (saved_register n)) (registers_saved_none (suc n) left)
+    (store_none u0 (held n) (saved_register n)) (registers_saved_none (suc n) left)
 
 registers_restored_none : (n left : ℕ) → Names (registers_restored n left) []
 registers_restored_none n zero = refl
 registers_restored_none n (suc left) =
     behind (load_word (held n) frame_register (saved_register n)) (registers_restored (suc n) left) []
-        (load_none (held n) frame_register (saved_register n)) (registers_restored_none (suc n) left)
+    (load_none (held n) frame_register (saved_register n)) (registers_restored_none (suc n) left)
 
 ended_none : (e : Environment) (head : Y.BlockHead) (words count : ℕ)
     → Names (procedure_ended e head words count None) []
@@ -267,7 +267,7 @@ ended_none e head words count =
 begun_none : (words count : ℕ) → Names (frame_begun words 0 0 (Some count)) []
 begun_none words count =
     behind (plus u0 stack_register (pos (temporary_bytes words))) (all_saved u0 count ++ frame_filled) []
-        (plus_none u0 stack_register (pos (temporary_bytes words)))
+    (plus_none u0 stack_register (pos (temporary_bytes words)))
     (behind (all_saved u0 count) frame_filled [] (registers_saved_none 0 count) refl)
 
 prologue_none : (e : Environment) (block line words count : ℕ) → AreNumbers (variables_of_block e.program e.block)
@@ -277,7 +277,7 @@ prologue_none e block line words count plain =
     let act = act_code line in
     let entered = block_entered 0 line in
     behind (frame_begun words 0 0 (Some count)) (move u5 a1 ∷ move a3 a2 ∷ (entered ++ (made ++ act))) []
-        (begun_none words count)
+    (begun_none words count)
     (behind entered (made ++ act) [] (entered_none line)
     (behind made act [] (variables_none e line 0 (variables_of_block e.program e.block) plain) (act_none line)))
 
@@ -293,10 +293,10 @@ program_names program block line body plain alone none are =
     let ended = procedure_ended e (main_head block line) words count None in
     let inside : Names (begun ++ (code ++ ended)) (stmts_data body) =
     behind begun (code ++ ended) (stmts_data body)
-        (prologue_none e block line words count (block_numbers program.variables block plain))
+    (prologue_none e block line words count (block_numbers program.variables block plain))
     (then_names code ended (stmts_data body) []
-        (statements_name e none_taken block (length (variables_of_block program block)) body
-        (block_numbers program.variables block plain, refl) are) (ended_none e (main_head block line) words count)
+    (statements_name e none_taken block (length (variables_of_block program block)) body
+    (block_numbers program.variables block plain, refl) are) (ended_none e (main_head block line) words count)
     ∙ append-nil (stmts_data body)) in
     ap data_named (code_is program block line body (all_numbers_plain program.variables plain) alone ∙ only_main program block line body alone.others none)
     ∙ behind (start_of block) (raise_code ++ procedure_in e (main_head block line) body [] None) (stmts_data body) refl

@@ -52,7 +52,7 @@ order_tells : (falls : Bool) (x z : ℤ) → IsWide x → IsWide z → int_lt z 
     ≡ is_of_precision 31 (x +ℤ z)
 order_tells falls x z wx wz e =
     by_sign falls (sym (ap (λ u. flag p == flag u) (ap (λ u. int_lt u (pos 0)) (signed_word z wz) ∙ e))
-        ∙ tested_as x z q wx wz refl)
+    ∙ tested_as x z q wx wz refl)
   where
     p : Bool
     p = int_lt (signed (sum (word x) (word z))) (signed (word x))
@@ -87,24 +87,33 @@ unfolding ◌>>◌
 ordered_by {i = i} {s = s} true closed routines temps f around taken test z x y k e value holds room fits l serving at
     gone =
     let r = skip_taken i f test a0 u1 (overflow_raised taken) l at (λ b. let o =
-        (at b).holds.regs in ap (λ u. holds_of test u ((f b).machine.registers 6)) o.0 ∙ ap (holds_of test x) o.1.0
-        ∙ holds) in
+    (at b).holds.regs in ap (λ u. holds_of test u ((f b).machine.registers 6)) o.0 ∙ ap (holds_of test x) o.1.0
+    ∙ holds) in
     onward closed r
-        (λ f' at'. after_fit around z k s e
-        (gone z f' e (λ b. record { pc = (at' b).pc; holds = record { body = (at' b).holds.body; regs =
-        ((at' b).holds.regs.0 ∙ value refl, tt) } })))
+    (λ f' at'. after_fit around z k s e
+    (gone z f' e (λ b. record {
+      pc = (at' b).pc;
+      holds = record {
+        body = (at' b).holds.body;
+        regs =
+            ((at' b).holds.regs.0 ∙ value refl, tt);
+      };
+    })))
 ordered_by {i = i} {s = s} false closed routines temps f around taken test z x y k e value holds room fits l serving
     at gone =
     let r = skip_passed i f test a0 u1 (overflow_raised taken) l at (λ b. let o =
-        (at b).holds.regs in ap (λ u. holds_of test u ((f b).machine.registers 6)) o.0 ∙ ap (holds_of test x) o.1.0
-        ∙ holds) in
+    (at b).holds.regs in ap (λ u. holds_of test u ((f b).machine.registers 6)) o.0 ∙ ap (holds_of test x) o.1.0
+    ∙ holds) in
     let next' : Unit {0} → Meaning ℤ = λ u. give (wrapped 31 z) in
     after_raise around z k s e
     (onward closed r (λ f' at'.
     comes_on k (R.raised around C.FixedOverflow 20 k s) next'
     (overflow_piece (before_closed k next' closed) routines temps f' around taken x k room fits
-        (rest_of _ (overflow_raised taken) l) serving (λ b. record { pc = (at' b).pc; holds =
-        record { body = (at' b).holds.body; regs = ((at' b).holds.regs.0, tt) } }))))
+    (rest_of _ (overflow_raised taken) l) serving (λ b. record {
+      pc = (at' b).pc;
+      holds =
+          record { body = (at' b).holds.body; regs = ((at' b).holds.regs.0, tt) };
+    }))))
 
 sum_bounded : (x y : ℕ) → sum x y < 2 ^ 32
 sum_bounded x y = omega arith
@@ -127,22 +136,35 @@ constant_piece {i = i} {g = g} {v = v} {h = h} {t = t} {s = s} {aims = aims} clo
     let l2 = back_of first (added ++ behind) l in
     let size = size_append added behind in
     let place : i + 1 + size_of added + (1 + size_of (overflow_raised taken)) ≡ i + size_of (constant_added taken y) =
-        omega (arith, size) in
+    omega (arith, size) in
     onward closed (straight i f v v (λ b. Known g v h t (before_sum (word x)) b) (front_of first (added ++ behind) l)
-        (omega arith) (λ b. (at b).pc)
+    (omega arith) (λ b. (at b).pc)
     (λ b. let o = (at b).holds in record {
-      body = record { services = o.body.services; registers = o.body.registers; bytes = o.body.bytes; memory =
-          o.body.memory };
+      body = record {
+        services = o.body.services;
+        registers = o.body.registers;
+        bytes = o.body.bytes;
+        memory =
+            o.body.memory;
+      };
       regs = (sum_zero _ (word x) o.regs.0 (word_small x wx), tt);
     }))
     (λ f1 at1.
     onward closed (plus_piece (i + 1) f1 a0 u1 y (λ b. word x) (λ b. total) (word_small y wy) (λ b. word_small x wx)
-        (λ u n. refl) (λ b w o. o.regs.0) (λ b. refl) (record { reserved_stay = λ u n. refl; known_stay =
-        λ b u n o. o; set = λ u n. refl }) (record { reserved_stay = λ u n. refl; known_stay = λ b u n o. o; set =
-        λ u n. refl }) (front_of added behind l2) at1)
+    (λ u n. refl) (λ b w o. o.regs.0) (λ b. refl) (record {
+      reserved_stay = λ u n. refl;
+      known_stay =
+          λ b u n o. o;
+      set = λ u n. refl;
+    }) (record {
+      reserved_stay = λ u n. refl;
+      known_stay = λ b u n o. o;
+      set =
+          λ u n. refl;
+    }) (front_of added behind l2) at1)
     (λ f2 at2.
     ordered_by q closed routines temps f2 around taken (order_of_sum y) z total (word x) k refl
-        (λ e. sum-word x y wx wy e) (order_tells (int_lt y (pos 0)) x y wx wy refl) room
-        (sum_bounded (word x) (word y)) (back_of added behind l2) serving at2
+    (λ e. sum-word x y wx wy e) (order_tells (int_lt y (pos 0)) x y wx wy refl) room
+    (sum_bounded (word x) (word y)) (back_of added behind l2) serving at2
     (λ z' f3 w at3. subst (λ n. aims.done n f3 v z' s) (sym place)
-        (gone z' f3 w (λ b. record { pc = (at3 b).pc ∙ ap (address b) place; holds = (at3 b).holds })))))
+    (gone z' f3 w (λ b. record { pc = (at3 b).pc ∙ ap (address b) place; holds = (at3 b).holds })))))

@@ -124,8 +124,8 @@ begun_piece {i = i} {v = v} {t = t} {s = s} {e = e} {block = block} {types = typ
           (λ s2 n2 h2 t2 f2 serving2 all2 stays2 at2.
           let before2 = stays_then stays (stays_fewer 2 stays2) in
           head_piece bl routines around r p limit most fixed by condition line c part counts wby isc room roomc fits
-              inner around.turns closed (i4 + size_of st) line n2 f2 k (let q = more.enough in omega (arith, q))
-              (omega (arith, inside, s6, s7)) lt
+          inner around.turns closed (i4 + size_of st) line n2 f2 k (let q = more.enough in omega (arith, q))
+          (omega (arith, inside, s6, s7)) lt
           (limit_stays limit most _ t2 w (stays2.words w (omega arith)) waits)
           (step_stays fixed by t t2 (w + 1) (stays2.words (w + 1) (omega arith)) at_step)
           serving2 all2 at2
@@ -211,8 +211,8 @@ count_does {e} {block} {types} bl links code routines around r p start c0 c3 lim
           (loads.does (before_closed k store closed) f3 (front_of c3 c4 l3) start3 at3
           (λ z f4 wz at4.
           begun_piece bl routines around r p limit most (constant_step step) by condition line c part counts wby isc
-              room roomc fits inner closed n f4 k z wz (back_of c3 c4 l3) lt waits at_step serving1 all1 at4
-              (stays_then stays2 stays3)
+          room roomc fits inner closed n f4 k z wz (back_of c3 c4 l3) lt waits at_step serving1 all1 at4
+          (stays_then stays2 stays3)
           (λ s5' v5 line5 n5 h5 t5 f5 serving5 all5 stays5 at5.
           subst (λ q. aims.done q f5 v5 tt s5') (sym place)
           (goal s5' v5 line5 n5 h5 t5 f5 serving5 all5 stays5 (λ b. record { pc = (at5 b).pc ∙ ap (address b) place; holds = (at5 b).holds })))

@@ -165,31 +165,42 @@ added_piece {i = i} {v = v} {h = h} {t = t} {s = s} {aims = aims} bl routines ar
     let place : i + 1 + size_of c + size_of d ≡ i + size_of (m ++ (c ++ d)) = omega (arith, size) in
     let w = bl.words_are n in
     onward closed (straight i f v v (λ b. Known (bl.ground n) v h t (lefted (word z)) b) (front_of m (c ++ d) l)
-        (omega arith) (λ b. (at b).pc)
+    (omega arith) (λ b. (at b).pc)
     (λ b. let o = (at b).holds in record {
-      body = record { services = o.body.services; registers = o.body.registers; bytes = o.body.bytes; memory =
-          o.body.memory };
+      body = record {
+        services = o.body.services;
+        registers = o.body.registers;
+        bytes = o.body.bytes;
+        memory =
+            o.body.memory;
+      };
       regs = (sum_zero _ (word z) o.regs.0 (word_small z wz), tt);
     }))
     (λ f3 at3.
     onward closed (read_piece (bl.temps n) (i + 1) f3 a0 (bl.taken.words + 1) (word step) (omega (arith, room, w))
-        (word_small step ws) at_step (record { reserved_stay = λ y u. refl; known_stay = λ b y u q. q; set =
-        λ y u. refl }) (record { reserved_stay = λ y u. refl; known_stay = λ b y u q. q; set = λ y u. refl })
-        (front_of c d l4) at3)
+    (word_small step ws) at_step (record {
+      reserved_stay = λ y u. refl;
+      known_stay = λ b y u q. q;
+      set =
+          λ y u. refl;
+    }) (record { reserved_stay = λ y u. refl; known_stay = λ b y u q. q; set = λ y u. refl })
+    (front_of c d l4) at3)
     (λ f4 at4.
     sum_piece closed routines.raises (bl.temps n) f4 around taken z step k wz ws (λ none. omega (arith, room, w))
-        (back_of c d l4) serving
+    (back_of c d l4) serving
     (λ b. let o =
-        at4 b in record { pc = o.pc;
-        holds = record { body = o.holds.body; regs = (o.holds.regs.1.0, (o.holds.regs.0, tt)) } })
+    at4 b in record {
+      pc = o.pc;
+      holds = record { body = o.holds.body; regs = (o.holds.regs.1.0, (o.holds.regs.0, tt)) };
+    })
     (λ z' f5 w5 at5. subst (λ q. aims.done q f5 v z' s) (sym place)
-        (gone z' f5 w5 (λ b. record { pc = (at5 b).pc ∙ ap (address b) place; holds = (at5 b).holds })))))
+    (gone z' f5 w5 (λ b. record { pc = (at5 b).pc ∙ ap (address b) place; holds = (at5 b).holds })))))
 added_piece {code = code} {i = i} {v = v} {s = s} {aims = aims} bl routines around (Some c) step z closed n f k wz ws
     at_step room l serving at gone =
     let w = bl.words_are n in
     subst (λ q. Comes code i f v aims (R.value_of around (checked 31 (z +ℤ q)) k s)) (sym at_step)
     (constant_piece closed routines.raises (bl.temps n) f around (in_turns bl.taken) z c k wz
-        (subst IsWide at_step ws) (λ none. omega (arith, room, w)) l serving at gone)
+    (subst IsWide at_step ws) (λ none. omega (arith, room, w)) l serving at gone)
 
 pub stepping_piece : {links : Links} {code : List Instr} {i : ℕ} {v : Services} {h t : ℕ → ℕ} {s : State} {aims :
     Aims (Unit {0})} {e : Environment} {block : Names} {types : Types} (bl : Block e block types) (routines :
@@ -230,7 +241,7 @@ stepping_piece {links = links} {code = code} {i = i} {v = v} {h = h} {t = t} {s 
     let e4 = size_append d q in
     let j1 = i + size_of (line_code line) in
     let there : j1 + size_of a + size_of d + size_of q
-        ≡ i + size_of (stepped_code e bl.taken (Y.NumberCounter p r) fixed line) = omega (arith, e0, e1, e2, e4) in
+    ≡ i + size_of (stepped_code e bl.taken (Y.NumberCounter p r) fixed line) = omega (arith, e0, e1, e2, e4) in
     let w = bl.words_are n in
     let v1 = on_line line v in
     let store : BasicValue → Meaning (Unit {0}) = λ u. M.assigned here r u in
@@ -249,8 +260,8 @@ stepping_piece {links = links} {code = code} {i = i} {v = v} {h = h} {t = t} {s 
     (λ z f2 h2 t2 wz stays2 at2.
     comes_on k (R.value_of here (checked 31 (z +ℤ step)) k s) next2
     (added_piece bl routines here fixed step z (before_closed k next2 closed) n f2 k wz ws
-        (step_stays fixed step t t2 (bl.taken.words + 1) (stays2.words (bl.taken.words + 1) (omega arith)) at_step)
-        (omega (arith, room)) (front_of d q l5) serving1 at2
+    (step_stays fixed step t t2 (bl.taken.words + 1) (stays2.words (bl.taken.words + 1) (omega arith)) at_step)
+    (omega (arith, room)) (front_of d q l5) serving1 at2
     (λ z2 f5 w2 at5.
     comes_on k (M.counter_value here (Y.NumberCounter p r) z2 k s) store
     (comes_on k (R.value_of here (checked p z2) k s) as_value
@@ -276,7 +287,7 @@ turn_rest {e} {block} bl r p limit fixed condition line c =
     let u = turn_of e bl.taken (Y.NumberCounter p r) limit fixed condition line c in
     limit_kept e bl.taken (Y.NumberCounter p r) limit fixed (words_behind_limit u)
     ++ (while_kept e bl.taken condition (words_behind_condition u)
-        ++ (c ++ (stepped_code e bl.taken (Y.NumberCounter p r) fixed line ++ JumpBack (words_back u) ∷ [])))
+    ++ (c ++ (stepped_code e bl.taken (Y.NumberCounter p r) fixed line ++ JumpBack (words_back u) ∷ [])))
 
 abbrev pub turns_of : {e : Environment} {block : Names} {types : Types} → Block e block types → (r : Y.Reference)
     → (p : ℕ) → Option Y.Number → Option ℤ → Option Y.Bit → (line : ℕ) → Code → Code
@@ -369,9 +380,9 @@ head_piece {e} {block} {types} bl {links} {code} routines around r p limit most 
     let all1 : AllHold bl.frames bl.serials (storage v) (e.level ∷ bl.depths) s' block types n = counted_all _ all in
     comes_on k (M.within_limit here (Y.NumberCounter p r) most step k s') conditions
     (within_piece bl routines here r p limit most fixed step (words_behind_limit u)
-        (before_closed k conditions (before_closed k branch closed)) n f1 k counts.reads waits ws at_step
-        (omega (arith, some)) (omega (arith, inside, over1)) (front_of lim (con ++ (c ++ (sp ++ jump))) l1) serving1
-        all1 at1 (
+    (before_closed k conditions (before_closed k branch closed)) n f1 k counts.reads waits ws at_step
+    (omega (arith, some)) (omega (arith, inside, over1)) (front_of lim (con ++ (c ++ (sp ++ jump))) l1) serving1
+    all1 at1 (
       (λ f2 h2 t2 stays2 at2.
           condition_piece bl routines here condition (words_behind_condition u) (before_closed k branch closed) n f2 k is room' (omega (arith, inside, over2)) (front_of con (c ++ (sp ++ jump)) l2) serving1 all1 at2 (
             (λ f3 h3 t3 stays3 at3.
@@ -382,9 +393,9 @@ head_piece {e} {block} {types} bl {links} {code} routines around r p limit most 
                 (λ s4' v4 line4 n4 h4 t4 f4 serving4 all4 stays4 at4 grown.
                 let stays04 = stays_then stays2 (stays_then stays3 stays4) in
                 stepping_piece bl routines around line r p fixed step (before_closed k goes closed) n4 f4 line4 k fits
-                    (takes.old s4' (storage v4) n4 all4).1.0 counts.reads ws
-                    (step_stays fixed step t t4 (w + 1) (stays04.words (w + 1) (omega arith)) at_step) some
-                    (front_of sp jump l4) serving4 all4 at4
+                (takes.old s4' (storage v4) n4 all4).1.0 counts.reads ws
+                (step_stays fixed step t t4 (w + 1) (stays04.words (w + 1) (omega arith)) at_step) some
+                (front_of sp jump l4) serving4 all4 at4
                 (λ z f5 h5 t5 wz unpaused stays5 serving5 at5.
                 onward (before_closed k goes closed) (back_piece i5 f5 (words_back u) i back (record { reserved_stay = λ y x. refl; known_stay = λ b y x q. q; set = λ y x. refl }) (back_of sp jump l4) at5)
                 (λ f6 at6.
@@ -394,10 +405,10 @@ head_piece {e} {block} {types} bl {links} {code} routines around r p limit most 
                 (λ s7 n7 h7 t7 f7 serving7 all7 stays7 at7.
                 let stays07 = stays_then stays04 (stays_then stays5 stays7) in
                 head_piece bl routines around r p limit most fixed step condition line c part counts ws is room room'
-                    fits inner turns closed (i + size_of st + turn) line n7 f7 k (omega (arith, enough, grown))
-                    (omega (arith, inside, ends, s0, s1, again_at)) l
+                fits inner turns closed (i + size_of st + turn) line n7 f7 k (omega (arith, enough, grown))
+                (omega (arith, inside, ends, s0, s1, again_at)) l
                 (limit_stays limit most t t7 w (stays07.words w (omega arith)) waits)
-                    (step_stays fixed step t t7 (w + 1) (stays07.words (w + 1) (omega arith)) at_step)
+                (step_stays fixed step t t7 (w + 1) (stays07.words (w + 1) (omega arith)) at_step)
                 serving7 all7 at7
                 (λ s8 v8 line8 n8 h8 t8 f8 serving8 all8 stays8 at8. goal s8 v8 line8 n8 h8 t8 f8 serving8 all8 (stays_then (stays_fewer 2 stays07) stays8) at8)
                 (further more (omega arith) (omega (arith, grown)) (stays_fewer 2 stays07))))))))
@@ -485,7 +496,7 @@ step_kept_piece bl routines around step None n closed f k is iss room l serving 
     goal by f2 h2 (put t2 (w + 1) (word by)) wide (put_same t2 (w + 1) (word by))
     (put_other t2 (w + 1) (word by) w (omega arith) ∙ stays2.words w (omega arith))
     (put_apart t2 (w + 1) (word by) (w + 2) (other_place (w + 2) (w + 1) (omega arith))
-        ∙ stays2.words (w + 2) (omega arith))
+    ∙ stays2.words (w + 2) (omega arith))
     (stays_then (stays_fewer 3 stays2) (stays_kept bl.taken h2 t2 (w + 1) (word by) (omega arith))) at2)
 step_kept_piece {code = code} {i = i} {v = v} {h = h} {t = t} {s = s} {aims = aims} {block = block} {types =
     types} bl routines around step (Some z) n closed f k is iss room l serving all at goal =
@@ -495,8 +506,11 @@ step_kept_piece {code = code} {i = i} {v = v} {h = h} {t = t} {s = s} {aims = ai
     (record {
       to =
           subst (λ u. aims.done u f v z s) (sym same)
-          (goal z f h t constant.wide refl refl refl (stays_same bl.taken h t) (λ b. record { pc =
-              (at b).pc ∙ ap (address b) same; holds = (at b).holds }));
+          (goal z f h t constant.wide refl refl refl (stays_same bl.taken h t) (λ b. record {
+            pc =
+                (at b).pc ∙ ap (address b) same;
+            holds = (at b).holds;
+          }));
     })
 
 -- limit and step are evaluated, and wait in their words
@@ -528,7 +542,7 @@ limits_piece {s = s} bl routines around limit step n next' closed f k isl iss ro
     (λ most f1 h1 t1 waits stays1 start1 at1.
     comes_on k (V.number around step k s) (λ by. next' most by)
     (step_kept_piece bl routines around step (constant_step step) n (before_closed k (λ by. next' most by) closed) f1
-        k refl iss rooms l2 serving all at1
+    k refl iss rooms l2 serving all at1
     (λ by f2 h2 t2 wide kept limit_same start_same stays2 at2.
     goal most by f2 h2 t2 wide (limit_stays limit most t1 t2 w limit_same waits) kept (start_same ∙ start1)
-        (stays_then stays1 stays2) at2))))
+    (stays_then stays1 stays2) at2))))

@@ -84,7 +84,7 @@ element_assign_does {e} {block} {types} bl links code routines around j {type} b
           let on = bl.arrays j type b bs below in
           element_assigned_piece (λ z p. bl.ground (with_element_of n j p z)) closed routines.raises (bl.temps n) (array_scope on n mine (bl.reaches n j below.0)) f1 here bl.taken k due (subscripts_words (Y.NumberThen first rest)) first rest source
           (stores _ s1 k n all1 serving1) into (subscripts _ s1 k n all1 serving1) (ap (λ m. suc m) many)
-              (omega (arith, room, w)) (omega (arith, some, w)) serving1
+          (omega (arith, room, w)) (omega (arith, some, w)) serving1
           (λ z p base h'. bl.same n (with_element_of n j p z) base h')
           (λ z p fits' inside t' base m len o. on.writes n p z inside (mine.fits p inside) fits' t' base m len o)
           (back_of front behind l) at1

@@ -120,7 +120,7 @@ text_element_none e t block j n varying most bs first rest none =
     behind (text_element_code e t level varying most bs first rest) (element_asked n place varying most) []
     (behind (subscripts_code e t (Y.NumberThen first rest)) (counted ++ text_found e level varying most) [] none
     (behind counted (text_found e level varying most) [] (dimensions_none e t 0 xs bs)
-        (text_found_none e level varying most)))
+    (text_found_none e level varying most)))
     (behind offset (kind_asked n varying most) [] (plus_none a0 a0 (pos place)) (kind_none n varying most))
 
 text_part_none : (e : Environment) (t : Taken) (block : Names) (types : Types) (r : Y.Reference) → HasTypes e block types → IsPartText block types r → Marks (subscripts_code e t (subscripts_in r)) [] → Marks (text_code e t (Y.TextIn r)) []
@@ -282,7 +282,7 @@ target_none e t block types type r numeric has is =
     ap (λ q. word_stored e t q) is.is ∙ scalar_stored_is e t block is.index type numeric d in
     ap symbols_marked same
     ∙ behind (base_found e (level_of block is.index)) into [] (base_none e (level_of block is.index))
-        (kept_none type e (level_of block is.index) place)
+    (kept_none type e (level_of block is.index) place)
 
 -- what is assigned to
 pub assigned_none : (e : Environment) (t : Taken) (block : Names) (types : Types) (type : Y.LeafType) (r : Y.Reference) → IsNumeric type → HasTypes e block types → IsAssigned block types type r → Marks (word_stored e t r) []
@@ -295,8 +295,8 @@ assigned_none e t block types type r numeric has is = by_part is.0
         let are : AreProvedNumbers block types (Y.NumberThen o.first o.rest) = subst (AreSubscripts block types) o.is is.1 in
         subst (λ q. Marks (word_stored e t q) []) (sym o.is)
         (kept_element_none e t block o.index type (o.bound ∷ o.bounds) o.first o.rest numeric
-            (has o.index kind o.declared) (subscripts_none e t block types (Y.NumberThen o.first o.rest) has are)
-            (subscripts_none e (with_number t) block types (Y.NumberThen o.first o.rest) has are))
+        (has o.index kind o.declared) (subscripts_none e t block types (Y.NumberThen o.first o.rest) has are)
+        (subscripts_none e (with_number t) block types (Y.NumberThen o.first o.rest) has are))
 
 -- a number that is assigned
 pub number_assigned_none : (e : Environment) (t : Taken) (block : Names) (types : Types) (precision : ℕ) (r : Y.Reference) (x : Y.Number) → HasTypes e block types → IsAssigned block types (Y.FixedLeaf precision) r → IsProvedNumber block types x → Marks ((number_code e t x ++ fitted_code t precision) ++ word_stored e t r) []

@@ -181,15 +181,17 @@ number_part_does {links} {code} {g} {v} {s} {k} {e} {block} {types} {held} {arou
         let all' = subst (λ q. AllEvaluate links code g v s k e around (subscripts_in q)) o.is all in
         subst (λ q. Evaluates number_kind links code g v s k (number_words (Y.NumberIn q)) (λ taken. number_code e taken (Y.NumberIn q)) (V.number around (Y.NumberIn q))) (sym o.is)
         (element_number_does around st.routines st.serving (st.scope.arrays o.index (Y.FixedLeaf is.precision) o.bound
-            o.bounds (o.declared, tt)) o.first o.rest all' (ap (λ n. suc n) o.many))
+        o.bounds (o.declared, tt)) o.first o.rest all' (ap (λ n. suc n) o.many))
 
 bit_part_does : {links : Links} {code : List Instr} {g : Ground} {v : Services} {s : State} {k : ℕ} {e : Environment} {block : Names} {types : Types} {held : Values} {around : Around} (r : Y.Reference) → IsPart block types Y.BitLeaf r → Setting links code g v s k e block types held around → AllEvaluate links code g v s k e around (subscripts_in r) → Evaluates bit_kind links code g v s k (bit_words (Y.BitIn r)) (λ taken. bit_code e taken (Y.BitIn r)) (V.bit around (Y.BitIn r))
 bit_part_does {around = around} r (inl o) st all = own_bit_does around r (bit_words (Y.BitIn r)) o st.scope
 bit_part_does {links} {code} {g} {v} {s} {k} {e} {around = around} r (inr o) st all =
     let all' = subst (λ q. AllEvaluate links code g v s k e around (subscripts_in q)) o.is all in
     subst (λ q. Evaluates bit_kind links code g v s k (bit_words (Y.BitIn q)) (λ taken. bit_code e taken (Y.BitIn q)) (V.bit around (Y.BitIn q))) (sym o.is)
-    (element_bit_does around st.routines st.serving (st.scope.arrays o.index Y.BitLeaf o.bound o.bounds (o.declared,
-        tt)) o.first o.rest all' (ap (λ n. suc n) o.many))
+    (element_bit_does around st.routines st.serving (st.scope.arrays o.index Y.BitLeaf o.bound o.bounds (
+      o.declared,
+      tt,
+    )) o.first o.rest all' (ap (λ n. suc n) o.many))
 
 text_part_does : {links : Links} {code : List Instr} {g : Ground} {v : Services} {s : State} {k : ℕ} {e : Environment} {block : Names} {types : Types} {held : Values} {around : Around} (r : Y.Reference) → IsPartText block types r → Setting links code g v s k e block types held around → AllEvaluate links code g v s k e around (subscripts_in r) → EvaluatesText links code g v s k (text_words (Y.TextIn r)) (λ taken. text_code e taken (Y.TextIn r)) (V.text around (Y.TextIn r))
 text_part_does {links} {code} {g} {v} {s} {k} {e} {block} {types} {held} {around} r is st all = by_part is.part
@@ -200,7 +202,7 @@ text_part_does {links} {code} {g} {v} {s} {k} {e} {block} {types} {held} {around
         let all' = subst (λ q. AllEvaluate links code g v s k e around (subscripts_in q)) o.is all in
         subst (λ q. EvaluatesText links code g v s k (text_words (Y.TextIn q)) (λ taken. text_code e taken (Y.TextIn q)) (V.text around (Y.TextIn q))) (sym o.is)
         (text_element_evaluates around st.routines st.serving (st.scope.text_arrays o.index is.varying is.most o.bound
-            o.bounds o.declared) o.first o.rest all' (ap (λ n. suc n) o.many))
+        o.bounds o.declared) o.first o.rest all' (ap (λ n. suc n) o.many))
 
 -- ---- simple numbers
 
@@ -215,8 +217,10 @@ constant_given e around n is =
       value = pos n;
       wide = wide;
       meant = refl;
-      gives = λ h t. record { comes = λ c f free far l at. constant_piece c f u1 (pos n) (word_small (pos n) wide)
-          free l at };
+      gives = λ h t. record {
+        comes = λ c f free far l at. constant_piece c f u1 (pos n) (word_small (pos n) wide)
+            free l at;
+      };
     }
 
 -- a variable of the block
@@ -230,10 +234,10 @@ own_given {links} {code} {g} {v} {s} {k} {e} {block} {types} {held} around r p i
     let place = data_place e block j in
     let z = held.numbers j in
     let T : Y.Reference → Type 1 = λ q. Simple links code g v s k (simple_loaded e u1 (Y.NumberIn q))
-        (V.number around (Y.NumberIn q)) in
+    (V.number around (Y.NumberIn q)) in
     subst T (sym is.is)
     (subst (λ c. Simple links code g v s k c (V.number around (Y.NumberIn (whole (own block j)))))
-        (sym (simple_loaded_is e block j p (scope.declared j is.declared)))
+    (sym (simple_loaded_is e block j p (scope.declared j is.declared)))
     (record {
       value = z;
       wide = fits_wide (Y.FixedLeaf p) z holds.fits;
@@ -334,7 +338,7 @@ mutual
   subscripts_do Y.NoNumber st are = none_evaluate
   subscripts_do (Y.NumberThen first rest) st are =
       next_evaluate st.temps (number_words first) (subscripts_words rest) first rest
-          (λ simple. simple_does first st are.0 simple) (number_does first st are.0) (subscripts_do rest st are.1)
+      (λ simple. simple_does first st are.0 simple) (number_does first st are.0) (subscripts_do rest st are.1)
 
   pub bit_does : (x : Y.Bit) {links : Links} {code : List Instr} {g : Ground} {v : Services} {s : State} {k : ℕ} {e : Environment} {block : Names} {types : Types} {held : Values} {around : Around} → Setting links code g v s k e block types held around → IsProvedBit block types x → Evaluates bit_kind links code g v s k (bit_words x) (λ taken. bit_code e taken x) (V.bit around x)
   bit_does (Y.BitConstant true) st is = bit_does' 1 true (lit< tt) refl

@@ -41,12 +41,14 @@ pub load_own : {links : Links} {code : List Instr} {i : ℕ} {g : Ground} {v : S
     (λ b w. At b (i + size_of (displaced (λ s d. I.Load kind r s d) r z)) (Known g v h t (with' r.index x rs) b) w)
 load_own {g = g} {v = v} {h = h} {t = t} {rs = rs} c f r kind z base o x place within near reads free far l at =
     displaced_by (is_immediate z) c f (λ s d. I.Load kind r s d) r z (λ b. b.at + base)
-        (Known g v h t (with' r.index (λ b. b.at + base) rs)) (Known g v h t (with' r.index x rs)) place.small'
-        (λ b. inside_memory b base within) near (λ b. (at b).holds.regs.0) (omega arith)
+    (Known g v h t (with' r.index (λ b. b.at + base) rs)) (Known g v h t (with' r.index x rs)) place.small'
+    (λ b. inside_memory b base within) near (λ b. (at b).holds.regs.0) (omega arith)
     (record {
-      does = λ b j w s d k e. (at_place b place _ e,
-          set_known w r.index (extended kind (load (load_width kind) w.machine.memory o)) _ x free
-          (reads b w.machine.memory k.body.memory) (record { body = k.body; regs = k.regs.1 }));
+      does = λ b j w s d k e. (
+        at_place b place _ e,
+        set_known w r.index (extended kind (load (load_width kind) w.machine.memory o)) _ x free
+            (reads b w.machine.memory k.body.memory) (record { body = k.body; regs = k.regs.1 }),
+      );
       lost = λ b w u i k. lose_known w 31 u i far k;
     })
     l at

@@ -127,9 +127,17 @@ one_does program block line body alone {all} {called} {procedure} q can {links} 
     let small' = can.few in
     let low : words ≤ 800 = most 0 (stmts_words q.body) 800 (omega arith) (omega (arith, small')) in
     let held = held_with program words q.body in
-    let callee : Callee bl = record { words = words; held = held; few = held_few program words q.body; at =
-        bl.stack.free + temporary_bytes words; place = refl; room = omega (arith, low, space, deep); outer =
-        λ j kind at. refl } in
+    let callee : Callee bl = record {
+      words = words;
+      held = held;
+      few = held_few program words q.body;
+      at =
+          bl.stack.free + temporary_bytes words;
+      place = refl;
+      room = omega (arith, low, space, deep);
+      outer =
+          λ j kind at. refl;
+    } in
     let makes = called_makes bl callee head q.level block (main_labels program.procedures) has standing.known (main_plain program q.head.number standing.known.plain) (omega (arith, small', low, space, deep)) (omega (arith, small')) in
     let stands : StandsAt links code e head words held q.body = record {
       entry = at;

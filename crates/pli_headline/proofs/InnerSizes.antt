@@ -245,7 +245,7 @@ mutual
       most_more _ _ _ _ (omega (arith, n, m, s1, s2, s3, s4, s5)) (omega (arith, m, s1, s2, s4, s5))
   statement_inner e t block types named has (Y.DoOnce target (Y.StoredNumber precision x) condition body line) is bare =
       let z : reference_words target ≤ size_of (stored_into e t target (Y.StoredNumber precision x)) =
-          target_size e t block types has (Y.FixedLeaf precision) tt target is.0.0 in
+      target_size e t block types has (Y.FixedLeaf precision) tt target is.0.0 in
       let n = number_size e t block types has x is.0.1 in
       let m = statements_inner e t block types named has body is.1.1.0 bare in
       let o = once_size e t block types has condition line (stmts_code e t body) is.1.0 in
@@ -265,7 +265,7 @@ mutual
       (most_more _ _ _ _ (omega (arith, both, m, s1, s2)) (omega (arith, m, o1, s1, s2)))
   statement_inner e t block types named has (Y.DoOnce target (Y.StoredBit x) condition body line) is bare =
       let z : reference_words target ≤ size_of (stored_into e t target (Y.StoredBit x)) =
-          target_size e t block types has Y.BitLeaf tt target is.0.0 in
+      target_size e t block types has Y.BitLeaf tt target is.0.0 in
       let n = bit_size e t block types has x is.0.1 in
       let m = statements_inner e t block types named has body is.1.1.0 bare in
       let o = once_size e t block types has condition line (stmts_code e t body) is.1.0 in
@@ -283,7 +283,7 @@ mutual
       (most_more _ _ _ _ (omega (arith, both, m, s1, s2)) (omega (arith, m, o1, s1, s2)))
   statement_inner e t block types named has (Y.DoOnce target (Y.StoredText x) condition body line) is bare =
       let z : reference_words target ≤ size_of (stored_into e t target (Y.StoredText x)) =
-          text_target_size e t block types has target is.0.0 in
+      text_target_size e t block types has target is.0.0 in
       let n = text_size e t block types has x is.0.1 in
       let m = statements_inner e t block types named has body is.1.1.0 bare in
       let o = once_size e t block types has condition line (stmts_code e t body) is.1.0 in
@@ -330,8 +330,8 @@ mutual
       most_more _ _ _ _
       (let a : max (value_words start) (max (number_if limit) (number_words step)) + all_inner_words body ≤ size_of (stmt_code e t (Y.DoCount counter start limit step condition body line)) - 2 =
       most_more _ _ _ _ (omega (arith, n0, n4, four, s1, s2, s3, s8, s9, s10, s11))
-          (most_more _ _ _ _ (omega (arith, n1, n4, four, s1, s2, s3, s4, s8, s9, s10, s11))
-          (omega (arith, n2, n4, four, s1, s2, s3, s4, s5, s8, s9, s10, s11))) in
+      (most_more _ _ _ _ (omega (arith, n1, n4, four, s1, s2, s3, s4, s8, s9, s10, s11))
+      (omega (arith, n2, n4, four, s1, s2, s3, s4, s5, s8, s9, s10, s11))) in
       omega (arith, a, four, s1))
       (let a : max (suc (reference_words target)) (max (bit_if condition) (stmts_words body)) + all_inner_words body ≤ size_of (stmt_code e t (Y.DoCount counter start limit step condition body line)) - 1 =
       most_more _ _ _ _ (omega (arith, z, four, n4, s0, s1, s2, s8, s9, s10, s11)) (most_more _ _ _ _ (omega (arith, n3, n4, four, s1, s2, s8, s9, s10, s11)) (omega (arith, n4, four, s1, s2, s8, s9, s10, s11))) in

@@ -205,9 +205,17 @@ unit_raisable {e} {block} {types} bl {links} {code} standing {procedure = proced
     let words = words_of_unit q.head.kind (stmts_words q.body) in
     let few = q.few in
     let small' = words_few q.head.kind (stmts_words q.body) in
-    let callee : Callee bl = record { words = words; held = held_with e.program words q.body; few =
-        held_few e.program words q.body; at = bl.stack.free + temporary_bytes words; place = refl; room =
-        omega (arith, small', few, space, deep); outer = outermost } in
+    let callee : Callee bl = record {
+      words = words;
+      held = held_with e.program words q.body;
+      few =
+          held_few e.program words q.body;
+      at = bl.stack.free + temporary_bytes words;
+      place = refl;
+      room =
+          omega (arith, small', few, space, deep);
+      outer = outermost;
+    } in
     let makes = unit_makes bl callee q.head q.level procedure mains has standing.known q.declares (omega (arith, few, small', space, deep)) (omega (arith, few)) in
     let sized = unit_sized e q.head q.head.kind q.body q.what standing.known q.declares q.level (omega (arith, few)) in
     record {

@@ -85,7 +85,7 @@ prologue_none e block line words held plain =
     let act = act_code line in
     let entered = block_entered 0 line in
     behind (frame_begun words 0 0 (Some held)) (move u5 a1 ∷ move a3 a2 ∷ (entered ++ (made ++ act))) []
-        (begun_none words held)
+    (begun_none words held)
     (behind entered (made ++ act) [] (behind (number a2 line) (service 4) [] (constant_none a2 (pos line)) refl)
     (behind made act [] (variables_none e line 0 (variables_of_block e.program e.block) plain) (act_none line)))
 
@@ -113,8 +113,8 @@ program_marks program block line body plain all called alone are bare others =
     let inside : Marks (begun ++ (code ++ ended)) ss =
     behind begun (code ++ ended) ss (prologue_none e block line words held (main_plain program block plain))
     (both_mark code ended (places_of (all_stands block body)) (ReturnPlace block ∷ [])
-        (statements_mark e none_taken (main_names program block) (types_of (variables_of_block program block)) body
-        refl has are bare) (ended_marks e (main_head block line) words held)) in
+    (statements_mark e none_taken (main_names program block) (types_of (variables_of_block program block)) body
+    refl has are bare) (ended_marks e (main_head block line) words held)) in
     ap symbols_marked (code_is program block line body plain alone)
     ∙ behind (start_of block) (raise_code ++ (main ++ rest)) (program_symbols block (all_stands block body) alone.others) refl
     (both_mark raise_code (main ++ rest) (RaiseCondition ∷ RaiseError ∷ ErrorEnd ∷ []) (ProcedureEntry block ∷ (ss ++ procedure_symbols alone.others)) refl

@@ -122,10 +122,10 @@ more_restored (suc left) n {v = v} c f g all l at =
     let above = f.above_statics in
     let inside = f.inside in
     let place = frame_place f.at (8 + 4 * n) f.whole (omega (arith, above)) (omega (arith, inside)) (omega arith)
-        (omega (arith, few)) in
+    (omega (arith, few)) in
     let r1 = displaced_by (is_immediate (saved_register n)) c g (λ q d. I.Load Load.Word (held n) q d) frame_register
-        (saved_register n) (λ b. b.at + f.at) (Returning f v (restored_in f)) (Returning f v (restored_in f))
-        place.small'
+    (saved_register n) (λ b. b.at + f.at) (Returning f v (restored_in f)) (Returning f v (restored_in f))
+    place.small'
     (λ b. let v' = b.valid.1 in omega (arith, v', inside))
     (λ y u. refl)
     (λ b. (at b).holds.regs.1.0)
@@ -133,14 +133,18 @@ more_restored (suc left) n {v = v} c f g all l at =
     (record {
       does = λ b j w q d k e. (
         at_place b place _ e,
-        record { services = k.services; regs = others_stay n few f b w.machine.registers _ k.regs; resumes =
-            k.resumes },
+        record {
+          services = k.services;
+          regs = others_stay n few f b w.machine.registers _ k.regs;
+          resumes =
+              k.resumes;
+        },
       );
       lost = λ b w u i' k. record { services = k.services; regs = k.regs; resumes = k.resumes };
     })
     (front_of first rest l) at in
     let r2 = more_restored left (suc n) (c + size_of first) f (reached r1) (omega (arith, all)) (back_of first rest l)
-        (reached_holds r1) in
+    (reached_holds r1) in
     reach_moved (omega (arith, size)) (omega (arith, size)) (reach_then r1 r2)
 
 restored_piece : {links : Links} {code : List Instr} {i : ℕ} {v : Services} (c : ℕ) (f : Frame) (held' : ℕ) (g :
@@ -153,7 +157,7 @@ restored_piece {v = v} c f held' g few l at =
     let rest = registers_restored 0 held' in
     let size = size_append first rest in
     let r1 = straight c g v v (λ b w. Returning f v (restored_in f) b w) (front_of first rest l) (omega arith)
-        (λ b. (at b).pc)
+    (λ b. (at b).pc)
     (λ b.
     let o = (at b).holds in
     let m = (g b).machine.memory in
@@ -162,7 +166,7 @@ restored_piece {v = v} c f held' g few l at =
       record { services = o.services; regs = (ap (load 4 m) same ∙ o.resumes, o.regs); resumes = o.resumes },
     )) in
     let r2 = more_restored held' 0 (c + size_of first) f (reached r1) (omega (arith, few)) (back_of first rest l)
-        (reached_holds r1) in
+    (reached_holds r1) in
     reach_moved (omega (arith, size)) (omega (arith, size)) (reach_then r1 r2)
 
 -- the stack's register takes what it will, and is not asked any more
@@ -218,7 +222,7 @@ leaving_piece {code = code} {i = i} {v = v} closed e block line words held' f g 
     let here : i + 2 + 1 + r + size_of ps + 1 ≡ i + 2 + 1 + r + size_of (frame_ended words) = omega (arith, size) in
     let room = l6.inside in
     let r1 = straight i g v v (λ b w. Returning f v (λ b'. (17, 5) ∷ (10, 0) ∷ in_frame f b') b w)
-        (front_of asked (Plain I.Ecall ∷ (restored ++ ended)) l) (omega arith) (λ b. (at b).pc)
+    (front_of asked (Plain I.Ecall ∷ (restored ++ ended)) l) (omega arith) (λ b. (at b).pc)
     (λ b. let o = (at b).holds in let z = o.regs.1.0 in record {
       services = o.services;
       regs = (small_is _ 5 z (lit< tt), (small_is _ 0 z (lit< tt), o.regs));
@@ -228,17 +232,20 @@ leaving_piece {code = code} {i = i} {v = v} closed e block line words held' f g 
     onward closed (left_piece (i + 2) f a g1 only (first_of (Plain I.Ecall) (restored ++ ended) l1) at1) (λ g2 at2.
     onward closed (restored_piece (i + 2 + 1) f held' g2 most (front_of restored ended l2) at2) (λ g3 at3.
     onward closed
-        (lowered_piece (i + 2 + 1 + r) f (temporary_bytes words) g3 few
-        (front_of ps (load_word frame_register frame_register frame_below) l4) at3) (λ g4 at4.
+    (lowered_piece (i + 2 + 1 + r) f (temporary_bytes words) g3 few
+    (front_of ps (load_word frame_register frame_register frame_below) l4) at3) (λ g4 at4.
     let r5 = straight (i + 2 + 1 + r + size_of ps) g4 v' v' (λ b w. Bare v' ((1, address b f.resume) ∷ (0, 0) ∷ []) w)
-        l5 (omega arith) (λ b. (at4 b).pc)
+    l5 (omega arith) (λ b. (at4 b).pc)
     (λ b. let o = (at4 b).holds in (
       over_word f b ((g4 b).machine.registers 8) 4 refl (omega arith) o.regs.1.0,
       record { services = o.services; regs = (o.regs.0, (o.regs.1.1.0, tt)) },
     )) in
     onward closed r5 (λ g5 at5.
     onward closed
-        (returned_piece (i + 2 + 1 + r + size_of ps + 1) f g5 near l6 (λ b. record { pc =
-        (at5 b).pc ∙ ap (address b) here; holds = (at5 b).holds })) (λ g6 at6.
+    (returned_piece (i + 2 + 1 + r + size_of ps + 1) f g5 near l6 (λ b. record {
+      pc =
+          (at5 b).pc ∙ ap (address b) here;
+      holds = (at5 b).holds;
+    })) (λ g6 at6.
     finish_piece closed (i + 2 + 1 + r + size_of ps + 1 + 1) g6 s k (omega (arith, room, size)) finish' same running
-        allowed fits at6))))))
+    allowed fits at6))))))

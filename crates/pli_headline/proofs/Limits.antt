@@ -214,7 +214,7 @@ by_order {code = code} {i = i} {v = v} {aims = aims} s k one other true closed f
     onward closed (ahead_piece (i + 1) f1 behind (omega (arith, inside)) free_far (rest_of _ (JumpAhead behind ∷ []) l)
     (λ b. record { pc = (at1 b).pc; holds = record { body = (at1 b).holds.body; regs = tt } }))
     (λ f2 at2. subst (λ n. Comes code n f2 v aims (other k s)) (sym there)
-        (past' f2 (λ b. record { pc = (at2 b).pc ∙ ap (address b) there; holds = (at2 b).holds }))))
+    (past' f2 (λ b. record { pc = (at2 b).pc ∙ ap (address b) there; holds = (at2 b).holds }))))
 
 by_direction : {X : Type 0} {links : Links} {code : List Instr} {i : ℕ} {g : Ground} {v : Services} {h t :
     ℕ → ℕ} {aims : Aims X} (s : State) (k : ℕ) (one other : Meaning X) (falls : Bool) (closed : Closed code aims) (f :
@@ -229,10 +229,10 @@ by_direction : {X : Type 0} {links : Links} {code : List Instr} {i : ℕ} {g : G
     → Comes code i f v aims (choose (not (has_passed falls limit z)) one other k s)
 by_direction s k one other true closed f limit z behind wl wz inside l at within past' =
     by_order s k one other (int_lt z limit) closed f a0 u1 behind inside l at (λ b. let o =
-        (at b).holds.regs in not_less _ _ z limit o.1.0 o.0 wz wl) within past'
+    (at b).holds.regs in not_less _ _ z limit o.1.0 o.0 wz wl) within past'
 by_direction s k one other false closed f limit z behind wl wz inside l at within past' =
     by_order s k one other (int_lt limit z) closed f u1 a0 behind inside l at (λ b. let o =
-        (at b).holds.regs in not_less _ _ limit z o.0 o.1.0 wl wz) within past'
+    (at b).holds.regs in not_less _ _ limit z o.0 o.1.0 wl wz) within past'
 
 -- the value in a0 against the limit that waits, by the step
 pub limit_piece : {X : Type 0} {links : Links} {code : List Instr} {i : ℕ} {g : Ground} {v : Services} {h t :
@@ -252,7 +252,7 @@ pub limit_piece : {X : Type 0} {links : Links} {code : List Instr} {i : ℕ} {g 
 limit_piece s k one other closed temps f taken None limit step z behind wl ws wz room at_limit at_step inside l at
     within past' =
     kept_piece s k one other closed temps f taken limit step z behind wl ws wz room at_limit at_step inside l at
-        within past'
+    within past'
 limit_piece {code = code} {i = i} {v = v} {aims = aims} s k one other closed temps f taken (Some c) limit step z
     behind wl ws wz room at_limit at_step inside l at within past' =
     let a = load_word u1 frame_register (limit_place taken) in
@@ -262,14 +262,14 @@ limit_piece {code = code} {i = i} {v = v} {aims = aims} s k one other closed tem
     let end' : i + size_of a + size_of last ≡ i + size_of (a ++ last) = omega (arith, size) in
     let end'' : i + size_of a + size_of last + behind ≡ i + size_of (a ++ last) + behind = omega (arith, size) in
     onward closed (read_piece temps i f u1 taken.words (word limit) (omega (arith, room)) (word_small limit wl)
-        at_limit (record { reserved_stay = λ y u. refl; known_stay = λ b y u q. q; set = λ y u. refl })
-        (record { reserved_stay = λ y u. refl; known_stay = λ b y u q. q; set = λ y u. refl }) (front_of a last l) at)
+    at_limit (record { reserved_stay = λ y u. refl; known_stay = λ b y u q. q; set = λ y u. refl })
+    (record { reserved_stay = λ y u. refl; known_stay = λ b y u q. q; set = λ y u. refl }) (front_of a last l) at)
     (λ f1 at1.
     subst (λ q. Comes code (i + size_of a) f1 v aims (choose q one other k s))
-        (sym (not_passed falls limit step z (ap (λ u. int_lt u (pos 0)) at_step)))
+    (sym (not_passed falls limit step z (ap (λ u. int_lt u (pos 0)) at_step)))
     (by_direction s k one other falls closed f1 limit z behind wl wz (omega (arith, inside, end'')) (back_of a last l)
-        at1
+    at1
     (λ f2 at2. subst (λ n. Comes code n f2 v aims (one k s)) (sym end')
-        (within f2 (λ b. record { pc = (at2 b).pc ∙ ap (address b) end'; holds = (at2 b).holds })))
+    (within f2 (λ b. record { pc = (at2 b).pc ∙ ap (address b) end'; holds = (at2 b).holds })))
     (λ f2 at2. subst (λ n. Comes code n f2 v aims (other k s)) (sym end'')
-        (past' f2 (λ b. record { pc = (at2 b).pc ∙ ap (address b) end''; holds = (at2 b).holds })))))
+    (past' f2 (λ b. record { pc = (at2 b).pc ∙ ap (address b) end''; holds = (at2 b).holds })))))

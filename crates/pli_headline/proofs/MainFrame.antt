@@ -75,7 +75,7 @@ filled_in m at y top own =
 pub filled_keeps : {m0 m : List ℕ} (at y top own : ℕ) → Kept at m0 m → Kept at m0 (filled_in m at y top own)
 filled_keeps at y top own kept =
     kept_store (at + 36) own (omega arith)
-        (kept_store (at + 40) top (omega arith) (kept_store (at + 4) y (omega arith) kept))
+    (kept_store (at + 40) top (omega arith) (kept_store (at + 4) y (omega arith) kept))
 
 filled_return : (m : List ℕ) (at y top own back : ℕ) → load 4 m at ≡ back → WordIs (filled_in m at y top own) at back
 filled_return m at y top own back is =
@@ -87,7 +87,7 @@ filled_below : (m : List ℕ) (at y top own : ℕ) → y < 2 ^ 32 → at + 8 ≤
 filled_below m at y top own small' inside =
     word_under (at + 36) own (omega arith)
     (word_under (at + 40) top (omega arith)
-        (record { is = load-store_same 4 m (at + 4) y small' (omega (arith, inside)) }))
+    (record { is = load-store_same 4 m (at + 4) y small' (omega (arith, inside)) }))
 
 filled_own : (m : List ℕ) (at y top own : ℕ) → own < 2 ^ 32
     → at + 40 ≤ length (store 4 (store 4 m (at + 4) y) (at + 40) top) → load 4 (filled_in m at y top own) (at + 36)
@@ -122,7 +122,7 @@ frame_stands f first m b y top own none len kept ra below mine =
     let v = b.valid.1 in
     let long : length m ≡ memory_size = kept.bytes ∙ start_length first ∙ len in
     let last : length (store 4 (store 4 m (f.at + 4) y) (f.at + 40) top) ≡ memory_size =
-        length-store 4 (store 4 m (f.at + 4) y) (f.at + 40) top ∙ length-store 4 m (f.at + 4) y ∙ long in
+    length-store 4 (store 4 m (f.at + 4) y) (f.at + 40) top ∙ length-store 4 m (f.at + 4) y ∙ long in
     let keeps = filled_keeps f.at y top own kept in
     record {
       statics = λ k h. keeps.under k (omega (arith, above, h)) ∙ start_keeps first k h;

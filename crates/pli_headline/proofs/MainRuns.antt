@@ -185,7 +185,7 @@ statements_piece {links = links} {code = code} {i = i} {h = h} {t = t} known pro
     let e = main_environment program block in
     let st = stmts_code e none_taken body in
     let en = procedure_ended e (main_head block line) (main_words program block body) (main_held program block body)
-        None in
+    None in
     let around = main_around program k line in
     let f = main_frame (main_words program block body) (main_sizes program block) (main_count program block) small' few in
     let most = held_few program (main_words program block body) body in
@@ -199,9 +199,9 @@ statements_piece {links = links} {code = code} {i = i} {h = h} {t = t} known pro
     record {
       to =
           leaving_piece (never_closed code) e block line (main_words program block body)
-              (main_held program block body) f g' (with_world s'.world (newest_ended s')) k o.0 most
-              (omega (arith, small')) (omega arith) (back_of st en l) finish' serving'.world serving'.running
-              serving'.allowed serving'.fits o.1
+          (main_held program block body) f g' (with_world s'.world (newest_ended s')) k o.0 most
+          (omega (arith, small')) (omega arith) (back_of st en l) finish' serving'.world serving'.running
+          serving'.allowed serving'.fits o.1
           (λ b. let p = (at' b).holds in record { pc = (at' b).pc; holds = record { services = p.body.services; regs = (frame_is p.body, (zero_is p.body, tt)); memory = (p.body.memory.resumes, p.body.memory.own) } });
     })
     (record {
@@ -223,8 +223,8 @@ statements_piece {links = links} {code = code} {i = i} {h = h} {t = t} known pro
             later = omega (arith, later);
             leaves = λ s' v' g' a same running allowed fits only at'.
                 leaving_piece (never_closed code) e block line (main_words program block body)
-                    (main_held program block body) f g' (with_world s'.world (newest_ended s')) k a most
-                    (omega (arith, small')) (omega arith) ended finish' same running allowed fits only at';
+                (main_held program block body) f g' (with_world s'.world (newest_ended s')) k a most
+                (omega (arith, small')) (omega arith) ended finish' same running allowed fits only at';
           };
     }))
 
@@ -381,7 +381,7 @@ procedure_piece {links} {code} known program block line body first input all alo
     let closed = inside_closed newest_ended (to_finish_closed code k) in
     comes_on k (K.variables_made (main_around program k line) 0 (variables_of_block program block) k (main_state (main_kind program block) input 0)) next'
     (onward (before_closed k next' closed) (begun entry first v f held g (held_few program words body) refl
-        (omega arith) refl len lf at) (λ g1 at1.
+    (omega arith) refl len lf at) (λ g1 at1.
     onward (before_closed k next' closed) (entered_piece (entry + size_of fb) f first (λ j. Counted (pos 0)) table (main_kind program block) input line g1 low le at1) (λ g2 at2.
     variables_piece (before_closed k next' closed) (main_around program k line) program block line words small' first input (main_kind program block) k n zeros t fits
     (λ j below room. main_place program block line body j all alone below room)

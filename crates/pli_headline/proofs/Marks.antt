@@ -41,10 +41,10 @@ no_routines e (b ∷ bs) are =
 abbrev pub behind_entry : Y.Program → (block line : ℕ) → Y.Stmts → Code
 behind_entry program block line body =
     procedure_begun (main_environment program block) (main_head block line) (main_words program block body)
-        (main_held program block body) []
+    (main_held program block body) []
     ++ (stmts_code (main_environment program block) none_taken body
     ++ procedure_ended (main_environment program block) (main_head block line) (main_words program block body)
-        (main_held program block body) None)
+    (main_held program block body) None)
 
 -- that of the other procedures, in the environment of the whole program
 abbrev pub others_code : Y.Program → List Y.Procedure → Code

@@ -39,7 +39,7 @@ begun_none e head words held declaring =
     let entered = block_entered 0 head.line in
     let nothing : Marks made [] = declared_none e head.line 0 (variables_of_block e.program e.block) declaring in
     behind (frame_begun words head.level 0 (Some held)) (move u5 a1 ∷ move a3 a2 ∷ (entered ++ (made ++ act))) []
-        (called_begun_none words head.level held)
+    (called_begun_none words head.level held)
     (behind entered (made ++ act) [] (behind (number a2 head.line) (service 4) [] (constant_none a2 (pos head.line)) refl)
     (behind made act [] nothing (act_none head.line)))
 
@@ -74,10 +74,10 @@ procedure_marks e block types head body named has declaring are bare =
     ap (λ us. ProcedureEntry head.number ∷ us)
     (behind begun (code ++ ended) (ss ++ ReturnPlace head.number ∷ []) (begun_none e' head words held declaring)
     (both_mark code ended ss (ReturnPlace head.number ∷ [])
-        (statements_mark e' none_taken (names_in block types head (variables_of_block block.program head.number))
-        (types_in types (variables_of_block block.program head.number)) body
-        (named_in block types head (variables_of_block block.program head.number) named)
-        (has_in e block types head named declaring has) are bare) (ended_marks e' head words held)))
+    (statements_mark e' none_taken (names_in block types head (variables_of_block block.program head.number))
+    (types_in types (variables_of_block block.program head.number)) body
+    (named_in block types head (variables_of_block block.program head.number) named)
+    (has_in e block types head named declaring has) are bare) (ended_marks e' head words held)))
 
 pub procedures_mark : (e : Environment) (block : ℕ) (all : List (ℕ × Label)) (called : List ℕ) (ps : List Y.Procedure) → AllPlain e.program.variables → HasTypes e (main_names e.program block) (types_of (variables_of_block e.program block)) → AreInner e.program block all called ps → Marks (procedures_code e ps) (procedure_symbols ps)
 procedures_mark e block all called [] plain has inner = refl

@@ -196,10 +196,14 @@ begun {links} {code} {i} c first v f held g few none near place len l at =
     (record { reserved_stay = λ y u. refl; known_stay = λ b y u o. o; set = λ y u. refl })
     (record { reserved_stay = λ y u. refl; known_stay = λ b y u o. o; set = λ y u. refl })
     (front_of up (saves ++ frame_filled) l) at in
-    let s = saved_piece f.at back (with_frame f back) (record { frame = λ b y k. k.0; return = λ b y k. k.1.0; far =
-        record { reserved_stay = λ y u. refl; known_stay = λ b y u o. o; set = λ y u. refl } }) zeros held few
-        (saving_at f first) (λ b. let v' = b.valid.1 in omega (arith, v', near)) (c + size_of up) (reached r)
-        (front_of saves frame_filled l1)
+    let s = saved_piece f.at back (with_frame f back) (record {
+      frame = λ b y k. k.0;
+      return = λ b y k. k.1.0;
+      far =
+          record { reserved_stay = λ y u. refl; known_stay = λ b y u o. o; set = λ y u. refl };
+    }) zeros held few
+    (saving_at f first) (λ b. let v' = b.valid.1 in omega (arith, v', near)) (c + size_of up) (reached r)
+    (front_of saves frame_filled l1)
     (λ b. let o = reached_holds r b in record {
       pc = o.pc;
       holds = record {
@@ -214,8 +218,8 @@ begun {links} {code} {i} c first v f held g few none near place len l at =
       };
     }) in
     let q = straight (c + size_of up + size_of saves) (reached s) v v
-        (λ b w. Known (ground_of f first (λ j. Counted (pos 0))) v zeros (first_words first f.at) no_texts b w)
-        (back_of saves frame_filled l1) (omega arith) (λ b. (reached_holds s b).pc)
+    (λ b w. Known (ground_of f first (λ j. Counted (pos 0))) v zeros (first_words first f.at) no_texts b w)
+    (back_of saves frame_filled l1) (omega arith) (λ b. (reached_holds s b).pc)
     (λ b. filled_path links code (i + size_of up + size_of saves) first v f held b (reached s b) none len l.small'
-        (reached_holds s b).holds) in
+    (reached_holds s b).holds) in
     reach_moved (omega (arith, n1, n2)) (omega (arith, n1, n2)) (reach_then r (reach_then s q))

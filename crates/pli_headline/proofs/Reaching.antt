@@ -90,17 +90,21 @@ pub brought_based : (q : Bool) (level : ℕ) {links : Links} {code : List Instr}
     ++ displaced (λ s d. I.Load kind u1 s d) (cond q frame_register u1) z)) (Known g v h t (with' 6 x rs) b) w)
 brought_based true level {g = g} c f base kind z o x reaches within place reads free far l at =
     narrow_load_from c f u1 frame_register kind z base o x place within (λ y u. refl) (λ b w k. frame_is k.body
-        ∙ ap (λ u. b.at + u) reaches) reads free far l at
+    ∙ ap (λ u. b.at + u) reaches) reads free far l at
 brought_based false level {i = i} {g = g} {v = v} {h = h} {t = t} {rs = rs} c f base kind z o x reaches within place
     reads free far l at =
     let first = load_word u1 frame_register (display level) in
     let second = displaced (λ s d. I.Load kind u1 s d) u1 z in
     let size = size_append first second in
     let r1 = load_piece c f u1 (display level) (g.frame + (144 + 4 * level)) (λ b. b.at + base) reaches.0
-        (λ b m k. reaches.1 t b m k) free far (front_of first second l) at in
+    (λ b m k. reaches.1 t b m k) free far (front_of first second l) at in
     let r2 = load_own (c + size_of first) (reached r1) u1 kind z base o x place within (λ y u. refl) reads free
-    (record { reserved_stay = far.reserved_stay; known_stay = λ b y u k. (k.0, far.known_stay b y u k.1); set =
-        far.set })
+    (record {
+      reserved_stay = far.reserved_stay;
+      known_stay = λ b y u k. (k.0, far.known_stay b y u k.1);
+      set =
+          far.set;
+    })
     (back_of first second l) (reached_holds r1) in
     reach_moved (omega (arith, size)) (omega (arith, size)) (reach_then r1 r2)
 
@@ -119,12 +123,15 @@ pub write_based : (q : Bool) (level : ℕ) {links : Links} {code : List Instr} {
 write_based true level {i = i} {g = g} g' {v = v} {h = h} {t = t} c f base kind z o x reaches within place same writes
     l at =
     let r = narrow_store_into g' t c f a0 frame_register kind z base o (λ b. x) place within (λ y u. refl)
-        (λ b w k. frame_is k.body ∙ ap (λ u. b.at + u) reaches) (λ y u. refl) (λ b w k. k.regs.0) same writes
+    (λ b w k. frame_is k.body ∙ ap (λ u. b.at + u) reaches) (λ y u. refl) (λ b w k. k.regs.0) same writes
     (record { reserved_stay = λ y u. refl; known_stay = λ b y u k. (k.0, tt); set = λ y u. refl })
     l at in
     reach_map (λ b w. At b (i + size_of (displaced (λ s d. I.Store kind s a0 d) frame_register z))
-        (Known g' v h t nothing b) w) r (λ b w k. record { pc = k.pc; holds =
-        record { body = k.holds.body; regs = tt } })
+    (Known g' v h t nothing b) w) r (λ b w k. record {
+      pc = k.pc;
+      holds =
+          record { body = k.holds.body; regs = tt };
+    })
 write_based false level {i = i} {g = g} g' {v = v} {h = h} {t = t} c f base kind z o x reaches within place same
     writes l at =
     let word' = load_word u3 frame_register (display level) in
@@ -137,9 +144,9 @@ write_based false level {i = i} {g = g} g' {v = v} {h = h} {t = t} c f base kind
     (record { reserved_stay = λ y u. refl; known_stay = λ b y u k. (k.0, tt); set = λ y u. refl })
     (front_of word' [] (front_of first last l)) at) in
     let r1 = narrow_store_into g' t (c + size_of first) (reached r0) a0 u3 kind z base o (λ b. x) place within
-        (λ y u. refl) (λ b w k. k.regs.0) (λ y u. refl) (λ b w k. k.regs.1.0) same writes
+    (λ y u. refl) (λ b w k. k.regs.0) (λ y u. refl) (λ b w k. k.regs.1.0) same writes
     (record { reserved_stay = λ y u. refl; known_stay = λ b y u k. (k.0, (k.1.0, tt)); set = λ y u. refl })
     (back_of first last l) (reached_holds r0) in
     reach_moved (omega (arith, size)) (omega (arith, size))
     (reach_map (λ b w. At b (i + size_of first + size_of last) (Known g' v h t nothing b) w) (reach_then r0 r1)
-        (λ b w k. record { pc = k.pc; holds = record { body = k.holds.body; regs = tt } }))
+    (λ b w k. record { pc = k.pc; holds = record { body = k.holds.body; regs = tt } }))

@@ -157,7 +157,7 @@ more_saved {g} {t} at back rs k h held' most s (suc left) n c f all l there =
     k.far
     (front_of first rest l) there in
     let r2 = more_saved at back rs k h held' most s left (suc n) (c + size_of first) (reached r1) (omega (arith, all))
-        (back_of first rest l) (reached_holds r1) in
+    (back_of first rest l) (reached_holds r1) in
     reach_moved (omega (arith, size)) (omega (arith, size)) (reach_then r1 r2)
 
 -- all of them
@@ -176,7 +176,7 @@ saved_piece {g} {t} at back rs k h held' most s fits c f l there =
     let r1 = store_into (saved_ground g at back h 0) t c f return_register u0 return_address at (at + 0) back
     (frame_place at 0 s.whole s.high s.room refl (omega arith))
     (omega (arith, room)) (λ y u. refl) (λ b w o. k.frame b w.machine.registers o.regs) (λ y u. refl)
-        (λ b w o. k.return b w.machine.registers o.regs)
+    (λ b w o. k.return b w.machine.registers o.regs)
     (λ b. refl)
     (λ b m len o. (
       s.keeps b m (at + 0) (back b) (omega arith) o,
@@ -188,7 +188,7 @@ saved_piece {g} {t} at back rs k h held' most s fits c f l there =
     k.far
     (front_of first rest l) there in
     let r2 = more_saved at back rs k h held' most s held' 0 (c + size_of first) (reached r1) (omega arith)
-        (back_of first rest l) (reached_holds r1) in
+    (back_of first rest l) (reached_holds r1) in
     reach_moved (omega (arith, size)) (omega (arith, size)) (reach_then r1 r2)
 
 -- ---- on the way back
@@ -237,7 +237,7 @@ more_restored {g} {t} back saved s (suc left) n {v = v} h c f all l there =
             services = k.body.services;
             registers =
                 ap (λ u. reserved (written w.machine.registers (held n).index u))
-                    ((s.has b w.machine.memory k.body.memory).registers n (omega (arith, all)))
+                ((s.has b w.machine.memory k.body.memory).registers n (omega (arith, all)))
                 ∙ held_put n g b h w.machine.registers x few k.body.registers;
             bytes = k.body.bytes;
             memory = k.body.memory;
@@ -269,5 +269,5 @@ restored_piece {g} {t} back saved {held'} s h c f l there =
     (record { reserved_stay = λ y u. refl; known_stay = λ b y u q. q; set = λ y u. refl })
     (front_of first rest l) there in
     let r2 = more_restored back saved s held' 0 h (c + size_of first) (reached r1) (omega arith)
-        (back_of first rest l) (reached_holds r1) in
+    (back_of first rest l) (reached_holds r1) in
     reach_moved (omega (arith, size)) (omega (arith, size)) (reach_then r1 r2)

@@ -140,17 +140,17 @@ element_size e t block types type r o sized has n =
     let behind = frame_found e (level_of block j) u3 ++ element_added (frame_in e (level_of block j) u3) type xs in
     let eq : reached e t t v whole_part xs ≡ counted ++ behind =
     ap (λ d. reached_by e t block j xs d) declared.1
-        ∙ ap (λ q. if q then counted ++ behind else other) (sized bs declared.0) in
+    ∙ ap (λ q. if q then counted ++ behind else other) (sized bs declared.0) in
     let n' =
-        subst (λ q. subscripts_words (subscripts_in q) ≤ size_of (subscripts_code e t (subscripts_in q))
-        + given_in (subscripts_in q)) o.is n in
+    subst (λ q. subscripts_words (subscripts_in q) ≤ size_of (subscripts_code e t (subscripts_in q))
+    + given_in (subscripts_in q)) o.is n in
     let few = counted_size e t 0 xs bs (let many = o.many in omega (arith, many)) in
     let s1 = size_append (subscripts_code e t xs) (reached e t t v whole_part xs) in
     let s2 = ap size_of eq in
     let s3 = size_append counted behind in
     subst (λ q. reference_words q ≤ size_of (reference_code e t q)) (sym o.is)
     (most 0 (0 + subscripts_words xs) (size_of (reference_code e t (element block j o.first o.rest))) (omega arith)
-        (omega (arith, n', few, s1, s2, s3)))
+    (omega (arith, n', few, s1, s2, s3)))
 
 part_size : (e : Environment) (t : Taken) (block : Names) (types : Types) (has : HasTypes e block types) (type :
     Y.LeafType) (r : Y.Reference) (last : Code) → IsPart block types type r → IsSized type
@@ -206,8 +206,8 @@ mutual
   number_size e t block types has (Y.NumberIn (Y.Referring v locator part subscripts)) is =
       let r = Y.Referring v locator part subscripts in
       part_size e t block types has (Y.FixedLeaf is.0.precision) r (loaded (type_in e r) a0 (address_in e r))
-          is.0.part (size_constant (Y.FixedLeaf is.0.precision) tt)
-          (subscripts_size e t block types has subscripts is.1)
+      is.0.part (size_constant (Y.FixedLeaf is.0.precision) tt)
+      (subscripts_size e t block types has subscripts is.1)
   number_size e t block types has (Y.NumberOfBit x) is = bit_size e t block types has x is
   number_size e t block types has (Y.Signed sign x) is =
       let n = number_size e t block types has x is in
@@ -283,7 +283,7 @@ mutual
   subscripts_size e t block types has Y.NoNumber are = omega arith
   subscripts_size e t block types has (Y.NumberThen first rest) are =
       subscripts_by (is_simple e first && are_simple e rest) e t first rest
-          (all_simple_words e block types (Y.NumberThen first rest) are)
+      (all_simple_words e block types (Y.NumberThen first rest) are)
       (number_size e t block types has first are.0) (subscripts_size e (with_number t) block types has rest are.1)
 
   pub bit_size : (e : Environment) (t : Taken) (block : Names) (types : Types) (has : HasTypes e block types) (x :
@@ -292,7 +292,7 @@ mutual
   bit_size e t block types has (Y.BitIn (Y.Referring v locator part subscripts)) is =
       let r = Y.Referring v locator part subscripts in
       part_size e t block types has Y.BitLeaf r (loaded (type_in e r) a0 (address_in e r)) is.0
-          (size_constant Y.BitLeaf tt) (subscripts_size e t block types has subscripts is.1)
+      (size_constant Y.BitLeaf tt) (subscripts_size e t block types has subscripts is.1)
   bit_size e t block types has (Y.Negated x) is =
       let n = bit_size e t block types has x is in
       let s = size_append (bit_code e t x) (negated_code ∷ []) in
@@ -322,7 +322,7 @@ mutual
   text_size e t block types has (Y.TextIn (Y.Referring v locator part subscripts)) is =
       let r = Y.Referring v locator part subscripts in
       part_size e t block types has (text_leaf is.0.varying is.0.most) r (text_pushed (type_in e r) (address_in e r))
-          is.0.part (text_size_constant is.0.varying is.0.most) (subscripts_size e t block types has subscripts is.1)
+      is.0.part (text_size_constant is.0.varying is.0.most) (subscripts_size e t block types has subscripts is.1)
   text_size e t block types has (Y.TextOfNumber precision x) is =
       let n = number_size e t block types has x is.1 in
       let s = size_append (number_code e t x) (as_text precision) in
@@ -494,12 +494,12 @@ target_size e t block types has type numeric r is = by_part is.0
         let enough : (u : Taken) → reference_words r ≤ size_of (reference_code e u r) = λ u.
         let n = subscripts_size e u block types has xs are in
         let n' =
-            subst (λ q. subscripts_words (subscripts_in q) ≤ size_of (subscripts_code e u (subscripts_in q))
-            + given_in (subscripts_in q)) (sym o.is) n in
+        subst (λ q. subscripts_words (subscripts_in q) ≤ size_of (subscripts_code e u (subscripts_in q))
+        + given_in (subscripts_in q)) (sym o.is) n in
         element_size e u block types type r o (size_constant type numeric) has n' in
         stored_least (is_near e r) (reference_code e t r) (reference_code e (with_number t) r) (save a0 t)
-            (fetch a0 t) (stored (type_in e r) a0 (address_in e r)) (reference_words r) (enough t)
-            (enough (with_number t))
+        (fetch a0 t) (stored (type_in e r) a0 (address_in e r)) (reference_words r) (enough t)
+        (enough (with_number t))
 
 pub text_target_size : (e : Environment) (t : Taken) (block : Names) (types : Types) (has :
     HasTypes e block types) (r : Y.Reference) → IsAssignedText block types r
@@ -513,10 +513,10 @@ text_target_size e t block types has r is = by_part is.0.part
         let are : AreProvedNumbers block types xs = subst (AreSubscripts block types) o.is is.1 in
         let n = subscripts_size e t block types has xs are in
         let n' =
-            subst (λ q. subscripts_words (subscripts_in q) ≤ size_of (subscripts_code e t (subscripts_in q))
-            + given_in (subscripts_in q)) (sym o.is) n in
+        subst (λ q. subscripts_words (subscripts_in q) ≤ size_of (subscripts_code e t (subscripts_in q))
+        + given_in (subscripts_in q)) (sym o.is) n in
         let m = element_size e t block types (text_leaf is.0.varying is.0.most) r o
-            (text_size_constant is.0.varying is.0.most) has n' in
+        (text_size_constant is.0.varying is.0.most) has n' in
         let s = size_append (reference_code e t r) (text_stored (type_in e r) (address_in e r)) in
         omega (arith, m, s)
 
@@ -547,7 +547,7 @@ got_item_words : (e : Environment) (t : Taken) (block : Names) (types : Types) (
 got_item_words e t block types has formats after (Y.GetScalar r) is =
     let type = part_type e block types is.type r has is.part in
     let f = subst (λ u. reference_words r ≤ size_of (field_stored e t formats r u)) (sym type)
-        (field_size e t block types has formats is.type r is.read is.part is.subscripts) in
+    (field_size e t block types has formats is.type r is.read is.part is.subscripts) in
     let c = field_stored e t formats r (type_in e r) in
     let s = size_append (field_awaited (size_of c + after)) c in
     omega (arith, f, s)
@@ -579,7 +579,7 @@ mutual
   statement_size e t block types has (Y.Null line) is = omega arith
   statement_size e t block types has (Y.Assign target (Y.StoredNumber precision x) line) is =
       let z : reference_words target ≤ size_of (stored_into e t target (Y.StoredNumber precision x)) =
-          target_size e t block types has (Y.FixedLeaf precision) tt target is.0 in
+      target_size e t block types has (Y.FixedLeaf precision) tt target is.0 in
       let n = number_size e t block types has x is.1.0 in
       let four = act_size line in
       let code = number_code e t x in
@@ -591,7 +591,7 @@ mutual
       most _ _ _ (most _ _ _ (omega arith) (omega (arith, n, s1, s2, s3))) (omega (arith, z, four, s1, s2))
   statement_size e t block types has (Y.Assign target (Y.StoredBit x) line) is =
       let z : reference_words target ≤ size_of (stored_into e t target (Y.StoredBit x)) =
-          target_size e t block types has Y.BitLeaf tt target is.0 in
+      target_size e t block types has Y.BitLeaf tt target is.0 in
       let n = bit_size e t block types has x is.1.0 in
       let four = act_size line in
       let code = bit_code e t x in
@@ -601,7 +601,7 @@ mutual
       most _ _ _ (omega (arith, n, s1, s2)) (omega (arith, z, four, s1, s2))
   statement_size e t block types has (Y.Assign target (Y.StoredText x) line) is =
       let z : reference_words target ≤ size_of (stored_into e t target (Y.StoredText x)) =
-          text_target_size e t block types has target is.0 in
+      text_target_size e t block types has target is.0 in
       let n = text_size e t block types has x is.1.0 in
       let four = act_size line in
       let code = text_code e t x in
@@ -688,7 +688,7 @@ mutual
       most _ _ _ (omega (arith, n, s1, s2, s3)) (omega (arith, m, s1, s2, s4, s5))
   statement_size e t block types has (Y.DoOnce target (Y.StoredNumber precision x) condition body line) is =
       let z : reference_words target ≤ size_of (stored_into e t target (Y.StoredNumber precision x)) =
-          target_size e t block types has (Y.FixedLeaf precision) tt target is.0.0 in
+      target_size e t block types has (Y.FixedLeaf precision) tt target is.0.0 in
       let n = number_size e t block types has x is.0.1 in
       let m = statements_size e t block types has body is.1.1.0 in
       let o = once_size e t block types has condition line (stmts_code e t body) is.1.0 in
@@ -706,7 +706,7 @@ mutual
       (most _ _ _ (let o0 = o.0 in omega (arith, o0, s1, s2)) (let o1 = o.1 in omega (arith, m, o1, s1, s2)))
   statement_size e t block types has (Y.DoOnce target (Y.StoredBit x) condition body line) is =
       let z : reference_words target ≤ size_of (stored_into e t target (Y.StoredBit x)) =
-          target_size e t block types has Y.BitLeaf tt target is.0.0 in
+      target_size e t block types has Y.BitLeaf tt target is.0.0 in
       let n = bit_size e t block types has x is.0.1 in
       let m = statements_size e t block types has body is.1.1.0 in
       let o = once_size e t block types has condition line (stmts_code e t body) is.1.0 in
@@ -722,7 +722,7 @@ mutual
       (most _ _ _ (let o0 = o.0 in omega (arith, o0, s1, s2)) (let o1 = o.1 in omega (arith, m, o1, s1, s2)))
   statement_size e t block types has (Y.DoOnce target (Y.StoredText x) condition body line) is =
       let z : reference_words target ≤ size_of (stored_into e t target (Y.StoredText x)) =
-          text_target_size e t block types has target is.0.0 in
+      text_target_size e t block types has target is.0.0 in
       let n = text_size e t block types has x is.0.1 in
       let m = statements_size e t block types has body is.1.1.0 in
       let o = once_size e t block types has condition line (stmts_code e t body) is.1.0 in
@@ -767,7 +767,7 @@ mutual
       let total = size_of (stmt_code e t (Y.DoCount counter start limit step condition body line)) in
       let small1 : max (value_words start) (max (number_if limit) (number_words step)) ≤ total - 3 + 1 =
       most _ _ _ (omega (arith, n0, four, s1, s2, s3))
-          (most _ _ _ (omega (arith, n1, four, s1, s2, s3, s4)) (omega (arith, n2, four, s1, s2, s3, s4, s5))) in
+      (most _ _ _ (omega (arith, n1, four, s1, s2, s3, s4)) (omega (arith, n2, four, s1, s2, s3, s4, s5))) in
       let small2 : max (suc (reference_words target)) (max (bit_if condition) (stmts_words body)) ≤ total - 2 + 1 =
       most _ _ _ (omega (arith, z, four, s0, s1, s2, s8)) (most _ _ _ (omega (arith, n3, four, s1, s2, s8, s9, s10)) (omega (arith, n4, four, s1, s2, s8, s9, s10, s11))) in
       most _ _ _ (omega (arith, small1, four, s1)) (omega (arith, small2, four, s1))

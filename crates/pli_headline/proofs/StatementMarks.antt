@@ -131,13 +131,13 @@ saved_none : (n left : ℕ) → Marks (registers_saved u0 n left) []
 saved_none n zero = refl
 saved_none n (suc left) =
     behind (store_word u0 (held n) (saved_register n)) (registers_saved u0 (suc n) left) []
-        (store_none u0 (held n) (saved_register n)) (saved_none (suc n) left)
+    (store_none u0 (held n) (saved_register n)) (saved_none (suc n) left)
 
 restored_none : (n left : ℕ) → Marks (registers_restored n left) []
 restored_none n zero = refl
 restored_none n (suc left) =
     behind (load_word (held n) frame_register (saved_register n)) (registers_restored (suc n) left) []
-        (load_none (held n) frame_register (saved_register n)) (restored_none (suc n) left)
+    (load_none (held n) frame_register (saved_register n)) (restored_none (suc n) left)
 
 pub all_saved_none : (count : ℕ) → Marks (all_saved u0 count) []
 all_saved_none count = saved_none 0 count
@@ -150,17 +150,17 @@ called_begun_none words level count =
     let up = plus u0 stack_register (pos (temporary_bytes words)) in
     let saves = all_saved u0 count in
     let first = store_word u0 frame_register frame_below
-        ++ (load_word u1 frame_register lower_top
-        ++ (move frame_register u0 ∷ store_word frame_register u1 lower_top)) in
+    ++ (load_word u1 frame_register lower_top
+    ++ (move frame_register u0 ∷ store_word frame_register u1 lower_top)) in
     let made = display_made level in
     let own = BaseIn u1 ∷ subtract u1 frame_register u1 ∷ store_word frame_register u1 own_offset in
     let raised = plus stack_register frame_register (pos (fixed_size level 0)) in
     behind up (saves ++ (first ++ (made ++ (own ++ raised)))) []
-        (plus_none u0 stack_register (pos (temporary_bytes words)))
+    (plus_none u0 stack_register (pos (temporary_bytes words)))
     (behind saves (first ++ (made ++ (own ++ raised))) [] (all_saved_none count)
     (behind first (made ++ (own ++ raised)) [] refl
     (behind made (own ++ raised) [] (display_none level)
-        (behind own raised [] refl (plus_none stack_register frame_register (pos (fixed_size level 0)))))))
+    (behind own raised [] refl (plus_none stack_register frame_register (pos (fixed_size level 0)))))))
 
 -- what makes a variable
 given_none : (r : Register) (start : Option Datum) → Marks (initial_given r start) []
@@ -251,7 +251,7 @@ step_none : (e : Environment) (t : Taken) (block : Names) (types : Types) (step 
     → HasTypes e block types → IsProvedNumber block types step → Marks (step_kept e t step fixed) []
 step_none e t block types step None has is =
     behind (number_code e (before_turns t) step) (store_word frame_register a0 (step_place t)) []
-        (number_none e (before_turns t) block types step has is) (store_none frame_register a0 (step_place t))
+    (number_none e (before_turns t) block types step has is) (store_none frame_register a0 (step_place t))
 step_none e t block types step (Some z) has is = refl
 
 begun_none : (e : Environment) (t : Taken) (block : Names) (types : Types) (precision : ℕ) (r : Y.Reference) (start : Y.Value) (limit : Option Y.Number) (step : Y.Number) → HasTypes e block types → IsProvedStart block types start → IsProvedNumberIf block types limit → IsProvedNumber block types step → Marks (count_begun e t (Y.NumberCounter precision r) start limit step) []
@@ -277,7 +277,7 @@ passed_by_none t (Some z) words = passed_none (int_lt z (pos 0)) words
 tested_none : (t : Taken) (fixed : Option ℤ) (words : ℕ) → Marks (limit_tested t fixed words) []
 tested_none t fixed words =
     behind (load_word u1 frame_register (limit_place t)) (passed_by t fixed words) []
-        (load_none u1 frame_register (limit_place t)) (passed_by_none t fixed words)
+    (load_none u1 frame_register (limit_place t)) (passed_by_none t fixed words)
 
 kept_none : (e : Environment) (t : Taken) (block : Names) (types : Types) (precision : ℕ) (r : Y.Reference) (limit :
     Option Y.Number) (fixed : Option ℤ) (words : ℕ) → HasTypes e block types
@@ -286,8 +286,8 @@ kept_none : (e : Environment) (t : Taken) (block : Names) (types : Types) (preci
 kept_none e t block types precision r None fixed words has is = refl
 kept_none e t block types precision r (Some x) fixed words has is =
     behind (number_code e (in_turns t) (Y.NumberIn r)) (limit_tested t fixed words) []
-        (number_none e (in_turns t) block types (Y.NumberIn r) has (assigned_read block types precision r is))
-        (tested_none t fixed words)
+    (number_none e (in_turns t) block types (Y.NumberIn r) has (assigned_read block types precision r is))
+    (tested_none t fixed words)
 
 condition_none : (e : Environment) (t : Taken) (block : Names) (types : Types) (condition : Option Y.Bit) (words : ℕ) → HasTypes e block types → IsProvedBitIf block types condition → Marks (while_kept e t condition words) []
 condition_none e t block types None words has is = refl
@@ -297,7 +297,7 @@ condition_none e t block types (Some x) words has is =
 added_none : (t : Taken) (fixed : Option ℤ) → Marks (step_added t fixed) []
 added_none t None =
     behind (load_word a0 frame_register (step_place t)) (sum_code (in_turns t)) []
-        (load_none a0 frame_register (step_place t)) (overflow_none (in_turns t))
+    (load_none a0 frame_register (step_place t)) (overflow_none (in_turns t))
 added_none t (Some z) = behind (plus a0 u1 z) _ [] (plus_none a0 u1 z) (overflow_none (in_turns t))
 
 stepped_none : (e : Environment) (t : Taken) (block : Names) (types : Types) (precision : ℕ) (r :
@@ -310,7 +310,7 @@ stepped_none e t block types precision r fixed line has is =
     let last = fitted_code (in_turns t) precision in
     behind (number a0 line) (small a1 1 ∷ (service 1 ++ (read ++ (added ++ last)))) [] (constant_none a0 (pos line))
     (behind read (added ++ last) [] (number_none e (in_turns t) block types (Y.NumberIn r) has
-        (assigned_read block types precision r is))
+    (assigned_read block types precision r is))
     (behind added last [] (added_none t fixed) (fitted_none (in_turns t) precision)))
 
 turns_mark : (e : Environment) (t : Taken) (block : Names) (types : Types) (precision : ℕ) (r : Y.Reference) (limit :
@@ -326,10 +326,10 @@ turns_mark e t block types precision r limit fixed condition line c ss has targe
     let jump = JumpBack (words_back u) ∷ [] in
     behind (st ++ act_code line) (lim ++ (con ++ (c ++ (sp ++ jump)))) ss (behind st (act_code line) [] (assigned_none e (in_turns t) block types (Y.FixedLeaf precision) r tt has target) (act_none line))
     (behind lim (con ++ (c ++ (sp ++ jump))) ss
-        (kept_none e t block types precision r limit fixed (words_behind_limit u) has target)
+    (kept_none e t block types precision r limit fixed (words_behind_limit u) has target)
     (behind con (c ++ (sp ++ jump)) ss (condition_none e t block types condition (words_behind_condition u) has isc)
     (before c (sp ++ jump) ss h (behind sp jump [] (stepped_none e t block types precision r fixed line has target)
-        refl))))
+    refl))))
 
 -- ---- on-units
 
@@ -378,10 +378,10 @@ unit_marks e head body are marks =
     let ss = places_of (all_stands head.number body) in
     let ends = places_of (end_of head head.kind) in
     let both : Marks (c ++ (mark ++ left')) (ss ++ ends) =
-        both_mark c (mark ++ left') ss ends marks
-        (before mark left' ends (mark_marks head head.kind) (unit_left_none words count)) in
+    both_mark c (mark ++ left') ss ends marks
+    (before mark left' ends (mark_marks head head.kind) (unit_left_none words count)) in
     behind frame (enter ++ (made ++ (act ++ (c ++ (mark ++ left'))))) (ss ++ ends)
-        (called_begun_none words head.level count)
+    (called_begun_none words head.level count)
     (behind enter (made ++ (act ++ (c ++ (mark ++ left')))) (ss ++ ends) (behind (number a2 head.line) (service 4) [] (constant_none a2 (pos head.line)) refl)
     (behind made (act ++ (c ++ (mark ++ left'))) (ss ++ ends) (made_none e' head head.kind are refl)
     (behind act (c ++ (mark ++ left')) (ss ++ ends) (act_none head.line) both)))
@@ -467,7 +467,7 @@ mutual
       behind (act_code line) (ahead ++ turns') ls (act_none line)
       (behind ahead turns' ls (begun_none e t block types precision target start limit step has is.0.1 is.1.0.0 is.1.0.1)
       (turns_mark e t block types precision target limit (constant_step step) condition line c ls has is.0.0 is.1.1.0
-          (statements_mark e (in_turns t) block types body named has is.1.1.1.0 bare)))
+      (statements_mark e (in_turns t) block types body named has is.1.1.1.0 bare)))
   statement_marks e t block types (Y.Begin (Y.BlockOf head body)) named has is bare =
       let e' = begin_environment head e in
       let c = stmts_code e' none_taken body in

@@ -544,7 +544,7 @@ assign_does {e} {block} {types} bl links code routines around j {type} source li
           ((stores _ s1 k n all1 serving1).does (before_closed k store closed) f1 bl.taken (omega (arith, room, w)) (front_of valued' (stored_into e bl.taken target source) l1) at1
           (λ z f2 h2 t2 fits2 stays2 at2.
           stored_piece (bl.ground (with_number_at n j z)) closed (i + size_of front + size_of valued') e block types n
-              f2 here bl.taken j z k below fits2 (scope_of bl n all1)
+          f2 here bl.taken j z k below fits2 (scope_of bl n all1)
           (λ b h'. bl.same n (with_number_at n j z) b h') (λ t' b m len o. bl.writes n j z below (all1.numbers j (type, below) (fits_numeric type z fits2)).fits fits2 t' b m len o) ll at2
           (λ f3 h3 t3 stays3 at3.
           let s2 = assigned_state s1 type (bl.serials.of j) (all1.numbers j (type, below) (fits_numeric type z fits2)).values z in

@@ -69,8 +69,11 @@ nothing_beside =
 pub free_with : {ys : Base → List (ℕ × ℕ)} {r : ℕ} (n : ℕ) (u : Base → ℕ)
     → ((x : ℕ → ℕ) (y : ℕ) → written x r y n ≡ x n) → Free ys r → Free (with' n u ys) r
 free_with n u apart free =
-    record { reserved_stay = free.reserved_stay; known_stay = λ b x y k. (apart x y ∙ k.0, free.known_stay b x y k.1);
-        set = free.set }
+    record {
+      reserved_stay = free.reserved_stay;
+      known_stay = λ b x y k. (apart x y ∙ k.0, free.known_stay b x y k.1);
+      set = free.set;
+    }
 
 -- the place among the elements of the dimensions so far, in u1
 abbrev pub counted_regs : (dimension place : ℕ) → (Base → List (ℕ × ℕ)) → Base → List (ℕ × ℕ)
@@ -131,7 +134,7 @@ place_piece (suc d) {g = g} {v = v} {h = h} {t = t} {ys = ys} c f place beside f
     (λ b.
     let o = (at b).holds in
     set_known (f b) 29 (sum ((f b).machine.registers 6) (word (pos 0))) _ (λ b'. place) beside.free4
-        (sum_zero _ place o.regs.0 few) (record { body = o.body; regs = o.regs.1 }))
+    (sum_zero _ place o.regs.0 few) (record { body = o.body; regs = o.regs.1 }))
 
 -- the distance from a lower bound of 0 is the subscript
 no_distance : (lower z : ℤ) → same_int lower (pos 0) ≡ true → word z < 2 ^ 32
@@ -149,12 +152,15 @@ less_piece : (q : Bool) {links : Links} {code : List Instr} {i : ℕ} {g : Groun
     (Known g v h t (with' 6 (λ b'. sum (word z) (word (neg_ℤ lower))) rs) b) w)
 less_piece true {g = g} {v = v} {h = h} {t = t} {rs = rs} c f lower z e narrow wide free far l at =
     straight c f v v (λ b. Known g v h t (with' 6 (λ b'. sum (word z) (word (neg_ℤ lower))) rs) b) l (omega arith)
-        (λ b. (at b).pc)
-    (λ b. let o = (at b).holds in record { body = o.body; regs =
-        (o.regs.0 ∙ no_distance lower z e (word_small z wide), o.regs.1) })
+    (λ b. (at b).pc)
+    (λ b. let o = (at b).holds in record {
+      body = o.body;
+      regs =
+          (o.regs.0 ∙ no_distance lower z e (word_small z wide), o.regs.1);
+    })
 less_piece false c f lower z e narrow wide free far l at =
     plus_own c f u1 (neg_ℤ lower) (λ b. word z) (λ b. sum (word z) (word (neg_ℤ lower))) (opposite_small lower narrow)
-        (λ b. word_small z wide) (λ y u. refl) (λ b. refl) free far l at
+    (λ b. word_small z wide) (λ y u. refl) (λ b. refl) free far l at
 
 next_range : (range n : ℕ) → n ≡ range + 1 → range < 2 ^ 31 → sum range (word (pos 1)) ≡ n
 next_range range n e few = omega (arith, ints, e, few)
@@ -182,20 +188,26 @@ counted_piece (suc d) {g = g} {v = v} {h = h} {t = t} {ys = ys} c f place x rang
     let o = (at b).holds in
     let r = (f b).machine.registers in
     let free2 : Free (with' 6 (λ b'. x) (with' 29 (λ b'. place) ys)) 7 =
-        free_with 6 (λ b'. x) (λ y u. refl) (free_with 29 (λ b'. place) (λ y u. refl) beside.free2) in
+    free_with 6 (λ b'. x) (λ y u. refl) (free_with 29 (λ b'. place) (λ y u. refl) beside.free2) in
     let free4 : Free (with' 7 (λ b'. n) (with' 6 (λ b'. x) ys)) 29 =
-        free_with 7 (λ b'. n) (λ y u. refl) (free_with 6 (λ b'. x) (λ y u. refl) beside.free4) in
+    free_with 7 (λ b'. n) (λ y u. refl) (free_with 6 (λ b'. x) (λ y u. refl) beside.free4) in
     let here = (f b).machine.pc in
     let k1 =
-        set_known (f b) 7 (sum (r 7) (word (pos 1))) here (λ b'. n) free2 (ap (λ u. sum u (word (pos 1))) o.regs.0
-        ∙ next_range range n e few) (record { body = o.body; regs = o.regs.1 }) in
+    set_known (f b) 7 (sum (r 7) (word (pos 1))) here (λ b'. n) free2 (ap (λ u. sum u (word (pos 1))) o.regs.0
+    ∙ next_range range n e few) (record { body = o.body; regs = o.regs.1 }) in
     let k2 =
-        set_known _ 29 _ here (λ b'. place * n) free4
-        (row_times _ _ place n k1.regs.1.1.0 k1.regs.0 (omega (arith, small'))) (record { body = k1.body; regs =
-        (k1.regs.0, (k1.regs.1.0, k1.regs.1.1.1)) }) in
+    set_known _ 29 _ here (λ b'. place * n) free4
+    (row_times _ _ place n k1.regs.1.1.0 k1.regs.0 (omega (arith, small'))) (record {
+      body = k1.body;
+      regs =
+          (k1.regs.0, (k1.regs.1.0, k1.regs.1.1.1));
+    }) in
     set_known _ 6 _ _ (λ b'. place * n + x) beside.free1
-        (row_sum _ _ (place * n) x k2.regs.0 k2.regs.1.1.0 (omega (arith, small'))) (record { body = k2.body; regs =
-        k2.regs.1.1.1 }))
+    (row_sum _ _ (place * n) x k2.regs.0 k2.regs.1.1.0 (omega (arith, small'))) (record {
+      body = k2.body;
+      regs =
+          k2.regs.1.1.1;
+    }))
 
 -- a place among so many elements has no more than these
 place_few : (place n x : ℕ) → x < n → suc place * n ≤ 2 ^ 20 → place * n + x < 2 ^ 20
@@ -258,11 +270,14 @@ test_piece true {code = code} {i = i} {g = g} {v = v} {h = h} {t = t} {ys = ys} 
     ∙ ap (λ u. if not u then false else true) e))
     (λ f1 at1.
     onward closed (counted_piece d (i + 4) f1 place x range (span bounds) beside counted spans
-        (omega (arith, most, value)) (omega (arith, few, one, spans)) (back_of tested_skip last l) at1)
+    (omega (arith, most, value)) (omega (arith, few, one, spans)) (back_of tested_skip last l) at1)
     (λ f2 at2.
     subst (λ u. Comes code u f2 v aims (R.demanded around 102 rest k s)) (sym there)
-    (next' e f2 (λ b. record { pc = (at2 b).pc ∙ ap (address b) there; holds =
-        subst (λ u. Known g v h t (counted_regs (suc d) u ys) b (f2 b)) value (at2 b).holds }))))
+    (next' e f2 (λ b. record {
+      pc = (at2 b).pc ∙ ap (address b) there;
+      holds =
+          subst (λ u. Known g v h t (counted_regs (suc d) u ys) b (f2 b)) value (at2 b).holds;
+    }))))
 test_piece false {g = g} {v = v} {h = h} {t = t} {ys = ys} closed routines f around d place k bounds z rest beside e
     is wide counted few l serving at next' =
     let last = counted_in d in
@@ -299,13 +314,13 @@ one_dimension {code = code} {i = i} {v = v} {ys = ys} {s = s} {aims = aims} clos
     let e2 = size_append p2 p3 in
     let there : i + size_of p1 + size_of p2 + size_of p3 ≡ i + size_of (subscript_counted d (constant_bounds bounds)) = omega (arith, e1, e2) in
     let r1 = less_piece (same_int bounds.lower (pos 0)) i f bounds.lower z refl is.0 wide (kept_free1 d place beside)
-        (given_far d place (word z) beside) (front_of p1 (p2 ++ p3) l) at in
+    (given_far d place (word z) beside) (front_of p1 (p2 ++ p3) l) at in
     onward closed r1 (λ f1 at1.
     let r2 = constant_piece (i + size_of p1) f1 u2 (bounds.upper -ℤ bounds.lower) (range_small bounds is)
-        (given_u2 d place x beside) (front_of p2 p3 l2) at1 in
+    (given_u2 d place x beside) (front_of p2 p3 l2) at1 in
     onward closed r2 (λ f2 at2.
     test_piece (is_between bounds z) closed routines f2 around d place k bounds z rest beside refl is wide counted few
-        (back_of p2 p3 l2) serving at2
+    (back_of p2 p3 l2) serving at2
     (λ between f3 at3.
     subst (λ u. Comes code u f3 v aims (R.demanded around 102 rest k s)) (sym there)
     (next' between f3 (λ b. record { pc = (at3 b).pc ∙ ap (address b) there; holds = (at3 b).holds })))))
@@ -375,13 +390,13 @@ dimension_piece {code = code} {i = i} {v = v} {s = s} {aims = aims} e closed rou
     let there : i + size_of p0 + size_of p1 + size_of p2 ≡ i + size_of (p0 ++ (p1 ++ p2)) = omega (arith, e0, e1) in
     let rows = rows_few place (span bounds) (element_count bs) (count_some bs are) few in
     let r0 = place_piece d i f place beside (place_small place (span bounds) (span_some bounds is) rows)
-        (front_of p0 (p1 ++ p2) l) at in
+    (front_of p0 (p1 ++ p2) l) at in
     onward closed r0 (λ f0 at0.
     let r1 = given.comes (i + size_of p0) f0 (kept_free1 d place beside) (kept_far d place beside) (front_of p1 p2 l1)
-        at0 in
+    at0 in
     onward closed r1 (λ f1 at1.
     one_dimension closed routines f1 around d place k bounds z others beside is wide counted rows (back_of p1 p2 l1)
-        serving at1
+    serving at1
     (λ between f2 at2.
     subst (λ u. Comes code u f2 v aims (R.demanded around 102 others k s)) (sym there)
     (next' between f2 (λ b. record { pc = (at2 b).pc ∙ ap (address b) there; holds = (at2 b).holds })))))
@@ -404,10 +419,15 @@ behind_piece [] [] Y.NoNumber {i = i} {g = g} {v = v} {h = h} {t = t} {ys = ys} 
     aims} e closed routines f around taken d place k beside many same bounds wide few gives l serving at goal =
     let e : i ≡ i + 0 = omega arith in
     let all : place ≡ place * 1 + 0 = omega arith in
-    record { to =
-        subst (λ u. aims.done u f v tt s) (sym e)
-        (goal refl f (λ b. record { pc = (at b).pc ∙ ap (address b) e; holds =
-        subst (λ u. Known g v h t (with' 6 (λ b'. u) ys) b (f b)) all (at b).holds })) }
+    record {
+      to =
+          subst (λ u. aims.done u f v tt s) (sym e)
+          (goal refl f (λ b. record {
+            pc = (at b).pc ∙ ap (address b) e;
+            holds =
+                subst (λ u. Known g v h t (with' 6 (λ b'. u) ys) b (f b)) all (at b).holds;
+          }));
+    }
 behind_piece [] [] (Y.NumberThen first rest) e closed routines f around taken d place k beside many same bounds wide
     few gives l serving at goal =
     absurd (omega (arith, many))
@@ -429,27 +449,30 @@ behind_piece (bounds ∷ bs) (z ∷ zs) (Y.NumberThen first rest) {links = links
     let m = element_count bs in
     let x = natural (z -ℤ bounds.lower) in
     let eq = regrouped (place_kept (suc d)) (subscript_given e taken first rest)
-        (subscript_counted (suc d) (constant_bounds bounds)) p2 in
+    (subscript_counted (suc d) (constant_bounds bounds)) p2 in
     let l1 = subst (Linked links code i) eq l in
     let e1 = size_append p1 p2 in
     let e2 = ap size_of eq in
     let there : i + size_of p1 + size_of p2
-        ≡ i + size_of
-        (subscripts_counted e taken (suc d) (Y.NumberThen first rest) (map constant_bounds (bounds ∷ bs))) =
-        omega (arith, e1, e2) in
+    ≡ i + size_of
+    (subscripts_counted e taken (suc d) (Y.NumberThen first rest) (map constant_bounds (bounds ∷ bs))) =
+    omega (arith, e1, e2) in
     subst (λ q. Comes code i f v aims (R.demanded around 102 q k s)) (sym (within_next bounds bs z zs))
     (dimension_piece e closed routines f around taken (suc d) place k bounds bs first rest z (is_within bs zs) beside
-        are.0 are.1 wide.0 tt few gives.0 (front_of p1 p2 l1) serving at
+    are.0 are.1 wide.0 tt few gives.0 (front_of p1 p2 l1) serving at
     (λ between f2 at2.
     behind_piece bs zs rest e closed routines f2 around (with_number taken) (suc d) (place_behind place bounds z) k
-        beside (omega (arith, many)) (omega (arith, same)) are.1 wide.1
-        (next_few place n m x (inside_span bounds z between) few) gives.1 (back_of p1 p2 l1) serving at2
+    beside (omega (arith, many)) (omega (arith, same)) are.1 wide.1
+    (next_few place n m x (inside_span bounds z between) few) gives.1 (back_of p1 p2 l1) serving at2
     (λ others f3 at3.
     subst (λ u. aims.done u f3 v tt s) (sym there)
     (goal (within_next bounds bs z zs ∙ and_true (is_between bounds z) (is_within bs zs) between others) f3
-        (λ b. record { pc = (at3 b).pc ∙ ap (address b) there; holds =
-        subst (λ u. Known g v h t (with' 6 (λ b'. u) ys) b (f3 b)) (place_then place n x m (element_place bs zs))
-        (at3 b).holds })))))
+    (λ b. record {
+      pc = (at3 b).pc ∙ ap (address b) there;
+      holds =
+          subst (λ u. Known g v h t (with' 6 (λ b'. u) ys) b (f3 b)) (place_then place n x m (element_place bs zs))
+          (at3 b).holds;
+    })))))
 
 -- subscripts, one for each dimension: the place of the element comes into u1, or the run ends
 pub counted_all : (bs : List Bounds) (zs : List ℤ) (first : Y.Number) (rest : Y.Numbers) {links : Links} {code :
@@ -484,19 +507,22 @@ counted_all (bounds ∷ bs) (z ∷ zs) first rest {links = links} {code = code} 
     let e1 = size_append p1 p2 in
     let e2 = ap size_of eq in
     let there : i + size_of p1 + size_of p2
-        ≡ i + size_of (subscripts_counted e taken 0 (Y.NumberThen first rest) (map constant_bounds (bounds ∷ bs))) =
-        omega (arith, e1, e2) in
+    ≡ i + size_of (subscripts_counted e taken 0 (Y.NumberThen first rest) (map constant_bounds (bounds ∷ bs))) =
+    omega (arith, e1, e2) in
     let few' : suc 0 * (n * m) ≤ 2 ^ 20 = omega (arith, few) in
     let all : place_behind 0 bounds z * m + element_place bs zs ≡ element_place (bounds ∷ bs) (z ∷ zs) = place_then 0 n x m (element_place bs zs) ∙ omega arith in
     subst (λ q. Comes code i f v aims (R.demanded around 102 q k s)) (sym (within_next bounds bs z zs))
     (dimension_piece e closed routines f around taken 0 0 k bounds bs first rest z (is_within bs zs) beside are.0
-        are.1 wide.0 refl few' gives.0 (front_of p1 p2 l1) serving at
+    are.1 wide.0 refl few' gives.0 (front_of p1 p2 l1) serving at
     (λ between f2 at2.
     behind_piece bs zs rest e closed routines f2 around (with_number taken) 0 (place_behind 0 bounds z) k beside
-        (omega (arith, many)) (omega (arith, same)) are.1 wide.1
-        (next_few 0 n m x (inside_span bounds z between) few') gives.1 (back_of p1 p2 l1) serving at2
+    (omega (arith, many)) (omega (arith, same)) are.1 wide.1
+    (next_few 0 n m x (inside_span bounds z between) few') gives.1 (back_of p1 p2 l1) serving at2
     (λ others f3 at3.
     subst (λ u. aims.done u f3 v tt s) (sym there)
     (goal (within_next bounds bs z zs ∙ and_true (is_between bounds z) (is_within bs zs) between others) f3
-        (λ b. record { pc = (at3 b).pc ∙ ap (address b) there; holds =
-        subst (λ u. Known g v h t (with' 6 (λ b'. u) ys) b (f3 b)) all (at3 b).holds })))))
+    (λ b. record {
+      pc = (at3 b).pc ∙ ap (address b) there;
+      holds =
+          subst (λ u. Known g v h t (with' 6 (λ b'. u) ys) b (f3 b)) all (at3 b).holds;
+    })))))

@@ -134,7 +134,7 @@ next_does true {code = code} {v = v} {s = s} temps m n first rest ones others e 
       to =
           subst (λ u. aims.done u f v (one.value ∷ more.values) s) (sym same)
           (goal one.value more.values f h t one.wide more.wide more.many (stays_same taken h t) (one.gives h t)
-              (more.gives (with_number taken) h t)
+          (more.gives (with_number taken) h t)
           (λ b. record { pc = (at b).pc ∙ ap (address b) same; holds = (at b).holds }));
     })
 next_does false {g = g} {v = v} {s = s} {k = k} {e = e'} {around = around} temps m n first rest ones others e es {i}
@@ -157,12 +157,12 @@ next_does false {g = g} {v = v} {s = s} {k = k} {e = e'} {around = around} temps
     let h2 = held_with taken (word z) h1 in
     let t2 = words_with taken (word z) t1 in
     onward closed (save_piece temps (i + size_of a) f1 a0 taken (word z) some (word_small z wz) (λ y u. refl)
-        (λ b w q. q.regs.0) (record { reserved_stay = λ y u. refl; known_stay = λ b y u q. q; set = λ y u. refl })
-        (front_of put' c l2) at1)
+    (λ b w q. q.regs.0) (record { reserved_stay = λ y u. refl; known_stay = λ b y u q. q; set = λ y u. refl })
+    (front_of put' c l2) at1)
     (λ f2 at2.
     comes_on k (V.numbers around rest k s) (λ zs. give (z ∷ zs))
     (es.does (before_closed k (λ zs. give (z ∷ zs)) closed) f2 (with_number taken) (omega (arith, room, m2, more))
-        (back_of put' c l2) at2
+    (back_of put' c l2) at2
     (λ zs f3 h3 t3 wide same stays3 gives at3.
     let waits = waiting_kept taken stays3 ∙ waiting_saved taken h1 t1 (word z) in
     record {
@@ -170,8 +170,10 @@ next_does false {g = g} {v = v} {s = s} {k = k} {e = e'} {around = around} temps
           subst (λ u. aims.done u f3 v (z ∷ zs) s) (sym place)
           (goal z zs f3 h3 t3 wz wide same
           (stays_then stays1 (stays_then (stays_saved taken h1 t1 (word z)) (stays_less stays3)))
-          (record { comes = λ d p free far l' at'. fetch_piece temps d p u1 taken (word z) some (word_small z wz)
-              waits free far l' at' })
+          (record {
+            comes = λ d p free far l' at'. fetch_piece temps d p u1 taken (word z) some (word_small z wz)
+                waits free far l' at';
+          })
           gives
           (λ b. record { pc = (at3 b).pc ∙ ap (address b) place; holds = (at3 b).holds }));
     })))))
@@ -188,9 +190,9 @@ next_evaluate {links} {code} {g} {v} {s} {k} {e} {around} temps m n first rest o
           let p = is_simple e first in
           let q = are_simple e rest in
           next_does (p && q) temps m n first rest (λ is. ones (lower_first p q is))
-              (λ is. others.simple (upper_second p q is)) one others closed f taken room l at
+          (λ is. others.simple (upper_second p q is)) one others closed f taken room l at
           (λ z zs f1 h1 t1 wz wide many stays given all at1. goal (z ∷ zs) f1 h1 t1 (wz, wide) (ap suc many) stays
-              (given, all) at1);
+          (given, all) at1);
       simple = λ is.
           let p = is_simple e first in
           let q = are_simple e rest in
@@ -201,7 +203,10 @@ next_evaluate {links} {code} {g} {v} {s} {k} {e} {around} temps m n first rest o
             wide = (x.wide, xs.wide);
             many = ap suc xs.many;
             meant = simple_meant first rest x xs;
-            gives = λ taken h t. (subst (λ u. Gives links code g v h t (first_given u e taken first) x.value) (sym is)
-                (x.gives h t), xs.gives (with_number taken) h t);
+            gives = λ taken h t. (
+              subst (λ u. Gives links code g v h t (first_given u e taken first) x.value) (sym is)
+                  (x.gives h t),
+              xs.gives (with_number taken) h t,
+            );
           };
     }

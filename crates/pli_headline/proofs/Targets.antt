@@ -84,7 +84,7 @@ scalar_takes {e} {block} {types} bl links code j {type} below numeric room =
       does = λ {i} {v} {h} {t} {s} {aims} closed f around z n k fits l serving hold at goal.
           let mine = hold.numbers j (type, below) (fits_numeric type z fits) in
           stored_piece (bl.ground (with_number_at n j z)) closed i e block types n f around bl.taken j z k below fits
-              (scope_of bl n hold)
+          (scope_of bl n hold)
           (λ b h'. bl.same n (with_number_at n j z) b h') (λ t' b m len o. bl.writes n j z below mine.fits fits t' b m len o) l at
           (λ f1 h1 t1 stays1 at1. goal (assigned_state s type (bl.serials.of j) mine.values z) (with_number_at n j z) h1 t1 f1 (scalar_serving type (bl.serials.of j) mine.values z serving) (assigned_all j z below fits hold) stays1 at1);
     }
@@ -104,7 +104,7 @@ element_takes {e} {block} {types} bl links code routines j {type} b bs first res
           let mine = hold.arrays j type b bs below in
           element_stored_piece (λ p. bl.ground (with_element_of n j p z)) closed routines.raises (bl.temps n) (array_scope on n mine (bl.reaches n j below.0)) f around bl.taken z k (subscripts_words xs) first rest
           (subscripts_do xs (setting_at bl routines around n hold serving) are) (ap (λ m. suc m) many) fits
-              (omega (arith, room, w)) serving
+          (omega (arith, room, w)) serving
           (λ p base h'. bl.same n (with_element_of n j p z) base h')
           (λ p inside t' base m len o. on.writes n p z inside (mine.fits p inside) fits t' base m len o) l at
           (λ is f1 h1 t1 inside stays1 at1.

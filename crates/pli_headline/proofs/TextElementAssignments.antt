@@ -90,7 +90,7 @@ element_assigned_piece {e} {block} {types} bl routines {v = v} closed f around j
     let w = bl.words_are n in
     let texts = TextEntry text ∷ v.entries in
     text_element_stored_piece (λ p. bl.ground (with_text_of n j p kept)) closed routines.raises
-        (text_array_scope on n mine (bl.reaches n j below)) f around bl.taken text k first rest
+    (text_array_scope on n mine (bl.reaches n j below)) f around bl.taken text k first rest
     (subscripts_do (Y.NumberThen first rest) (above_texts texts (setting_at bl routines around n all serving)) are) (ap (λ m. suc m) many) (omega (arith, room, w)) (at_other_texts texts serving)
     (λ p c h'. bl.same n (with_text_of n j p kept) c h')
     (λ p inside t' c m len held.

@@ -74,7 +74,7 @@ abbrev pub text_element_code : Environment → Taken → (level : ℕ) → (vary
 text_element_code e t level varying most bs first rest =
     subscripts_code e t (Y.NumberThen first rest)
     ++ (L.subscripts_counted e t 0 (Y.NumberThen first rest) (map constant_bounds bs)
-        ++ text_found e level varying most)
+    ++ text_found e level varying most)
 
 pub text_size_constant : (varying : Bool) (most : ℕ) (bs : List Bounds) (initial : List T.InitialItem) → has_constant_size (array_variable (text_leaf varying most) bs initial) ≡ true
 text_size_constant false most bs initial = ap (λ q. q && true) (bounds_constant bs)
@@ -96,7 +96,7 @@ text_element_reached e t block j varying most bs first rest declared =
     let other = L.found_reached e t t (own block j) whole_part (L.leaf_number e (own block j) 0) xs in
     ap (λ o. front ++ reached_by e t block j xs o) declared.1
     ∙ ap (λ q. front ++ (if q then counted ++ (found ++ L.element_added r type xs) else other))
-        (text_size_constant varying most bs declared.0)
+    (text_size_constant varying most bs declared.0)
     ∙ ap (λ c. front ++ (counted ++ (found ++ c))) (text_stride_is varying most r first rest)
 
 -- what asks a service about an element, behind its address
@@ -160,22 +160,32 @@ times_by true {g = g} {v = v} {h = h} {t = t} {ys = ys} c f p n e few small' fre
     (λ b.
     let k = (at b).holds in
     set_known (f b) 29 (shifted_left ((f b).machine.registers 6) 2) _ (λ b'. p * n) free29
-        (ap (λ u. shifted_left u 2) k.regs.0 ∙ shifted_is p n (eqb-true n 4 e) small') (record { body = k.body; regs =
-        k.regs.1 }))
+    (ap (λ u. shifted_left u 2) k.regs.0 ∙ shifted_is p n (eqb-true n 4 e) small') (record {
+      body = k.body;
+      regs =
+          k.regs.1;
+    }))
 times_by false {i = i} {g = g} {v = v} {h = h} {t = t} {ys = ys} c f p n e few small' free7 free29 l at =
     let first = number u2 n in
     let last = registers Op.Multiply u4 u1 u2 ∷ [] in
     let size = size_append first last in
-    let free : Free (with' 6 (λ b'. p) ys) 7 = record { reserved_stay = free7.reserved_stay; known_stay =
-        λ b y u k. (k.0, free7.known_stay b y u k.1); set = λ y u. refl } in
+    let free : Free (with' 6 (λ b'. p) ys) 7 = record {
+      reserved_stay = free7.reserved_stay;
+      known_stay =
+          λ b y u k. (k.0, free7.known_stay b y u k.1);
+      set = λ y u. refl;
+    } in
     let r1 = constant_piece c f u2 (pos n) (word_fits n few) free (front_of first last l) at in
     let r2 = straight (c + size_of first) (reached r1) v v (λ b. Known g v h t (with' 29 (λ b'. p * n) ys) b) (back_of first last l) (omega arith) (λ b. (reached_holds r1 b).pc)
     (λ b.
     let k = (reached_holds r1 b).holds in
     let x = (reached r1 b).machine.registers in
     set_known (reached r1 b) 29 (x 6 * x 7 % 2 ^ 32) _ (λ b'. p * n) free29
-        (times_is (x 6) (x 7) p n k.regs.1.0 (k.regs.0 ∙ word_is n few) small') (record { body = k.body; regs =
-        k.regs.1.1 })) in
+    (times_is (x 6) (x 7) p n k.regs.1.0 (k.regs.0 ∙ word_is n few) small') (record {
+      body = k.body;
+      regs =
+          k.regs.1.1;
+    })) in
     reach_moved (omega (arith, size)) (omega (arith, size)) (reach_then r1 r2)
 
 behind_address : (at base d : ℕ) → at + 2 ^ 24 ≤ 2 ^ 32 → base + d < 2 ^ 24 → sum (at + base) d ≡ at + (base + d)
@@ -321,7 +331,7 @@ text_element_piece {code = code} {i = i} {g = g} {v = v} {s = s} {aims = aims} {
     subst (Comes code (i + size_of p1) f1 v aims) (sym (checked_by s block j around is k (text_leaf varying most) bs scope.serial scope.holds.values (same_text_array varying most bs) scope.holds.stands scope.holds.lives (many ∙ same)))
     (comes_on k (R.demanded around 102 (is_within bs is) k s) (λ u. give (designated is))
     (counted_all bs is first rest e (before_closed k (λ u. give (designated is)) closed) routines f1 around taken k
-        nothing_beside many (many ∙ same) scope.bounds wide scope.few gives (front_of p2 p3 l2) serving at1
+    nothing_beside many (many ∙ same) scope.bounds wide scope.few gives (front_of p2 p3 l2) serving at1
     (λ inside f2 at2.
     let within = bytes_some varying most (element_place bs is) (element_count bs) scope.base (data_place e block j) (place_inside bs is inside) scope.within in
     onward closed (text_address_piece (level_of block j == e.level) (level_of block j) varying most (i + size_of p1 + size_of p2) f2 scope.base (element_place bs is) scope.reach (omega (arith, within)) (stride_few varying most scope.short) (back_of p2 p3 l2) at2)
@@ -390,7 +400,7 @@ text_element_evaluates {links = links} {code = code} {g = g} {v = v} {s = s} {k 
           let next' : V.Designated → Meaning (List ℕ) = λ d. give (text_in (V.value_in d)) in
           comes_on k (V.designated around r k s) next'
           (text_element_piece (before_closed k next' closed) routines scope f around taken k first rest all same
-              (omega (arith, room, enough)) serving (front_of a (c1 ++ c2) l1) at
+          (omega (arith, room, enough)) serving (front_of a (c1 ++ c2) l1) at
           (λ is f1 h1 t1 inside stays at1.
           let p = element_place bs is in
           let below = place_inside bs is inside in
@@ -462,7 +472,7 @@ text_element_stored_piece {links = links} {code = code} {i = i} {g = g} g' {v = 
     let next' : V.Designated → Meaning (Unit {0}) = λ d. P.element_stored d (BasicText text) in
     comes_on k (V.designated around r k s) next'
     (text_element_piece (before_closed k next' closed) routines scope f around taken k first rest all same room
-        serving (front_of a (c1 ++ c2) l1) at
+    serving (front_of a (c1 ++ c2) l1) at
     (λ is f1 h1 t1 inside stays at1.
     let p = element_place bs is in
     let below = place_inside bs is inside in

@@ -132,9 +132,9 @@ within_piece {code = code} {i = i} {v = v} {h = h} {t = t} {s = s} {aims = aims}
     (λ z f1 h1 t1 wz stays at1.
     subst (Comes code (i + size_of a) f1 v aims) (given_as_chosen (has_not_passed limit step z) k s)
     (limit_piece s k (give true) (give false) closed (bl.temps n) f1 bl.taken fixed limit step z behind waits.0 ws wz
-        (omega (arith, room, w)) (stays.words bl.taken.words (omega arith) ∙ waits.1)
-        (step_stays fixed step t t1 (bl.taken.words + 1) (stays.words (bl.taken.words + 1) (omega arith)) at_step)
-        (omega (arith, inside, place')) (back_of a c l) at1
+    (omega (arith, room, w)) (stays.words bl.taken.words (omega arith) ∙ waits.1)
+    (step_stays fixed step t t1 (bl.taken.words + 1) (stays.words (bl.taken.words + 1) (omega arith)) at_step)
+    (omega (arith, inside, place')) (back_of a c l) at1
     (λ f2 at2. record { to = subst (λ u. aims.done u f2 v true s) (sym place) (met.0 f2 h1 t1 stays (λ b. record { pc = (at2 b).pc ∙ ap (address b) place; holds = (at2 b).holds })) })
     (λ f2 at2. record { to = subst (λ u. aims.done u f2 v false s) (sym place') (met.1 f2 h1 t1 stays (λ b. record { pc = (at2 b).pc ∙ ap (address b) place'; holds = (at2 b).holds })) }))))
 within_piece bl routines around r p None (Some limit) fixed step behind closed n f k mine waits ws at_step room inside

@@ -114,7 +114,7 @@ more_restored {g} {t} to back saved s (suc left) n {v = v} h c f all l there =
             services = k.body.services;
             registers =
                 ap (λ u. reserved (written w.machine.registers (held n).index u))
-                    ((s.has b w.machine.memory k.body.memory).registers n (omega (arith, all)))
+                ((s.has b w.machine.memory k.body.memory).registers n (omega (arith, all)))
                 ∙ held_put n g b h w.machine.registers x few k.body.registers;
             bytes = k.body.bytes;
             memory = k.body.memory;
@@ -228,7 +228,7 @@ unit_left_piece bl callee back resume n free {h0 = h0} {h = h} {t0 = t0} {t = t}
     let l2 = back_of restored (lower ++ jump_on) l1 in
     let r1 = asked_piece bl callee back n free c f a rest number (4 * resume) e kind (front_of asked (restored ++ (lower ++ jump_on)) l) there in
     let r2 = more_restored to back h0 (ending_saved bl callee back h0 t0 n free t) callee.held 0 h (c + 2)
-        (reached r1) (omega arith) (front_of restored (lower ++ jump_on) l1) (reached_holds r1) in
+    (reached r1) (omega arith) (front_of restored (lower ++ jump_on) l1) (reached_holds r1) in
     let r3 = lowered_piece bl callee to back n free (c + 2 + size_of restored) (reached r2) (front_of lower jump_on l2) (reached_holds r2) in
     let r4 = resumed_piece (c + 2 + size_of restored + size_of lower) (reached r3) resume near (back_of lower jump_on l2) (reached_holds r3) in
     reach_then r1 (reach_then r2 (reach_then r3 r4))

@@ -290,7 +290,7 @@ limited_piece {e} bl {code = code} main mains has around more m can enter {s} {v
     let fb = frame_begun callee.words 1 0 (Some callee.held) in
     let ec = entered_without_texts 2 head.line in
     let rest = (unit_made e head head.kind ++ (act_code head.line ++ stmts_code e' none_taken body))
-        ++ (mark ++ unit_left callee.words callee.held) in
+    ++ (mark ++ unit_left callee.words callee.held) in
     let lf = front_of fb (ec ++ rest) can.linked in
     let le = front_of ec rest (back_of fb (ec ++ rest) can.linked) in
     let room = le.inside in
@@ -325,9 +325,9 @@ raised_unit {e} {block} {types} bl {links} {code} routines main mains has around
     let fb = frame_begun can.callee.words 1 0 (Some can.callee.held) in
     let ec = entered_without_texts 2 can.head.line in
     let rest =
-        ec ++ ((unit_made e can.head can.head.kind
-        ++ (act_code can.head.line ++ stmts_code (unit_environment can.head e) none_taken can.body))
-        ++ (unit_mark can.head can.head.kind ++ unit_left can.callee.words can.callee.held)) in
+    ec ++ ((unit_made e can.head can.head.kind
+    ++ (act_code can.head.line ++ stmts_code (unit_environment can.head e) none_taken can.body))
+    ++ (unit_mark can.head can.head.kind ++ unit_left can.callee.words can.callee.held)) in
     let total = size_append fb rest in
     let some : 0 < size_of rest = omega arith in
     let later = can.later in

@@ -105,8 +105,8 @@ unit_is e head body are level =
     let words = words_of_unit head.kind (stmts_words body) in
     let held = held_with e.program words body in
     ap (λ n. code_with e.program head body (unit_variables (unit_environment head e) head head.kind) st mark n
-        head.level) (words_are e head head.kind (stmts_words body) are)
+    head.level) (words_are e head head.kind (stmts_words body) are)
     ∙ ap (λ c. code_with e.program head body c st mark words head.level) (made_is e head head.kind)
     ∙ ap (λ l. code_with e.program head body made st mark words l) level
     ∙ joined (frame_begun words 1 0 (Some held)) (entered_without_texts 2 head.line) made (act_code head.line) st
-        (mark ++ unit_left words held)
+    (mark ++ unit_left words held)

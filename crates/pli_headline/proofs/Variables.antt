@@ -129,7 +129,7 @@ abbrev pub reached_from : Environment → Taken → (block : Names) (index : ℕ
 reached_from e t block index o =
     let v = own block index in
     if has_constant_size (declared_in o) then base_found e (level_of block index) else found_reached e t t v
-        whole_part (leaf_number e v 0) Y.NoNumber
+    whole_part (leaf_number e v 0) Y.NoNumber
 
 -- what loads and stores a variable of a type, from a frame of any level
 abbrev pub scalar_loaded : Y.LeafType → Environment → (level place : ℕ) → Code

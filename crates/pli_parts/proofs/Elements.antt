@@ -95,7 +95,7 @@ copied_same bytes size at n p m buffer zeros h e w =
     let long : length front ≡ whole = length-take-le whole (drop at m) (omega (arith, left, w)) in
     let behind : drop (size * p) front ≡ take rest (drop (at + size * p) m) =
     ap (λ k. drop (size * p) (take k (drop at m))) parts ∙ drop-take (size * p) rest (drop at m)
-        ∙ ap (take rest) (drop-drop (size * p) at m) in
+    ∙ ap (take rest) (drop-drop (size * p) at m) in
     let some : bytes ≤ length (drop (size * p) front) = omega (arith, length-drop (size * p) front, long, low) in
     sym
     (ap (bytes_at bytes (size * p)) e
@@ -113,7 +113,7 @@ copied_length bytes size at n zeros m buffer some low z e w =
     let long : length (bytes_at whole at m) ≡ whole = length-take-le whole (drop at m) (omega (arith, left, w)) in
     let behind : length (replicate {A = ℕ} zeros 0) ≡ zeros = length-replicate {A = ℕ} zeros 0 in
     let both : length buffer ≡ length (bytes_at whole at m) + length (replicate zeros 0) =
-        ap length e ∙ length-append (bytes_at whole at m) (replicate zeros 0) in
+    ap length e ∙ length-append (bytes_at whole at m) (replicate zeros 0) in
     let last : size * (n - 1) + size ≡ size * n = more n some in
     omega (arith, both, long, behind, z, low, last)
   where
@@ -128,22 +128,22 @@ values_from : (kind : LeafKind) (m buffer : List ℕ) (r : Run) (n first count :
     → first + count ≤ n → list_all (is_in_element kind m) (map (λ k. r.at + r.step * k) (range_with_len first count))
     ≡ true
     → map (λ k. taken_bytes kind (value_at kind (element_size kind * k) buffer)) (range_with_len first count)
-        ≡ map (λ k. taken_bytes kind (value_at kind (r.at + r.step * k) m)) (range_with_len first count)
+    ≡ map (λ k. taken_bytes kind (value_at kind (r.at + r.step * k) m)) (range_with_len first count)
 values_from kind m buffer r n first zero same h fit = refl
 values_from kind m buffer r n first (suc count) same h fit =
     let here = r.at + r.step * first in
     let more = map (λ k. r.at + r.step * k) (range_with_len (first + 1) count) in
     ap₂ (λ v vs. v ∷ vs)
     (ap (taken_bytes kind)
-        (sym (same_value kind here m (element_size kind * first) buffer (same first (omega (arith, h)))
-        (first_of_both (is_in_element kind m here) (list_all (is_in_element kind m) more) fit))))
+    (sym (same_value kind here m (element_size kind * first) buffer (same first (omega (arith, h)))
+    (first_of_both (is_in_element kind m here) (list_all (is_in_element kind m) more) fit))))
     (values_from kind m buffer r n (first + 1) count same (omega (arith, h))
-        (second_of_both (is_in_element kind m here) (list_all (is_in_element kind m) more) fit))
+    (second_of_both (is_in_element kind m here) (list_all (is_in_element kind m) more) fit))
 
 pub gathered_elements : (kind : LeafKind) (bounds : List Bounds) (m buffer : List ℕ) (r : Run)
     → IsGathered kind m r (element_count bounds) buffer
     → elements_in kind bounds buffer
-        ≡ map (λ a. taken_bytes kind (value_at kind a m)) (standing r.at r.step (element_count bounds))
+    ≡ map (λ a. taken_bytes kind (value_at kind a m)) (standing r.at r.step (element_count bounds))
 gathered_elements kind bounds m buffer r g =
     let n = element_count bounds in
     by_place (λ k. taken_bytes kind (value_at kind (element_size kind * k) buffer)) bounds
@@ -198,7 +198,7 @@ pub next_standing : (at step count n : ℕ) → n < count → drop n (standing a
 next_standing at step count n h =
     let l = length_standing at step count in
     drop_more (standing at step count) n 0 (omega (arith, l, h))
-        ∙ ap (λ a. a ∷ drop (n + 1) (standing at step count)) (got_standing at step count n h)
+    ∙ ap (λ a. a ∷ drop (n + 1) (standing at step count)) (got_standing at step count n h)
 
 test_true : (n m : ℕ) → n ≤ m → nat_le n m ≡ true
 test_true n m h = grind (arith, nat_tests)
@@ -212,14 +212,14 @@ pub next_short : (most at step count n half : ℕ) (m : List ℕ) → n < count 
 next_short most at step count n half m h e low =
     ap (are_short most m) (next_standing at step count n h)
     ∙ ap (λ t. t && are_short most m (drop (n + 1) (standing at step count)))
-        (test_true (load 2 m (at + step * n)) most (subst (λ k. k ≤ most) e low))
+    (test_true (load 2 m (at + step * n)) most (subst (λ k. k ≤ most) e low))
 
 pub not_short : (most at step count n half : ℕ) (m : List ℕ) → n < count → half ≡ load 2 m (at + step * n)
     → most < half → are_short most m (drop n (standing at step count)) ≡ false
 not_short most at step count n half m h e high =
     ap (are_short most m) (next_standing at step count n h)
     ∙ ap (λ t. t && are_short most m (drop (n + 1) (standing at step count)))
-        (test_false (load 2 m (at + step * n)) most (subst (λ k. most < k) e high))
+    (test_false (load 2 m (at + step * n)) most (subst (λ k. most < k) e high))
 
 pub all_short : (most at step count n : ℕ) (m : List ℕ) → count ≤ n
     → are_short most m (drop n (standing at step count)) ≡ true
@@ -250,7 +250,7 @@ nothing_gathered kind m r n e =
 pub copied_so : (kind : LeafKind) (m : List ℕ) (r : Run) (buffer : List ℕ) (long zeros : ℕ) → 0 < r.count
     → (r.count ≡ 1) ⊎ (r.step ≡ element_size kind) → r.at + r.step * (r.count - 1) + leaf_bytes kind ≤ length m
     → long ≡ r.step * (r.count - 1) + leaf_bytes kind → zeros ≡ element_size kind - leaf_bytes kind
-        → buffer ≡ take long (drop r.at m) ++ replicate zeros 0 → IsCopied kind m r buffer
+    → buffer ≡ take long (drop r.at m) ++ replicate zeros 0 → IsCopied kind m r buffer
 copied_so kind m r buffer long zeros some even w l z e =
     let size = element_size kind in
     let bytes = leaf_bytes kind in
@@ -258,7 +258,7 @@ copied_so kind m r buffer long zeros some even w l z e =
     let low : bytes ≤ size = omega arith in
     let same : r.step * (n - 1) ≡ size * (n - 1) = last even in
     let whole : buffer ≡ bytes_at (size * (n - 1) + bytes) r.at m ++ replicate zeros 0 =
-        e ∙ ap (λ k. bytes_at k r.at m ++ replicate zeros 0) (l ∙ ap (λ k. k + bytes) same) in
+    e ∙ ap (λ k. bytes_at k r.at m ++ replicate zeros 0) (l ∙ ap (λ k. k + bytes) same) in
     let inside : r.at + (size * (n - 1) + bytes) ≤ length m = omega (arith, w, same) in
     record {
       same = λ p h. subst (λ k. AreSame bytes (r.at + k) m (size * p) buffer) (sym (place even p h))

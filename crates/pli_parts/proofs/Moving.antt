@@ -42,8 +42,8 @@ read_back (suc n) at m b h =
     let two = halves x (load n m (suc at)) low in
     ap₂ (λ k j. k ∷ number_bytes n j) two.0 two.1
     ∙ ap (λ bs. x ∷ bs)
-        (read_back n (suc at) m (λ i l. subst (λ k. get_or m k 0 < 256) (further at i) (b (suc i) (omega (arith, l))))
-        (omega (arith, h)))
+    (read_back n (suc at) m (λ i l. subst (λ k. get_or m k 0 < 256) (further at i) (b (suc i) (omega (arith, l))))
+    (omega (arith, h)))
     ∙ sym (ap (take (suc n)) (drop_more m at 0 (omega (arith, h)) ∙ ap (λ k. x ∷ drop k m) next))
   where
     further : (a i : ℕ) → a + suc i ≡ suc a + i
@@ -55,8 +55,8 @@ read_small (suc n) at m b =
     let here : at + 0 ≡ at = omega arith in
     let low : get_or m at 0 < 256 = subst (λ k. get_or m k 0 < 256) here (b 0 (omega arith)) in
     let rest =
-        read_small n (suc at) m (λ i l. subst (λ k. get_or m k 0 < 256) (further at i) (b (suc i) (omega (arith, l))))
-        in
+    read_small n (suc at) m (λ i l. subst (λ k. get_or m k 0 < 256) (further at i) (b (suc i) (omega (arith, l))))
+    in
     let power : 256 ^ suc n ≡ 256 * 256 ^ n = omega arith in
     omega (arith, low, rest, power)
   where
@@ -91,7 +91,7 @@ kept_at (Fixed p) bytes n at h e b l =
     let w = load 4 bytes at in
     let small : w < 2 ^ 32 = let s = read_small 4 at bytes b in omega (arith, s) in
     sym (ap (λ v. kept_bytes (Fixed p) v) (large_read p at w bytes h small refl
-        ∙ ap (λ k. again_at (Fixed p) k bytes) e))
+    ∙ ap (λ k. again_at (Fixed p) k bytes) e))
     ∙ ap (λ k. number_bytes k (word (signed w))) (four p h)
     ∙ ap (number_bytes 4) (of_z-to_z w32 w small)
     ∙ read_back 4 at bytes b l
@@ -113,7 +113,7 @@ joined : (size count at : ℕ) (bytes : List ℕ) → bytes_at size at bytes ++ 
     ≡ bytes_at (size + size * count) at bytes
 joined size count at bytes =
     ap (λ l. take size (drop at bytes) ++ take (size * count) l) (sym (drop-drop size at bytes))
-        ∙ apart size (size * count) (drop at bytes)
+    ∙ apart size (size * count) (drop at bytes)
   where
     apart : (a b : ℕ) (xs : List ℕ) → take a xs ++ take b (drop a xs) ≡ take (a + b) xs
     apart zero b xs = let e : 0 + b ≡ b = omega arith in ap (λ k. take k xs) (sym e)
@@ -129,7 +129,7 @@ moved_from : (kind : LeafKind) (bytes : List ℕ) (at first count : ℕ) (m : Li
     → AreBytes (4 * first) (4 * count) bytes → 4 * first + 4 * count ≤ length bytes
     → at + 4 * first + 4 * count ≤ length m
     → elements_put kind kind bytes first (map (λ k. at + 4 * k) (range_with_len first count)) m
-        ≡ with_bytes (bytes_at (4 * count) (4 * first) bytes) (at + 4 * first) m
+    ≡ with_bytes (bytes_at (4 * count) (4 * first) bytes) (at + 4 * first) m
 moved_from kind bytes at first zero m p b l w = sym (with_none (at + 4 * first) m)
 moved_from kind bytes at first (suc count) m p b l w =
     let here = at + 4 * first in
@@ -142,15 +142,15 @@ moved_from kind bytes at first (suc count) m p b l w =
     let left = length-drop (4 * first) bytes in
     let long : length one ≡ 4 = length-take-le 4 (drop (4 * first) bytes) (omega (arith, left, l)) in
     let kept : kept_bytes kind (value_again kind bytes first) ≡ one =
-        kept_at kind bytes first (4 * first) p (ap (λ s. s * first) (sym size)) (λ i h. b i (omega (arith, h)))
-        (omega (arith, l)) in
+    kept_at kind bytes first (4 * first) p (ap (λ s. s * first) (sym size)) (λ i h. b i (omega (arith, h)))
+    (omega (arith, l)) in
     let stored = with_bytes one here m in
     let same : length stored ≡ length m = length_with one m here (omega (arith, long, w)) in
     ap₂ (λ n bs. elements_put kind kind bytes n (map (λ k. at + 4 * k) (range_with_len (first + 1) count))
-        (with_bytes bs here m)) after kept
+    (with_bytes bs here m)) after kept
     ∙ moved_from kind bytes at (first + 1) count stored p
-        (λ i h. subst (λ k. get_or bytes k 0 < 256) (behind first i) (b (4 + i) (omega (arith, h))))
-        (omega (arith, l)) (omega (arith, w, same))
+    (λ i h. subst (λ k. get_or bytes k 0 < 256) (behind first i) (b (4 + i) (omega (arith, h))))
+    (omega (arith, l)) (omega (arith, w, same))
     ∙ ap₂ (λ j k. with_bytes (bytes_at (4 * count) j bytes) k stored) next (there ∙ ap (λ k. here + k) (sym long))
     ∙ written_behind one (bytes_at (4 * count) (4 * first + 4) bytes) m here (omega (arith, long, w))
     ∙ ap (λ bs. with_bytes bs here m) (joined 4 count (4 * first) bytes ∙ ap (λ k. bytes_at k (4 * first) bytes) whole)
@@ -170,7 +170,7 @@ all_moved kind bytes at step count m p e b l w =
     ap (λ k. with_bytes (take k bytes) at m) long
     ∙ ap₂ (λ j k. with_bytes (bytes_at (4 * count) j bytes) k m) (sym none) here
     ∙ sym (moved_from kind bytes at 0 count m p (λ i h. b i (omega (arith, h, long))) (omega (arith, l, long))
-        (omega (arith, w, long)))
+    (omega (arith, w, long)))
     ∙ ap (λ s. elements_put kind kind bytes 0 (standing at s count) m) (sym size)
 
 -- ---- as code moves them
@@ -182,8 +182,8 @@ moved_within target source at step count end m some w =
     let long : step ≡ 4 = m.2 ∙ size.0 in
     let inside = inside_at (leaf_bytes target) end at step count (count - 1) w (omega (arith, some)) in
     let last : at + 4 * (count - 1) + 4 ≤ end =
-        subst (λ s. at + s * (count - 1) + 4 ≤ end) long
-        (subst (λ b. at + step * (count - 1) + b ≤ end) size.1 inside) in
+    subst (λ s. at + s * (count - 1) + 4 ≤ end) long
+    (subst (λ b. at + step * (count - 1) + b ≤ end) size.1 inside) in
     subst (λ s. at + s * count ≤ end) (sym long) (omega (arith, last, some))
 
 pub moved_whole : (target source : LeafKind) (step count bytes : ℕ) → Moves target source step

@@ -60,7 +60,7 @@ held_some s z f given leaf end p l i h =
     let below = got_below (leaves_with z s) leaf (leaf_in_force p.in_force) i.in_force in
     let kind : (leaf_in_force p.in_force).kind ≡ (leaf_at s z leaf).kind = ap (λ (x : Leaf). x.kind) k in
     let left : element_count (map pair_of l.bounds.items) ≡ count_left (leaf_in_force p.in_force) given =
-        ap element_count h.bounds in
+    ap element_count h.bounds in
     let places : map (λ is. stands_in p.place.base (leaf_in_force p.place.allocated) (given ++ is)) (subscripts_left (leaf_in_force p.in_force) given) ≡ map (λ is. element_at s f (leaf, given ++ is)) (subscripts_left (leaf_at s z leaf) given) =
     ap₂ (λ (base : ℕ) (x : Leaf). map (λ is. stands_in base x (given ++ is)) (subscripts_left (leaf_in_force p.in_force) given)) (i.base s refl) had
     ∙ ap (λ (y : Leaf). map (λ is. element_at s f (leaf, given ++ is)) (subscripts_left y given)) k in
@@ -73,10 +73,10 @@ held_some s z f given leaf end p l i h =
       within = subst (λ n. AreWithin (leaf_bytes (leaf_at s z leaf).kind) end (standing l.run.at l.run.step n))
           (sym left)
           (subst (λ n. AreWithin (leaf_bytes (leaf_at s z leaf).kind) n
-              (standing l.run.at l.run.step (count_left (leaf_in_force p.in_force) given))) i.end
+          (standing l.run.at l.run.step (count_left (leaf_in_force p.in_force) given))) i.end
           (subst (λ n. AreWithin n p.place.end
-              (standing l.run.at l.run.step (count_left (leaf_in_force p.in_force) given))) (i.bytes
-              ∙ ap leaf_bytes kind) h.stand.within));
+          (standing l.run.at l.run.step (count_left (leaf_in_force p.in_force) given))) (i.bytes
+          ∙ ap leaf_bytes kind) h.stand.within));
       counted = λ some. h.stand.exact (subst (λ n. 0 < n) (sym (i.bytes ∙ ap leaf_bytes kind)) some) ∙ sym left;
     }
 

@@ -213,7 +213,7 @@ none_put : (target source : LeafKind) (bytes : List ℕ) (n : ℕ) (addresses m 
 none_put target source bytes n [] m e = refl
 none_put target source bytes n (a ∷ as') m e =
     ap (elements_put target source bytes (suc n) as')
-        (ap (λ bs. with_bytes bs a m) (no_bytes target (value_again source bytes n) e) ∙ with_none a m)
+    (ap (λ bs. with_bytes bs a m) (no_bytes target (value_again source bytes n) e) ∙ with_none a m)
     ∙ none_put target source bytes (suc n) as' m e
 
 pub no_leaf_put : (l : PartLeaf) (t : TakenLeaf) (m : List ℕ) → leaf_bytes (kind_of l.kind) ≡ 0 → m ≡ leaf_put l t m

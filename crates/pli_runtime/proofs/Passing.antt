@@ -61,13 +61,13 @@ aggregates_none n c x h40 h41 = passed n 40 _ _ h40 ∙ passed n 41 _ _ h41
 pub served_none :
     (n : ℕ) (c : Call) (x : ℕ → ℕ) →
     IsNot n 1 → IsNot n 2 → IsNot n 3 → IsNot n 4 → IsNot n 5 → IsNot n 6 → IsNot n 7 → IsNot n 8 → IsNot n 9
-        → IsNot n 10 →
+    → IsNot n 10 →
     IsNot n 11 → IsNot n 12 → IsNot n 13 → IsNot n 14 → IsNot n 15 → IsNot n 16 → IsNot n 17 → IsNot n 18 → IsNot n 19
-        → IsNot n 20 →
+    → IsNot n 20 →
     IsNot n 21 → IsNot n 22 → IsNot n 23 → IsNot n 24 → IsNot n 25 → IsNot n 26 → IsNot n 27 → IsNot n 28 → IsNot n 29
-        → IsNot n 30 →
+    → IsNot n 30 →
     IsNot n 31 → IsNot n 32 → IsNot n 33 → IsNot n 34 → IsNot n 35 → IsNot n 36 → IsNot n 37 → IsNot n 38 → IsNot n 39
-        → IsNot n 40 →
+    → IsNot n 40 →
     IsNot n 41 →
     served n c x ≡ Bad
 served_none n c x h1 h2 h3 h4 h5 h6 h7 h8 h9 h10 h11 h12 h13 h14 h15 h16 h17 h18 h19 h20 h21 h22 h23 h24 h25 h26 h27

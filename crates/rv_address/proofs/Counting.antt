@@ -32,7 +32,7 @@ one_more e t d n ns b bs =
     let here : Code = place_kept d ++ (subscript_given e t n ns ++ subscript_counted d b) in
     ap (λ m. here ++ subscripts_counted e (with_number t) m ns bs) (add-one d)
     ∙ sym (regrouped (place_kept d) (subscript_given e t n ns) (subscript_counted d b)
-        (subscripts_counted e (with_number t) (suc d) ns bs))
+    (subscripts_counted e (with_number t) (suc d) ns bs))
 
 pub next_subscript : (e : Environment) (t next : Taken) (d after : ℕ) (n : Y.Number) (ns : Y.Numbers) (xs :
     List Bounds) (blank : Bounds) (code counted target : Code) → 0 < length xs

@@ -32,8 +32,8 @@ pub in_area : (code between after : Code) (e : Environment) (t : Taken) (v area 
 unfolding placed asked tried_again area_raised
 in_area code between after e t v area name h k =
     let words : size_of between - size_of code ≡ size_of (asked e t v (Some area) name) =
-        ap (λ n. n - size_of code) (ap size_of h ∙ size_append code (asked e t v (Some area) name))
-        ∙ behind (size_of code) (size_of (asked e t v (Some area) name)) in
+    ap (λ n. n - size_of code) (ap size_of h ∙ size_append code (asked e t v (Some area) name))
+    ∙ behind (size_of code) (size_of (asked e t v (Some area) name)) in
     k
     ∙ ap (λ n. between ++ tried_again n) words
     ∙ ap (λ u. u ++ tried_again (size_of (asked e t v (Some area) name))) h

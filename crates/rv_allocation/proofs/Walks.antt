@@ -124,7 +124,7 @@ pub freed_based : (e : Environment) (t : Taken) (x : Freeing) (v : _) (p : _) (a
     Option NamePlace) (code after : Code)
     → x ≡ F.Based v p area → o ≡ standing_name e (pointer_of p)
     → after ≡ code ++ located_freed e t (variable_of v) (pointer_of p) (area_of area) o
-        → after ≡ code ++ freeing_code e t (freeing_of x)
+    → after ≡ code ++ freeing_code e t (freeing_of x)
 freed_based e t x v p area o code after is standing there =
     there
     ∙ ap (λ n. code ++ located_freed e t (variable_of v) (pointer_of p) (area_of area) n) standing
@@ -133,7 +133,7 @@ freed_based e t x v p area o code after is standing there =
 
 pub freed_controlled : (e : Environment) (t : Taken) (x : Freeing) (v : _) (code after : Code)
     → x ≡ F.Controlled v → after ≡ code ++ newest_freed e (variable_of v)
-        → after ≡ code ++ freeing_code e t (freeing_of x)
+    → after ≡ code ++ freeing_code e t (freeing_of x)
 freed_controlled e t x v code after is there =
     there
     ∙ ap (λ c. code ++ c) (sym (free-Controlled e t v))

@@ -114,8 +114,15 @@ pub extent-Located : (e : _) (a : _) (l : _) (v : _) (p : _) (ns : _)
 unfolding reference_of tells_no_extent
 extent-Located e a l v p ns = refl
 
-pub ruleset written = (written-Null, written-In, written-From, written-AddressOf, written-Into, extent-Plain,
-    extent-Located)
+pub ruleset written = (
+  written-Null,
+  written-In,
+  written-From,
+  written-AddressOf,
+  written-Into,
+  extent-Plain,
+  extent-Located,
+)
 
 pub pointer-Some : (e : _) (t : _) (r : _) (x : _) (z : _) → pointer_assigned e t r x (Some z) ≡ pointer_to e t z x
 unfolding pointer_assigned
@@ -157,8 +164,17 @@ pub assignment-Offset : (e : _) (t : _) (r : _) (x : _) → assignment_code e t 
 unfolding stored_of
 assignment-Offset e t r x = refl
 
-pub ruleset assignments = (pointer-Some, pointer-None, assignment-Number, assignment-Text, assignment-Bit,
-    assignment-Pointer, assignment-Offset, append_assoc, append-nil)
+pub ruleset assignments = (
+  pointer-Some,
+  pointer-None,
+  assignment-Number,
+  assignment-Text,
+  assignment-Bit,
+  assignment-Pointer,
+  assignment-Offset,
+  append_assoc,
+  append-nil,
+)
 
 -- ---- parts
 

@@ -24,7 +24,7 @@ pub next_saved : (r : Register) (n count : ℕ) (code after target : Code) → n
     → after ++ registers_saved r (n + 1) (count - (n + 1)) ≡ target
 next_saved r n count code after target h a is =
     step code after (register_saved r n) (registers_saved r (n + 1) (count - (n + 1)))
-        (registers_saved r n (count - n)) target a (saved_from r n count h) is
+    (registers_saved r n (count - n)) target a (saved_from r n count h) is
 
 pub all_are_saved : (r : Register) (n count : ℕ) (code target : Code) → count ≤ n
     → code ++ registers_saved r n (count - n) ≡ target → code ≡ target
@@ -37,13 +37,13 @@ unfolding register_restored
 restored_from n count h =
     ap (registers_restored n) (one_less n count h)
     ∙ ap (λ m. load_word (held n) frame_register (saved_register n) ++ registers_restored m (count - (n + 1)))
-        (sym (add-one n))
+    (sym (add-one n))
 
 pub next_restored : (n count : ℕ) (code after target : Code) → n < count → after ≡ code ++ register_restored n
     → code ++ registers_restored n (count - n) ≡ target → after ++ registers_restored (n + 1) (count - (n + 1)) ≡ target
 next_restored n count code after target h a is =
     step code after (register_restored n) (registers_restored (n + 1) (count - (n + 1)))
-        (registers_restored n (count - n)) target a (restored_from n count h) is
+    (registers_restored n (count - n)) target a (restored_from n count h) is
 
 pub all_are_restored : (n count : ℕ) (code target : Code) → count ≤ n → code ++ registers_restored n (count - n)
     ≡ target → code ≡ target
@@ -83,8 +83,8 @@ some_level (suc outer) h = ap (display_copied 0) (omega arith)
 pub begun-is : (words level parameters : ℕ) (saved : Option ℕ)
     → frame_begun words level parameters saved
     ≡ frame_placed words
-        ++ (saved_if saved
-        ++ (frame_linked ++ (display_made level ++ (frame_measured ++ stack_raised level parameters))))
+    ++ (saved_if saved
+    ++ (frame_linked ++ (display_made level ++ (frame_measured ++ stack_raised level parameters))))
 unfolding frame_placed frame_linked frame_measured stack_raised
 begun-is words level parameters saved = refl
 

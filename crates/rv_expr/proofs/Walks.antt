@@ -55,17 +55,17 @@ compared_by : (e : Environment) (t : Taken) (q : Bool) (l r : Y.Pointer) (b : Bo
     ++ places_compared q (unwrap_or (left_standing e l r) (waiting_name t))
     (unwrap_or (own_standing e r) (waiting_name (with_words 4 t)))))
     ≡ (if b then null_told e t q l (own_standing e l) else names_told e t q l r (left_standing e l r)
-        (own_standing e r))
+    (own_standing e r))
 unfolding null_told names_told
 compared_by e t q l r true = ap (λ u. u ++ null_compared q (unwrap_or (own_standing e l) (waiting_name t)))
     (kept_is e t l (own_standing e l))
 compared_by e t q l r false =
     let places = places_compared q (unwrap_or (left_standing e l r) (waiting_name t))
-        (unwrap_or (own_standing e r) (waiting_name (with_words 4 t))) in
+    (unwrap_or (own_standing e r) (waiting_name (with_words 4 t))) in
     ap (λ u. u ++ (where_waiting (own_standing e r) (pointer_code e (with_words 4 t) r) ++ places))
-        (kept_is e t l (left_standing e l r))
+    (kept_is e t l (left_standing e l r))
     ∙ ap (λ u. operand_kept e t l (left_standing e l r) ++ (u ++ places))
-        (kept_is e (with_words 4 t) r (own_standing e r))
+    (kept_is e (with_words 4 t) r (own_standing e r))
 
 compared_is : (e : Environment) (t : Taken) (q : Bool) (l r : Y.Pointer) → bit_code e t (Y.PointersCompared q l r)
     ≡ pointers_compared e t q l r
@@ -363,7 +363,7 @@ pub reference-Located : (e : _) (t : _) (a : _) (l : _) (v : _) (p : _) (ns : _)
 unfolding reference_of
 reference-Located e t a l v p ns =
     at_pointer e t (pointer_of l) (variable_of v) (part_of p) (numbers_of ns)
-        (standing_behind e (pointer_of l) (numbers_of ns))
+    (standing_behind e (pointer_of l) (numbers_of ns))
 
 pub ruleset references = (reference-Plain, reference-Located, append_assoc, append-nil)
 
@@ -416,8 +416,16 @@ operand-None e t p = refl
 
 pub ruleset compared = (null_told-is, names_told-is, operand-Some, operand-None, append_assoc, append-nil)
 
-pub ruleset standing = (reached-Some, reached-None, kept-Some, kept-None, told-Some, told-None, append_assoc,
-    append-nil)
+pub ruleset standing = (
+  reached-Some,
+  reached-None,
+  kept-Some,
+  kept-None,
+  told-Some,
+  told-None,
+  append_assoc,
+  append-nil,
+)
 
 pub subscripted-is : (e : _) (t : _) (v : _) (p : _) (ns : _) → subscripted e t v p ns ≡ subscripts_code e (behind_locator v t) ns ++ element_reached e t (behind_locator v t) v p ns
 unfolding subscripted

@@ -42,7 +42,7 @@ pub counted_whole : (before each : Code) (t : Taken) (l : Y.Leaf)
 unfolding element_counted
 counted_whole before each t l =
     ap (repeated_from (size_of (before ++ save zero_register t)))
-        (append_assoc (before ++ save zero_register t) each (distance_counted t l))
+    (append_assoc (before ++ save zero_register t) each (distance_counted t l))
     ∙ repeated_is (before ++ save zero_register t) (each ++ distance_counted t l)
     ∙ append_assoc before (save zero_register t) (repeated_until_equal (each ++ distance_counted t l))
 
@@ -52,4 +52,4 @@ pub counted_whole_of : (before a b : Code) (t : Taken) (l : Y.Leaf)
     ≡ before ++ by_distance t l (a ++ b)
 counted_whole_of before a b t l =
     ap (element_counted (size_of (before ++ save zero_register t)) t l)
-        (append_assoc (before ++ save zero_register t) a b) ∙ counted_whole before (a ++ b) t l
+    (append_assoc (before ++ save zero_register t) a b) ∙ counted_whole before (a ++ b) t l

@@ -98,7 +98,21 @@ pub texts-More : (a : _) (x : _) (b : _) (xs : _) → text_count (arguments_of (
 unfolding arguments_of
 texts-More a x b xs = turned (text_copies (argument_of x)) (text_count (arguments_of xs))
 
-pub ruleset parts = (type-Plain, type-Located, place-Plain, place-Located, given-End, given-More, named-Plain,
-    named-Located, standing-Plain, standing-Located, told-Plain, told-Located, part_given-Plain, part_given-Located)
+pub ruleset parts = (
+  type-Plain,
+  type-Located,
+  place-Plain,
+  place-Located,
+  given-End,
+  given-More,
+  named-Plain,
+  named-Located,
+  standing-Plain,
+  standing-Located,
+  told-Plain,
+  told-Located,
+  part_given-Plain,
+  part_given-Located,
+)
 
 pub ruleset lists = (last-End, last-More, list-End, list-More, texts-End, texts-More, append_assoc, append-nil)

@@ -50,7 +50,7 @@ pub begun : (e : Environment) (head : Y.BlockHead) (words held : ℕ) (ps : List
     → c1 ≡ c0 ++ frame_begun words head.level (length ps) (Some held) → c2 ≡ c1 ++ list_taken
     → c3 ≡ c2 ++ parameters_given head.level 0 ps → c4 ≡ c3 ++ texts_counted
     → c5 ≡ c4 ++ block_entered 0 head.line → c6 ≡ c5 ++ arguments_copied e ps → c7 ≡ c6 ++ variables_code e head.line
-        → c8 ≡ c7 ++ act_code head.line → c8 ≡ c0 ++ procedure_begun e head words held ps
+    → c8 ≡ c7 ++ act_code head.line → c8 ≡ c0 ++ procedure_begun e head words held ps
 begun e head words held ps c0 c1 c2 c3 c4 c5 c6 c7 c8 e1 e2 e3 e4 e5 e6 e7 e8 =
     let p1 : Code = frame_begun words head.level (length ps) (Some held) in
     let p3 : Code = parameters_given head.level 0 ps in
@@ -71,7 +71,7 @@ pub procedure_is : (code after : Code) (e inner : Environment) (p : Procedure) (
     → words ≡ block_words inner p.block.head.number (stmts_words (stmts_of p.block.body))
     → held ≡ held_with inner.program words (stmts_of p.block.body)
     → after ≡ code ++ procedure_with inner (block_head_of p.block.head) (stmts_of p.block.body) words held
-        (procedure_of p).parameters (procedure_of p).result
+    (procedure_of p).parameters (procedure_of p).result
     → after ≡ code ++ procedure_of_block e (procedure_of p).block (procedure_of p).parameters (procedure_of p).result
 unfolding procedure_with
 procedure_is code after e inner p words held is n k h =
@@ -80,9 +80,9 @@ procedure_is code after e inner p words held is n k h =
     h
     ∙ ap (λ m. code ++ procedure_with inner head body words m (procedure_of p).parameters (procedure_of p).result) k
     ∙ ap (λ m. code ++ procedure_with inner head body m (held_with inner.program m body) (procedure_of p).parameters
-        (procedure_of p).result) n
+    (procedure_of p).result) n
     ∙ ap (λ i. code ++ procedure_with i head body (block_words i p.block.head.number (stmts_words body))
-        (block_held i p.block.head.number body) (procedure_of p).parameters (procedure_of p).result) is
+    (block_held i p.block.head.number body) (procedure_of p).parameters (procedure_of p).result) is
 
 pub next_procedure : (e : Environment) (xs : List Procedure) (i : ℕ) (x : Procedure) (code after target : Code) → i < length xs → x ≡ get_or xs i x → after ≡ code ++ procedure_of_block e (procedure_of x).block (procedure_of x).parameters (procedure_of x).result
     → code ++ procedures_code e (map procedure_of (drop i xs)) ≡ target → after ++ procedures_code e (map procedure_of (drop (i + 1) xs)) ≡ target

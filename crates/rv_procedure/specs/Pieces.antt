@@ -30,7 +30,7 @@ unfoldable pub procedure_with : Environment → Y.BlockHead → Y.Stmts → (wor
 procedure_with e head body words held parameters type =
     Mark (ProcedureEntry head.number)
     ∷ (procedure_begun e head words held parameters
-        ++ (stmts_code e none_taken body ++ procedure_ended e head words held type))
+    ++ (stmts_code e none_taken body ++ procedure_ended e head words held type))
 
 -- ---- the routine of a variable by its place
 

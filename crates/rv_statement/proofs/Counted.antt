@@ -25,7 +25,7 @@ pub stepped-is : (e : Environment) (t : Taken) (c : Y.Counter) (step : Option â„
 unfolding act_begun summed_by stepped
 stepped-is e t c step line =
     sym (append_assoc (number a0 line) (small a1 1 âˆ· service 1) (counter_read e t c
-        ++ (step_added t step ++ counter_converted t c)))
+    ++ (step_added t step ++ counter_converted t c)))
 
 pub ruleset steps = (stepped-is, append_assoc, append-nil)
 

@@ -155,7 +155,30 @@ both_held labels first here held under is l f = is ∙ ap (λ n. max n first) l 
 pub one_more : (now labels here rest : ℕ) → max (max now (max labels here)) rest ≡ max now (max labels (max here rest))
 one_more now labels here rest = omega arith
 
-pub ruleset held = (held-Null, held-Assign, held-AssignElements, held-AssignAggregate, held-AssignArea,
-    held-EmptyArea, held-If, held-IfElse, held-Do, held-DoWhile, held-DoTurns, held-Begin, held-OnSystem, held-OnUnit,
-    held-Call, held-Return, held-ReturnValue, held-Goto, held-Stop, held-Signal, held-Revert, held-Allocate,
-    held-Free, held-Get, held-Put)
+pub ruleset held = (
+  held-Null,
+  held-Assign,
+  held-AssignElements,
+  held-AssignAggregate,
+  held-AssignArea,
+  held-EmptyArea,
+  held-If,
+  held-IfElse,
+  held-Do,
+  held-DoWhile,
+  held-DoTurns,
+  held-Begin,
+  held-OnSystem,
+  held-OnUnit,
+  held-Call,
+  held-Return,
+  held-ReturnValue,
+  held-Goto,
+  held-Stop,
+  held-Signal,
+  held-Revert,
+  held-Allocate,
+  held-Free,
+  held-Get,
+  held-Put,
+)

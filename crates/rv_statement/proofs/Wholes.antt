@@ -118,7 +118,7 @@ once_whole old begun now after body p e t variable start condition line h writte
     ∙ ap (λ u. jumped_if u p) written
     ∙ over_if begun p _ body h
     ∙ regroup_once old (act_code line) (assignment_code e t variable start)
-        (once_tested e t condition line (size_of body)) body
+    (once_tested e t condition line (size_of body)) body
     ∙ ap (λ u. old ++ (act_code line ++ (assignment_code e t variable start ++ u))) (once_is e t condition line body)
 
 -- ---- DO with a variable that counts
@@ -133,8 +133,8 @@ regroup_turn o a l w b s j = append_assoc o (a ++ l) (w ++ (b ++ (s ++ j))) ∙ 
 pub turns_whole : (old begun now after body : Code) (u : Turn) (e : Environment) (t : Taken) (counter :
     Y.Counter) (limit : Option Y.Number) (fixed : Option ℤ) (condition : Option Y.Bit) (line : ℕ)
     → TurnBegun old begun u e t counter limit fixed condition line → now ≡ begun ++ body
-        → after ≡ jumped_if (jumped_if (turned_back (now ++ stepped e t counter fixed line) u.start) u.condition)
-        u.limit
+    → after ≡ jumped_if (jumped_if (turned_back (now ++ stepped e t counter fixed line) u.start) u.condition)
+    u.limit
     → after ≡ old ++ turns_code (turn_of e t counter limit fixed condition line body)
 unfolding turned_back stepped
 turns_whole old begun now after body u e t counter limit fixed condition line h written ended =
@@ -161,9 +161,9 @@ turns_whole old begun now after body u e t counter limit fixed condition line h 
 
 pub count_whole : (old counted begun now after body : Code) (u : Turn) (e : Environment) (t : Taken) (counter : Y.Counter) (start : Y.Value) (limit : Option Y.Number) (step : Y.Number) (condition : Option Y.Bit) (line : ℕ)
     → counted ≡ old ++ counting e t counter start limit step line
-        → TurnBegun counted begun u e t counter limit (constant_step step) condition line → now ≡ begun ++ body
+    → TurnBegun counted begun u e t counter limit (constant_step step) condition line → now ≡ begun ++ body
     → after ≡ jumped_if (jumped_if (turned_back (now ++ stepped e t counter (constant_step step) line) u.start)
-        u.condition) u.limit
+    u.condition) u.limit
     → after ≡ old ++ count_statement e t counter start limit step condition body line
 unfolding count_statement counting acted
 count_whole old counted begun now after body u e t counter start limit step condition line first h written ended =
@@ -188,17 +188,17 @@ pub begin_whole : (old begun now after : Code) (body : Environment → Taken →
 unfolding begin_statement block_begun block_ended acted
 begin_whole old begun now after body e inside t none head words needed first written last around nothing counted =
     let whole : Environment → Taken → ℕ
-        → Code =
-        λ i s w. old
-        ++ (act_code head.line
-        ++ (move a0 frame_register
-        ∷ (frame_begun w head.level 0 None
-        ++ (entered_without_texts 1 head.line
-        ++ (variables_code i head.line ++ (body i s ++ (block_left 0 ++ frame_ended w))))))) in
+    → Code =
+    λ i s w. old
+    ++ (act_code head.line
+    ++ (move a0 frame_register
+    ∷ (frame_begun w head.level 0 None
+    ++ (entered_without_texts 1 head.line
+    ++ (variables_code i head.line ++ (body i s ++ (block_left 0 ++ frame_ended w))))))) in
     last
     ∙ ap (λ x. x ++ (block_left 0 ++ frame_ended words)) (written ∙ ap (λ x. x ++ body inside t) first)
     ∙ regroup_begin old (act_code head.line) (frame_begun words head.level 0 None) (entered_without_texts 1 head.line)
-        (variables_code inside head.line) (body inside t) (block_left 0 ++ frame_ended words) (move a0 frame_register)
+    (variables_code inside head.line) (body inside t) (block_left 0 ++ frame_ended words) (move a0 frame_register)
     ∙ ap (λ i. whole i t words) around
     ∙ ap (λ s. whole (begin_environment head e) s words) nothing
     ∙ ap (λ w. whole (begin_environment head e) none w) counted
@@ -230,13 +230,13 @@ unit_is : (inside : Environment) (head : Y.BlockHead) (words held : ℕ) (body :
 unfolding unit_begun unit_ended unit_gone held_back acted
 unit_is inside head words held body =
     regroup_unit (frame_begun words head.level 0 (Some held)) (entered_without_texts 2 head.line)
-        (unit_variables inside head head.kind) (act_code head.line) body (unit_mark head head.kind)
-        (unit_left words held)
+    (unit_variables inside head head.kind) (act_code head.line) body (unit_mark head head.kind)
+    (unit_left words held)
 
 pub unit_whole : (old told begun now ended after : Code) (body : Environment → Taken → Code) (p : Place) (e inside :
     Environment) (t none : Taken) (c : Condition) (head : Y.BlockHead) (words needed held saved line : ℕ)
     → ComesTo told p (λ n. old ++ unit_announced c line n) → begun ≡ told ++ unit_begun inside head words held
-        → now ≡ begun ++ body inside t → ended ≡ now ++ unit_ended head words held → after ≡ jumped_over ended p
+    → now ≡ begun ++ body inside t → ended ≡ now ++ unit_ended head words held → after ≡ jumped_over ended p
     → inside ≡ unit_environment head e → t ≡ none → words ≡ needed → held ≡ saved
     → after ≡ old ++ unit_statement e c head needed saved (body (unit_environment head e) none) line
 unfolding unit_statement unit_told acted
@@ -245,9 +245,9 @@ unit_whole old told begun now ended after body p e inside t none c head words ne
     let inner : Code = (unit_begun inside head words held ++ body inside t) ++ unit_ended head words held in
     let whole : Code → Code = λ u. old ++ (act_code line ++ (OffsetAhead a1 5 ∷ condition_given c ∷ (service 28 ++ (JumpAhead (size_of u) ∷ u)))) in
     let grown : ended ≡ told ++ inner =
-        last ∙ ap (λ x. x ++ unit_ended head words held) (written ∙ ap (λ x. x ++ body inside t) first
-        ∙ append_assoc told (unit_begun inside head words held) (body inside t))
-        ∙ append_assoc told (unit_begun inside head words held ++ body inside t) (unit_ended head words held) in
+    last ∙ ap (λ x. x ++ unit_ended head words held) (written ∙ ap (λ x. x ++ body inside t) first
+    ∙ append_assoc told (unit_begun inside head words held) (body inside t))
+    ∙ append_assoc told (unit_begun inside head words held ++ body inside t) (unit_ended head words held) in
     jumped
     ∙ ap (λ x. jumped_over x p) grown
     ∙ over told p _ inner h

@@ -221,7 +221,7 @@ unfoldable pub count_statement : Environment → Taken → Y.Counter → Y.Value
 count_statement e t counter start limit step condition body line =
     act_code line
     ++ (count_begun e t counter start limit step
-        ++ turns_code (turn_of e t counter limit (constant_step step) condition line body))
+    ++ turns_code (turn_of e t counter limit (constant_step step) condition line body))
 
 unfoldable pub begin_statement : Environment → Y.BlockHead → (words : ℕ) → (body : Code) → Code
 begin_statement e head words body = act_code head.line ++ begin_code e head words body

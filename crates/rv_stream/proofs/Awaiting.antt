@@ -120,7 +120,7 @@ turn_far before a b asked inner l behind end h =
 elements_led : (e : Environment) (l : Elements) (formats : Formats) (r : Y.Reference) (before more :
     Code) (behind end : ℕ) → end ≡ size_of before + (size_of (elements_kept e l formats r) + behind)
     → patched (before ++ (elements_kept e l formats r ++ more)) (elements_exit e l r before)
-        (JumpAhead (end - (elements_exit e l r before).words)) ≡ before ++ (elements_got e l formats r behind ++ more)
+    (JumpAhead (end - (elements_exit e l r before).words)) ≡ before ++ (elements_got e l formats r behind ++ more)
 unfolding elements_kept elements_exit
 elements_led e l formats r before more behind end h =
     let a : Code = record_code e l.taken r in
@@ -143,21 +143,21 @@ counted_opened before first awaited inner counted last more = simp append_assoc 
 distance_opened : (before inner more : Code) (t : Taken) (l : Y.Leaf) (n : ℕ)
     → before ++ (by_distance t l (field_awaited n ++ inner) ++ more)
     ≡ (before ++ save zero_register t)
-        ++ (field_awaited n
-        ++ (inner ++ (distance_counted t l ++ (counted_last t l (field_awaited 0 ++ inner) ++ more))))
+    ++ (field_awaited n
+    ++ (inner ++ (distance_counted t l ++ (counted_last t l (field_awaited 0 ++ inner) ++ more))))
 distance_opened before inner more t l n =
     counted_opened before (save zero_register t) (field_awaited n) inner (distance_counted t l)
-        (counted_last t l (field_awaited 0 ++ inner)) more
+    (counted_last t l (field_awaited 0 ++ inner)) more
 
 distance_led : (before inner more : Code) (t : Taken) (l : Y.Leaf) (n : ℕ)
     → patched (before ++ (by_distance t l (field_awaited 0 ++ inner) ++ more)) (counted_exit t before) (JumpAhead n)
-        ≡ before ++ (by_distance t l (field_awaited n ++ inner) ++ more)
+    ≡ before ++ (by_distance t l (field_awaited n ++ inner) ++ more)
 unfolding counted_exit
 distance_led before inner more t l n =
     ap (λ u. patched u (exit_behind (before ++ save zero_register t)) (JumpAhead n))
-        (distance_opened before inner more t l 0)
+    (distance_opened before inner more t l 0)
     ∙ awaited_led (before ++ save zero_register t)
-        (inner ++ (distance_counted t l ++ (counted_last t l (field_awaited 0 ++ inner) ++ more))) n
+    (inner ++ (distance_counted t l ++ (counted_last t l (field_awaited 0 ++ inner) ++ more))) n
     ∙ sym (distance_opened before inner more t l n)
 
 distance_kept : (before inner more : Code) (t : Taken) (l : Y.Leaf)
@@ -165,9 +165,9 @@ distance_kept : (before inner more : Code) (t : Taken) (l : Y.Leaf)
 unfolding counted_exit
 distance_kept before inner more t l =
     subst (λ u. IsPlace 2 u (exit_behind (before ++ save zero_register t)))
-        (sym (distance_opened before inner more t l 0))
+    (sym (distance_opened before inner more t l 0))
     (awaited_kept (before ++ save zero_register t)
-        (inner ++ (distance_counted t l ++ (counted_last t l (field_awaited 0 ++ inner) ++ more))))
+    (inner ++ (distance_counted t l ++ (counted_last t l (field_awaited 0 ++ inner) ++ more))))
 
 distance_far : (before inner : Code) (t : Taken) (l : Y.Leaf) (behind end : ℕ)
     → end ≡ size_of before + (size_of (by_distance t l (field_awaited 0 ++ inner)) + behind)
@@ -180,7 +180,7 @@ distance_far before inner t l behind end h =
     let w : (exit_behind (before ++ first)).words ≡ size_of (before ++ first) + 13 = exit_words (before ++ first) in
     let s1 : size_of (before ++ first) ≡ size_of before + size_of first = size_append before first in
     let k1 : size_of (by_distance t l each) ≡ size_of first + size_of (turn ++ counted_last t l each) =
-        size_append first (turn ++ counted_last t l each) in
+    size_append first (turn ++ counted_last t l each) in
     let k2 : size_of (turn ++ counted_last t l each) ≡ size_of turn + 3 = size_append turn (counted_last t l each) in
     let k3 : size_of turn ≡ size_of each + size_of (distance_counted t l) = size_append each (distance_counted t l) in
     let k4 : size_of each ≡ 13 + size_of inner = size_append (field_awaited 0) inner in
@@ -189,13 +189,13 @@ distance_far before inner t l behind end h =
 counted_led : (e : Environment) (t : Taken) (formats : Formats) (r : Y.Reference) (before more : Code) (behind end :
     ℕ) → end ≡ size_of before + (size_of (counted_kept e t formats r) + behind)
     → patched (before ++ (counted_kept e t formats r ++ more)) (counted_exit t before)
-        (JumpAhead (end - (counted_exit t before).words)) ≡ before ++ (counted_got e t formats r behind ++ more)
+    (JumpAhead (end - (counted_exit t before).words)) ≡ before ++ (counted_got e t formats r behind ++ more)
 unfolding counted_kept
 counted_led e t formats (Y.Referring v locator part subscripts) before more behind end h =
     let l : Y.Leaf = leaf_number e v part.first in
     let inner : Code = counted_element_got e t formats v part in
     ap (λ n. patched (before ++ (by_distance t l (field_awaited 0 ++ inner) ++ more)) (counted_exit t before)
-        (JumpAhead n)) (distance_far before inner t l behind end h)
+    (JumpAhead n)) (distance_far before inner t l behind end h)
     ∙ distance_led before inner more t l (size_of inner + (size_of (distance_counted t l) + (3 + behind)))
 
 counted_is_kept : (e : Environment) (t : Taken) (formats : Formats) (r : Y.Reference) (before more : Code)
@@ -216,10 +216,10 @@ exit_by counted e t before r = if counted then counted_exit t before else elemen
 aggregate_led : (counted : Bool) (e : Environment) (t : Taken) (formats : Formats) (r : Y.Reference) (before more :
     Code) (behind end : ℕ) → end ≡ size_of before + (size_of (kept_by counted e t formats r) + behind)
     → patched (before ++ (kept_by counted e t formats r ++ more)) (exit_by counted e t before r)
-        (JumpAhead (end - (exit_by counted e t before r).words))
+    (JumpAhead (end - (exit_by counted e t before r).words))
     ≡ before
-        ++ ((if counted then counted_got e t formats r behind else elements_got e (elements_of t r) formats r behind)
-        ++ more)
+    ++ ((if counted then counted_got e t formats r behind else elements_got e (elements_of t r) formats r behind)
+    ++ more)
 aggregate_led true e t formats r before more behind end h = counted_led e t formats r before more behind end h
 aggregate_led false e t formats r before more behind end h =
     elements_led e (elements_of t r) formats r before more behind end h
@@ -231,17 +231,17 @@ unfolding elements_kept elements_exit
 aggregate_is_kept true e t formats r before more = counted_is_kept e t formats r before more
 aggregate_is_kept false e t formats r before more =
     turn_kept before (record_code e (elements_of t r).taken r) (elements_begun (elements_of t r))
-        (next_asked e (elements_of t r) r) (element_got e (elements_of t r) formats r) more (elements_of t r)
+    (next_asked e (elements_of t r) r) (element_got e (elements_of t r) formats r) more (elements_of t r)
 
 pub item_led : (e : Environment) (t : Taken) (formats : Formats) (i : Y.GetItem) (before more : Code) (behind end : ℕ)
     → end ≡ size_of before + (size_of (item_kept e t formats i) + behind)
     → patched (before ++ (item_kept e t formats i ++ more)) (item_exit e t before i)
-        (JumpAhead (end - (item_exit e t before i).words)) ≡ before ++ (item_got e t formats i behind ++ more)
+    (JumpAhead (end - (item_exit e t before i).words)) ≡ before ++ (item_got e t formats i behind ++ more)
 unfolding scalar_kept
 item_led e t formats (Y.GetScalar r) before more behind end h =
     let inner : Code = field_stored e t formats r (type_in e r) in
     ap (λ n. patched (before ++ (field_awaited 0 ++ (inner ++ more))) (exit_behind before) (JumpAhead n))
-        (scalar_far before inner behind end h)
+    (scalar_far before inner behind end h)
     ∙ awaited_led before (inner ++ more) (size_of inner + behind)
 item_led e t formats (Y.GetAggregate r) before more behind end h =
     aggregate_led (is_counted e r) e t formats r before more behind end h

@@ -18,7 +18,7 @@ use Rattle.rv_stream.specs.Exits.{counted_exit, counted_kept}
 put_is : (e : Environment) (t : Taken) (formats : Formats) (r : Y.Reference)
     → counted_put e t formats r
     ≡ by_distance t (leaf_number e (variable_in r) (part_in r).first)
-        (counted_element_put e t formats (variable_in r) (part_in r))
+    (counted_element_put e t formats (variable_in r) (part_in r))
 put_is e t formats (Y.Referring v locator part subscripts) = refl
 
 got_is : (e : Environment) (t : Taken) (formats : Formats) (r : Y.Reference)
@@ -42,7 +42,7 @@ got_all : (e : Environment) (t : Taken) (formats : Formats) (r : Y.Reference) (l
     → l ≡ leaf_number e (variable_in r) (part_in r).first
     → element_counted (size_of (before ++ save zero_register t)) t l
     (((before ++ save zero_register t) ++ field_awaited 0) ++ counted_element_got e t formats (variable_in r)
-        (part_in r))
+    (part_in r))
     ≡ before ++ counted_kept e t formats r
 got_all e t formats r l before is =
     let inner : Code = counted_element_got e t formats (variable_in r) (part_in r) in
@@ -63,10 +63,10 @@ put_whole e t formats r v p l z start before saved each whole zero is part leaf 
     ∙ ap (element_counted start t l) every
     ∙ ap (λ n. element_counted n t l (saved ++ counted_element_put e t formats v p)) size
     ∙ ap (λ c. element_counted (size_of c) t l (c ++ counted_element_put e t formats v p)) (s
-        ∙ ap (λ x. before ++ save x t) zero)
+    ∙ ap (λ x. before ++ save x t) zero)
     ∙ ap (λ c. element_counted (size_of (before ++ save zero_register t)) t l ((before ++ save zero_register t) ++ c))
     (ap (λ u. counted_element_put e t formats u p) is
-        ∙ ap (λ q. counted_element_put e t formats (variable_in r) q) part)
+    ∙ ap (λ q. counted_element_put e t formats (variable_in r) q) part)
     ∙ put_all e t formats r l before
     (leaf ∙ ap (λ u. leaf_number e u p.first) is ∙ ap (λ (q : Y.Part). leaf_number e (variable_in r) q.first) part)
 
@@ -84,9 +84,9 @@ got_whole e t formats r v p l z start before saved awaited each whole zero is pa
     ∙ ap (λ c. element_counted (size_of c) t l ((c ++ field_awaited 0) ++ counted_element_got e t formats v p))
     (s ∙ ap (λ x. before ++ save x t) zero)
     ∙ ap (λ c. element_counted (size_of (before ++ save zero_register t)) t l
-        (((before ++ save zero_register t) ++ field_awaited 0) ++ c))
+    (((before ++ save zero_register t) ++ field_awaited 0) ++ c))
     (ap (λ u. counted_element_got e t formats u p) is
-        ∙ ap (λ q. counted_element_got e t formats (variable_in r) q) part)
+    ∙ ap (λ q. counted_element_got e t formats (variable_in r) q) part)
     ∙ got_all e t formats r l before
     (leaf ∙ ap (λ u. leaf_number e u p.first) is ∙ ap (λ (q : Y.Part). leaf_number e (variable_in r) q.first) part)
 

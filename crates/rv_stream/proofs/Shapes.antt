@@ -73,7 +73,7 @@ same_counted t a b h =
 
 same_aggregate : (counted : Bool) (e : Environment) (t : Taken) (r : Y.Reference) (a b : Code) → Alike a b
     → (if counted then counted_exit t a else elements_exit e (elements_of t r) r a)
-        ≡ (if counted then counted_exit t b else elements_exit e (elements_of t r) r b)
+    ≡ (if counted then counted_exit t b else elements_exit e (elements_of t r) r b)
 same_aggregate true e t r a b h = same_counted t a b h
 same_aggregate false e t r a b h = same_elements e (elements_of t r) r a b h
 
@@ -109,7 +109,7 @@ counted_alike e t formats (Y.Referring v locator part subscripts) behind =
 
 aggregate_alike : (counted : Bool) (e : Environment) (t : Taken) (formats : Formats) (r : Y.Reference) (behind : ℕ)
     → Alike (if counted then counted_got e t formats r behind else elements_got e (elements_of t r) formats r behind)
-        (if counted then counted_kept e t formats r else elements_kept e (elements_of t r) formats r)
+    (if counted then counted_kept e t formats r else elements_kept e (elements_of t r) formats r)
 aggregate_alike true e t formats r behind = counted_alike e t formats r behind
 aggregate_alike false e t formats r behind = elements_alike e (elements_of t r) formats r behind
 

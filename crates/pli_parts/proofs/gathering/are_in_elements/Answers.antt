@@ -8,13 +8,13 @@ pub are_short-requires : goal.are_short-requires
 are_short-requires c =
     let run = c.args.run in
     lengths_within (kind_of c.args.kind) c.in-Some.most (length c.args.memory.now)
-        (standing run.at run.step run.count) c.in-Some.ensures c.requires
+    (standing run.at run.step run.count) c.in-Some.ensures c.requires
 
 pub returns-in-Some : goal.returns-in-Some
 returns-in-Some c =
     let run = c.args.run in
     c.are_short.ensures ∙ short_so (kind_of c.args.kind) c.in-Some.most c.args.memory.now
-        (standing run.at run.step run.count) c.in-Some.ensures
+    (standing run.at run.step run.count) c.in-Some.ensures
 
 pub returns-in-None : goal.returns-in-None
 returns-in-None c =

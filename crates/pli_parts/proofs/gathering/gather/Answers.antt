@@ -14,12 +14,12 @@ returns-then-value_bytes-eq0-clause-gathered c = λ n counts.
 pub gather_run-requires : goal.gather_run-requires
 gather_run-requires c =
     let some : 0 < leaf_bytes (kind_of c.args.kind) =
-        grind (arith, c.value_bytes.ensures, c.if-value_bytes-eq0.false) in
+    grind (arith, c.value_bytes.ensures, c.if-value_bytes-eq0.false) in
     c.requires some
 
 pub returns-clause-gathered : goal.returns-clause-gathered
 returns-clause-gathered c = λ n counts.
     let some : 0 < leaf_bytes (kind_of c.args.kind) =
-        grind (arith, c.value_bytes.ensures, c.if-value_bytes-eq0.false) in
+    grind (arith, c.value_bytes.ensures, c.if-value_bytes-eq0.false) in
     subst (λ (k : ℕ). IsGathered (kind_of c.args.kind) c.args.memory.now c.args.run k c.in_ok-buffer.buffer.items)
-        (counts some) c.in_ok-buffer.ensures
+    (counts some) c.in_ok-buffer.ensures

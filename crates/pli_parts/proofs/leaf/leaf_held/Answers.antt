@@ -8,7 +8,7 @@ returns-in_ok-leaf-in-Some c =
     let p = c.args.placed.now in
     let given = c.args.given.now in
     let stand : StandAt p given c.in-Some.run' = subst (λ (o : Option Run). HasElements p given (Ok o)) c.in-Some.is
-        c.in_ok-found.ensures in
+    c.in_ok-found.ensures in
     record {
       kind = c.in_ok-leaf-in-Some.ensures.kind;
       bounds = c.in_ok-leaf-in-Some.ensures.bounds;

@@ -11,6 +11,6 @@ returns c = λ target source moves.
     let bytes = c.args.bytes.now in
     c.put_bytes.ensures
     ∙ all_moved target bytes run.at run.step run.count c.args.memory.now moves.0 moves.2
-        (λ i h. omega (arith, c.type_inv.bytes (0 + i))) c.requires.whole c.requires.within
+    (λ i h. omega (arith, c.type_inv.bytes (0 + i))) c.requires.whole c.requires.within
     ∙ ap (λ (k : LeafKind). elements_put target k bytes 0 (standing run.at run.step run.count) c.args.memory.now)
-        (sym moves.1)
+    (sym moves.1)

@@ -15,27 +15,27 @@ pub overflow_mul-run : goal.overflow_mul-run
 overflow_mul-run c =
     let run = c.args.run in
     let inside = inside_at (leaf_bytes (kind_of c.args.kind)) (length c.args.memory.now) run.at run.step run.count
-        c.loop-number.number c.requires.within c.loop-number-test.true in
+    c.loop-number.number c.requires.within c.loop-number-test.true in
     omega (arith, inside)
 
 pub overflow_add-run : goal.overflow_add-run
 overflow_add-run c =
     let run = c.args.run in
     let inside = inside_at (leaf_bytes (kind_of c.args.kind)) (length c.args.memory.now) run.at run.step run.count
-        c.loop-number.number c.requires.within c.loop-number-test.true in
+    c.loop-number.number c.requires.within c.loop-number-test.true in
     omega (arith, inside)
 
 pub put_value-requires : goal.put_value-requires
 put_value-requires c =
     let run = c.args.run in
     let inside = inside_at (leaf_bytes (kind_of c.args.kind)) (length c.args.memory.now) run.at run.step run.count
-        c.loop-number.number c.requires.within c.loop-number-test.true in
+    c.loop-number.number c.requires.within c.loop-number-test.true in
     omega (arith, inside, c.loop-number.auto.memory)
 
 pub value_at_place-requires : goal.value_at_place-requires
 value_at_place-requires c =
     room_for (element_size (kind_of c.args.taken.now.kind)) c.loop-number.number c.args.run.count
-        (length c.args.taken.now.bytes.items) c.loop-number-test.true c.requires.whole
+    (length c.args.taken.now.bytes.items) c.loop-number-test.true c.requires.whole
 
 pub loop-number-preserved : goal.loop-number-preserved
 loop-number-preserved c =
@@ -51,9 +51,9 @@ loop-number-preserved c =
     let below : n < length all = omega (arith, test, long) in
     ap (λ (m : List ℕ). elements_put target source bytes (n + 1) (drop (n + 1) all) m)
     (c.put_value.ensures ∙ ap (λ (v : BasicValue). with_bytes (kept_bytes target v) at c.loop-number.memory)
-        c.value_at_place.ensures)
+    c.value_at_place.ensures)
     ∙ sym (one_more_element target source bytes n at all c.loop-number.memory below
-        (sym (got_standing run.at run.step run.count n test)))
+    (sym (got_standing run.at run.step run.count n test)))
     ∙ c.loop-number.invariant
 
 pub returns : goal.returns
@@ -63,5 +63,5 @@ returns c =
     let long = length_standing run.at run.step run.count in
     let past : length all ≤ c.loop-number.number = omega (arith, long, c.loop-number-test.false) in
     sym (no_more_elements (kind_of c.args.kind) (kind_of c.args.taken.now.kind) c.args.taken.now.bytes.items
-        c.loop-number.number all c.loop-number.memory past)
+    c.loop-number.number all c.loop-number.memory past)
     ∙ c.loop-number.invariant

@@ -17,7 +17,7 @@ put_run-requires-clause-within c =
     let l = c.args.leaf.now in
     let some : 0 < leaf_bytes (kind_of l.kind) = grind (arith, c.value_bytes.ensures, c.if-value_bytes-eq0.false) in
     subst (λ (n : ℕ). AreWithin (leaf_bytes (kind_of l.kind)) (length c.args.memory.now)
-        (standing l.run.at l.run.step n)) (sym (c.requires.readable.counted some)) c.requires.readable.within
+    (standing l.run.at l.run.step n)) (sym (c.requires.readable.counted some)) c.requires.readable.within
 
 pub put_run-requires-clause-whole : goal.put_run-requires-clause-whole
 put_run-requires-clause-whole c =
@@ -32,4 +32,4 @@ returns c =
     let some : 0 < leaf_bytes (kind_of l.kind) = grind (arith, c.value_bytes.ensures, c.if-value_bytes-eq0.false) in
     c.put_run.ensures
     ∙ ap (λ (n : ℕ). elements_put (kind_of l.kind) (kind_of t.kind) t.bytes.items 0 (standing l.run.at l.run.step n)
-        c.args.memory.now) (c.requires.readable.counted some)
+    c.args.memory.now) (c.requires.readable.counted some)

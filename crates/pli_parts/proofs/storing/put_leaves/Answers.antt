@@ -10,8 +10,8 @@ put_leaf-requires-clause-readable c =
     let there : c.loop-number.number < length c.args.leaves.now = grind (arith, c.min-both.ensures, c.loop-number-test.true) in
     let same : length c.args.memory.now ≡ length c.loop-number.memory = omega (arith, c.loop-number.auto.memory) in
     subst (λ (n : ℕ). IsReadable n l) same
-        (readable_at (length c.args.memory.now) c.args.leaves.now c.loop-number.number l c.requires.readable there
-        c.index-leaves-number.is)
+    (readable_at (length c.args.memory.now) c.args.leaves.now c.loop-number.number l c.requires.readable there
+    c.index-leaves-number.is)
 
 pub put_leaf-requires-clause-whole : goal.put_leaf-requires-clause-whole
 put_leaf-requires-clause-whole c =

@@ -14,5 +14,5 @@ some_counted-returns t c =
     some c.in_ok-dimension_counted.ensures c.in_ok-waiting.ensures refl
     (c.in_ok-subscripts_counted.ensures
     ∙ ap (λ bs. c.dimension_counted.new.code ++ subscripts_counted (environment_of c.args.environment.now)
-        (taken_of c.in_ok-waiting.waiting) (c.args.dimension + 1) (numbers_of c.args.behind.now) (map bounds_of bs))
-        c.behind_first-others.ensures)
+    (taken_of c.in_ok-waiting.waiting) (c.args.dimension + 1) (numbers_of c.args.behind.now) (map bounds_of bs))
+    c.behind_first-others.ensures)

@@ -5,5 +5,5 @@ use Rattle.rv_procedure.proofs.procedure.procedure_of_block.Goals as goal
 pub returns : goal.returns
 returns c =
     procedure_is _ _ (environment_of c.args.environment.now) (environment_of c.procedure_environment-inner.result)
-        c.args.procedure.now c.in_ok-words.words c.in_ok-held.held
+    c.args.procedure.now c.in_ok-words.words c.in_ok-held.held
     c.procedure_environment-inner.ensures c.in_ok-words.ensures c.in_ok-held.ensures c.in_ok-procedure_with.ensures

@@ -15,7 +15,7 @@ stmts_held-returns-in-End t c =
     let l = c.loop-rest in
     c.most.ensures
     ∙ ap (λ k. max l.count k) (c.labels_held.ensures ∙ sym (list_held-End p c.in-End.labels)
-        ∙ ap (λ x. stmts_held p (stmts_of x)) (sym c.in-End.is))
+    ∙ ap (λ x. stmts_held p (stmts_of x)) (sym c.in-End.is))
     ∙ l.invariant.counted
 
 pub stmts_held-loop-rest-preserved : goal.stmts_held-loop-rest-preserved
@@ -26,10 +26,10 @@ stmts_held-loop-rest-preserved t c =
     let r = c.deref-rest.result.now in
     let labels = labels_held (letters_of (map name_of c.in-More.labels.now)) in
     let held = ap (λ x. stmts_held p (stmts_of x)) c.in-More.is
-        ∙ list_held-More p c.in-More.labels _ c.in-More.first.value _ c.in-More.behind.value
-        ∙ ap (λ x. max labels (max (stmt_held p (stmt_of x)) (stmts_held p (stmts_of c.in-More.behind.value))))
-        (sym c.deref.ensures) ∙ ap (λ x. max labels (max (stmt_held p (stmt_of s)) (stmts_held p (stmts_of x))))
-        (sym c.deref-rest.ensures) in
+    ∙ list_held-More p c.in-More.labels _ c.in-More.first.value _ c.in-More.behind.value
+    ∙ ap (λ x. max labels (max (stmt_held p (stmt_of x)) (stmts_held p (stmts_of c.in-More.behind.value))))
+    (sym c.deref.ensures) ∙ ap (λ x. max labels (max (stmt_held p (stmt_of s)) (stmts_held p (stmts_of x))))
+    (sym c.deref-rest.ensures) in
     record {
       no_larger =
           omega (arith, l.invariant.no_larger, ap stmts_weight c.in-More.is, ap stmts_weight c.deref-rest.ensures);

@@ -62,14 +62,14 @@ count_code-returns t c =
     count_whole c.args.code.now c.counting.new.code c.turn_begun.new.code c.stmts_code.new.code c.turn_ended.new.code _ c.in_ok-turn.turn e s
     (counter_of c.args.counter.now) (value_of c.args.start.now) (option_of number_of c.args.limit.now) (number_of c.args.step.now) (option_of bit_of c.args.condition.now) c.args.line
     c.in_ok-counting.ensures
-        (subst (λ z. TurnBegun c.counting.new.code c.turn_begun.new.code c.in_ok-turn.turn e s
-        (counter_of c.args.counter.now) (option_of number_of c.args.limit.now) z
-        (option_of bit_of c.args.condition.now) c.args.line) c.constant_step-fixed.ensures c.in_ok-turn.ensures)
+    (subst (λ z. TurnBegun c.counting.new.code c.turn_begun.new.code c.in_ok-turn.turn e s
+    (counter_of c.args.counter.now) (option_of number_of c.args.limit.now) z
+    (option_of bit_of c.args.condition.now) c.args.line) c.constant_step-fixed.ensures c.in_ok-turn.ensures)
     (c.in_ok-stmts_code.ensures ∙ ap (λ k. c.turn_begun.new.code ++ stmts_code e k (stmts_of c.args.body.now)) c.in_ok-inside.ensures)
     (c.in_ok-turn_ended.ensures
-        ∙ ap (λ z. jumped_if
-        (jumped_if (turned_back (c.stmts_code.new.code ++ stepped e s (counter_of c.args.counter.now) z c.args.line)
-        c.in_ok-turn.turn.start) c.in_ok-turn.turn.condition) c.in_ok-turn.turn.limit) c.constant_step-fixed.ensures)
+    ∙ ap (λ z. jumped_if
+    (jumped_if (turned_back (c.stmts_code.new.code ++ stepped e s (counter_of c.args.counter.now) z c.args.line)
+    c.in_ok-turn.turn.start) c.in_ok-turn.turn.condition) c.in_ok-turn.turn.limit) c.constant_step-fixed.ensures)
 
 pub begin_code-returns : goal.begin_code-returns
 begin_code-returns t c =
@@ -85,10 +85,10 @@ unit_code-returns t c =
     let framed = environment_of c.in_frame.result in
     let around = c.owned_by-inside.ensures ∙ ap (λ (o : Owner). owned_by o framed) c.owner_of_unit.ensures ∙ ap (λ (i : Environment). owned_by (owner_of_unit head head.kind) i) c.in_frame.ensures in
     unit_whole c.args.code.now c.unit_announced.new.code c.unit_begun.new.code c.stmts_code.new.code
-        c.unit_ended.new.code c.jump_over.new.self (λ i s. stmts_code i s (stmts_of c.args.body.now)) c.in_ok-end.end
-        e (environment_of c.owned_by-inside.result) (taken_of c.none_taken.result) none_taken c.args.condition head
-        c.in_ok-words.words (unit_words e head head.kind (stmts_words (stmts_of c.args.body.now))) c.in_ok-held.held
-        (unit_held e head head.kind (stmts_of c.args.body.now)) c.args.line
+    c.unit_ended.new.code c.jump_over.new.self (λ i s. stmts_code i s (stmts_of c.args.body.now)) c.in_ok-end.end
+    e (environment_of c.owned_by-inside.result) (taken_of c.none_taken.result) none_taken c.args.condition head
+    c.in_ok-words.words (unit_words e head head.kind (stmts_words (stmts_of c.args.body.now))) c.in_ok-held.held
+    (unit_held e head head.kind (stmts_of c.args.body.now)) c.args.line
     c.in_ok-end.ensures c.in_ok-unit_begun.ensures c.in_ok-stmts_code.ensures c.in_ok-unit_ended.ensures c.jump_over.ensures around c.none_taken.ensures c.in_ok-words.ensures
     (c.in_ok-held.ensures ∙ ap (λ n. held_with e.program n (stmts_of c.args.body.now)) c.in_ok-words.ensures)
 

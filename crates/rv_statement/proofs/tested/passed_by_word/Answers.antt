@@ -11,7 +11,7 @@ returns-clause-written c =
     let old = c.args.code.now in
     let t = taken_of c.args.taken in
     written_behind old c.limit_compared.new.code c.flag_tested.new.code (limit_compared t) (flag_tested 0)
-        c.in_ok-limit_compared.ensures c.in_ok-flag_tested.ensures.written
+    c.in_ok-limit_compared.ensures c.in_ok-flag_tested.ensures.written
     ∙ ap (λ u. old ++ u) (limit_is t 0)
 
 pub returns-clause-place : goal.returns-clause-place
@@ -22,4 +22,4 @@ returns-clause-place c =
     (λ n. old ++ (limit_compared t ++ flag_tested n)) (λ n. old ++ passed_by t None n)
     (λ n. ap (λ u. old ++ u) (limit_is t n))
     (comes_behind old c.limit_compared.new.code c.flag_tested.new.code (limit_compared t) c.in_ok-flag_tested.field-0
-        (λ n. flag_tested n) c.in_ok-limit_compared.ensures c.in_ok-flag_tested.ensures.place)
+    (λ n. flag_tested n) c.in_ok-limit_compared.ensures c.in_ok-flag_tested.ensures.place)

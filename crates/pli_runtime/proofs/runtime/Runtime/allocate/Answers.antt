@@ -4,4 +4,4 @@ use Rattle.pli_runtime.proofs.runtime.Runtime.allocate.Goals as goal
 pub returns : goal.returns
 returns g c =
     by_heap _ _ _ _ _ _ _ c.requires (rw c.allocation_of.ensures at c.allocate.ensures.answers) c.allocate.auto.memory
-        c.allocate.ensures.kept
+    c.allocate.ensures.kept

@@ -4,4 +4,4 @@ use Rattle.pli_runtime.proofs.runtime.Runtime.make.Goals as goal
 pub returns : goal.returns
 returns g c =
     by_both _ _ _ _ _ _ _ _ _ c.requires (rw c.making_of.ensures at c.make.ensures.answers) c.make.auto.memory
-        c.make.ensures.held_kept c.make.ensures.counted c.make.ensures.height
+    c.make.ensures.held_kept c.make.ensures.counted c.make.ensures.height
