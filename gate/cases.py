@@ -13,6 +13,7 @@ def scripts(made):
     yield ["run", *pli, "--dump", made["dump_tree"], "--outcome", made["show_outcome"]]
     for name in ("hostile_images", "command_line", "listing", "examples", "refused_memory"):
         yield [name, *pli]
+    yield ["gate"]
 
 
 def run_cases(crates):
