@@ -1,4 +1,4 @@
-"""A tiny repository for tests/gate: six crates of a few lines each, with the repository's own `check` and a stub of rt."""
+"""A tiny repository for tests/gate: six crates of a few lines each, the repository's own `check`, and a stub of rt."""
 
 import hashlib
 import os
