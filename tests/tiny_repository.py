@@ -13,6 +13,8 @@ OF_THE_GATE = "check", "gate", "pli", ".ci", "tests/run", "tests/short_form.py"
 OTHER_SCRIPTS = "hostile_images", "command_line", "listing", "examples", "refused_memory", "gate"
 PASSED = "#!/bin/sh\necho 1 passed, 0 failed\n"
 STRIP = '#!/bin/sh\ncp "$3" "$2"\n'
+# (so that the test doesn't wait behind whatever else the machine does)
+NICE = '#!/bin/sh\nshift 2\nexec "$@"\n'
 SECONDS_OF_A_RUN = 300
 
 FUNCTIONS = """#![tactic(auto)]
@@ -113,6 +115,7 @@ class Repository:
             self.write_program(Path(self.top, "tests", name), PASSED)
         self.write_program(Path(self.folder, "bin", "rt"), Path(TOP, "tests", "stub_rt").read_text())
         self.write_program(Path(self.folder, "bin", "strip"), STRIP)
+        self.write_program(Path(self.folder, "bin", "nice"), NICE)
 
     def copied(self, folder):
         """A copy of it, with what its cache keeps."""
