@@ -3,6 +3,7 @@
 import hashlib
 import os
 import re
+import shlex
 import shutil
 import subprocess
 import sys
@@ -15,6 +16,8 @@ PASSED = "#!/bin/sh\necho 1 passed, 0 failed\n"
 STRIP = '#!/bin/sh\ncp "$3" "$2"\n'
 # (so that the test doesn't wait behind whatever else the machine does)
 NICE = '#!/bin/sh\nshift 2\nexec "$@"\n'
+# (Python begins some 200 times, and without what a machine adds to it in a fifth of the time)
+PYTHON = f'#!/bin/sh\nexec {shlex.quote(sys.executable)} -S "$@"\n'
 SECONDS_OF_A_RUN = 300
 
 FUNCTIONS = """#![tactic(auto)]
@@ -64,7 +67,7 @@ sys.exit(gate.main([]))
 
 def with_limits(*limits):
     """The words that run the gate with other limits of its parts: each a part, a name and a number."""
-    return [sys.executable, "-B", "-c", LOADED, *limits]
+    return ["python3", "-B", "-c", LOADED, *limits]
 
 
 def edit(old, new, file="src/lib.rt"):
@@ -116,6 +119,7 @@ class Repository:
         self.write_program(Path(self.folder, "bin", "rt"), Path(TOP, "tests", "stub_rt").read_text())
         self.write_program(Path(self.folder, "bin", "strip"), STRIP)
         self.write_program(Path(self.folder, "bin", "nice"), NICE)
+        self.write_program(Path(self.folder, "bin", "python3"), PYTHON)
 
     def copied(self, folder):
         """A copy of it, with what its cache keeps."""
@@ -162,8 +166,8 @@ class Repository:
     def run(self, *words, **more):
         """Runs a program in the checkout: its status, what it said, and what rt was called for."""
         self.calls.write_text("")
-        path = [str(Path(self.folder, "bin")), os.path.dirname(sys.executable), os.environ["PATH"]]
-        own = {"PATH": os.pathsep.join(path), "XDG_CACHE_HOME": str(self.kept.parent), "RT_CALLS": str(self.calls)}
+        path = os.pathsep.join([str(Path(self.folder, "bin")), os.environ["PATH"]])
+        own = {"PATH": path, "XDG_CACHE_HOME": str(self.kept.parent), "RT_CALLS": str(self.calls)}
         streams = {"stdin": subprocess.DEVNULL, "stdout": subprocess.PIPE, "stderr": subprocess.STDOUT}
         own = {**os.environ, **own, **more}
         ran = subprocess.run(words, cwd=self.top, env=own, timeout=SECONDS_OF_A_RUN, **streams)
