@@ -14,6 +14,8 @@ def scripts(made):
     for name in ("hostile_images", "command_line", "listing", "examples", "refused_memory"):
         yield [name, *pli]
     yield ["gate"]
+    yield ["map"]
+    yield ["numbers"]
 
 
 def run_cases(crates):

@@ -11,6 +11,7 @@ from gate.lanes import run_side_by_side
 from gate.proofs import judge, prove
 from gate.release import is_released
 from gate.report import say, seconds
+from gate.speed import tell_speed
 
 
 def judge_in_time(crate, share, sum):
@@ -49,6 +50,7 @@ def check_all(crates, lanes):
     if not broken & {"pli", "dump_tree", "show_outcome"}:
         passed, lost = run_cases(crates)
         same = is_released(below_program(crates))
+        tell_speed(below_program(crates)[-1])
         well, ill = well + passed + same, ill + lost + (not same)
     for key, why in failed.items():
         # (once more at the end, where a reader of a long output looks)

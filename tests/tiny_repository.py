@@ -11,7 +11,7 @@ from pathlib import Path
 
 TOP = Path(__file__).resolve().parent.parent
 OF_THE_GATE = "check", "gate", "pli", ".ci", "tests/run", "tests/short_form.py"
-OTHER_SCRIPTS = "hostile_images", "command_line", "listing", "examples", "refused_memory", "gate"
+OTHER_SCRIPTS = "hostile_images", "command_line", "listing", "examples", "refused_memory", "gate", "map", "numbers"
 PASSED = "#!/bin/sh\necho 1 passed, 0 failed\n"
 STRIP = '#!/bin/sh\ncp "$3" "$2"\n'
 # (so that the test doesn't wait behind whatever else the machine does)
