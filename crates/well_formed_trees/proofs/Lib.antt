@@ -12,6 +12,7 @@ pub mod MainProcedure
 pub mod ResultTypes
 pub mod Nests
 pub mod Shapes
+pub mod GroupsBare
 pub mod Entries
 pub mod TableNests
 pub mod EntriesSound
@@ -28,6 +29,13 @@ pub mod PlacesNest
 pub mod PlacesEntered
 pub mod PlacesRise
 pub mod Letters
+pub mod DeclaredOnce
+pub mod Found
+pub mod Facts
+pub mod Reached
+pub mod AcceptedFacts
+pub mod StatementWalk
+pub mod Targets
 pub mod HeldAlone
 pub mod Parameters
 pub mod ParameterVariables

@@ -14,3 +14,4 @@ pub mod Spelled
 pub mod Held
 pub mod Framed
 pub mod Placed
+pub mod Everywhere
