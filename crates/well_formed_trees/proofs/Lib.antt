@@ -30,15 +30,17 @@ pub mod PlacesEntered
 pub mod PlacesRise
 pub mod Letters
 pub mod DeclaredOnce
+pub mod HeldAlone
+pub mod Parameters
+pub mod ParameterVariables
+pub mod Structures
+pub mod MemberParts
 pub mod Found
 pub mod Facts
 pub mod Reached
 pub mod AcceptedFacts
 pub mod StatementWalk
 pub mod Targets
-pub mod HeldAlone
-pub mod Parameters
-pub mod ParameterVariables
 pub mod AcceptedSources
 pub mod WellFormedRows
 mod IllFormedRows

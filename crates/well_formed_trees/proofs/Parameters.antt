@@ -111,7 +111,7 @@ abbrev pub IsRoot : List Held → Type 0
 IsRoot [] = ⊥
 IsRoot (h ∷ members) = (h.above ≡ []) × (level_of h.variable ≡ 1)
 
-attributes_fine : (ps : List T.Name) (earlier : List Held) (h : Held) (after : List Declaration)
+pub attributes_fine : (ps : List T.Name) (earlier : List Held) (h : Held) (after : List Declaration)
     → variable_faults ps earlier h after ≡ [] → attributes_are_bad ps h after ≡ false
 attributes_fine ps earlier h after e =
     none_when (attributes_are_bad ps h after) (fault h.variable.declared.name.place BadAttributes)
