@@ -35,6 +35,9 @@ pub mod Parameters
 pub mod ParameterVariables
 pub mod Structures
 pub mod MemberParts
+pub mod FitValues
+pub mod FitOperators
+pub mod FineVariables
 pub mod Found
 pub mod Facts
 pub mod Reached

@@ -242,7 +242,7 @@ pub record InVariables (ds : List Declaration) (h : Held) : Type 0 where
   pub place : ℕ
   pub there : slice_get all place ≡ Some h
 
-abbrev InMembers : List Declaration → Held → Type 0
+abbrev pub InMembers : List Declaration → Held → Type 0
 InMembers ds h = (place : ℕ) × (slice_get (members_first ds) place ≡ Some h)
 
 -- no member comes where nothing may hold it
@@ -266,7 +266,7 @@ none_there xs i x e f = nothing (ap (λ l. slice_get l i) (sym e) ∙ f) where
   nothing e = absurd (cc e)
 
 -- where a member comes next, the variable before it has members
-has_some : (g h : Held) (ds : List Declaration) → stands_alone g ≡ true → InMembers ds h → has_members g ds ≡ true
+pub has_some : (g h : Held) (ds : List Declaration) → stands_alone g ≡ true → InMembers ds h → has_members g ds ≡ true
 has_some g h [] e m = absurd (cc m.1)
 has_some g h (d ∷ ds) e m = by d.what m.1 where
   deeper : (n m : ℕ) → (n == 0) ≡ true → (m == 0) ≡ false → nat_lt n m ≡ true
