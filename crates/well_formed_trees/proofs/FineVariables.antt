@@ -1,5 +1,5 @@
 -- What is so of the attributes of each member of a variable, where declarations break no rule.
-use Rattle.std.proofs.Common.{◌≡◌, ℕ, zero, suc, ◌+◌, ◌≤◌, ◌==◌, Bool, true, false, not, ◌&&◌, ◌||◌, List, [], ◌∷◌}
+use Rattle.std.proofs.Common.{◌≡◌, ℕ, zero, suc, ◌+◌, ◌≤◌, ◌==◌, Bool, true, false, not, ◌&&◌, ◌||◌, List, [], ◌∷◌, ◌<◌}
 use Rattle.std.proofs.Common.{◌++◌, map, length, Option, Some, None, if◌then◌else◌, refl, sym, ap, ◌∙◌, subst, arith}
 use Rattle.std.specs.Prelude.{slice_get, nat_lt, ⊤}
 use Rattle.std.specs.List.{list_any, flat_map}
@@ -10,12 +10,12 @@ use Rattle.pli_language.specs.Tree as T
 use Rattle.pli_language.specs.Declarations.{Variable, Held, What, Variable', Label, ProcedureName, Declaration}
 use Rattle.pli_language.specs.Declarations.{dimensions_of}
 use Rattle.pli_language.specs.Declaring.{when, has, has_kind, kinds_in, one, own_attributes, stands_alone, has_members}
-use Rattle.pli_language.specs.Declaring.{own_dimensions, attributes_clash, attributes_are_bad, area_is_nested}
+use Rattle.pli_language.specs.Declaring.{own_dimensions, attributes_clash, attributes_are_bad, area_is_nested, row_of}
 use Rattle.pli_language.specs.Declaring.{variable_faults, what_faults, structure_after, declarations_faults}
 use Rattle.pli_typing.specs.Variables as V
 use Rattle.pli_typing.specs.Variables.{members_first, member_then, variable_then, variables_in}
 use Rattle.well_formed_trees.specs.Every.{Every}
-use Rattle.well_formed_trees.proofs.Lists.{first_empty, second_empty, first_false, second_false}
+use Rattle.well_formed_trees.proofs.Lists.{first_empty, second_empty, first_false, second_false, both_false}
 use Rattle.well_formed_trees.proofs.Places.{same_some, every_at}
 use Rattle.well_formed_trees.proofs.Parameters.{none_when, attributes_fine}
 use Rattle.well_formed_trees.proofs.Structures.{Chained, chain_behind, AreHeld, IsStructure, has_some}
@@ -171,7 +171,7 @@ root_only g after a e = by (members_first after) refl where
   by (m ∷ ms) f =
       absurd (cc (has_some g m after a (0, ap (λ l. slice_get l 0) f), e))
 
-held_not_alone : (chain : List Variable) (ms : List Held) → AreHeld chain ms → Every (λ m. stands_alone m ≡ false) ms
+pub held_not_alone : (chain : List Variable) (ms : List Held) → AreHeld chain ms → Every (λ m. stands_alone m ≡ false) ms
 held_not_alone chain [] h = tt
 held_not_alone chain (m ∷ ms) h = (h.1.0, held_not_alone (m.above ++ m.variable ∷ []) ms h.1.1)
 
@@ -204,3 +204,57 @@ only_area ps (g ∷ ms) s h (suc place) m e a =
     let tests = area_tests m (not_nested ps f.earlier m f.after f.fine) a in
     let held = every_at (λ m. stands_alone m ≡ false) ms place m (held_not_alone (g.variable ∷ []) ms s.1) e in
     absurd (cc (tests.alone, held))
+
+-- ---- each declaration
+
+pub declared_fine : (ps : List T.Name) (earlier : List Held) (ds : List Declaration) (i : ℕ) (d : Declaration) (h : Held)
+    → declarations_faults ps earlier ds ≡ [] → slice_get ds i ≡ Some d → d.what ≡ Variable' h → IsFineMember ps h
+declared_fine ps earlier [] i d h f e w = absurd (cc e)
+declared_fine ps earlier (x ∷ ds) zero d h f e w =
+    let others = declarations_faults ps (structure_after earlier x.what) ds in
+    let same : x.what ≡ Variable' h = ap (λ (y : Declaration). y.what) (same_some x d e) ∙ w in
+    record {
+      earlier = earlier;
+      after = ds;
+      fine =
+          subst (λ w. what_faults ps earlier w ds ≡ []) same
+          (first_empty (what_faults ps earlier x.what ds) others f);
+    }
+declared_fine ps earlier (x ∷ ds) (suc i) d h f e w =
+    let own = what_faults ps earlier x.what ds in
+    declared_fine ps (structure_after earlier x.what) ds i d h (second_empty own _ f) e w
+
+-- an area isn't BUILTIN, which stands alone
+other_row : (all : List T.Attribute) → has 7 all ≡ true
+    → list_any (λ a. not ((row_of a == 13) || (row_of a == 16))) all ≡ true
+other_row [] e = absurd (cc e)
+other_row (a ∷ all) e = by (row_of a) (has 7 all) e (other_row all) where
+  no_row : (n : ℕ) → (n == 7) ≡ true → ((n == 13) || (n == 16)) ≡ false
+  no_row n e = both_false (n == 13) (n == 16) (is_no n 13 e (omega arith)) (is_no n 16 e (omega arith)) where
+    is_no : (n m : ℕ) → (n == 7) ≡ true → 7 < m → (n == m) ≡ false
+    is_no n m e h = grind (arith, nat_tests)
+
+  by : (n : ℕ) (b : Bool) → ((n == 7) || b) ≡ true
+      → (b ≡ true → list_any (λ a. not ((row_of a == 13) || (row_of a == 16))) all ≡ true)
+      → (not ((n == 13) || (n == 16)) || list_any (λ a. not ((row_of a == 13) || (row_of a == 16))) all) ≡ true
+  by n b e k = which (n == 7) refl e where
+    which : (t : Bool) → (n == 7) ≡ t → (t || b) ≡ true
+        → (not ((n == 13) || (n == 16)) || list_any (λ a. not ((row_of a == 13) || (row_of a == 16))) all) ≡ true
+    which true s e =
+        ap (λ t. not t || list_any (λ a. not ((row_of a == 13) || (row_of a == 16))) all) (no_row n s)
+    which false s e = late (not ((n == 13) || (n == 16))) (k e) where
+      late : (t : Bool) → list_any (λ a. not ((row_of a == 13) || (row_of a == 16))) all ≡ true
+          → (t || list_any (λ a. not ((row_of a == 13) || (row_of a == 16))) all) ≡ true
+      late true e = refl
+      late false e = e
+
+pub area_no_builtin : (ps : List T.Name) (m : Held) → IsFineMember ps m → has 7 (own_attributes m) ≡ true
+    → has 13 (own_attributes m) ≡ false
+area_no_builtin ps m h a =
+    let all = own_attributes m in
+    let clash = second_false _ _ (first_false _ _ (first_false _ _ (first_false _ _ (first_false _ _ (first_false _ _
+    (attributes_fine ps h.earlier m h.after h.fine)))))) in
+    alone (has 13 all) _ clash (other_row all a) where
+      alone : (b o : Bool) → (b && o) ≡ false → o ≡ true → b ≡ false
+      alone false o e f = refl
+      alone true o e f = absurd (cc (e, f))

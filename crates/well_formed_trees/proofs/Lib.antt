@@ -37,9 +37,12 @@ pub mod Structures
 pub mod MemberParts
 pub mod FitValues
 pub mod FitOperators
-pub mod FineVariables
 pub mod Found
 pub mod Facts
+pub mod FineVariables
+pub mod MeantVariables
+pub mod KindsSound
+pub mod PartFit
 pub mod Reached
 pub mod AcceptedFacts
 pub mod StatementWalk

@@ -36,13 +36,13 @@ use Rattle.well_formed_trees.proofs.Parameters.{IsOfName, parameter_is, any_decl
 
 -- ---- what blocks declare, as it is listed
 
-each_at : {X Z : Type 0} (f : X → Judged Z) (xs : List X) (i : ℕ) (x : X) → slice_get xs i ≡ Some x
+pub each_at : {X Z : Type 0} (f : X → Judged Z) (xs : List X) (i : ℕ) (x : X) → slice_get xs i ≡ Some x
     → slice_get (each f xs).value i ≡ Some (f x).value
 each_at f [] i x e = absurd (cc e)
 each_at f (y ∷ ys) zero x e = ap (λ z. Some (f z).value) (same_some y x e)
 each_at f (y ∷ ys) (suc i) x e = each_at f ys i x e
 
-variables_at : (all : List Block) (k : ℕ) (bs : List Block) (i : ℕ) (b : Block) → slice_get bs i ≡ Some b
+pub variables_at : (all : List Block) (k : ℕ) (bs : List Block) (i : ℕ) (b : Block) → slice_get bs i ≡ Some b
     → slice_get (block_variables all k bs).value i
     ≡ Some (declared_variables (record { blocks = all; block = k + i })).value
 variables_at all k [] i b e = absurd (cc e)
@@ -54,7 +54,7 @@ variables_at all k (c ∷ bs) (suc i) b e =
     variables_at all (k + 1) bs i b e
     ∙ ap (λ n. Some (declared_variables (record { blocks = all; block = n })).value) z
 
-block_variables_are : (tree : T.Tree) (number : ℕ) (b : Block) → slice_get (blocks_of tree) number ≡ Some b
+pub block_variables_are : (tree : T.Tree) (number : ℕ) (b : Block) → slice_get (blocks_of tree) number ≡ Some b
     → variables_of_block (typed_tree tree) number
     ≡ (declared_variables (record { blocks = blocks_of tree; block = number })).value
 unfolding resolved
