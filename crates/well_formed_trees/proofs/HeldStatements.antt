@@ -250,6 +250,11 @@ pub record IsFrom (blocks : List Block) (p : Y.Procedure) : Type 0 where
   pub parameters : p.parameters ≡ parameter_indices blocks number head.parameters
   pub holder : ℕ
   pub result : p.result ≡ result_type blocks holder head
+  pub around : List ℕ
+  pub around_is : block.around ≡ number ∷ around
+  pub holder_is : first_or_none around ≡ holder
+  pub level_is : (head_of p.block).level ≡ level_of_block blocks number
+  pub kind_is : (head_of p.block).kind ≡ Y.ProcedureBlock
 
 abbrev pub HeldFrom : Table → List Block → Y.Procedure → Type 0
 HeldFrom table blocks p = HeldProcedure table p × IsFrom blocks p
@@ -358,8 +363,9 @@ procedure_returns c head further e =
 
 from_block : (c : Context) (next : ℕ) (head : T.ProcedureHead) (block : Block) (body : Y.Stmts)
     → slice_get c.scope.blocks next ≡ Some (record block { head = Some head }) → IsNamed head.labels
+    → block.around ≡ next ∷ c.around → first_or_none c.around ≡ c.scope.block
     → IsFrom c.scope.blocks (procedure_of c next head body)
-from_block c next head block body e h = record {
+from_block c next head block body e h around first = record {
   number = next;
   head = head;
   block = record block { head = Some head };
@@ -371,6 +377,11 @@ from_block c next head block body e h = record {
   parameters = refl;
   holder = c.scope.block;
   result = refl;
+  around = c.around;
+  around_is = around;
+  holder_is = first;
+  level_is = refl;
+  kind_is = refl;
 }
 
 mutual
@@ -517,7 +528,7 @@ mutual
       let inner : 1 ≤ level_of_block c.scope.blocks next = omega (arith, deep) in (
         n.0,
         (
-          (inner, (p, from_block c next head block r.value own_blocks.0 k.0.0.0.1)),
+          (inner, (p, from_block c next head block r.value own_blocks.0 k.0.0.0.1 refl st.first)),
           every_both (HeldInside table c.scope.blocks) r.procedures (statements c (next + length bs) is).procedures m.1
               n.1,
         ),
@@ -609,7 +620,7 @@ outer_held table c deep first next (T.ItemThen (T.Procedure head body) is) o l h
     let p = procedure_held table c [] next head body l.0 m.0 refl (has_first table next es fs h.1).0 k.0.0.0.0.1.0
     m.1.0 in
     let block : Block = record { around = next ∷ c.around; head = Some head; declarations = declared_in body } in (
-      (p, from_block c next head block r.value (has_first c.scope.blocks next bs cs h.0).0 k.0.0.0.1),
+      (p, from_block c next head block r.value (has_first c.scope.blocks next bs cs h.0).0 k.0.0.0.1 refl first),
       every_both (HeldFrom table c.scope.blocks) r.procedures (statements c (next + length bs) is).procedures
           (inside_held table c.scope.blocks r.procedures m.1.1) n,
     )

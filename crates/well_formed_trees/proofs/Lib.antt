@@ -37,6 +37,7 @@ pub mod Structures
 pub mod MemberParts
 pub mod FitValues
 pub mod FitOperators
+pub mod HeadsHeld
 pub mod Found
 pub mod Facts
 pub mod FineVariables
