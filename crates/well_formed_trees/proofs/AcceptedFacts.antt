@@ -14,13 +14,18 @@ use Rattle.pli_typing.specs.Resolving.{typing_faults, typed_tree, block_variable
 use Rattle.pli_typing.specs.Resolving.{outermost_context}
 use Rattle.well_formed_trees.specs.Every.{Every}
 use Rattle.well_formed_trees.specs.Held.{table_of}
-use Rattle.well_formed_trees.proofs.Lists.{first_empty, second_empty, every_both}
+use Rattle.well_formed_trees.proofs.Lists.{first_empty, second_empty, every_both, every_map}
 use Rattle.well_formed_trees.proofs.Places.{HasAt, has_first, has_second, has_end, same_some, every_at}
 use Rattle.well_formed_trees.proofs.DeclaredOnce.{blocks_apart}
 use Rattle.well_formed_trees.proofs.Found.{IsAmong, every_among}
 use Rattle.well_formed_trees.proofs.LabelsOnce.{blocks_fine}
 use Rattle.well_formed_trees.proofs.ParameterVariables.{block_variables_are}
 use Rattle.well_formed_trees.proofs.Structures.{all_blocks_chained}
+use Rattle.well_formed_trees.proofs.HeldAlone.{all_blocks_well}
+use Rattle.well_formed_trees.proofs.HeldStatements.{IsFrom, HeldFrom, all_held}
+use Rattle.well_formed_trees.proofs.HeadsHeld.{all_blocks_hold, table_matches, heads_typed}
+use Rattle.well_formed_trees.proofs.HeadsInRange.{ranges_kept}
+use Rattle.well_formed_trees.proofs.Shapes.{shape_kept}
 use Rattle.well_formed_trees.proofs.Facts.{Facts}
 
 -- ---- blocks around blocks
@@ -133,6 +138,7 @@ pub facts_kept : (s : List ℕ) (tokens : List Token) (tree : T.Tree) → Tokens
     → Facts (blocks_of tree) (typed_tree tree) (table_of tree)
 facts_kept s tokens tree t h declared typed =
     let blocks = blocks_of tree in
+    let shape = shape_kept s tokens tree h in
     record {
       apart = blocks_apart s tokens tree t h;
       chained = all_blocks_chained tree;
@@ -141,4 +147,11 @@ facts_kept s tokens tree t h declared typed =
       nested = λ n m k. nested_by blocks (all_closed tree) n m k (slice_get blocks n) refl;
       variables = block_variables_are tree;
       judged = all_judged tree typed;
+      well = all_blocks_well tree;
+      heads = all_blocks_hold tree;
+      entries = table_matches tree;
+      typed = heads_typed tree shape;
+      procedures =
+          every_map (HeldFrom (table_of tree) blocks) (IsFrom blocks) (λ p k. k.1) (typed_tree tree).procedures
+          (all_held tree shape (ranges_kept s tokens tree t h) typed);
     }

@@ -15,6 +15,9 @@ use Rattle.well_formed_trees.specs.Surroundings.{Around, Table, Where, IsAround,
 use Rattle.well_formed_trees.proofs.DeclaredOnce.{AreApart, IsIn}
 use Rattle.well_formed_trees.proofs.Found.{IsAmong}
 use Rattle.well_formed_trees.proofs.Structures.{BlockChained}
+use Rattle.well_formed_trees.proofs.HeldAlone.{BlockWell}
+use Rattle.well_formed_trees.proofs.HeldStatements.{IsFrom}
+use Rattle.well_formed_trees.proofs.HeadsHeld.{EveryFrom, BlockHolds, AllMatch, AreTyped}
 
 pub record Facts (blocks : List Block) (program : Y.Program) (table : Table) : Type 0 where
   pub apart : AreApart blocks
@@ -31,6 +34,11 @@ pub record Facts (blocks : List Block) (program : Y.Program) (table : Table) : T
   pub judged :
       (n : ℕ) (b : Block) → slice_get blocks n ≡ Some b
       → (declared_variables (record { blocks = blocks; block = n })).faults ≡ []
+  pub well : Every BlockWell blocks
+  pub heads : EveryFrom (BlockHolds blocks) 0 blocks
+  pub entries : AllMatch table blocks
+  pub typed : AreTyped program.procedures 0 blocks
+  pub procedures : Every (IsFrom blocks) program.procedures
 
 -- a block stands around, at its level; the whole program, which is 0, needn't
 abbrev pub IsSeen : List Block → List Around → ℕ → Type 0

@@ -52,12 +52,26 @@ use Rattle.well_formed_trees.proofs.FitValues.{IsSoundType, IsSingle, IsPart}
 -- ---- kinds
 
 -- of what may not clash the last test is of precisions
-digits_fine : (all : List T.Attribute) → attributes_clash all ≡ false
+pub digits_fine : (all : List T.Attribute) → attributes_clash all ≡ false
     → list_any (λ p. (p == 0) || nat_lt most_digits p) (precisions_in all) ≡ false
 digits_fine all e =
     second_false
     (((((repeats all || nat_lt 1 (kinds_in all)) || nat_lt 1 (classes_in all)) || (has 3 all && not (has 2 all)))
     || (has 14 all && has 15 all)) || nat_lt 1 (length (precisions_in all))) _ e
+
+pub type_by : (P : Y.LeafType → Type 0) (two three four five six seven : Bool) (size bytes : Y.Extent)
+    (area : Option Y.Variable) (p : ℕ) → P (Y.VaryingLeaf size) → P (Y.CharacterLeaf size) → P Y.BitLeaf
+    → P Y.PointerLeaf → P (Y.OffsetLeaf area) → P (Y.AreaLeaf bytes) → P (Y.FixedLeaf p)
+    → P (if two then (if three then Y.VaryingLeaf size else Y.CharacterLeaf size)
+    else (if four then Y.BitLeaf else (if five then Y.PointerLeaf
+    else (if six then Y.OffsetLeaf area else (if seven then Y.AreaLeaf bytes else Y.FixedLeaf p)))))
+type_by P true true four five six seven size bytes area p a b c d e f g = a
+type_by P true false four five six seven size bytes area p a b c d e f g = b
+type_by P false three true five six seven size bytes area p a b c d e f g = c
+type_by P false three false true six seven size bytes area p a b c d e f g = d
+type_by P false three false false true seven size bytes area p a b c d e f g = e
+type_by P false three false false false true size bytes area p a b c d e f g = f
+type_by P false three false false false false size bytes area p a b c d e f g = g
 
 type_sound_by : (w : Where) (two three four five six seven : Bool) (size bytes : Y.Extent) (area : Option Y.Variable)
     (p : ℕ) → IsPrecision p → IsAreaIf w area
@@ -213,3 +227,57 @@ kind_sound blocks w facts b written all see e =
     type_sound_by w (has 2 all) (has 3 all) (has 4 all) (has 5 all) (has 6 all) (has 7 all) (size_of_text written all)
     (size_of_area written all) (area_named blocks b (area_name all)) (precision_of (precisions_in all))
     (precision_is (precisions_in all) (digits_fine all e)) (area_named_sound blocks w facts b (area_name all) see)
+
+-- ---- areas as they are declared
+
+pub record AreaDeclared (blocks : List Block) (b : ℕ) (v : Y.Variable) : Type 0 where
+  pub h : Held
+  pub declares : DeclaresVariable blocks b h
+  pub is : variable_meant blocks b h ≡ v
+  pub written : has 7 (own_attributes h) ≡ true
+
+declared_what : (blocks : List Block) (program : Y.Program) (table : Table) → Facts blocks program table
+    → (at : DeclarationAt) (d : Declaration) → IsIn blocks at.block at.index d → (what : What) → d.what ≡ what
+    → (v : Y.Variable) → area_in blocks at.block (Some what) ≡ Some v → AreaDeclared blocks at.block v
+declared_what blocks program table facts at d i Label e v f = absurd (cc f)
+declared_what blocks program table facts at d i (ProcedureName head) e v f = absurd (cc f)
+declared_what blocks program table facts at d i (Variable' h) e v f =
+    by (has 7 (own_attributes h)) refl f (fine_declared blocks program table facts at.block at.index d h i e) where
+      by : (b : Bool) → has 7 (own_attributes h) ≡ b
+          → (if b then Some (variable_meant blocks at.block h) else None) ≡ Some v
+          → (ps : List T.Name) × IsFineMember ps h → AreaDeclared blocks at.block v
+      by true a f own = record {
+        h = h;
+        declares = record {
+          index = at.index;
+          declaration = d;
+          is_in = i;
+          is = e;
+          no_builtin = area_no_builtin own.0 h own.1 a;
+        };
+        is = same_some (variable_meant blocks at.block h) v f;
+        written = a;
+      }
+      by false a f own = absurd (cc f)
+
+pub record AreaFound (blocks : List Block) (around : List ℕ) (v : Y.Variable) : Type 0 where
+  pub block : ℕ
+  pub declared : AreaDeclared blocks block v
+  pub block_around : IsAmong block around
+
+pub area_found_is : (blocks : List Block) (program : Y.Program) (table : Table) → Facts blocks program table → (b : ℕ)
+    (name : T.Name) (f : Found) → name_means blocks b name ≡ f → (v : Y.Variable) → area_found blocks f ≡ Some v
+    → AreaFound blocks (around_of (slice_get blocks b)) v
+area_found_is blocks program table facts b name F.None e v a = absurd (cc a)
+area_found_is blocks program table facts b name F.Ambiguous e v a = absurd (cc a)
+area_found_is blocks program table facts b name (F.One at) e v a =
+    let k = found_at blocks b [] name.letters at e in
+    let there : what_at blocks at ≡ Some k.declaration.what =
+    ap (λ o. what_of (slice_get (declarations_of o) at.index)) k.is_in.has_block ∙ ap what_of k.is_in.has in
+    record {
+      block = at.block;
+      declared =
+          declared_what blocks program table facts at k.declaration k.is_in k.declaration.what refl v
+          (sym (ap (area_in blocks at.block) there) ∙ a);
+      block_around = k.block_around;
+    }

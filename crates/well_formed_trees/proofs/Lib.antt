@@ -41,7 +41,9 @@ pub mod HeadsHeld
 pub mod Found
 pub mod Facts
 pub mod FineVariables
+pub mod NamesOnce
 pub mod MeantVariables
+pub mod CalledProcedures
 pub mod KindsSound
 pub mod PartFit
 pub mod Reached

@@ -58,7 +58,7 @@ pub record IsMeant (blocks : List Block) (number : ℕ) (h : Held) : Type 0 wher
   pub there : slice_get (root ∷ members) place ≡ Some h
   pub from : from_place h.variable.declared.name.place (root ∷ members) ≡ drop place (root ∷ members)
 
-any_at : {X : Type 0} (test : X → Bool) (xs : List X) (i : ℕ) (x : X) → slice_get xs i ≡ Some x → test x ≡ true
+pub any_at : {X : Type 0} (test : X → Bool) (xs : List X) (i : ℕ) (x : X) → slice_get xs i ≡ Some x → test x ≡ true
     → list_any test xs ≡ true
 any_at test [] i x e t = absurd (cc e)
 any_at test (y ∷ ys) zero x e t = ap (λ b. b || list_any test ys) (ap test (same_some y x e) ∙ t)
@@ -167,7 +167,7 @@ unfolding class_by
 same_class names g h e = ap (class_by names) e
 
 -- the whole program declares nothing
-declares_none : {blocks : List Block} {number index : ℕ} {d : Declaration} → slice_get blocks number ≡ Some outermost
+pub declares_none : {blocks : List Block} {number index : ℕ} {d : Declaration} → slice_get blocks number ≡ Some outermost
     → IsIn blocks number index d → ⊥
 declares_none {index = index} {d = d} e i =
     nothing (ap (λ (b : Block). slice_get b.declarations index) (sym (same_some i.block outermost
@@ -175,7 +175,14 @@ declares_none {index = index} {d = d} e i =
       nothing : slice_get [] index ≡ Some d → ⊥
       nothing e = absurd (cc e)
 
--- where it is around
+-- what declares something stands around where it is seen
+pub is_around : (blocks : List Block) (program : Y.Program) (table : Table) → Facts blocks program table
+    → (number index : ℕ) (d : Declaration) → IsIn blocks number index d → (around : List Around)
+    → IsSeen blocks around number → IsAround number (level_of_block blocks number) around
+is_around blocks program table facts number index d i around (inl z) =
+    absurd (declares_none (ap (slice_get blocks) z ∙ facts.first) i)
+is_around blocks program table facts number index d i around (inr k) = k
+
 pub is_declared : (blocks : List Block) (w : Where) → Facts blocks w.program w.table → (number : ℕ) (h : Held)
     → DeclaresVariable blocks number h → (m : IsMeant blocks number h) → IsSeen blocks w.around number
     → IsDeclared w (variable_meant blocks number h) (typed_variable blocks number (m.root ∷ m.members))
@@ -191,11 +198,9 @@ is_declared blocks w facts number h d m seen =
           ∙ each_at (declared_variable scope) (variables_in (declarations_at blocks number)) i (m.root ∷ m.members)
           m.found;
       same_class = same_class names m.root h (root ∙ sym m.root_is);
-      block_around = around seen;
-    } where
-      around : IsSeen blocks w.around number → IsAround number (level_of_block blocks number) w.around
-      around (inl z) = absurd (declares_none (ap (slice_get blocks) z ∙ facts.first) d.is_in)
-      around (inr k) = k
+      block_around =
+          is_around blocks w.program w.table facts number d.index d.declaration d.is_in w.around seen;
+    }
 
 -- what is visible from a block that is around is visible
 pub visible_from : (blocks : List Block) (program : Y.Program) (table : Table) → Facts blocks program table
