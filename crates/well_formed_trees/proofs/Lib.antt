@@ -46,6 +46,7 @@ pub mod MeantVariables
 pub mod CalledProcedures
 pub mod KindsSound
 pub mod PartFit
+pub mod ParameterParts
 pub mod Reached
 pub mod AcceptedFacts
 pub mod StatementWalk

@@ -67,12 +67,12 @@ any_at test (y ∷ ys) (suc i) x e t = by (test y) (any_at test ys i x e t) wher
   by true e = refl
   by false e = e
 
-begins_one : (p : Place) (all : List Held) → begins_at p all ≡ true → 1 ≤ at_first p all
+pub begins_one : (p : Place) (all : List Held) → begins_at p all ≡ true → 1 ≤ at_first p all
 begins_one p [] e = absurd (cc e)
 begins_one p (h ∷ hs) e = spot_one (same_place p h.variable.declared.name.place) e
 
 -- the one that begins at a place is found there
-found_there : (p : Place) (vs : List (List Held)) (i : ℕ) (all : List Held) → total (at_first p) vs ≤ 1
+pub found_there : (p : Place) (vs : List (List Held)) (i : ℕ) (all : List Held) → total (at_first p) vs ≤ 1
     → slice_get vs i ≡ Some all → begins_at p all ≡ true → slice_get vs (index_where (begins_at p) vs) ≡ Some all
 found_there p vs i all one e b =
     let it = finds (begins_at p) vs (any_at (begins_at p) vs i all e b) in

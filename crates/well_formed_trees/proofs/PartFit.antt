@@ -97,7 +97,7 @@ leaves_left h true n ls e f = sym (ap (λ n. map (leaf_left n) ls) (f refl) ∙ 
 -- ---- the part itself
 
 -- what is designated among members that stand from a place on
-abbrev part_with : List Block → ℕ → (all from : List Held) → Held → Y.Locator → Bool → Y.Numbers → Designated
+abbrev pub part_with : List Block → ℕ → (all from : List Held) → Held → Y.Locator → Bool → Y.Numbers → Designated
 part_with blocks b all from h locator is_element subscripts =
     record {
       reference = Y.Referring (variable_meant blocks b h) locator (V.part_from all from) subscripts;
@@ -130,7 +130,7 @@ all_below root chain (m ∷ ms) a h =
       lower : (n k : ℕ) → n ≡ 0 → (k == 0) ≡ false → nat_lt n k ≡ true
       lower n k e f = grind (arith, nat_tests)
 
-one_member : (h : Held) (hs : List Held) → nat_lt 1 (length (h ∷ hs)) ≡ false → hs ≡ []
+pub one_member : (h : Held) (hs : List Held) → nat_lt 1 (length (h ∷ hs)) ≡ false → hs ≡ []
 one_member h [] e = refl
 one_member h (x ∷ xs) e = absurd (more (length xs) e) where
   more : (n : ℕ) → nat_lt 1 (suc (suc n)) ≡ false → ⊥
@@ -396,6 +396,27 @@ placed_fit blocks w facts b h d m seen see locator is_element subscripts r =
           ∙ (ap (λ hs. is_area (part_with blocks b hs hs h locator false subscripts)) only ∙ yes)) in
           absurd (cc (there, n))
 
+-- what is designated, where the variable is found
+pub part_is : (blocks : List Block) (b : ℕ) (h : Held) (m : IsMeant blocks b h) (locator : Y.Locator)
+    (is_element : Bool) (subscripts : Y.Numbers)
+    → part_designated blocks b h locator is_element subscripts
+    ≡ part_with blocks b (m.root ∷ m.members) (drop m.place (m.root ∷ m.members)) h locator is_element subscripts
+part_is blocks b h m locator is_element subscripts =
+    let all = m.root ∷ m.members in
+    let p = h.variable.declared.name.place in
+    let members : members_of blocks b h ≡ all = ap (λ o. unwrap_or o []) m.found in
+    ap (λ hs. part_with blocks b hs (from_place p hs) h locator is_element subscripts) members
+    ∙ ap (λ fs. part_with blocks b all fs h locator is_element subscripts) m.from
+
+-- all of a variable of level 1
+pub whole_with : (blocks : List Block) (b : ℕ) (h : Held) (m : IsMeant blocks b h) → stands_alone h ≡ true
+    → with_members (drop m.place (m.root ∷ m.members)) ≡ m.root ∷ m.members
+whole_with blocks b h m a =
+    let all = m.root ∷ m.members in
+    ap (λ p. with_members (drop p all)) (alone_first m.root m.members m.structure m.place h m.there a)
+    ∙ ap (λ l. m.root ∷ l)
+    (all_below m.root (m.root.variable ∷ []) m.members m.structure.0 m.structure.1)
+
 -- a variable as it is named, with its subscripts
 pub part_fit : (blocks : List Block) (w : Where) → Facts blocks w.program w.table → (b : ℕ) (h : Held)
     → DeclaresVariable blocks b h → IsSeen blocks w.around b → IsVisible blocks w.around b → (locator : Y.Locator)
@@ -404,9 +425,5 @@ pub part_fit : (blocks : List Block) (w : Where) → Facts blocks w.program w.ta
     → IsPart w (part_designated blocks b h locator is_element subscripts)
 part_fit blocks w facts b h d seen see locator is_element subscripts r =
     let m = is_meant blocks w.program w.table facts b h d in
-    let all = m.root ∷ m.members in
-    let p = h.variable.declared.name.place in
-    let members : members_of blocks b h ≡ all = ap (λ o. unwrap_or o []) m.found in
-    subst (λ hs. IsPart w (part_with blocks b hs (from_place p hs) h locator is_element subscripts)) (sym members)
-    (subst (λ fs. IsPart w (part_with blocks b all fs h locator is_element subscripts)) (sym m.from)
-    (placed_fit blocks w facts b h d m seen see locator is_element subscripts r))
+    subst (IsPart w) (sym (part_is blocks b h m locator is_element subscripts))
+    (placed_fit blocks w facts b h d m seen see locator is_element subscripts r)
