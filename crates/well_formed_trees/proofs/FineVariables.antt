@@ -151,7 +151,7 @@ area_tests m e a =
       not_not true e = refl
       not_not false e = absurd (cc e)
 
-none_above : {X : Type 0} (xs : List X) → (length xs == 0) ≡ true → xs ≡ []
+pub none_above : {X : Type 0} (xs : List X) → (length xs == 0) ≡ true → xs ≡ []
 none_above [] e = refl
 none_above (x ∷ xs) e = absurd (never (length xs) e) where
   never : (n : ℕ) → (suc n == 0) ≡ true → ⊥

@@ -46,6 +46,10 @@ use Rattle.well_formed_trees.proofs.Facts.{Facts, IsSeen, IsVisible}
 use Rattle.well_formed_trees.proofs.Found.{IsAmong, every_among, FoundAt, found_at}
 use Rattle.well_formed_trees.proofs.MeantVariables.{DeclaresVariable, IsMeant, is_meant, typed_variable, is_declared}
 use Rattle.well_formed_trees.proofs.MeantVariables.{visible_from, fine_declared}
+use Rattle.well_formed_trees.proofs.MeantVariables.{declared_found, declared_class}
+use Rattle.well_formed_trees.proofs.FineVariables.{none_above}
+use Rattle.well_formed_trees.specs.Surroundings.{IsStaticArea}
+use Rattle.pli_language.specs.Declaring.{root_of, first_or, is_parameter}
 use Rattle.well_formed_trees.proofs.DeclaredOnce.{IsIn}
 use Rattle.well_formed_trees.proofs.FitValues.{IsSoundType, IsSingle, IsPart}
 
@@ -138,22 +142,24 @@ area_type blocks b written all e a =
     (size_of_text written all) (size_of_area written all) (area_named blocks b (area_name all))
     (precision_of (precisions_in all)) (few (kinds_in all) (few_kinds all e)) a
 
--- what is declared of an area by itself
-pub area_meant : (blocks : List Block) (w : Where) → Facts blocks w.program w.table → (b : ℕ) (h : Held)
-    → DeclaresVariable blocks b h → IsSeen blocks w.around b → has 7 (own_attributes h) ≡ true
-    → IsArea w (variable_meant blocks b h)
-area_meant blocks w facts b h d seen a =
-    let m = is_meant blocks w.program w.table facts b h d in
+-- the one leaf of an area by itself
+abbrev pub area_leaf_of : List Block → ℕ → List Held → Held → Y.Leaf
+area_leaf_of blocks b all h =
+    record {
+      type = Y.AreaLeaf (size_of_area (written_extents all) (own_attributes h));
+      bounds = [];
+      initial = flat_map initial_items (own_attributes h);
+    }
+
+pub area_leaf_is : (blocks : List Block) (b : ℕ) (h : Held) (m : IsMeant blocks b h) → has 7 (own_attributes h) ≡ true
+    → (typed_variable blocks b (m.root ∷ m.members)).leaves
+    ≡ area_leaf_of blocks b (m.root ∷ m.members) h ∷ []
+area_leaf_is blocks b h m a =
     let all = m.root ∷ m.members in
     let only = only_area _ all m.structure m.fine m.place h m.there a in
     let fine = every_at (IsFineMember _) all m.place h (all_fine _ all m.fine) m.there in
     let written = written_extents all in
-    let leaf : Y.Leaf = record {
-      type = Y.AreaLeaf (size_of_area written (own_attributes h));
-      bounds = [];
-      initial = flat_map initial_items (own_attributes h);
-    } in
-    let own : leaf_of blocks b written h ≡ leaf =
+    let own : leaf_of blocks b written h ≡ area_leaf_of blocks b all h =
     ap (λ t. record {
       type = t;
       bounds = map (bounds_of (extent_of written)) (V.all_dimensions h);
@@ -164,13 +170,70 @@ area_meant blocks w facts b h d seen a =
       bounds = map (bounds_of (extent_of written)) ds;
       initial = flat_map initial_items (own_attributes h);
     }) only.none in
+    ap (λ hs. map (leaf_of blocks b written) (leaves_in hs)) only.only ∙ ap (λ l. l ∷ []) own
+
+-- what is declared of an area by itself
+pub area_meant : (blocks : List Block) (w : Where) → Facts blocks w.program w.table → (b : ℕ) (h : Held)
+    → DeclaresVariable blocks b h → IsSeen blocks w.around b → has 7 (own_attributes h) ≡ true
+    → IsArea w (variable_meant blocks b h)
+area_meant blocks w facts b h d seen a =
+    let m = is_meant blocks w.program w.table facts b h d in
+    let all = m.root ∷ m.members in
     record {
       d = typed_variable blocks b all;
       declared = is_declared blocks w facts b h d m seen;
-      size = size_of_area written (own_attributes h);
+      size = size_of_area (written_extents all) (own_attributes h);
       initial = flat_map initial_items (own_attributes h);
-      leaf = ap (λ hs. map (leaf_of blocks b written) (leaves_in hs)) only.only ∙ ap (λ l. l ∷ []) own;
+      leaf = area_leaf_is blocks b h m a;
     }
+
+-- a STATIC one, whatever is around
+pub static_meant : (blocks : List Block) (w : Where) → Facts blocks w.program w.table → (b : ℕ) (h : Held)
+    → DeclaresVariable blocks b h → has 7 (own_attributes h) ≡ true
+    → (variable_meant blocks b h).class ≡ Y.StaticClass → IsStaticArea w (variable_meant blocks b h)
+static_meant blocks w facts b h d a c =
+    let m = is_meant blocks w.program w.table facts b h d in
+    let all = m.root ∷ m.members in
+    record {
+      class_is = c;
+      d = typed_variable blocks b all;
+      found = declared_found blocks w facts b h d m;
+      same_class = declared_class blocks b h m;
+      size = size_of_area (written_extents all) (own_attributes h);
+      initial = flat_map initial_items (own_attributes h);
+      leaf = area_leaf_is blocks b h m a;
+    }
+
+-- an area is neither BASED nor CONTROLLED
+abbrev pub IsKept : Y.StorageClass → Type 0
+IsKept Y.BasedClass = ⊥
+IsKept Y.ControlledClass = ⊥
+IsKept _ = ⊤
+
+kept_by : (a b c d : Bool) → c ≡ false → d ≡ false
+    → IsKept (if a then Y.ParameterClass
+    else (if b then Y.StaticClass else (if c then Y.ControlledClass
+    else (if d then Y.BasedClass else Y.AutomaticClass))))
+kept_by true b c d e f = tt
+kept_by false true c d e f = tt
+kept_by false false true d e f = absurd (cc e)
+kept_by false false false true e f = absurd (cc f)
+kept_by false false false false e f = tt
+
+pub area_kept : (blocks : List Block) (program : Y.Program) (table : Table) → Facts blocks program table → (b : ℕ)
+    (h : Held) → DeclaresVariable blocks b h → has 7 (own_attributes h) ≡ true
+    → IsKept (variable_meant blocks b h).class
+area_kept blocks program table facts b h d a =
+    let m = is_meant blocks program table facts b h d in
+    let all = m.root ∷ m.members in
+    let only = only_area _ all m.structure m.fine m.place h m.there a in
+    let root : root_of h ≡ h.variable =
+    ap (λ vs. first_or vs h.variable) (none_above h.above only.alone) in
+    let names = names_of (head_of_block (slice_get blocks b)) in
+    kept_by (is_parameter names h) (has 9 (root_of h).item.attributes) (has 10 (root_of h).item.attributes)
+    (has 11 (root_of h).item.attributes)
+    (ap (λ (v : Variable). has 10 v.item.attributes) root ∙ only.not_controlled)
+    (ap (λ (v : Variable). has 11 v.item.attributes) root ∙ only.not_based)
 
 -- ---- areas that names mean
 

@@ -47,6 +47,7 @@ pub mod CalledProcedures
 pub mod KindsSound
 pub mod PartFit
 pub mod ParameterParts
+pub mod ParameterAreas
 pub mod Reached
 pub mod AcceptedFacts
 pub mod StatementWalk

@@ -183,24 +183,31 @@ is_around blocks program table facts number index d i around (inl z) =
     absurd (declares_none (ap (slice_get blocks) z ∙ facts.first) i)
 is_around blocks program table facts number index d i around (inr k) = k
 
+-- what is found by the block and the place
+pub declared_found : (blocks : List Block) (w : Where) → Facts blocks w.program w.table → (number : ℕ) (h : Held)
+    → DeclaresVariable blocks number h → (m : IsMeant blocks number h)
+    → declared_by w.program (variable_meant blocks number h)
+    ≡ Some (typed_variable blocks number (m.root ∷ m.members))
+declared_found blocks w facts number h d m =
+    let scope : Scope = record { blocks = blocks; block = number } in
+    let i = index_of_variable blocks number h in
+    ap (λ vs. slice_get vs i) (facts.variables number d.is_in.block d.is_in.has_block)
+    ∙ each_at (declared_variable scope) (variables_in (declarations_at blocks number)) i (m.root ∷ m.members) m.found
+
+pub declared_class : (blocks : List Block) (number : ℕ) (h : Held) (m : IsMeant blocks number h)
+    → (typed_variable blocks number (m.root ∷ m.members)).class ≡ (variable_meant blocks number h).class
+declared_class blocks number h m =
+    same_class (names_of (head_of_block (slice_get blocks number))) m.root h
+    ((structure_root m.root m.members m.structure).0 ∙ sym m.root_is)
+
 pub is_declared : (blocks : List Block) (w : Where) → Facts blocks w.program w.table → (number : ℕ) (h : Held)
     → DeclaresVariable blocks number h → (m : IsMeant blocks number h) → IsSeen blocks w.around number
     → IsDeclared w (variable_meant blocks number h) (typed_variable blocks number (m.root ∷ m.members))
-is_declared blocks w facts number h d m seen =
-    let scope : Scope = record { blocks = blocks; block = number } in
-    let i = index_of_variable blocks number h in
-    let names = names_of (head_of_block (slice_get blocks number)) in
-    let root : root_of m.root ≡ m.root.variable =
-    (structure_root m.root m.members m.structure).0 in
-    record {
-      found =
-          ap (λ vs. slice_get vs i) (facts.variables number d.is_in.block d.is_in.has_block)
-          ∙ each_at (declared_variable scope) (variables_in (declarations_at blocks number)) i (m.root ∷ m.members)
-          m.found;
-      same_class = same_class names m.root h (root ∙ sym m.root_is);
-      block_around =
-          is_around blocks w.program w.table facts number d.index d.declaration d.is_in w.around seen;
-    }
+is_declared blocks w facts number h d m seen = record {
+  found = declared_found blocks w facts number h d m;
+  same_class = declared_class blocks number h m;
+  block_around = is_around blocks w.program w.table facts number d.index d.declaration d.is_in w.around seen;
+}
 
 -- what is visible from a block that is around is visible
 pub visible_from : (blocks : List Block) (program : Y.Program) (table : Table) → Facts blocks program table
