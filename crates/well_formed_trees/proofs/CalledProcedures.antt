@@ -15,6 +15,7 @@ use Rattle.pli_typing.specs.SingleStatements.{first_or_none}
 use Rattle.well_formed_trees.specs.Every.{Every}
 use Rattle.well_formed_trees.specs.Surroundings.{Around, Table, Where, IsAround, head_of, procedure_numbered}
 use Rattle.well_formed_trees.specs.Expressions.{IsProcedure}
+use Rattle.well_formed_trees.specs.Spelled.{IsNamed}
 use Rattle.well_formed_trees.proofs.Places.{same_some, every_at}
 use Rattle.well_formed_trees.proofs.Parameters.{finds}
 use Rattle.well_formed_trees.proofs.DeclaredOnce.{IsIn, at_head, at_block, at_declaration, only_one, spot_one, same_place_self, total}
@@ -48,13 +49,13 @@ number_of_head blocks program table facts around head k =
 
 -- ---- the typed procedure
 
-record Typed (blocks : List Block) (n : ℕ) (ps : List Y.Procedure) : Type 0 where
-  p : Y.Procedure
-  found : procedure_numbered n ps ≡ Some p
-  from : IsFrom blocks p
-  own : (head_of p.block).number ≡ n
+pub record Typed (blocks : List Block) (n : ℕ) (ps : List Y.Procedure) : Type 0 where
+  pub p : Y.Procedure
+  pub found : procedure_numbered n ps ≡ Some p
+  pub from : IsFrom blocks p
+  pub own : (head_of p.block).number ≡ n
 
-typed_by : (blocks : List Block) (n : ℕ) (ps : List Y.Procedure) → Every (IsFrom blocks) ps → has_number n ps ≡ true
+pub typed_by : (blocks : List Block) (n : ℕ) (ps : List Y.Procedure) → Every (IsFrom blocks) ps → has_number n ps ≡ true
     → Typed blocks n ps
 typed_by blocks n [] h e = absurd (cc e)
 typed_by blocks n (p ∷ ps) h e = by ((head_of p.block).number == n) refl e (typed_by blocks n ps h.1) where
@@ -119,6 +120,7 @@ pub record IsCalled (blocks : List Block) (w : Where) (holder : ℕ) (head : T.P
   pub block : Block
   pub has_block : slice_get blocks number ≡ Some block
   pub has_head : block.head ≡ Some head
+  pub named : IsNamed head.labels
   pub around : List ℕ
   pub around_is : block.around ≡ number ∷ around
   pub holder_block : Block
@@ -183,6 +185,7 @@ is_called blocks w facts holder index d head i e seen =
       block = k.block;
       has_block = k.has_block;
       has_head = k.has_head;
+      named = subst (λ (h : T.ProcedureHead). IsNamed h.labels) heads f.named;
       around = hb.around;
       around_is = k.around_is;
       holder_block = hb;

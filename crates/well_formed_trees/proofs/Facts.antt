@@ -69,4 +69,5 @@ pub record InScope (scope : Scope) (w : Where) : Type 0 where
 pub record Sees (c : Context) (w : Where) : Type 0 where
   pub scope : InScope c.scope w
   pub around : Every (IsSeen c.scope.blocks w.around) c.around
+  pub own_around : around_of (slice_get c.scope.blocks c.scope.block) ≡ c.around
   pub labels : Every (IsReached c.scope.blocks w.around) ((c.inner ++ c.outermost) ++ c.outer)

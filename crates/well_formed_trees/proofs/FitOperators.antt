@@ -47,7 +47,7 @@ use Rattle.well_formed_trees.proofs.FitValues.{number_sound, text_sound, own_bit
 abbrev pub AllFit : Where → List Operand → Type 0
 AllFit w os = Every (λ o. IsFit w o.referent) os
 
-digits_fit : IsPrecision operator_digits
+pub digits_fit : IsPrecision operator_digits
 digits_fit = (omega arith, omega arith)
 
 -- ---- operators

@@ -48,6 +48,11 @@ pub mod KindsSound
 pub mod PartFit
 pub mod ParameterParts
 pub mod ParameterAreas
+pub mod ArgumentsFit
+pub mod LocatorsFit
+pub mod ExpressionsFit
+pub mod AssignmentsFit
+pub mod StatementsFit
 pub mod Reached
 pub mod AcceptedFacts
 pub mod StatementWalk

@@ -248,7 +248,7 @@ pub record TakenByName (blocks : List Block) (w : Where) (m : ℕ) (p : Y.Proced
   pub letters : root.variable.declared.name.letters ≡ n.letters
   pub level : level_of root.variable ≡ 1
 
-taken_by_name : (blocks : List Block) (w : Where) → Facts blocks w.program w.table → (m : ℕ) (b : Block)
+pub taken_by_name : (blocks : List Block) (w : Where) → Facts blocks w.program w.table → (m : ℕ) (b : Block)
     → slice_get blocks m ≡ Some b → (p : Y.Procedure) → (head_of p.block).number ≡ m → (ps : List T.Name) (n : T.Name)
     → Meant blocks m ps n → TakenByName blocks w m p n
 taken_by_name blocks w facts m b e p own ps n k =

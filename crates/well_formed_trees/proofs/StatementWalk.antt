@@ -6,6 +6,7 @@ use Rattle.pli_language.specs.declared.expr.Place.{Place}
 use Rattle.pli_language.specs.Tree as T
 use Rattle.pli_language.specs.Declarations.{Block, declared_in, declared_in_item, declared_in_stmt, blocks_in}
 use Rattle.pli_language.specs.Declarations.{blocks_in_item, blocks_in_stmt, labels_declared, blocks_of, outermost}
+use Rattle.pli_language.specs.Means.{around_of}
 use Rattle.pli_typing.specs.TypedTree as Y
 use Rattle.pli_typing.specs.Variables.{level_of_block}
 use Rattle.pli_typing.specs.Calls.{result_type}
@@ -84,6 +85,7 @@ sees {program} {table} {c} {own} {a} {more} ret st =
         };
       };
       around = r.seen;
+      own_around = ap around_of r.has_own ∙ r.own_around;
       labels = all_reached r;
     }
 
@@ -102,6 +104,7 @@ sees_further {c} {w} a s =
         };
       };
       around = seen_inside blocks a w.around c.around s.around;
+      own_around = s.own_around;
       labels = reached_inside blocks a w.around ((c.inner ++ c.outermost) ++ c.outer) s.labels;
     }
 

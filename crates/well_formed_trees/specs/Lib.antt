@@ -15,3 +15,4 @@ pub mod Held
 pub mod Framed
 pub mod Placed
 pub mod Everywhere
+pub mod SoundStatements
