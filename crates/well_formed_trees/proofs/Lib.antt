@@ -53,10 +53,12 @@ pub mod LocatorsFit
 pub mod ExpressionsFit
 pub mod AssignmentsFit
 pub mod StatementsFit
+pub mod AllocationsFit
 pub mod Reached
 pub mod AcceptedFacts
 pub mod StatementWalk
 pub mod Targets
 pub mod AcceptedSources
+pub mod SoundProcedures
 pub mod WellFormedRows
 mod IllFormedRows

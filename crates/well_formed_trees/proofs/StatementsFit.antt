@@ -68,11 +68,11 @@ use Rattle.well_formed_trees.proofs.AssignmentsFit.{counter_fit, computational_o
 
 -- ---- operands of statements
 
-operand_fit : (scope : Scope) (w : Where) → InScope scope w → (e : T.Expr) → RangedExpr e
+pub operand_fit : (scope : Scope) (w : Where) → InScope scope w → (e : T.Expr) → RangedExpr e
     → (operand scope e).faults ≡ [] → IsFit w (operand scope e).value.referent
 operand_fit scope w i e r f = expression_fit scope w i e r (first_empty (expression scope e).faults [] f)
 
-referred_fit : (scope : Scope) (w : Where) → InScope scope w → (e : T.Reference) → RangedReference e
+pub referred_fit : (scope : Scope) (w : Where) → InScope scope w → (e : T.Reference) → RangedReference e
     → (referred scope e).faults ≡ [] → IsFit w (referred scope e).value.referent
 referred_fit scope w i e r f = reference_fit scope w i e r (first_empty (reference scope e).faults [] f)
 
@@ -89,11 +89,11 @@ number_fit scope w i e r f =
     number_operand_sound w o.value (operand_fit scope w i e r (first_empty o.faults _ f)) (second_empty o.faults _ f)
 
 -- what is judged where it is written
-abbrev HoldsIf : {X : Type 0} → (X → Type 0) → Option X → Type 0
+abbrev pub HoldsIf : {X : Type 0} → (X → Type 0) → Option X → Type 0
 HoldsIf P None = ⊤
 HoldsIf P (Some x) = P x
 
-judged_holds : {X Z : Type 0} (P : Z → Type 0) (Q : X → Type 0) (judge : X → Judged Z)
+pub judged_holds : {X Z : Type 0} (P : Z → Type 0) (Q : X → Type 0) (judge : X → Judged Z)
     → ((x : X) → Q x → (judge x).faults ≡ [] → P (judge x).value) → (o : Option X) → RangedIf Q o
     → (judged_if judge o).faults ≡ [] → HoldsIf P (judged_if judge o).value
 judged_holds P Q judge k None r f = tt
@@ -107,7 +107,7 @@ bits_if : (w : Where) (o : Option Y.Bit) → HoldsIf (SoundBit w) o → SoundBit
 bits_if w None h = tt
 bits_if w (Some n) h = h
 
-areas_if : (w : Where) (o : Option Y.Variable) → HoldsIf (IsArea w) o → IsAreaIf w o
+pub areas_if : (w : Where) (o : Option Y.Variable) → HoldsIf (IsArea w) o → IsAreaIf w o
 areas_if w None h = tt
 areas_if w (Some v) h = h
 
@@ -202,7 +202,7 @@ assign_fit scope w i t e place r s f =
     (referred_fit scope w i t r (first_empty x.faults (y.faults ++ z.faults) f))
     (operand_fit scope w i e s (first_empty y.faults z.faults more)) (second_empty y.faults z.faults more)
 
-each_holds : {X Z : Type 0} (P : Z → Type 0) (Q : X → Type 0) (judge : X → Judged Z)
+pub each_holds : {X Z : Type 0} (P : Z → Type 0) (Q : X → Type 0) (judge : X → Judged Z)
     → ((x : X) → Q x → (judge x).faults ≡ [] → P (judge x).value) → (xs : List X) → Every Q xs
     → (each judge xs).faults ≡ [] → Every P (each judge xs).value
 each_holds P Q judge k [] r f = tt

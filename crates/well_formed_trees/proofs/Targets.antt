@@ -201,7 +201,7 @@ no_turns (CountedTurns counter s limit step b) body line = tt
 
 -- ---- all
 
-targets_own : IsOwn GoesAround
+pub targets_own : IsOwn GoesAround
 unfolding statement
 targets_own c w sees b u may next (T.Goto label place) f =
     goes_found c w sees label place (name_means c.scope.blocks c.scope.block label) refl f.1

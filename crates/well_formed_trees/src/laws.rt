@@ -6,6 +6,7 @@ ghost use Rattle.well_formed_trees.specs.Placed.{PlacesKept};
 ghost use Rattle.well_formed_trees.specs.Written.{GroupsKept};
 ghost use Rattle.well_formed_trees.specs.Framed.{AcceptedFramed};
 ghost use Rattle.well_formed_trees.specs.Everywhere.{AcceptedTargets};
+ghost use Rattle.well_formed_trees.specs.SoundStatements.{AcceptedProcedures};
 ghost use Rattle.well_formed_trees.specs.Held.{BlocksKept, NestingKept, TableKept, EntriesKept, DepthsKept};
 ghost use Rattle.well_formed_trees.specs.Held.{MainKept, ResultsKept, ParametersKept};
 
@@ -100,4 +101,9 @@ pub fn accepted_framed()
 /// says.
 pub fn accepted_targets()
     ensures { AcceptedTargets }
+{}
+
+/// Each procedure of an accepted source is sound, with all its blocks, statements and expressions.
+pub fn accepted_procedures()
+    ensures { AcceptedProcedures }
 {}
