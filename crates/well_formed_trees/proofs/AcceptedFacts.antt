@@ -1,7 +1,7 @@
 -- What is known of the blocks of an accepted source.
 use Rattle.std.proofs.Common.{◌≡◌, ℕ, zero, suc, ◌+◌, List, [], ◌∷◌, ◌++◌, length, Option, Some, None, refl, sym, ap}
 use Rattle.std.proofs.Common.{◌∙◌, subst, arith, inl, inr}
-use Rattle.std.specs.Prelude.{slice_get, ⊤, ◌⊎◌}
+use Rattle.std.specs.Prelude.{slice_get}
 use Rattle.pli_language.specs.declared.token.Token.{Token}
 use Rattle.pli_language.specs.Tokens.{Tokens}
 use Rattle.pli_language.specs.Parsing.{Spells}
@@ -15,9 +15,9 @@ use Rattle.pli_typing.specs.Resolving.{outermost_context}
 use Rattle.well_formed_trees.specs.Every.{Every}
 use Rattle.well_formed_trees.specs.Held.{table_of}
 use Rattle.well_formed_trees.proofs.Lists.{first_empty, second_empty, every_both, every_map}
-use Rattle.well_formed_trees.proofs.Places.{HasAt, has_first, has_second, has_end, same_some, every_at}
+use Rattle.well_formed_trees.proofs.Places.{HasAt, has_first, has_second, has_end, every_at}
 use Rattle.well_formed_trees.proofs.DeclaredOnce.{blocks_apart}
-use Rattle.well_formed_trees.proofs.Found.{IsAmong, every_among}
+use Rattle.well_formed_trees.proofs.Found.{IsAmong}
 use Rattle.well_formed_trees.proofs.LabelsOnce.{blocks_fine}
 use Rattle.well_formed_trees.proofs.ParameterVariables.{block_variables_are}
 use Rattle.well_formed_trees.proofs.Structures.{all_blocks_chained}
@@ -87,9 +87,11 @@ all_closed : (tree : T.Tree) → Every (IsClosedBlock (blocks_of tree)) (blocks_
 unfolding blocks_of
 all_closed tree =
     let blocks = blocks_of tree in
-    let k = closed_then blocks 0 [] outermost refl refl (λ m k i. absurd i) in
-    (k, list_closed blocks (0 ∷ []) 1 tree.procedures k
-    (has_end blocks (outermost ∷ []) (blocks_in (0 ∷ []) 1 tree.procedures) refl))
+    let k = closed_then blocks 0 [] outermost refl refl (λ m k i. absurd i) in (
+      k,
+      list_closed blocks (0 ∷ []) 1 tree.procedures k
+          (has_end blocks (outermost ∷ []) (blocks_in (0 ∷ []) 1 tree.procedures) refl),
+    )
 
 nested_by : (blocks : List Block) → Every (IsClosedBlock blocks) blocks → (n m k : ℕ) (o : Option Block)
     → slice_get blocks n ≡ o → IsAmong m (around_of o) → IsAmong k (around_of (slice_get blocks m))

@@ -1,41 +1,43 @@
 -- ALLOCATE and FREE that break no rule are sound.
-use Rattle.std.proofs.Common.{◌≡◌, ℕ, zero, suc, ◌+◌, ◌≤◌, ◌==◌, Bool, true, false, not, ◌&&◌, ◌||◌, List, [], ◌∷◌}
-use Rattle.std.proofs.Common.{◌++◌, map, length, Option, Some, None, if◌then◌else◌, refl, sym, ap, ◌∙◌, subst, arith}
-use Rattle.std.specs.Prelude.{slice_get, is_some, ⊤}
+use Rattle.std.proofs.Common.{◌≡◌, ℕ, ◌+◌, ◌≤◌, Bool, true, false, ◌||◌, List, [], ◌∷◌}
+use Rattle.std.proofs.Common.{◌++◌, Option, Some, None, if◌then◌else◌, refl, sym, ap, ◌∙◌, subst, arith}
+use Rattle.std.specs.Prelude.{slice_get, is_some}
 use Rattle.pli_language.specs.declared.expr.Place.{Place}
 use Rattle.pli_language.specs.declared.scope.Found.{Found}
 use Rattle.pli_language.specs.declared.scope.Found.TheVariants as F
 use Rattle.pli_language.specs.declared.scope.DeclarationAt.{DeclarationAt}
 use Rattle.pli_language.specs.declared.fault.SourceKind.TheVariants.{Undeclared, TypeMismatch}
 use Rattle.pli_language.specs.Tree as T
-use Rattle.pli_language.specs.Declarations.{Held, Variable, Block, What, Variable', Label, ProcedureName}
-use Rattle.pli_language.specs.Declaring.{has, one, classes_in, own_attributes, class_attributes, stands_alone, root_of}
+use Rattle.pli_language.specs.Declarations.{Held, Block, What, Variable', Label, ProcedureName}
+use Rattle.pli_language.specs.Declaring.{has, one, classes_in, own_attributes, class_attributes, stands_alone}
 use Rattle.pli_language.specs.Declaring.{first_or, names_of, is_parameter, is_builtin}
 use Rattle.pli_typing.specs.TypedTree as Y
-use Rattle.pli_typing.specs.Judging.{Judged, Scope, fine, broken}
-use Rattle.pli_typing.specs.Variables.{variable_meant, head_of_block, locator_name, name_means, what_at}
+use Rattle.pli_typing.specs.Judging.{Scope, fine, broken}
+use Rattle.pli_typing.specs.Variables.{variable_meant, head_of_block, locator_name, name_means}
 use Rattle.pli_typing.specs.Converting.{Designated, Referent, Designates, Gives, GivesUnknown, GivesEmptyArea}
-use Rattle.pli_typing.specs.Converting.{GivesNothing, NotKnown, Operand, scalar_type, area_operand, value_with_type}
-use Rattle.pli_typing.specs.References.{referred, locates, locator_value, locator_found}
-use Rattle.pli_typing.specs.Generations.{judged_if, in_area, set_target, locator_target, target_or_mismatch, target_with}
-use Rattle.pli_typing.specs.Generations.{declared_target, based_target, target_given, area_given, area_of_target}
-use Rattle.pli_typing.specs.Generations.{Allocating, allocated_based, allocated_controlled, allocated_class}
-use Rattle.pli_typing.specs.Generations.{allocated_what, allocated_found, allocation, pointer_to, freed_class, freed_whole}
+use Rattle.pli_typing.specs.Converting.{GivesNothing, NotKnown, scalar_type, value_with_type}
+use Rattle.pli_typing.specs.References.{referred, locates}
+use Rattle.pli_typing.specs.Generations.{judged_if, in_area, set_target, locator_target, target_or_mismatch}
+use Rattle.pli_typing.specs.Generations.{target_with}
+use Rattle.pli_typing.specs.Generations.{declared_target, based_target, target_given, area_given}
+use Rattle.pli_typing.specs.Generations.{Allocating, allocated_class}
+use Rattle.pli_typing.specs.Generations.{allocated_what, allocated_found, allocation, pointer_to, freed_class}
+use Rattle.pli_typing.specs.Generations.{freed_whole}
 use Rattle.pli_typing.specs.Generations.{freed_reference, freed_referent, freeing, bad_allocation, target_or}
 use Rattle.pli_typing.specs.Generations.{no_allocation, no_freeing}
-use Rattle.well_formed_trees.specs.Every.{Every}
-use Rattle.well_formed_trees.specs.Surroundings.{Table, Where, IsArea, IsAreaIf, IsOfClass, IsDeclared}
+use Rattle.well_formed_trees.specs.Surroundings.{Where, IsArea, IsAreaIf, IsOfClass, IsDeclared}
 use Rattle.well_formed_trees.specs.References as R
 use Rattle.well_formed_trees.specs.References.{IsLocated}
 use Rattle.well_formed_trees.specs.Expressions.{SoundPointer, SoundReference, SoundLocator}
 use Rattle.well_formed_trees.specs.Statements.{SoundTarget, SoundAllocation, SoundFreeing}
-use Rattle.well_formed_trees.specs.Spelled.{RangedReference, RangedIf, RangedAllocation, RangedFreeing}
+use Rattle.well_formed_trees.specs.Spelled.{RangedReference, RangedAllocation, RangedFreeing}
 use Rattle.well_formed_trees.proofs.Lists.{first_empty, second_empty}
 use Rattle.well_formed_trees.proofs.Places.{same_some}
 use Rattle.well_formed_trees.proofs.FineVariables.{no_clash, none_above}
 use Rattle.well_formed_trees.proofs.Facts.{Facts, InScope}
-use Rattle.well_formed_trees.proofs.MeantVariables.{DeclaresVariable, is_meant, is_declared, typed_variable, fine_declared}
-use Rattle.well_formed_trees.proofs.LocatorsFit.{BasedLocator, based_names, few, few_classes, alone_classes}
+use Rattle.well_formed_trees.proofs.MeantVariables.{DeclaresVariable, is_meant, is_declared, typed_variable}
+use Rattle.well_formed_trees.proofs.MeantVariables.{fine_declared}
+use Rattle.well_formed_trees.proofs.LocatorsFit.{BasedLocator, based_names, few, few_classes}
 use Rattle.well_formed_trees.proofs.ExpressionsFit.{FoundHere, found_here}
 use Rattle.well_formed_trees.proofs.FitValues.{IsPart, IsFit, scalar_is, area_operand_sound}
 use Rattle.well_formed_trees.proofs.StatementsFit.{HoldsIf, referred_fit, judged_holds, areas_if}

@@ -1,47 +1,46 @@
 -- Arguments that break no rule are taken by the parameters of the procedure that is called.
-use Rattle.std.proofs.Common.{◌≡◌, ℕ, zero, suc, ◌+◌, ◌≤◌, ◌==◌, Bool, true, false, ◌&&◌, ◌||◌, List, [], ◌∷◌, ◌++◌}
-use Rattle.std.proofs.Common.{map, length, Option, Some, None, if◌then◌else◌, refl, sym, ap, ◌∙◌, subst, arith, inl, inr}
-use Rattle.std.specs.Prelude.{slice_get, unwrap_or, take, drop, ⊤, ◌⊎◌}
+use Rattle.std.proofs.Common.{◌≡◌, ℕ, ◌==◌, Bool, true, false, ◌&&◌, List, [], ◌∷◌, ◌++◌}
+use Rattle.std.proofs.Common.{map, length, Option, Some, None, if◌then◌else◌, refl, sym, ap, ◌∙◌, subst, inl, inr}
+use Rattle.std.specs.Prelude.{slice_get, take}
 use Rattle.std.specs.List.{list_any}
 use Rattle.std.proofs.lemmas.Bool.{eqb-true, eq-eqb}
 use Rattle.pli_language.specs.declared.expr.Place.{Place}
 use Rattle.pli_language.specs.Keywords.{same_bytes}
 use Rattle.pli_language.specs.Tree as T
-use Rattle.pli_language.specs.Declarations.{Held, Block, Variable, level_of}
-use Rattle.pli_language.specs.Declaring.{has, own_attributes, root_of, first_or, is_parameter, names_of, block_faults}
+use Rattle.pli_language.specs.Declarations.{Block, Variable, level_of}
+use Rattle.pli_language.specs.Declaring.{has, root_of, first_or, is_parameter, names_of, block_faults}
 use Rattle.pli_language.specs.Means.{around_of}
 use Rattle.pli_typing.specs.TypedTree as Y
-use Rattle.pli_typing.specs.Judging.{Judged, fine}
-use Rattle.pli_typing.specs.Variables.{variables_in, declarations_at, head_of_block, variable_meant, index_of_variable}
-use Rattle.pli_typing.specs.Variables.{level_of_block, index_where}
-use Rattle.pli_typing.specs.Calls.{Callee, copied, offset_argument, scalar_argument, argument_by_copy, referent_argument}
-use Rattle.pli_typing.specs.Calls.{arguments_judged, call_of, callee_of, procedure_called, parameters_at, parameters_of}
-use Rattle.pli_typing.specs.Calls.{parameter_place, leaves_pass, index_in, block_of_procedure, whole_of}
+use Rattle.pli_typing.specs.Judging.{fine}
+use Rattle.pli_typing.specs.Variables.{variables_in, declarations_at, head_of_block, index_of_variable}
+use Rattle.pli_typing.specs.Calls.{Callee, copied, offset_argument, scalar_argument, argument_by_copy}
+use Rattle.pli_typing.specs.Calls.{referent_argument}
+use Rattle.pli_typing.specs.Calls.{arguments_judged, call_of, procedure_called, parameters_at}
+use Rattle.pli_typing.specs.Calls.{parameter_place, leaves_pass}
 use Rattle.pli_typing.specs.Converting.{Designated, Referent, Designates, Gives, GivesUnknown, GivesEmptyArea}
 use Rattle.pli_typing.specs.Converting.{GivesNothing, NotKnown, Operand, scalar_type, value_with_type, stored_as}
-use Rattle.pli_typing.specs.Converting.{offset_wanted, wanted, offset_of}
 use Rattle.well_formed_trees.specs.Every.{Every}
-use Rattle.well_formed_trees.specs.Members.{leaves_of_part, whole}
+use Rattle.well_formed_trees.specs.Members.{leaves_of_part}
 use Rattle.well_formed_trees.specs.Surroundings as W
 use Rattle.well_formed_trees.specs.Surroundings.{Table, Where, head_of, IsArea, IsAreaReached}
-use Rattle.well_formed_trees.specs.References.{part_of, subscripts_of, given_in, leaf_left}
-use Rattle.well_formed_trees.specs.Expressions.{Fits, IsScalarParameter, TakesOffset, Passes, IsPassed, ArePassed}
-use Rattle.well_formed_trees.specs.Expressions.{SoundArgument, SoundArguments, SoundCall, SoundStored, SoundOffset}
+use Rattle.well_formed_trees.specs.References.{part_of, given_in, leaf_left}
+use Rattle.well_formed_trees.specs.Expressions.{IsScalarParameter, IsPassed, ArePassed}
+use Rattle.well_formed_trees.specs.Expressions.{SoundArgument, SoundArguments, SoundCall, SoundOffset}
 use Rattle.well_formed_trees.proofs.Lists.{first_empty, second_empty}
 use Rattle.well_formed_trees.proofs.Letters.{second_true, first_true}
-use Rattle.well_formed_trees.proofs.Places.{same_some, every_at}
+use Rattle.well_formed_trees.proofs.Places.{every_at}
 use Rattle.well_formed_trees.proofs.HeldAlone.{BlockWell}
 use Rattle.well_formed_trees.proofs.ParameterVariables.{Meant, all_meant, all_named, head_fine}
 use Rattle.well_formed_trees.proofs.FineVariables.{only_area, none_above}
 use Rattle.well_formed_trees.proofs.Facts.{Facts, IsSeen}
 use Rattle.well_formed_trees.proofs.Found.{IsAmong, every_among}
-use Rattle.well_formed_trees.proofs.MeantVariables.{IsMeant, is_meant}
+use Rattle.well_formed_trees.proofs.MeantVariables.{is_meant}
 use Rattle.well_formed_trees.proofs.KindsSound.{AreaFound, area_meant, static_meant, area_kept, IsKept}
 use Rattle.well_formed_trees.proofs.CalledProcedures.{IsCalled}
-use Rattle.well_formed_trees.proofs.ParameterParts.{TakesPart, TakesScalar, IsParameterType, TakenByName, place_of_name}
+use Rattle.well_formed_trees.proofs.ParameterParts.{TakesPart, TakesScalar, TakenByName, place_of_name}
 use Rattle.well_formed_trees.proofs.ParameterParts.{taken_by_name}
 use Rattle.well_formed_trees.proofs.ParameterAreas.{place_among, any_place}
-use Rattle.well_formed_trees.proofs.FitValues.{SoundValue, SoundGiven, IsPart, IsFit, IsStoredType, designates}
+use Rattle.well_formed_trees.proofs.FitValues.{SoundValue, IsPart, IsFit, IsStoredType, designates}
 use Rattle.well_formed_trees.proofs.FitValues.{stored_sound, part_value}
 use Rattle.well_formed_trees.proofs.FitOperators.{AllFit}
 
@@ -62,7 +61,8 @@ callee_at blocks m head place =
 
 -- ---- areas of OFFSET parameters
 
-around_callee : {blocks : List Block} {w : Where} {holder : ℕ} {head : T.ProcedureHead} (c : IsCalled blocks w holder head)
+around_callee : {blocks : List Block} {w : Where} {holder : ℕ} {head : T.ProcedureHead} (c : IsCalled blocks w holder
+    head)
     → around_of (slice_get blocks c.number) ≡ c.number ∷ c.around
 around_callee c = ap around_of c.has_block ∙ c.around_is
 
@@ -366,11 +366,13 @@ all_taken : (blocks : List Block) (w : Where) → Facts blocks w.program w.table
     (head : T.ProcedureHead) (c : IsCalled blocks w holder head) (ns : List T.Name)
     → Every (Meant blocks c.number head.parameters) ns → Every (TakenByName blocks w c.number c.p) ns
 all_taken blocks w facts holder head c [] m = tt
-all_taken blocks w facts holder head c (n ∷ ns) m =
-    (taken_by_name blocks w facts c.number c.block c.has_block c.p c.own head.parameters n m.0,
-    all_taken blocks w facts holder head c ns m.1)
+all_taken blocks w facts holder head c (n ∷ ns) m = (
+  taken_by_name blocks w facts c.number c.block c.has_block c.p c.own head.parameters n m.0,
+  all_taken blocks w facts holder head c ns m.1,
+)
 
-abbrev call_site : (blocks : List Block) (w : Where) → Facts blocks w.program w.table → (holder : ℕ) (head : T.ProcedureHead)
+abbrev call_site : (blocks : List Block) (w : Where) → Facts blocks w.program w.table → (holder : ℕ) (head :
+    T.ProcedureHead)
     → (c : IsCalled blocks w holder head) → Every (IsSeen blocks w.around) c.around → CallSite blocks w holder head
 call_site blocks w facts holder head c seen =
     let b = c.block in
@@ -394,7 +396,8 @@ site_fit blocks w holder head site place os h f =
         procedure = c.p;
         is = c.is;
         passed =
-            subst (λ is. ArePassed w c.p is (arguments_judged callee callee.parameters os).value) (sym c.parameters) a.0;
+            subst (λ is. ArePassed w c.p is (arguments_judged callee callee.parameters os).value) (sym c.parameters)
+            a.0;
       },
       a.1,
     )

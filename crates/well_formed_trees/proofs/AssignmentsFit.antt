@@ -1,34 +1,32 @@
 -- Assignments, and the variables of DO, that break no rule are sound.
-use Rattle.std.proofs.Common.{◌≡◌, ◌≢◌, ℕ, zero, suc, ◌+◌, ◌==◌, Bool, true, false, not, ◌&&◌, List, [], ◌∷◌, ◌++◌, map}
-use Rattle.std.proofs.Common.{length, Option, Some, None, if◌then◌else◌, refl, sym, ap, ◌∙◌, subst, arith, inl, inr}
-use Rattle.std.specs.Prelude.{is_some, ⊤, ◌⊎◌}
-use Rattle.std.specs.List.{list_any}
+use Rattle.std.proofs.Common.{◌≡◌, ◌≢◌, Bool, true, false, not, [], ◌++◌, map}
+use Rattle.std.proofs.Common.{length, Option, Some, None, if◌then◌else◌, refl, sym, ap, ◌∙◌, subst, inl, inr}
+use Rattle.std.specs.Prelude.{is_some, ◌⊎◌}
 use Rattle.std.proofs.lemmas.Bool.{eq-eqb}
 use Rattle.pli_language.specs.declared.expr.Place.{Place}
 use Rattle.pli_typing.specs.TypedTree as Y
-use Rattle.pli_typing.specs.Judging.{Judged, fine, broken, demand}
+use Rattle.pli_typing.specs.Judging.{fine, broken, demand}
 use Rattle.pli_language.specs.declared.fault.SourceKind.TheVariants.{TypeMismatch}
 use Rattle.pli_typing.specs.Converting.{Designated, Referent, Designates, Gives, GivesUnknown, GivesEmptyArea}
-use Rattle.pli_typing.specs.Converting.{GivesNothing, NotKnown, Operand, scalar_type, element_type, is_area, is_aggregate}
+use Rattle.pli_typing.specs.Converting.{GivesNothing, NotKnown, Operand, scalar_type, element_type, is_area}
+use Rattle.pli_typing.specs.Converting.{is_aggregate}
 use Rattle.pli_typing.specs.Converting.{variable_of, operand_value, operand_stored, stored_as, area_of_type}
-use Rattle.pli_typing.specs.Assigning.{nothing_done, assigned_scalar, area_to_area, assigned_area, assigned_elements}
+use Rattle.pli_typing.specs.Assigning.{nothing_done, assigned_scalar, assigned_area, assigned_elements}
 use Rattle.pli_typing.specs.Assigning.{assigned_each, assigned_matching, assigned_aggregate, assigned_to, leaves_match}
 use Rattle.pli_typing.specs.Assigning.{assigned_referent, assignment, computational, computational_operand, Scalar}
 use Rattle.pli_typing.specs.Assigning.{scalar_if, scalar_referent, scalar_operand, counter_of, is_read, is_written}
-use Rattle.pli_typing.specs.Assigning.{all_pass, get_designated, get_referent, get_item, put_value, put_scalar}
+use Rattle.pli_typing.specs.Assigning.{all_pass, get_referent, get_item, put_scalar}
 use Rattle.pli_typing.specs.Assigning.{put_aggregate, put_referent, put_item}
-use Rattle.well_formed_trees.specs.Every.{Every}
 use Rattle.well_formed_trees.specs.Members.{leaves_of_part}
 use Rattle.well_formed_trees.specs.Surroundings.{Where, IsArea}
 use Rattle.well_formed_trees.specs.References as R
 use Rattle.well_formed_trees.specs.References.{part_of, subscripts_of, given_in, IsScalar, IsArray, leaf_left}
-use Rattle.well_formed_trees.specs.Expressions.{SoundReference, SoundStored, SoundComputational}
-use Rattle.well_formed_trees.specs.Statements.{IsAssigned, SoundCounter, SoundGetItem, SoundPutItem, PassesTest}
+use Rattle.well_formed_trees.specs.Expressions.{SoundReference, SoundComputational}
+use Rattle.well_formed_trees.specs.Statements.{SoundCounter, SoundGetItem, SoundPutItem, PassesTest}
 use Rattle.well_formed_trees.specs.SoundStatements.{IsSoundAlone}
 use Rattle.well_formed_trees.proofs.Lists.{first_empty, second_empty}
-use Rattle.well_formed_trees.proofs.Places.{same_some}
-use Rattle.well_formed_trees.proofs.FitValues.{SoundValue, SoundGiven, IsSoundType, IsPart, IsFit, designates, element_is}
-use Rattle.well_formed_trees.proofs.FitValues.{scalar_is, IsScalarPart, stored_type, stored_sound, operand_sound}
+use Rattle.well_formed_trees.proofs.FitValues.{SoundGiven, IsSoundType, IsPart, IsFit, designates, element_is}
+use Rattle.well_formed_trees.proofs.FitValues.{scalar_is, stored_type, stored_sound, operand_sound}
 use Rattle.well_formed_trees.proofs.FitValues.{operand_stored_sound}
 
 same_variable : (r : Y.Reference) → variable_of r ≡ R.variable_of r
@@ -136,7 +134,8 @@ assigned_fit : (w : Where) (place : Place) (p : Designated) (h : IsPart w p) (t 
     → IsSoundAlone w (assigned_scalar place p.reference t o).value
 assigned_fit w place p h t o e k f =
     let s = scalar_is w p t h e in
-    let x = operand_stored_sound w t o (stored_type w t s.sound_type) k (first_empty (operand_stored t o).faults [] f) in
+    let x = operand_stored_sound w t o (stored_type w t s.sound_type) k (first_empty (operand_stored t o).faults [] f)
+    in
     (record { type = t; scalar = s.scalar; fits = x.0 }, (h.sound, x.1))
 
 to_fit : (w : Where) (place : Place) (p : Designated) (h : IsPart w p) (t : Option Y.LeafType) (o : Operand)
@@ -279,9 +278,11 @@ put_fit w o h f = by o.referent h f where
   by (Designates p) k f = which (is_aggregate p) f where
     which : (b : Bool) → (if b then put_aggregate o.place p else put_scalar o).faults ≡ []
         → SoundPutItem w (if b then put_aggregate o.place p else put_scalar o).value
-    which true f =
-        (passes w is_written p k (passed (all_pass is_written p.leaves) o.place
-        (first_empty (demand (all_pass is_written p.leaves) o.place TypeMismatch).faults [] f)), k.sound)
+    which true f = (
+      passes w is_written p k (passed (all_pass is_written p.leaves) o.place
+          (first_empty (demand (all_pass is_written p.leaves) o.place TypeMismatch).faults [] f)),
+      k.sound,
+    )
     which false f = put_scalar_fit w o h f
   by (Gives v) k f = put_scalar_fit w o h f
   by GivesUnknown k f = put_scalar_fit w o h f

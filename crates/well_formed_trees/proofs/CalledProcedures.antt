@@ -1,15 +1,13 @@
 -- A procedure that a name means is one of the typed tree, and the block that holds it stands around.
-use Rattle.std.proofs.Common.{◌≡◌, ℕ, zero, suc, ◌+◌, ◌-◌, ◌≤◌, ◌==◌, Bool, true, false, ◌||◌, List, [], ◌∷◌, ◌++◌, map}
-use Rattle.std.proofs.Common.{length, Option, Some, None, if◌then◌else◌, refl, sym, ap, ◌∙◌, subst, arith, inl, inr}
-use Rattle.std.specs.Prelude.{slice_get, ⊤}
-use Rattle.std.specs.List.{list_any}
+use Rattle.std.proofs.Common.{◌≡◌, ℕ, suc, ◌+◌, ◌-◌, ◌≤◌, ◌==◌, Bool, true, false, ◌||◌, List, [], ◌∷◌, ◌++◌, map}
+use Rattle.std.proofs.Common.{length, Option, Some, None, if◌then◌else◌, refl, sym, ap, ◌∙◌, subst, arith}
+use Rattle.std.specs.Prelude.{slice_get}
 use Rattle.std.proofs.lemmas.Bool.{eqb-true}
-use Rattle.pli_language.specs.declared.expr.Place.{Place}
 use Rattle.pli_language.specs.Tree as T
-use Rattle.pli_language.specs.Declarations.{Block, Declaration, What, ProcedureName, outermost}
+use Rattle.pli_language.specs.Declarations.{Block, Declaration, ProcedureName}
 use Rattle.pli_language.specs.Declaring.{same_place}
 use Rattle.pli_typing.specs.TypedTree as Y
-use Rattle.pli_typing.specs.Variables.{index_where, level_of_block, depth_of_block}
+use Rattle.pli_typing.specs.Variables.{level_of_block, depth_of_block}
 use Rattle.pli_typing.specs.Calls.{is_block_of, block_of_procedure, parameter_indices, result_type}
 use Rattle.pli_typing.specs.SingleStatements.{first_or_none}
 use Rattle.well_formed_trees.specs.Every.{Every}
@@ -18,9 +16,10 @@ use Rattle.well_formed_trees.specs.Expressions.{IsProcedure}
 use Rattle.well_formed_trees.specs.Spelled.{IsNamed}
 use Rattle.well_formed_trees.proofs.Places.{same_some, every_at}
 use Rattle.well_formed_trees.proofs.Parameters.{finds}
-use Rattle.well_formed_trees.proofs.DeclaredOnce.{IsIn, at_head, at_block, at_declaration, only_one, spot_one, same_place_self, total}
+use Rattle.well_formed_trees.proofs.DeclaredOnce.{IsIn, at_head, at_block, at_declaration, only_one, spot_one}
+use Rattle.well_formed_trees.proofs.DeclaredOnce.{same_place_self, total}
 use Rattle.well_formed_trees.proofs.HeldStatements.{IsFrom}
-use Rattle.well_formed_trees.proofs.HeadsHeld.{IsBlockOf, HeadHeld, HeadsHeld, BlockHolds, from_at, numbers_around}
+use Rattle.well_formed_trees.proofs.HeadsHeld.{IsBlockOf, HeadHeld, BlockHolds, from_at, numbers_around}
 use Rattle.well_formed_trees.proofs.HeadsHeld.{match_at, entry_at, IsTyped, has_number}
 use Rattle.well_formed_trees.proofs.Facts.{Facts, IsSeen}
 use Rattle.well_formed_trees.proofs.MeantVariables.{any_at, declares_none, is_around}
@@ -153,7 +152,8 @@ is_called blocks w facts holder index d head i e seen =
     let k : IsBlockOf blocks hb.around head = subst (HeadHeld blocks hb.around) e
     (every_at (λ (d : Declaration). HeadHeld blocks hb.around d.what) hb.declarations index d hold.0 i.has) in
     let y : 0 + k.number ≡ k.number = omega arith in
-    let has : IsTyped w.program.procedures k.number k.block.head = subst (λ n. IsTyped w.program.procedures n k.block.head)
+    let has : IsTyped w.program.procedures k.number k.block.head = subst (λ n. IsTyped w.program.procedures n
+    k.block.head)
     y (from_at (λ n (b : Block). IsTyped w.program.procedures n b.head) 0 blocks k.number k.block facts.typed
     k.has_block) in
     let t = typed_by blocks k.number w.program.procedures facts.procedures

@@ -1,6 +1,6 @@
 -- No two of what blocks declare, and of the procedures that they are, stand at one place.
 use Rattle.std.proofs.Common.{◌≡◌, ℕ, zero, suc, ◌+◌, ◌≤◌, ◌<◌, ◌==◌, Bool, true, false, ◌&&◌, List, [], ◌∷◌, ◌++◌}
-use Rattle.std.proofs.Common.{map, length, Option, Some, None, if◌then◌else◌, refl, sym, ap, ◌∙◌, subst, arith, inl}
+use Rattle.std.proofs.Common.{map, length, Option, Some, None, refl, sym, ap, ◌∙◌, arith, inl}
 use Rattle.std.proofs.Common.{inr}
 use Rattle.std.specs.Prelude.{slice_get}
 use Rattle.std.specs.List.{flat_map}
@@ -11,9 +11,9 @@ use Rattle.pli_language.specs.declared.token.Token.{Token}
 use Rattle.pli_language.specs.Tokens.{Tokens}
 use Rattle.pli_language.specs.Parsing.{Spells}
 use Rattle.pli_language.specs.Tree as T
-use Rattle.pli_language.specs.Declarations.{Declaration, Block, Variable, Held, declared_in, declared_in_item}
+use Rattle.pli_language.specs.Declarations.{Declaration, Block, Variable, declared_in, declared_in_item}
 use Rattle.pli_language.specs.Declarations.{declared_in_stmt, blocks_in, blocks_in_item, blocks_in_stmt, blocks_of}
-use Rattle.pli_language.specs.Declarations.{labels_declared, procedure_declared, declared_by, variable_declared, held}
+use Rattle.pli_language.specs.Declarations.{labels_declared, variable_declared, held}
 use Rattle.pli_language.specs.Declarations.{holders, variables_of, ProcedureName}
 use Rattle.pli_language.specs.Declaring.{same_place}
 use Rattle.well_formed_trees.specs.Every.{Every}

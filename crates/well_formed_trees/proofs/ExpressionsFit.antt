@@ -1,8 +1,7 @@
 -- References and expressions that break no rule come to what is sound.
-use Rattle.std.proofs.Common.{◌≡◌, ℕ, zero, suc, ◌+◌, ◌≤◌, ◌==◌, Bool, true, false, not, ◌&&◌, ◌||◌, List, [], ◌∷◌}
-use Rattle.std.proofs.Common.{◌++◌, map, length, Option, Some, None, if◌then◌else◌, refl, sym, ap, ◌∙◌, subst, arith}
-use Rattle.std.proofs.Common.{inl, inr}
-use Rattle.std.specs.Prelude.{slice_get, is_some, nat_lt, ⊤, ◌⊎◌}
+use Rattle.std.proofs.Common.{◌≡◌, ℕ, suc, Bool, true, false, not, ◌&&◌, ◌||◌, List, [], ◌∷◌}
+use Rattle.std.proofs.Common.{◌++◌, map, length, Option, Some, None, if◌then◌else◌, refl, sym, ap, ◌∙◌, subst}
+use Rattle.std.specs.Prelude.{slice_get, is_some, nat_lt, ⊤}
 use Rattle.std.specs.List.{list_any, flat_map}
 use Rattle.std.proofs.lemmas.Bool.{eqb-true}
 use Rattle.pli_language.specs.declared.expr.Place.{Place}
@@ -12,18 +11,16 @@ use Rattle.pli_language.specs.declared.scope.Found.TheVariants as F
 use Rattle.pli_language.specs.declared.scope.DeclarationAt.{DeclarationAt}
 use Rattle.pli_language.specs.Tree as T
 use Rattle.pli_language.specs.Declarations.{Held, Block, Declaration, What, Variable', Label, ProcedureName}
-use Rattle.pli_language.specs.Declaring.{has, own_attributes, class_attributes, is_builtin, place_of_expr, constant}
-use Rattle.pli_language.specs.Declaring.{attributes_clash, returns_are_bad, has_kind, has_class, at_first, when}
+use Rattle.pli_language.specs.Declaring.{has, own_attributes, class_attributes, is_builtin}
+use Rattle.pli_language.specs.Declaring.{attributes_clash, returns_are_bad, when}
 use Rattle.pli_language.specs.Declaring.{option_faults, attribute_extent_faults, Returned, block_faults, own_dimensions}
-use Rattle.pli_language.specs.Declaring.{has_members, attributes_are_bad}
+use Rattle.pli_language.specs.Declaring.{has_members}
 use Rattle.pli_language.specs.Means.{around_of, declarations_of, names_mean, means, all_but_last, last_of}
 use Rattle.pli_typing.specs.TypedTree as Y
-use Rattle.pli_typing.specs.Judging.{Judged, Scope, demand, fine, broken}
-use Rattle.pli_typing.specs.Variables.{variable_meant, what_at, what_of, all_dimensions, type_of}
-use Rattle.pli_typing.specs.Calls.{part_designated, procedure_called, result_type, type_returned, returns_in}
-use Rattle.pli_typing.specs.Calls.{block_of_procedure}
-use Rattle.pli_typing.specs.Converting.{Designated, Referent, Designates, Gives, GivesUnknown, GivesEmptyArea}
-use Rattle.pli_typing.specs.Converting.{GivesNothing, NotKnown, Operand, operand_value, pointer_operand, value_from}
+use Rattle.pli_typing.specs.Judging.{Scope, demand, broken}
+use Rattle.pli_typing.specs.Variables.{what_at, what_of, all_dimensions, type_of}
+use Rattle.pli_typing.specs.Calls.{procedure_called, result_type, type_returned, returns_in}
+use Rattle.pli_typing.specs.Converting.{NotKnown, Operand, operand_value, pointer_operand, value_from}
 use Rattle.pli_typing.specs.Operators.{prefixed, infixed}
 use Rattle.pli_typing.specs.Builtins.{number_list, builtin_called}
 use Rattle.pli_typing.specs.References.{Named, written_locator, locator_of, listed, all_operands, is_listed, is_empty}
@@ -32,8 +29,7 @@ use Rattle.pli_typing.specs.References.{function_referent, procedure_referent, b
 use Rattle.pli_typing.specs.References.{is_builtin_name, found_referent, names_referent, operand_from, reference_from}
 use Rattle.pli_typing.specs.References.{given, expression, reference, qualified, arguments, expressions}
 use Rattle.well_formed_trees.specs.Every.{Every}
-use Rattle.well_formed_trees.specs.Ranges.{IsPrecision}
-use Rattle.well_formed_trees.specs.Surroundings.{Table, Where, procedure_numbered}
+use Rattle.well_formed_trees.specs.Surroundings.{Where, procedure_numbered}
 use Rattle.well_formed_trees.specs.References.{given_in}
 use Rattle.well_formed_trees.specs.Expressions.{SoundLocator, SoundNumbers, SoundCall, Gives as IsGiving}
 use Rattle.well_formed_trees.specs.Spelled.{IsNamed}
@@ -43,22 +39,21 @@ use Rattle.pli_language.specs.declared.fault.SourceKind.TheVariants.{BadAttribut
 use Rattle.pli_language.specs.Refusals.{fault}
 use Rattle.well_formed_trees.specs.Spelled.{RangedExpr, RangedReference, RangedQualified, RangedArguments, RangedExprs}
 use Rattle.well_formed_trees.proofs.Lists.{first_empty, second_empty, first_false, second_false}
-use Rattle.well_formed_trees.proofs.Letters.{first_true, second_true}
+use Rattle.well_formed_trees.proofs.Letters.{second_true}
 use Rattle.well_formed_trees.proofs.Places.{same_some, every_at}
 use Rattle.well_formed_trees.proofs.Parameters.{none_when, attributes_fine}
 use Rattle.well_formed_trees.proofs.ResultTypes.{head_result}
 use Rattle.well_formed_trees.proofs.FineVariables.{IsFineMember}
 use Rattle.well_formed_trees.proofs.Facts.{Facts, IsSeen, IsVisible, InScope}
-use Rattle.well_formed_trees.proofs.Found.{FoundAt, found_at}
+use Rattle.well_formed_trees.proofs.Found.{found_at}
 use Rattle.well_formed_trees.proofs.DeclaredOnce.{IsIn}
-use Rattle.well_formed_trees.proofs.HeldStatements.{IsFrom}
 use Rattle.well_formed_trees.proofs.MeantVariables.{DeclaresVariable, visible_from, fine_declared}
 use Rattle.well_formed_trees.proofs.KindsSound.{kind_sound}
-use Rattle.well_formed_trees.proofs.PartFit.{part_fit, IsReferred, AreSubscripts}
+use Rattle.well_formed_trees.proofs.PartFit.{part_fit, AreSubscripts}
 use Rattle.well_formed_trees.proofs.CalledProcedures.{IsCalled, is_called}
 use Rattle.well_formed_trees.proofs.ArgumentsFit.{call_fit}
 use Rattle.well_formed_trees.proofs.LocatorsFit.{locator_fit}
-use Rattle.well_formed_trees.proofs.FitValues.{IsSoundType, SoundValue, SoundGiven, IsPart, IsFit, operand_sound}
+use Rattle.well_formed_trees.proofs.FitValues.{IsSoundType, SoundGiven, IsFit, operand_sound}
 use Rattle.well_formed_trees.proofs.FitValues.{pointer_operand_sound}
 use Rattle.well_formed_trees.proofs.FitOperators.{AllFit, digits_fit, prefixed_fit, infixed_fit, numbers_sound}
 use Rattle.well_formed_trees.proofs.FitOperators.{builtin_fit}
@@ -226,7 +221,8 @@ function_fit blocks w facts at k head e place os a f =
           (every_at (λ b. block_faults b ≡ []) blocks c.number c.block facts.fine c.has_block)) t e
 
       by : (o : Option Y.LeafType) → result_type blocks at.block head ≡ o
-          → IsGiving (λ o. o ≡ result_type blocks at.block head) w (procedure_called blocks at.block head place os).value
+          → IsGiving (λ o. o ≡ result_type blocks at.block head) w (procedure_called blocks at.block head place
+          os).value
           → SoundCall w (procedure_called blocks at.block head place os).value
           → ((t : Y.LeafType) → result_type blocks at.block head ≡ Some t → IsSoundType w t)
           → IsFit w (function_answer o (procedure_called blocks at.block head place os).value)
@@ -420,10 +416,11 @@ mutual
       (arguments_fit scope w i a r (first_empty (arguments scope a).faults [] f), tt)
   qualified_fit scope w i (T.Of n a q) r f =
       let x = (arguments scope a).faults in
-      let y = (qualified scope q).faults in
-      (arguments_fit scope w i a r.0 (first_empty x (y ++ []) f),
-      all_named w (qualified scope q).value
-      (qualified_fit scope w i q r.1 (first_empty y [] (second_empty x (y ++ []) f))))
+      let y = (qualified scope q).faults in (
+        arguments_fit scope w i a r.0 (first_empty x (y ++ []) f),
+        all_named w (qualified scope q).value
+            (qualified_fit scope w i q r.1 (first_empty y [] (second_empty x (y ++ []) f))),
+      )
 
   pub arguments_fit : (scope : Scope) (w : Where) → InScope scope w → (a : T.Arguments) → RangedArguments a
       → (arguments scope a).faults ≡ [] → AllFit w (listed (arguments scope a).value)
@@ -436,6 +433,7 @@ mutual
   expressions_fit scope w i T.NoExpr r f = tt
   expressions_fit scope w i (T.ExprThen e es) r f =
       let j = (expression scope e).faults in
-      let k = (expressions scope es).faults in
-      (expression_fit scope w i e r.0 (first_empty j [] (first_empty (j ++ []) (k ++ []) f)),
-      expressions_fit scope w i es r.1 (first_empty k [] (second_empty (j ++ []) (k ++ []) f)))
+      let k = (expressions scope es).faults in (
+        expression_fit scope w i e r.0 (first_empty j [] (first_empty (j ++ []) (k ++ []) f)),
+        expressions_fit scope w i es r.1 (first_empty k [] (second_empty (j ++ []) (k ++ []) f)),
+      )

@@ -1,5 +1,5 @@
 -- What is known of the blocks of an accepted source, and of where a statement of it stands.
-use Rattle.std.proofs.Common.{◌≡◌, ℕ, List, [], ◌∷◌, ◌++◌, Some}
+use Rattle.std.proofs.Common.{◌≡◌, ℕ, List, [], ◌++◌, Some}
 use Rattle.std.specs.Prelude.{slice_get, ◌⊎◌}
 use Rattle.pli_language.specs.Tree as T
 use Rattle.pli_language.specs.Declarations.{Block, Label, outermost}

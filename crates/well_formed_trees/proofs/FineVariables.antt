@@ -1,7 +1,7 @@
 -- What is so of the attributes of each member of a variable, where declarations break no rule.
-use Rattle.std.proofs.Common.{◌≡◌, ℕ, zero, suc, ◌+◌, ◌≤◌, ◌==◌, Bool, true, false, not, ◌&&◌, ◌||◌, List, [], ◌∷◌, ◌<◌}
-use Rattle.std.proofs.Common.{◌++◌, map, length, Option, Some, None, if◌then◌else◌, refl, sym, ap, ◌∙◌, subst, arith}
-use Rattle.std.specs.Prelude.{slice_get, nat_lt, ⊤}
+use Rattle.std.proofs.Common.{◌≡◌, ℕ, zero, suc, ◌+◌, ◌==◌, Bool, true, false, not, ◌&&◌, ◌||◌, List, [], ◌∷◌, ◌<◌}
+use Rattle.std.proofs.Common.{◌++◌, length, Some, if◌then◌else◌, refl, sym, ap, ◌∙◌, subst, arith}
+use Rattle.std.specs.Prelude.{slice_get, nat_lt}
 use Rattle.std.specs.List.{list_any, flat_map}
 use Rattle.std.proofs.lemmas.Bool.Decides.{nat_tests}
 use Rattle.pli_language.specs.declared.fault.SourceKind.TheVariants.{BadAttributes, NestedArea}
@@ -9,7 +9,7 @@ use Rattle.pli_language.specs.Refusals.{fault}
 use Rattle.pli_language.specs.Tree as T
 use Rattle.pli_language.specs.Declarations.{Variable, Held, What, Variable', Label, ProcedureName, Declaration}
 use Rattle.pli_language.specs.Declarations.{dimensions_of}
-use Rattle.pli_language.specs.Declaring.{when, has, has_kind, kinds_in, one, own_attributes, stands_alone, has_members}
+use Rattle.pli_language.specs.Declaring.{when, has, has_kind, one, own_attributes, stands_alone, has_members}
 use Rattle.pli_language.specs.Declaring.{own_dimensions, attributes_clash, attributes_are_bad, area_is_nested, row_of}
 use Rattle.pli_language.specs.Declaring.{variable_faults, what_faults, structure_after, declarations_faults}
 use Rattle.pli_typing.specs.Variables as V
@@ -18,7 +18,7 @@ use Rattle.well_formed_trees.specs.Every.{Every}
 use Rattle.well_formed_trees.proofs.Lists.{first_empty, second_empty, first_false, second_false, both_false}
 use Rattle.well_formed_trees.proofs.Places.{same_some, every_at}
 use Rattle.well_formed_trees.proofs.Parameters.{none_when, attributes_fine}
-use Rattle.well_formed_trees.proofs.Structures.{Chained, chain_behind, AreHeld, IsStructure, has_some}
+use Rattle.well_formed_trees.proofs.Structures.{AreHeld, IsStructure, has_some}
 
 -- ---- each member breaks no rule
 
@@ -36,7 +36,8 @@ pub record IsFineVariable (ps : List T.Name) (all : List Held) : Type 0 where
   pub own : variable_faults ps earlier root after ≡ []
   pub more : declarations_faults ps (structure_after earlier (Variable' root)) after ≡ []
 
-member_fine : (ps : List T.Name) (earlier : List Held) (w : What) (ds : List Declaration) → what_faults ps earlier w ds ≡ []
+member_fine : (ps : List T.Name) (earlier : List Held) (w : What) (ds : List Declaration) → what_faults ps earlier w
+    ds ≡ []
     → Every (IsFineMember ps) (members_first ds) → Every (IsFineMember ps) (member_then w (members_first ds))
 member_fine ps earlier (Variable' h) ds f k = by (stands_alone h) where
   by : (b : Bool) → Every (IsFineMember ps) (if b then [] else h ∷ members_first ds)
@@ -171,7 +172,8 @@ root_only g after a e = by (members_first after) refl where
   by (m ∷ ms) f =
       absurd (cc (has_some g m after a (0, ap (λ l. slice_get l 0) f), e))
 
-pub held_not_alone : (chain : List Variable) (ms : List Held) → AreHeld chain ms → Every (λ m. stands_alone m ≡ false) ms
+pub held_not_alone : (chain : List Variable) (ms : List Held) → AreHeld chain ms → Every (λ m. stands_alone m ≡ false)
+    ms
 held_not_alone chain [] h = tt
 held_not_alone chain (m ∷ ms) h = (h.1.0, held_not_alone (m.above ++ m.variable ∷ []) ms h.1.1)
 
@@ -207,7 +209,8 @@ only_area ps (g ∷ ms) s h (suc place) m e a =
 
 -- ---- each declaration
 
-pub declared_fine : (ps : List T.Name) (earlier : List Held) (ds : List Declaration) (i : ℕ) (d : Declaration) (h : Held)
+pub declared_fine : (ps : List T.Name) (earlier : List Held) (ds : List Declaration) (i : ℕ) (d : Declaration) (h :
+    Held)
     → declarations_faults ps earlier ds ≡ [] → slice_get ds i ≡ Some d → d.what ≡ Variable' h → IsFineMember ps h
 declared_fine ps earlier [] i d h f e w = absurd (cc e)
 declared_fine ps earlier (x ∷ ds) zero d h f e w =

@@ -1,10 +1,9 @@
 -- What operators and built-in functions come to, where they break no rule, is sound.
-use Rattle.std.proofs.Common.{◌≡◌, ℕ, zero, suc, ◌+◌, ◌≤◌, ◌<◌, ◌==◌, Bool, true, false, not, ◌&&◌, List, [], ◌∷◌, ◌++◌}
-use Rattle.std.proofs.Common.{length, Option, Some, None, if◌then◌else◌, refl, sym, ap, ◌∙◌, subst, arith, inl, inr, ℤ}
+use Rattle.std.proofs.Common.{◌≡◌, ℕ, ◌≤◌, Bool, true, false, not, ◌&&◌, List, [], ◌∷◌, ◌++◌}
+use Rattle.std.proofs.Common.{Option, Some, None, if◌then◌else◌, refl, sym, subst, arith, inl, inr, ℤ}
 use Rattle.std.proofs.Common.{pos, negsuc}
-use Rattle.std.specs.Prelude.{nat_le, ⊤, ◌⊎◌}
+use Rattle.std.specs.Prelude.{nat_le, ◌⊎◌}
 use Rattle.std.proofs.lemmas.Bool.Decides.{nat_tests}
-use Rattle.std.proofs.lemmas.Bool.{eqb-true}
 use Rattle.pli_language.specs.declared.expr.Place.{Place}
 use Rattle.pli_language.specs.declared.expr.PrefixOp.{PrefixOp}
 use Rattle.pli_language.specs.declared.expr.PrefixOp.TheVariants as P
@@ -12,17 +11,17 @@ use Rattle.pli_language.specs.declared.expr.InfixOp.{InfixOp}
 use Rattle.pli_language.specs.declared.expr.InfixOp.TheVariants as I
 use Rattle.pli_language.specs.declared.token.Word.{Word}
 use Rattle.pli_language.specs.declared.token.Word.TheVariants as W
-use Rattle.pli_language.specs.Declaring.{most_dimensions, is_builtin}
+use Rattle.pli_language.specs.Declaring.{is_builtin}
 use Rattle.pli_typing.specs.TypedTree as Y
 use Rattle.pli_typing.specs.Judging.{Judged, fine}
 use Rattle.pli_typing.specs.Converting.{Designated, Referent, Designates, Gives, GivesUnknown, GivesEmptyArea}
 use Rattle.pli_typing.specs.Converting.{GivesNothing, NotKnown, Operand, operator_digits, is_area, variable_of}
 use Rattle.pli_typing.specs.Converting.{operand_value, wanted, number_operand, text_operand, own_bit_operand}
 use Rattle.pli_typing.specs.Converting.{pointer_operand, area_operand, number_wanted, text_wanted, own_bit_wanted}
-use Rattle.pli_typing.specs.Converting.{pointer_wanted, offset_wanted, no_reference}
+use Rattle.pli_typing.specs.Converting.{pointer_wanted, offset_wanted}
 use Rattle.pli_typing.specs.Operators.{prefixed, infixed, ComparedAs, AsNumbers, AsTexts, AsBits, AsPointers}
 use Rattle.pli_typing.specs.Operators.{AsOffsets, Compared, pointers_compared, offsets_compared, values_compared}
-use Rattle.pli_typing.specs.Operators.{kinds_compared, compared, half_compared, equality, calculated, joined, combined}
+use Rattle.pli_typing.specs.Operators.{kinds_compared, compared, equality, calculated, joined, combined}
 use Rattle.pli_typing.specs.Operators.{comparison}
 use Rattle.pli_typing.specs.Builtins.{number_given, text_given, pointer_given, bad_number, of_number, of_numbers}
 use Rattle.pli_typing.specs.Builtins.{number_list, of_many, of_text, of_texts, substring, constant_within, is_zero}
@@ -31,12 +30,11 @@ use Rattle.pli_typing.specs.Builtins.{allocations_of, of_controlled, has_name, b
 use Rattle.pli_typing.specs.Builtins.{own_offset, pointer_into, offset_into, without_arguments, builtin_called}
 use Rattle.well_formed_trees.specs.Every.{Every}
 use Rattle.well_formed_trees.specs.Ranges.{IsPrecision}
-use Rattle.well_formed_trees.specs.Surroundings.{Where, IsArea, IsAreaIf, IsDeclared, IsOfClass}
+use Rattle.well_formed_trees.specs.Surroundings.{Where, IsDeclared, IsOfClass}
 use Rattle.well_formed_trees.specs.References as R
 use Rattle.well_formed_trees.specs.References.{part_of, subscripts_of, IsDimension, IsWhole, HasName}
 use Rattle.well_formed_trees.specs.Expressions.{SoundNumber, SoundNumbers, SoundText, SoundBit, SoundPointer}
-use Rattle.well_formed_trees.specs.Expressions.{SoundOffset, SoundReference, IsNamed, IsControlled, IsSomeNumber}
-use Rattle.well_formed_trees.proofs.Letters.{first_true, second_true}
+use Rattle.well_formed_trees.specs.Expressions.{SoundOffset, SoundReference}
 use Rattle.well_formed_trees.proofs.Lists.{first_empty, second_empty}
 use Rattle.well_formed_trees.proofs.Places.{same_some}
 use Rattle.well_formed_trees.proofs.FitValues.{SoundValue, SoundGiven, IsPart, IsFit, designates, wanted_sound}
@@ -62,61 +60,72 @@ calculated_fit : (w : Where) (op : Y.ArithmeticOperator) (l r : Operand) → IsF
     → (calculated op l r).faults ≡ [] → IsFit w (calculated op l r).value
 calculated_fit w op l r h k f =
     let a = (number_operand l).faults in
-    let b = (number_operand r).faults in
-    (digits_fit, (number_operand_sound w l h (first_empty a (b ++ []) f),
-    number_operand_sound w r k (first_empty b [] (second_empty a (b ++ []) f))))
+    let b = (number_operand r).faults in (
+      digits_fit,
+      (
+        number_operand_sound w l h (first_empty a (b ++ []) f),
+        number_operand_sound w r k (first_empty b [] (second_empty a (b ++ []) f)),
+      ),
+    )
 
 joined_fit : (w : Where) (l r : Operand) → IsFit w l.referent → IsFit w r.referent → (joined l r).faults ≡ []
     → IsFit w (joined l r).value
 joined_fit w l r h k f =
     let a = (text_operand l).faults in
-    let b = (text_operand r).faults in
-    (text_operand_sound w l h (first_empty a (b ++ []) f),
-    text_operand_sound w r k (first_empty b [] (second_empty a (b ++ []) f)))
+    let b = (text_operand r).faults in (
+      text_operand_sound w l h (first_empty a (b ++ []) f),
+      text_operand_sound w r k (first_empty b [] (second_empty a (b ++ []) f)),
+    )
 
 combined_fit : (w : Where) (op : Y.BitOperator) (l r : Operand) → IsFit w l.referent → IsFit w r.referent
     → (combined op l r).faults ≡ [] → IsFit w (combined op l r).value
 combined_fit w op l r h k f =
     let a = (own_bit_operand l).faults in
-    let b = (own_bit_operand r).faults in
-    (own_bit_operand_sound w l h (first_empty a (b ++ []) f),
-    own_bit_operand_sound w r k (first_empty b [] (second_empty a (b ++ []) f)))
+    let b = (own_bit_operand r).faults in (
+      own_bit_operand_sound w l h (first_empty a (b ++ []) f),
+      own_bit_operand_sound w r k (first_empty b [] (second_empty a (b ++ []) f)),
+    )
 
 pointers_sound : (w : Where) (c : Compared) (e : Option Bool) → SoundValue w c.left → SoundValue w c.right
     → (pointers_compared c e).faults ≡ [] → SoundBit w (pointers_compared c e).value
 pointers_sound w c None h k f = absurd (cc f)
 pointers_sound w c (Some e) h k f =
     let a = (pointer_wanted c.left_place (Some c.left)).faults in
-    let b = (pointer_wanted c.right_place (Some c.right)).faults in
-    (pointer_sound w c.left_place (Some c.left) h (first_empty a (b ++ []) f),
-    pointer_sound w c.right_place (Some c.right) k (first_empty b [] (second_empty a (b ++ []) f)))
+    let b = (pointer_wanted c.right_place (Some c.right)).faults in (
+      pointer_sound w c.left_place (Some c.left) h (first_empty a (b ++ []) f),
+      pointer_sound w c.right_place (Some c.right) k (first_empty b [] (second_empty a (b ++ []) f)),
+    )
 
 offsets_sound : (w : Where) (c : Compared) (e : Option Bool) → SoundValue w c.left → SoundValue w c.right
     → (offsets_compared c e).faults ≡ [] → SoundBit w (offsets_compared c e).value
 offsets_sound w c None h k f = absurd (cc f)
 offsets_sound w c (Some e) h k f =
     let a = (offset_wanted None c.left_place (Some c.left)).faults in
-    let b = (offset_wanted None c.right_place (Some c.right)).faults in
-    (offset_sound w None c.left_place (Some c.left) tt h (first_empty a (b ++ []) f),
-    offset_sound w None c.right_place (Some c.right) tt k (first_empty b [] (second_empty a (b ++ []) f)))
+    let b = (offset_wanted None c.right_place (Some c.right)).faults in (
+      offset_sound w None c.left_place (Some c.left) tt h (first_empty a (b ++ []) f),
+      offset_sound w None c.right_place (Some c.right) tt k (first_empty b [] (second_empty a (b ++ []) f)),
+    )
 
 values_sound : (w : Where) (op : Y.Comparison) (c : Compared) (as' : ComparedAs) → SoundValue w c.left
     → SoundValue w c.right → (values_compared op c as').faults ≡ [] → SoundBit w (values_compared op c as').value
 values_sound w op c AsNumbers h k f =
     let a = (number_wanted c.left_place (Some c.left)).faults in
-    let b = (number_wanted c.right_place (Some c.right)).faults in
-    (number_sound w c.left_place (Some c.left) h (first_empty a (b ++ []) f),
-    number_sound w c.right_place (Some c.right) k (first_empty b [] (second_empty a (b ++ []) f)))
+    let b = (number_wanted c.right_place (Some c.right)).faults in (
+      number_sound w c.left_place (Some c.left) h (first_empty a (b ++ []) f),
+      number_sound w c.right_place (Some c.right) k (first_empty b [] (second_empty a (b ++ []) f)),
+    )
 values_sound w op c AsTexts h k f =
     let a = (text_wanted c.left_place (Some c.left)).faults in
-    let b = (text_wanted c.right_place (Some c.right)).faults in
-    (text_sound w c.left_place (Some c.left) h (first_empty a (b ++ []) f),
-    text_sound w c.right_place (Some c.right) k (first_empty b [] (second_empty a (b ++ []) f)))
+    let b = (text_wanted c.right_place (Some c.right)).faults in (
+      text_sound w c.left_place (Some c.left) h (first_empty a (b ++ []) f),
+      text_sound w c.right_place (Some c.right) k (first_empty b [] (second_empty a (b ++ []) f)),
+    )
 values_sound w op c AsBits h k f =
     let a = (own_bit_wanted c.left_place (Some c.left)).faults in
-    let b = (own_bit_wanted c.right_place (Some c.right)).faults in
-    (own_bit_sound w c.left_place (Some c.left) h (first_empty a (b ++ []) f),
-    own_bit_sound w c.right_place (Some c.right) k (first_empty b [] (second_empty a (b ++ []) f)))
+    let b = (own_bit_wanted c.right_place (Some c.right)).faults in (
+      own_bit_sound w c.left_place (Some c.left) h (first_empty a (b ++ []) f),
+      own_bit_sound w c.right_place (Some c.right) k (first_empty b [] (second_empty a (b ++ []) f)),
+    )
 values_sound w op c AsPointers h k f = pointers_sound w c (equality op) h k f
 values_sound w op c AsOffsets h k f = offsets_sound w c (equality op) h k f
 
@@ -162,9 +171,10 @@ pub numbers_sound : (w : Where) (os : List Operand) → AllFit w os → (number_
 numbers_sound w [] h f = tt
 numbers_sound w (o ∷ os) h f =
     let a = (number_operand o).faults in
-    let b = (number_list os).faults in
-    (number_operand_sound w o h.0 (first_empty a (b ++ []) f),
-    numbers_sound w os h.1 (first_empty b [] (second_empty a (b ++ []) f)))
+    let b = (number_list os).faults in (
+      number_operand_sound w o h.0 (first_empty a (b ++ []) f),
+      numbers_sound w os h.1 (first_empty b [] (second_empty a (b ++ []) f)),
+    )
 
 one_sound : (w : Where) (place : Place) (build : Y.Number → Y.Number)
     → ((n : Y.Number) → SoundNumber w n → SoundNumber w (build n)) → (os : List Operand) → AllFit w os
@@ -192,9 +202,10 @@ many_sound w place which [] h f = absurd (cc f)
 many_sound w place which (x ∷ []) h f = absurd (cc f)
 many_sound w place which (x ∷ y ∷ more) h f =
     let a = (number_operand x).faults in
-    let b = (number_list (y ∷ more)).faults in
-    (number_operand_sound w x h.0 (first_empty a (b ++ []) f),
-    (tt, numbers_sound w (y ∷ more) h.1 (first_empty b [] (second_empty a (b ++ []) f))))
+    let b = (number_list (y ∷ more)).faults in (
+      number_operand_sound w x h.0 (first_empty a (b ++ []) f),
+      (tt, numbers_sound w (y ∷ more) h.1 (first_empty b [] (second_empty a (b ++ []) f))),
+    )
 
 length_sound : (w : Where) (place : Place) (os : List Operand) → AllFit w os → (of_text place os).faults ≡ []
     → SoundNumber w (of_text place os).value
@@ -220,17 +231,21 @@ substring_sound w place [] h f = absurd (cc f)
 substring_sound w place (s ∷ []) h f = absurd (cc f)
 substring_sound w place (s ∷ i ∷ []) h f =
     let a = (text_operand s).faults in
-    let b = (number_operand i).faults in
-    (text_operand_sound w s h.0 (first_empty a (b ++ []) f),
-    number_operand_sound w i h.1.0 (first_empty b [] (second_empty a (b ++ []) f)))
+    let b = (number_operand i).faults in (
+      text_operand_sound w s h.0 (first_empty a (b ++ []) f),
+      number_operand_sound w i h.1.0 (first_empty b [] (second_empty a (b ++ []) f)),
+    )
 substring_sound w place (s ∷ i ∷ j ∷ []) h f =
     let a = (text_operand s).faults in
     let b = (number_operand i).faults in
     let c = (number_operand j).faults in
-    let more = second_empty a (b ++ (c ++ [])) f in
-    (text_operand_sound w s h.0 (first_empty a (b ++ (c ++ [])) f),
-    (number_operand_sound w i h.1.0 (first_empty b (c ++ []) more),
-    number_operand_sound w j h.1.1.0 (first_empty c [] (second_empty b (c ++ []) more))))
+    let more = second_empty a (b ++ (c ++ [])) f in (
+      text_operand_sound w s h.0 (first_empty a (b ++ (c ++ [])) f),
+      (
+        number_operand_sound w i h.1.0 (first_empty b (c ++ []) more),
+        number_operand_sound w j h.1.1.0 (first_empty c [] (second_empty b (c ++ []) more)),
+      ),
+    )
 substring_sound w place (s ∷ i ∷ j ∷ k ∷ more) h f = absurd (cc f)
 
 -- a constant that is within is
@@ -257,9 +272,13 @@ divided_sound : (w : Where) (place : Place) (p : Option ℕ) (x y : Operand) →
 divided_sound w place None x y p h k f = absurd (cc f)
 divided_sound w place (Some n) x y p h k f =
     let a = (number_operand x).faults in
-    let b = (number_operand y).faults in
-    (p n refl, (number_operand_sound w x h (first_empty a (b ++ []) f),
-    number_operand_sound w y k (first_empty b [] (second_empty a (b ++ []) f))))
+    let b = (number_operand y).faults in (
+      p n refl,
+      (
+        number_operand_sound w x h (first_empty a (b ++ []) f),
+        number_operand_sound w y k (first_empty b [] (second_empty a (b ++ []) f)),
+      ),
+    )
 
 quotient_sound : (w : Where) (place : Place) (os : List Operand) → AllFit w os → (quotient place os).faults ≡ []
     → SoundNumber w (quotient place os).value
@@ -428,11 +447,12 @@ into_sound w place (o ∷ a ∷ []) h f =
     let v = operand_value o in
     let x = wanted own_offset Y.NullOffset o.place v.value in
     let y = area_operand a in
-    let more = second_empty v.faults (x.faults ++ (y.faults ++ [])) f in
-    (area_operand_sound w a h.1.0 (first_empty y.faults [] (second_empty x.faults (y.faults ++ []) more)),
-    wanted_sound w (SoundOffset w) own_offset Y.NullOffset o.place v.value (own_offset_converted w)
-    (operand_sound w o h.0 (first_empty v.faults (x.faults ++ (y.faults ++ [])) f))
-    (first_empty x.faults (y.faults ++ []) more))
+    let more = second_empty v.faults (x.faults ++ (y.faults ++ [])) f in (
+      area_operand_sound w a h.1.0 (first_empty y.faults [] (second_empty x.faults (y.faults ++ []) more)),
+      wanted_sound w (SoundOffset w) own_offset Y.NullOffset o.place v.value (own_offset_converted w)
+          (operand_sound w o h.0 (first_empty v.faults (x.faults ++ (y.faults ++ [])) f))
+          (first_empty x.faults (y.faults ++ []) more),
+    )
 into_sound w place (o ∷ a ∷ b ∷ more) h f = absurd (cc f)
 
 offset_fit : (w : Where) (place : Place) (os : List Operand) → AllFit w os → (offset_into place os).faults ≡ []
@@ -441,9 +461,13 @@ offset_fit w place [] h f = absurd (cc f)
 offset_fit w place (p ∷ []) h f = absurd (cc f)
 offset_fit w place (p ∷ a ∷ []) h f =
     let x = (pointer_operand p).faults in
-    let y = (area_operand a).faults in
-    (tt, (inl (area_operand_sound w a h.1.0 (first_empty y [] (second_empty x (y ++ []) f))),
-    pointer_operand_sound w p h.0 (first_empty x (y ++ []) f)))
+    let y = (area_operand a).faults in (
+      tt,
+      (
+        inl (area_operand_sound w a h.1.0 (first_empty y [] (second_empty x (y ++ []) f))),
+        pointer_operand_sound w p h.0 (first_empty x (y ++ []) f),
+      ),
+    )
 offset_fit w place (p ∷ a ∷ b ∷ more) h f = absurd (cc f)
 
 -- ---- all

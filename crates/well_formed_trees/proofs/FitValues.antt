@@ -1,11 +1,10 @@
 -- What operands come to, where they break no rule, and what it is converted to: sound, with its kind.
-use Rattle.std.proofs.Common.{◌≡◌, ℕ, zero, suc, ◌+◌, ◌==◌, Bool, true, false, List, [], ◌∷◌, ◌++◌, map, length, Option}
-use Rattle.std.proofs.Common.{Some, None, if◌then◌else◌, refl, sym, ap, ◌∙◌, subst, arith, inl, inr}
-use Rattle.std.specs.Prelude.{slice_get, drop, ⊤, ◌⊎◌}
+use Rattle.std.proofs.Common.{◌≡◌, ℕ, ◌==◌, Bool, true, false, List, [], ◌∷◌, map, length, Option}
+use Rattle.std.proofs.Common.{Some, None, if◌then◌else◌, refl, sym, ap, ◌∙◌, subst, inl, inr}
+use Rattle.std.specs.Prelude.{⊤, ◌⊎◌}
 use Rattle.std.proofs.lemmas.Bool.{eqb-true}
 use Rattle.pli_language.specs.declared.expr.Place.{Place}
 use Rattle.pli_typing.specs.TypedTree as Y
-use Rattle.pli_typing.specs.Judging.{Judged}
 use Rattle.pli_typing.specs.Converting.{Designated, Referent, Designates, Gives, GivesUnknown, GivesEmptyArea}
 use Rattle.pli_typing.specs.Converting.{GivesNothing, NotKnown, Operand, value_in, only_type, element_type, scalar_type}
 use Rattle.pli_typing.specs.Converting.{is_area, value_or_mismatch, value_with_type, referent_value, operand_value}
@@ -13,8 +12,7 @@ use Rattle.pli_typing.specs.Converting.{number_of, text_of, bit_of, pointer_of, 
 use Rattle.pli_typing.specs.Converting.{number_wanted, text_wanted, bit_wanted, only_bit, own_bit_wanted}
 use Rattle.pli_typing.specs.Converting.{area_mentioned, pointer_wanted, offset_wanted, number_operand, text_operand}
 use Rattle.pli_typing.specs.Converting.{own_bit_operand, pointer_operand, stored_as, operand_stored, area_or_mismatch}
-use Rattle.pli_typing.specs.Converting.{area_referent, area_operand, area_of_type, variable_of, number_stored}
-use Rattle.pli_typing.specs.Converting.{text_stored, bit_stored, pointer_stored, offset_stored}
+use Rattle.pli_typing.specs.Converting.{area_referent, area_operand, area_of_type, variable_of}
 use Rattle.well_formed_trees.specs.Every.{Every}
 use Rattle.well_formed_trees.specs.Ranges.{IsPrecision}
 use Rattle.well_formed_trees.specs.Members.{IsMember, IsOneLeaf, leaves_of_part, whole}
@@ -81,7 +79,8 @@ pub record IsPart (w : Where) (p : Designated) : Type 0 where
   pub subscripted :
       ((subscripts_of p.reference ≡ Y.NoNumber) × (p.dimensions ≡ dimensions))
       ⊎ ((given_in (subscripts_of p.reference) ≡ dimensions) × (p.dimensions ≡ 0))
-  pub leaves : p.leaves ≡ map (leaf_left (given_in (subscripts_of p.reference))) (leaves_of_part d (part_of p.reference))
+  pub leaves : p.leaves ≡ map (leaf_left (given_in (subscripts_of p.reference))) (leaves_of_part d (part_of
+      p.reference))
   pub types : Every (λ l. IsSoundType w l.type) p.leaves
   pub single : p.has_members ≡ false → IsSingle d (part_of p.reference) dimensions
   pub is_all : p.is_whole ≡ true → (part_of p.reference ≡ whole d) × (subscripts_of p.reference ≡ Y.NoNumber)

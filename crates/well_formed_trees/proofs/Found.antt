@@ -1,7 +1,7 @@
 -- What a name means is a declaration of its letters, in a block around.
-use Rattle.std.proofs.Common.{◌≡◌, ℕ, zero, suc, ◌+◌, Bool, true, false, ◌&&◌, List, [], ◌∷◌, Option, Some, None, refl}
+use Rattle.std.proofs.Common.{◌≡◌, ℕ, zero, suc, ◌+◌, Bool, true, false, List, [], ◌∷◌, Option, Some, None, refl}
 use Rattle.std.proofs.Common.{sym, ap, ◌∙◌, subst, if◌then◌else◌, arith, inl, inr}
-use Rattle.std.specs.Prelude.{slice_get, ⊤, ◌⊎◌}
+use Rattle.std.specs.Prelude.{slice_get, ◌⊎◌}
 use Rattle.pli_language.specs.declared.scope.Found.{Found}
 use Rattle.pli_language.specs.declared.scope.Found.TheVariants as F
 use Rattle.pli_language.specs.declared.scope.DeclarationAt.{DeclarationAt}

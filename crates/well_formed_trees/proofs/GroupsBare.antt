@@ -1,6 +1,6 @@
 -- What is spelled has procedures in the outermost lists of blocks alone.
 use Rattle.std.proofs.Common.{◌≡◌, ℕ, Bool, true, false, not, ◌||◌, List, [], ◌∷◌, ◌++◌, Option, Some, None, refl}
-use Rattle.std.proofs.Common.{sym, ◌∙◌, subst, if◌then◌else◌}
+use Rattle.std.proofs.Common.{subst, if◌then◌else◌}
 use Rattle.std.specs.Prelude.{⊤}
 use Rattle.pli_language.specs.declared.expr.Place.{Place}
 use Rattle.pli_language.specs.declared.fault.SourceFault.{SourceFault}
@@ -13,7 +13,7 @@ use Rattle.pli_language.specs.Marks.{Marks}
 use Rattle.pli_language.specs.Nesting.{Opener, OfProcedure, OfGroup, OfWhile, OfCount, OfBegin, Frame, InList}
 use Rattle.pli_language.specs.Nesting.{ThenDue, ThenWhole, ElseDue, UnitDue, Nest, items_of_list, settled, is_block}
 use Rattle.pli_language.specs.Nesting.{is_return, may_return, is_on_unit, begun, opened, due, whole, with_statement}
-use Rattle.pli_language.specs.Nesting.{with_frames, with_item, with_inner_procedure, ended, end_labels, with_end}
+use Rattle.pli_language.specs.Nesting.{with_frames, with_inner_procedure, ended, end_labels, with_end}
 use Rattle.pli_language.specs.Nesting.{with_else, with_system, with_declaration, with_labelled_procedure, entered}
 use Rattle.pli_language.specs.Nesting.{completed, closed}
 use Rattle.pli_language.specs.Parsing as P

@@ -1,20 +1,21 @@
 -- The block of each procedure that a block declares stands in that one; it has its typed procedure, and its entry.
-use Rattle.std.proofs.Common.{◌≡◌, ℕ, zero, suc, ◌+◌, ◌-◌, ◌≤◌, ◌==◌, Bool, true, false, ◌||◌, List, [], ◌∷◌, ◌++◌, map}
-use Rattle.std.proofs.Common.{length, Option, Some, None, if◌then◌else◌, refl, sym, ap, ◌∙◌, subst, arith, inl, inr}
+use Rattle.std.proofs.Common.{◌≡◌, ℕ, zero, suc, ◌+◌, ◌==◌, Bool, true, false, ◌||◌, List, [], ◌∷◌, ◌++◌, map}
+use Rattle.std.proofs.Common.{length, Option, Some, None, refl, sym, ap, ◌∙◌, subst, arith}
 use Rattle.std.specs.Prelude.{slice_get, ⊤}
 use Rattle.std.specs.List.{list_any, flat_map}
 use Rattle.std.proofs.lemmas.Bool.Decides.{nat_tests}
-use Rattle.std.proofs.lemmas.List.{length-append, append-nil}
 use Rattle.pli_language.specs.Tree as T
 use Rattle.pli_language.specs.Declarations as D
 use Rattle.pli_language.specs.Declarations.{Block, Declaration, What, Held, Variable', ProcedureName, declared_in}
-use Rattle.pli_language.specs.Declarations.{declared_in_item, declared_in_stmt, blocks_in, blocks_in_item, blocks_in_stmt}
-use Rattle.pli_language.specs.Declarations.{blocks_of, outermost, labels_declared, variable_declared, held, variables_of}
+use Rattle.pli_language.specs.Declarations.{declared_in_item, declared_in_stmt, blocks_in, blocks_in_item}
+use Rattle.pli_language.specs.Declarations.{blocks_in_stmt}
+use Rattle.pli_language.specs.Declarations.{blocks_of, outermost, labels_declared, variable_declared, held}
+use Rattle.pli_language.specs.Declarations.{variables_of}
 use Rattle.pli_typing.specs.TypedTree as Y
 use Rattle.pli_typing.specs.SingleStatements as S
 use Rattle.pli_typing.specs.SingleStatements.{Context, in_list, in_block, in_unit}
 use Rattle.pli_typing.specs.Resolving.{statement, statements, block_variables, outermost_context, resolved, typed_tree}
-use Rattle.pli_typing.specs.Resolving.{behind_stmt, letters_of}
+use Rattle.pli_typing.specs.Resolving.{letters_of}
 use Rattle.well_formed_trees.specs.Every.{Every}
 use Rattle.well_formed_trees.specs.Written.{EndsLast, AllEndLast, IsShaped}
 use Rattle.well_formed_trees.specs.Surroundings.{Around, Table, head_of, with_inner, without_inner}
@@ -22,7 +23,6 @@ use Rattle.well_formed_trees.specs.Held.{entry, entries_in, entries_in_item, ent
 use Rattle.well_formed_trees.proofs.Lists.{every_both}
 use Rattle.well_formed_trees.proofs.Places.{HasAt, has_first, has_second, has_end, same_some}
 use Rattle.well_formed_trees.proofs.BlocksHeld.{stmt_length, item_length}
-use Rattle.well_formed_trees.proofs.ProgramNumbers.{no_procedure}
 
 -- ---- the block of each head
 
@@ -338,7 +338,8 @@ mutual
       let here : AreTyped ps n bs = (
         ap (λ b. b || has_number n (r.procedures ++ (statements c (n + length bs) is).procedures)) (own_number n),
         still_typed r.procedures ps
-            (λ k e. later ((n == k)) (number_first k r.procedures (statements c (n + length bs) is).procedures e)) (n + 1)
+            (λ k e. later ((n == k)) (number_first k r.procedures (statements c (n + length bs) is).procedures e)) (n
+            + 1)
             (blocks_in (n ∷ c.around) (n + 1) body) inner,
       ) in
       from_both (λ n b. IsTyped ps n b.head) n bs (blocks_in c.around (n + length bs) is) here
@@ -391,15 +392,19 @@ mutual
       typed_first (statement (in_unit c) n unit).procedures [] n (blocks_in_stmt c.around n unit)
       (stmt_typed (in_unit c) n unit l.1)
   stmt_typed c n (T.Begin body p) l =
-      let d = in_block c n (S.labels_in body) in
-      (tt, typed_first (statements d (n + 1) body).procedures [] (n + 1) (blocks_in (n ∷ c.around) (n + 1) body)
-      (list_typed d (n + 1) body l))
+      let d = in_block c n (S.labels_in body) in (
+        tt,
+        typed_first (statements d (n + 1) body).procedures [] (n + 1) (blocks_in (n ∷ c.around) (n + 1) body)
+            (list_typed d (n + 1) body l),
+      )
   stmt_typed c n _ l = tt
 
 pub heads_typed : (tree : T.Tree) → IsShaped tree → AreTyped (typed_tree tree).procedures 0 (blocks_of tree)
 unfolding resolved blocks_of
 heads_typed tree h =
     let all = blocks_of tree in
-    let r = statements (outermost_context all) 1 tree.procedures in
-    (tt, typed_first r.procedures (block_variables all 0 all).procedures 1 (blocks_in (0 ∷ []) 1 tree.procedures)
-    (list_typed (outermost_context all) 1 tree.procedures h.ends))
+    let r = statements (outermost_context all) 1 tree.procedures in (
+      tt,
+      typed_first r.procedures (block_variables all 0 all).procedures 1 (blocks_in (0 ∷ []) 1 tree.procedures)
+          (list_typed (outermost_context all) 1 tree.procedures h.ends),
+    )

@@ -1,49 +1,34 @@
 -- Kinds of leaves are sound: precisions are in range, and areas that OFFSET names are areas around.
-use Rattle.std.proofs.Common.{◌≡◌, ℕ, zero, suc, ◌+◌, ◌-◌, ◌≤◌, ◌==◌, Bool, true, false, not, ◌&&◌, ◌||◌, List, [], ◌∷◌}
-use Rattle.std.proofs.Common.{◌++◌, map, length, Option, Some, None, if◌then◌else◌, refl, sym, ap, ◌∙◌, subst, arith}
-use Rattle.std.proofs.Common.{inl, inr}
-use Rattle.std.specs.Prelude.{slice_get, nat_lt, unwrap_or, take, drop, ⊤, ◌⊎◌}
+use Rattle.std.proofs.Common.{◌≡◌, ℕ, ◌+◌, ◌≤◌, ◌==◌, Bool, true, false, not, ◌&&◌, ◌||◌, List, [], ◌∷◌}
+use Rattle.std.proofs.Common.{map, length, Option, Some, None, if◌then◌else◌, refl, sym, ap, ◌∙◌, subst, arith}
+use Rattle.std.specs.Prelude.{slice_get, nat_lt, ⊤}
 use Rattle.std.specs.List.{list_any, flat_map}
 use Rattle.std.proofs.lemmas.Bool.Decides.{nat_tests}
-use Rattle.pli_language.specs.declared.expr.Place.{Place}
 use Rattle.pli_language.specs.declared.scope.Found.{Found}
 use Rattle.pli_language.specs.declared.scope.Found.TheVariants as F
 use Rattle.pli_language.specs.declared.scope.DeclarationAt.{DeclarationAt}
 use Rattle.pli_language.specs.Tree as T
 use Rattle.pli_language.specs.Declarations.{Variable, Held, What, Variable', Label, ProcedureName, Declaration, Block}
-use Rattle.pli_language.specs.Declarations.{dimensions_of}
-use Rattle.pli_language.specs.Declaring.{has, own_attributes, stands_alone, is_deeper, precision_of, precisions_in}
+use Rattle.pli_language.specs.Declaring.{has, own_attributes, precision_of, precisions_in}
 use Rattle.pli_language.specs.Declaring.{attributes_clash, repeats, kinds_in, classes_in, most_digits, names_of, one}
 use Rattle.pli_language.specs.Means.{around_of, declarations_of}
 use Rattle.pli_typing.specs.TypedTree as Y
 use Rattle.pli_typing.specs.Variables as V
 use Rattle.pli_typing.specs.Variables.{WrittenExtent, written_extents, leaves_in, leaf_of, leaves_of, with_members}
-use Rattle.pli_typing.specs.Variables.{from_place, part_of, type_of, area_named, area_name, area_found, area_in, what_at}
+use Rattle.pli_typing.specs.Variables.{from_place, part_of, type_of, area_named, area_name, area_found, area_in}
+use Rattle.pli_typing.specs.Variables.{what_at}
 use Rattle.pli_typing.specs.Variables.{what_of, name_means, variable_meant, declarations_at, members_of, level_of_block}
 use Rattle.pli_typing.specs.Variables.{size_of_text, size_of_area, bounds_of, extent_of, initial_items, head_of_block}
-use Rattle.pli_typing.specs.Calls.{part_among, part_designated, part_leaves, leaf_of_element, without_first}
-use Rattle.pli_typing.specs.Converting.{Designated, scalar_type, element_type, only_type, area_of_type, is_area}
-use Rattle.pli_typing.specs.Generations.{member_held}
-use Rattle.well_formed_trees.specs.Every.{Every}
+use Rattle.pli_typing.specs.Converting.{area_of_type}
 use Rattle.well_formed_trees.specs.Ranges.{IsPrecision}
-use Rattle.well_formed_trees.specs.Members as M
-use Rattle.well_formed_trees.specs.Members.{IsMember, IsOneLeaf, leaves_of_part, whole}
-use Rattle.well_formed_trees.specs.Surroundings.{Around, Table, Where, IsDeclared, IsArea, IsAreaIf}
-use Rattle.well_formed_trees.specs.Surroundings as W
-use Rattle.well_formed_trees.specs.References as R
-use Rattle.well_formed_trees.specs.References.{given_in, IsLocated, leaf_left}
-use Rattle.well_formed_trees.specs.Expressions.{SoundLocator, SoundNumbers}
-use Rattle.well_formed_trees.proofs.Lists.{first_empty, second_empty, first_false, second_false, every_map}
-use Rattle.well_formed_trees.proofs.Letters.{first_true, second_true}
+use Rattle.well_formed_trees.specs.Surroundings.{Table, Where, IsArea, IsAreaIf}
+use Rattle.well_formed_trees.proofs.Lists.{first_false, second_false}
 use Rattle.well_formed_trees.proofs.Places.{same_some, every_at}
 use Rattle.well_formed_trees.proofs.ResultTypes.{precision_is}
-use Rattle.well_formed_trees.proofs.Structures.{AreHeld, IsStructure}
-use Rattle.well_formed_trees.proofs.MemberParts.{PartOf, part_of_member, part_same, one_leaf, structure_dimensions}
-use Rattle.well_formed_trees.proofs.MemberParts.{mapped_at, drop_there}
-use Rattle.well_formed_trees.proofs.FineVariables.{IsFineMember, IsFineVariable, all_fine, no_clash, IsOnlyArea, only_area}
+use Rattle.well_formed_trees.proofs.FineVariables.{IsFineMember, all_fine, no_clash, only_area}
 use Rattle.well_formed_trees.proofs.FineVariables.{area_no_builtin}
 use Rattle.well_formed_trees.proofs.Facts.{Facts, IsSeen, IsVisible}
-use Rattle.well_formed_trees.proofs.Found.{IsAmong, every_among, FoundAt, found_at}
+use Rattle.well_formed_trees.proofs.Found.{IsAmong, found_at}
 use Rattle.well_formed_trees.proofs.MeantVariables.{DeclaresVariable, IsMeant, is_meant, typed_variable, is_declared}
 use Rattle.well_formed_trees.proofs.MeantVariables.{visible_from, fine_declared}
 use Rattle.well_formed_trees.proofs.MeantVariables.{declared_found, declared_class}
@@ -51,7 +36,7 @@ use Rattle.well_formed_trees.proofs.FineVariables.{none_above}
 use Rattle.well_formed_trees.specs.Surroundings.{IsStaticArea}
 use Rattle.pli_language.specs.Declaring.{root_of, first_or, is_parameter}
 use Rattle.well_formed_trees.proofs.DeclaredOnce.{IsIn}
-use Rattle.well_formed_trees.proofs.FitValues.{IsSoundType, IsSingle, IsPart}
+use Rattle.well_formed_trees.proofs.FitValues.{IsSoundType}
 
 -- ---- kinds
 
@@ -244,20 +229,20 @@ area_of_what blocks w facts at d i seen Label e v f = absurd (cc f)
 area_of_what blocks w facts at d i seen (ProcedureName head) e v f = absurd (cc f)
 area_of_what blocks w facts at d i seen (Variable' h) e v f =
     by (has 7 (own_attributes h)) refl f (fine_declared blocks w.program w.table facts at.block at.index d h i e) where
-  by : (b : Bool) → has 7 (own_attributes h) ≡ b
-      → (if b then Some (variable_meant blocks at.block h) else None) ≡ Some v
-      → (ps : List T.Name) × IsFineMember ps h → IsArea w v
-  by true a f own =
-      subst (IsArea w) (same_some (variable_meant blocks at.block h) v f)
-      (area_meant blocks w facts at.block h
-      (record {
-        index = at.index;
-        declaration = d;
-        is_in = i;
-        is = e;
-        no_builtin = area_no_builtin own.0 h own.1 a;
-      }) seen a)
-  by false a f own = absurd (cc f)
+      by : (b : Bool) → has 7 (own_attributes h) ≡ b
+          → (if b then Some (variable_meant blocks at.block h) else None) ≡ Some v
+          → (ps : List T.Name) × IsFineMember ps h → IsArea w v
+      by true a f own =
+          subst (IsArea w) (same_some (variable_meant blocks at.block h) v f)
+          (area_meant blocks w facts at.block h
+          (record {
+            index = at.index;
+            declaration = d;
+            is_in = i;
+            is = e;
+            no_builtin = area_no_builtin own.0 h own.1 a;
+          }) seen a)
+      by false a f own = absurd (cc f)
 
 area_of_found : (blocks : List Block) (w : Where) → Facts blocks w.program w.table → (b : ℕ) (name : T.Name)
     → IsVisible blocks w.around b → (f : Found) → name_means blocks b name ≡ f → (v : Y.Variable)

@@ -1,8 +1,7 @@
 -- A BASED variable is located by what stands before it, else by what its declaration names; no other variable is.
 use Rattle.std.proofs.Common.{◌≡◌, ℕ, zero, suc, ◌+◌, ◌≤◌, ◌==◌, Bool, true, false, not, ◌&&◌, ◌||◌, List, [], ◌∷◌}
-use Rattle.std.proofs.Common.{◌++◌, map, length, Option, Some, None, if◌then◌else◌, refl, sym, ap, ◌∙◌, subst, arith}
-use Rattle.std.proofs.Common.{inl, inr}
-use Rattle.std.specs.Prelude.{slice_get, unwrap_or, is_some, nat_lt, ⊤, ◌⊎◌}
+use Rattle.std.proofs.Common.{◌++◌, length, Option, Some, None, if◌then◌else◌, refl, sym, ap, ◌∙◌, subst, arith}
+use Rattle.std.specs.Prelude.{slice_get, unwrap_or, is_some, nat_lt}
 use Rattle.std.specs.List.{list_any}
 use Rattle.std.proofs.lemmas.Bool.Decides.{nat_tests}
 use Rattle.pli_language.specs.declared.expr.Place.{Place}
@@ -11,44 +10,44 @@ use Rattle.pli_language.specs.declared.scope.Found.TheVariants as F
 use Rattle.pli_language.specs.declared.scope.DeclarationAt.{DeclarationAt}
 use Rattle.pli_language.specs.Tree as T
 use Rattle.pli_language.specs.Keywords.{same_bytes}
-use Rattle.pli_language.specs.Declarations.{Held, Variable, level_of, Block, Declaration, What, Variable', Label, ProcedureName}
-use Rattle.pli_language.specs.Declaring.{has, has_class, classes_in, one, own_attributes, class_attributes, root_of, first_or}
-use Rattle.pli_language.specs.Declaring.{stands_alone, is_parameter, names_of, attributes_clash, attributes_are_bad}
+use Rattle.pli_language.specs.Declarations.{Held, Variable, level_of, Block, Declaration, What, Variable', Label}
+use Rattle.pli_language.specs.Declarations.{ProcedureName}
+use Rattle.pli_language.specs.Declaring.{has, has_class, classes_in, one, own_attributes, class_attributes, root_of}
+use Rattle.pli_language.specs.Declaring.{first_or}
+use Rattle.pli_language.specs.Declaring.{stands_alone, is_parameter, names_of, attributes_clash}
 use Rattle.pli_language.specs.Declaring.{kinds_in, repeats}
-use Rattle.pli_language.specs.Means.{around_of, declarations_of}
+use Rattle.pli_language.specs.Means.{declarations_of}
 use Rattle.pli_typing.specs.TypedTree as Y
-use Rattle.pli_typing.specs.Judging.{Judged, Scope, demand, each}
+use Rattle.pli_typing.specs.Judging.{Judged, Scope, each}
 use Rattle.pli_typing.specs.Variables.{variable_meant, head_of_block, locator_name, area_name, name_means, what_at}
 use Rattle.pli_typing.specs.Variables.{what_of, declarations_at, variables_in}
 use Rattle.pli_typing.specs.Calls.{part_designated}
-use Rattle.pli_typing.specs.Converting.{Designated, scalar_type, value_with_type, pointer_wanted, area_mentioned}
+use Rattle.pli_typing.specs.Converting.{Designated, value_with_type, pointer_wanted}
 use Rattle.pli_typing.specs.References.{locates, locator_value, locator_if, locator_in, locator_found, declared_locator}
 use Rattle.pli_typing.specs.References.{based_locator, locator_of}
 use Rattle.pli_typing.specs.Generations.{name_demanded, area_demanded, locator_demanded, names_demanded}
-use Rattle.pli_typing.specs.Generations.{declared_variable, declared_variables, evaluation}
-use Rattle.pli_typing.specs.Variables.{written_extents}
-use Rattle.well_formed_trees.specs.Every.{Every}
+use Rattle.pli_typing.specs.Generations.{declared_variable}
 use Rattle.well_formed_trees.specs.Surroundings.{Table, Where}
 use Rattle.well_formed_trees.specs.References.{IsLocated}
 use Rattle.well_formed_trees.specs.Expressions.{SoundLocator}
 use Rattle.well_formed_trees.proofs.Lists.{first_empty, second_empty, first_false, second_false}
-use Rattle.well_formed_trees.proofs.Letters.{first_true, second_true}
 use Rattle.well_formed_trees.proofs.Places.{same_some, every_at}
 use Rattle.well_formed_trees.proofs.Parameters.{attributes_fine, class_fine}
 use Rattle.well_formed_trees.proofs.FineVariables.{IsFineMember, all_fine, no_clash}
 use Rattle.well_formed_trees.proofs.Facts.{Facts, IsSeen, IsVisible}
-use Rattle.well_formed_trees.proofs.Found.{FoundAt, found_at}
+use Rattle.well_formed_trees.proofs.Found.{found_at}
 use Rattle.well_formed_trees.proofs.DeclaredOnce.{IsIn, total, spot, spot_one, same_place_self, at_declaration}
 use Rattle.well_formed_trees.proofs.DeclaredOnce.{at_block, one_of_total}
 use Rattle.well_formed_trees.proofs.HeldAlone.{IsWell, WhatWell, BlockWell}
-use Rattle.well_formed_trees.proofs.Structures.{BlockChained, Chained, Links, chain_behind, roots_total, at_first, at_held}
+use Rattle.well_formed_trees.proofs.Structures.{BlockChained, Chained, Links, chain_behind, roots_total, at_first}
+use Rattle.well_formed_trees.proofs.Structures.{at_held}
 use Rattle.pli_typing.specs.Variables.{members_first, variable_then, index_where, begins_at, root_place, members_of}
 use Rattle.pli_typing.specs.Variables.{part_of, all_dimensions}
 use Rattle.pli_typing.specs.Calls.{part_among}
 use Rattle.pli_language.specs.Declaring.{same_place}
 use Rattle.well_formed_trees.proofs.MeantVariables.{begins_one, fine_declared}
 use Rattle.well_formed_trees.proofs.MeantVariables.{DeclaresVariable, IsMeant, is_meant, visible_from}
-use Rattle.well_formed_trees.proofs.PartFit.{part_fit, IsReferred, AreSubscripts}
+use Rattle.well_formed_trees.proofs.PartFit.{part_fit}
 use Rattle.well_formed_trees.proofs.FitValues.{IsPart, SoundGiven, part_value, pointer_sound}
 
 -- ---- classes
@@ -107,7 +106,8 @@ class_of_root blocks b h m e =
     ap (λ (v : Variable). v.item.attributes) m.root_is in
     let own : has 11 (own_attributes m.root) ≡ true = ap (has 11) (sym attributes) ∙ e in
     let f = root_fine m in
-    let classes = few (classes_in (own_attributes m.root)) (few_classes (own_attributes m.root) (no_clash names m.root f)) in
+    let classes = few (classes_in (own_attributes m.root)) (few_classes (own_attributes m.root) (no_clash names m.root
+    f)) in
     let two = alone_classes (has 8 (own_attributes m.root)) (has 9 (own_attributes m.root))
     (has 10 (own_attributes m.root)) (has 11 (own_attributes m.root)) (has 13 (own_attributes m.root)) classes own in
     let root : root_of m.root ≡ m.root.variable = ap (λ vs. first_of vs) m.structure.0 in

@@ -1,40 +1,39 @@
 -- A variable that a name means is declared in its block, by its place there, with the members that were declared.
-use Rattle.std.proofs.Common.{◌≡◌, ℕ, zero, suc, ◌+◌, ◌≤◌, ◌==◌, Bool, true, false, not, ◌&&◌, ◌||◌, List, [], ◌∷◌}
-use Rattle.std.proofs.Common.{◌++◌, map, length, Option, Some, None, if◌then◌else◌, refl, sym, ap, ◌∙◌, subst, arith}
+use Rattle.std.proofs.Common.{◌≡◌, ℕ, zero, suc, ◌≤◌, ◌==◌, Bool, true, false, ◌&&◌, ◌||◌, List, [], ◌∷◌}
+use Rattle.std.proofs.Common.{◌++◌, Some, None, if◌then◌else◌, refl, sym, ap, ◌∙◌, subst, arith}
 use Rattle.std.proofs.Common.{inl, inr}
-use Rattle.std.specs.Prelude.{slice_get, nat_lt, unwrap_or, take, drop, ⊤, ◌⊎◌}
-use Rattle.std.specs.List.{list_any, flat_map}
-use Rattle.std.proofs.lemmas.Bool.Decides.{nat_tests}
+use Rattle.std.specs.Prelude.{slice_get, drop}
+use Rattle.std.specs.List.{list_any}
 use Rattle.pli_language.specs.declared.expr.Place.{Place}
 use Rattle.pli_language.specs.Keywords.{same_bytes}
 use Rattle.pli_language.specs.Tree as T
-use Rattle.pli_language.specs.Declarations.{Variable, level_of, Held, What, Variable', Declaration, Block}
+use Rattle.pli_language.specs.Declarations.{Variable, level_of, Held, Variable', Declaration, Block}
 use Rattle.pli_language.specs.Declarations.{outermost}
-use Rattle.pli_language.specs.Declaring.{has, own_attributes, root_of, stands_alone, names_of, is_parameter, same_place}
+use Rattle.pli_language.specs.Declaring.{has, own_attributes, root_of, names_of, same_place}
 use Rattle.pli_language.specs.Declaring.{block_faults, block_head_faults, twice_faults, declarations_faults}
 use Rattle.pli_language.specs.Means.{declarations_of, around_of}
 use Rattle.pli_typing.specs.TypedTree as Y
 use Rattle.pli_typing.specs.Judging.{Scope}
-use Rattle.pli_typing.specs.Generations.{declared_variable, declared_variables}
-use Rattle.pli_typing.specs.Variables.{variables_in, index_where, begins_at, is_at, root_place, declarations_at}
-use Rattle.pli_typing.specs.Variables.{index_of_variable, members_of, head_of_block, variable_meant, class_of}
+use Rattle.pli_typing.specs.Generations.{declared_variable}
+use Rattle.pli_typing.specs.Variables.{variables_in, index_where, begins_at, root_place, declarations_at}
+use Rattle.pli_typing.specs.Variables.{index_of_variable, head_of_block, variable_meant, class_of}
 use Rattle.pli_typing.specs.Variables.{from_place, level_of_block}
 use Rattle.well_formed_trees.specs.Every.{Every}
-use Rattle.well_formed_trees.specs.Surroundings.{Around, Table, Where, IsAround, IsDeclared, declared_variable as declared_by}
-use Rattle.well_formed_trees.specs.Surroundings.{variables_of_block}
-use Rattle.well_formed_trees.proofs.Lists.{first_empty, second_empty}
+use Rattle.well_formed_trees.specs.Surroundings.{Around, Table, Where, IsAround, IsDeclared}
+use Rattle.well_formed_trees.specs.Surroundings.{declared_variable as declared_by}
+use Rattle.well_formed_trees.proofs.Lists.{second_empty}
 use Rattle.well_formed_trees.proofs.Places.{same_some, every_at}
-use Rattle.well_formed_trees.proofs.DeclaredOnce.{total, spot, spot_one, same_place_self, at_declaration, at_block}
-use Rattle.well_formed_trees.proofs.DeclaredOnce.{one_of_total, only_one, IsIn, AreApart}
-use Rattle.well_formed_trees.proofs.Parameters.{Finds, finds}
+use Rattle.well_formed_trees.proofs.DeclaredOnce.{total, spot_one, same_place_self, at_declaration, at_block}
+use Rattle.well_formed_trees.proofs.DeclaredOnce.{one_of_total, only_one, IsIn}
+use Rattle.well_formed_trees.proofs.Parameters.{finds}
 use Rattle.well_formed_trees.proofs.ParameterVariables.{each_at}
-use Rattle.well_formed_trees.proofs.Structures.{BlockChained, IsStructure, InVariables, in_variables, structures}
+use Rattle.well_formed_trees.proofs.Structures.{BlockChained, IsStructure, in_variables, structures}
 use Rattle.well_formed_trees.proofs.Structures.{structure_root, at_held, at_first, variables_total, roots_total}
 use Rattle.well_formed_trees.proofs.MemberParts.{from_there}
 use Rattle.well_formed_trees.proofs.FineVariables.{IsFineVariable, IsFineMember, variables_fine}
 use Rattle.well_formed_trees.proofs.FineVariables.{declared_fine}
 use Rattle.well_formed_trees.proofs.Facts.{Facts, IsSeen, IsVisible}
-use Rattle.well_formed_trees.proofs.Found.{IsAmong, every_among, FoundAt}
+use Rattle.well_formed_trees.proofs.Found.{IsAmong, every_among}
 
 -- a variable, no built-in, that a block declares
 pub record DeclaresVariable (blocks : List Block) (number : ℕ) (h : Held) : Type 0 where
@@ -122,7 +121,8 @@ is_meant blocks program table facts number h d =
     let ds = b.declarations in
     let chained = every_at BlockChained blocks number b facts.chained d.is_in.has_block in
     let faults = every_at (λ b. block_faults b ≡ []) blocks number b facts.fine d.is_in.has_block in
-    let own = second_empty (block_head_faults b b.head ++ twice_faults [] ds) (declarations_faults (names_of b.head) [] ds)
+    let own = second_empty (block_head_faults b b.head ++ twice_faults [] ds) (declarations_faults (names_of b.head)
+    [] ds)
     faults in
     let ps = names_of (head_of_block (slice_get blocks number)) in
     let names : ps ≡ names_of b.head = ap (λ o. names_of (head_of_block o)) d.is_in.has_block in
@@ -167,7 +167,8 @@ unfolding class_by
 same_class names g h e = ap (class_by names) e
 
 -- the whole program declares nothing
-pub declares_none : {blocks : List Block} {number index : ℕ} {d : Declaration} → slice_get blocks number ≡ Some outermost
+pub declares_none : {blocks : List Block} {number index : ℕ} {d : Declaration} → slice_get blocks number ≡ Some
+    outermost
     → IsIn blocks number index d → ⊥
 declares_none {index = index} {d = d} e i =
     nothing (ap (λ (b : Block). slice_get b.declarations index) (sym (same_some i.block outermost
@@ -214,10 +215,11 @@ pub visible_from : (blocks : List Block) (program : Y.Program) (table : Table) �
     → (around : List Around) (n m : ℕ) → IsVisible blocks around n → IsAmong m (around_of (slice_get blocks n))
     → IsVisible blocks around m × IsSeen blocks around m
 visible_from blocks program table facts around n m v i =
-    let seen = IsSeen blocks around in
-    (all (around_of (slice_get blocks m))
-    (λ k j. every_among seen k (around_of (slice_get blocks n)) v (facts.nested n m k i j)),
-    every_among seen m (around_of (slice_get blocks n)) v i) where
+    let seen = IsSeen blocks around in (
+      all (around_of (slice_get blocks m))
+          (λ k j. every_among seen k (around_of (slice_get blocks n)) v (facts.nested n m k i j)),
+      every_among seen m (around_of (slice_get blocks n)) v i,
+    ) where
       all : (ns : List ℕ) → ((k : ℕ) → IsAmong k ns → IsSeen blocks around k) → Every (IsSeen blocks around) ns
       all [] f = tt
       all (n ∷ ns) f = (f n (inl refl), all ns (λ k i. f k (inr i)))

@@ -1,21 +1,20 @@
 -- Which leaves a member of a structure is, and how many dimensions it has, by depths alone as by what is declared.
-use Rattle.std.proofs.Common.{◌≡◌, ℕ, zero, suc, ◌+◌, ◌-◌, ◌≤◌, ◌<◌, ◌==◌, Bool, true, false, List, [], ◌∷◌, ◌++◌}
-use Rattle.std.proofs.Common.{map, length, Option, Some, None, if◌then◌else◌, refl, sym, ap, ◌∙◌, subst, arith}
+use Rattle.std.proofs.Common.{◌≡◌, ℕ, zero, suc, ◌+◌, ◌-◌, ◌≤◌, Bool, true, false, List, [], ◌∷◌, ◌++◌}
+use Rattle.std.proofs.Common.{map, length, Some, if◌then◌else◌, refl, sym, ap, ◌∙◌, subst, arith}
 use Rattle.std.specs.Prelude.{slice_get, nat_lt, take, drop, ⊤}
-use Rattle.std.specs.List.{flat_map, sum, sum_by}
+use Rattle.std.specs.List.{flat_map, sum}
 use Rattle.std.proofs.lemmas.Bool.Decides.{nat_tests}
-use Rattle.std.proofs.lemmas.List.{length-append, append_assoc, map-append}
+use Rattle.std.proofs.lemmas.List.{length-append, map-append}
 use Rattle.std.proofs.lemmas.List.Sums.{sum_by-append}
-use Rattle.pli_language.specs.declared.expr.Place.{Place}
 use Rattle.pli_language.specs.Declarations.{Variable, Held, dimensions_of}
-use Rattle.pli_language.specs.Declaring.{same_place, is_deeper, stands_alone}
+use Rattle.pli_language.specs.Declaring.{same_place, is_deeper}
 use Rattle.pli_typing.specs.TypedTree as Y
 use Rattle.pli_typing.specs.Generations.{member_held}
 use Rattle.pli_typing.specs.Variables as V
 use Rattle.pli_typing.specs.Variables.{leaves_in, with_members, is_at, from_place}
 use Rattle.well_formed_trees.specs.Members as M
 use Rattle.well_formed_trees.proofs.Places.{same_some}
-use Rattle.well_formed_trees.proofs.DeclaredOnce.{total, spot, spot_one, one_of_total}
+use Rattle.well_formed_trees.proofs.DeclaredOnce.{total, spot_one, one_of_total}
 use Rattle.well_formed_trees.proofs.Structures.{Begins, AreHeld, IsStructure, at_held}
 
 -- ---- members by their depths
@@ -64,10 +63,14 @@ part_same all place =
     let c : M.leaves_among (M.first_member (map member_held from)) ≡ length (leaves_in (with_members from)) =
     ap M.leaves_among (first_are from) ∙ among_are (with_members from) in
     sym (ap (λ l. M.part_from (map member_held all) l) d
-    ∙ (ap (λ n. record { first = n - M.leaves_among (map member_held from);
-      count = M.leaves_among (M.first_member (map member_held from)) }) a
-    ∙ (ap (λ n. record { first = length (leaves_in all) - n;
-      count = M.leaves_among (M.first_member (map member_held from)) }) b
+    ∙ (ap (λ n. record {
+      first = n - M.leaves_among (map member_held from);
+      count = M.leaves_among (M.first_member (map member_held from));
+    }) a
+    ∙ (ap (λ n. record {
+      first = length (leaves_in all) - n;
+      count = M.leaves_among (M.first_member (map member_held from));
+    }) b
     ∙ ap (λ n. record { first = length (leaves_in all) - length (leaves_in from); count = n }) c)))
 
 -- ---- leaves of a part

@@ -1,18 +1,17 @@
 -- No two variables of level 1 of a block have one name.
-use Rattle.std.proofs.Common.{◌≡◌, ℕ, zero, suc, ◌+◌, ◌≤◌, ◌==◌, Bool, true, false, not, ◌&&◌, ◌||◌, List, [], ◌∷◌}
-use Rattle.std.proofs.Common.{◌++◌, length, Some, if◌then◌else◌, refl, sym, ap, ◌∙◌, subst, arith}
-use Rattle.std.specs.Prelude.{slice_get, ⊤}
+use Rattle.std.proofs.Common.{◌≡◌, ℕ, ◌+◌, ◌≤◌, ◌==◌, Bool, true, false, not, ◌&&◌, ◌||◌, List, [], ◌∷◌}
+use Rattle.std.proofs.Common.{if◌then◌else◌, refl, sym, ap, ◌∙◌, subst, arith}
 use Rattle.std.specs.List.{list_any}
 use Rattle.pli_language.specs.declared.fault.SourceKind.TheVariants.{DeclaredTwice}
 use Rattle.pli_language.specs.Keywords.{same_bytes}
 use Rattle.pli_language.specs.Refusals.{fault}
 use Rattle.pli_language.specs.Tree as T
 use Rattle.pli_language.specs.Declarations.{level_of, Held, What, Variable', Label, ProcedureName, Declaration}
-use Rattle.pli_language.specs.Declaring.{has, own_attributes, stands_alone, twice_faults, are_rivals, are_siblings, when}
+use Rattle.pli_language.specs.Declaring.{has, own_attributes, stands_alone, twice_faults, are_rivals, are_siblings}
+use Rattle.pli_language.specs.Declaring.{when}
 use Rattle.pli_typing.specs.Variables.{members_first, variable_then, variables_in}
-use Rattle.well_formed_trees.specs.Every.{Every}
 use Rattle.well_formed_trees.proofs.Lists.{first_empty, second_empty}
-use Rattle.well_formed_trees.proofs.Letters.{same_equal, same_turned, same_self, first_true, second_true}
+use Rattle.well_formed_trees.proofs.Letters.{same_equal, same_self, first_true, second_true}
 use Rattle.well_formed_trees.proofs.Parameters.{none_when}
 use Rattle.well_formed_trees.proofs.DeclaredOnce.{total}
 use Rattle.well_formed_trees.proofs.Structures.{Chained, Links, chain_behind}
@@ -73,7 +72,8 @@ none_more : (letters : List ℕ) (before ds : List Declaration)
     → total (level_named letters) ds ≡ 0
 none_more letters before [] e f = refl
 none_more letters before (d ∷ ds) e f =
-    by (is_level letters d.name d.what) refl (none_more letters (d ∷ before) ds (late (is_level letters d.name d.what) e)
+    by (is_level letters d.name d.what) refl (none_more letters (d ∷ before) ds (late (is_level letters d.name d.what)
+    e)
     (second_empty (when test (fault d.name.place DeclaredTwice)) _ f)) where
       test : Bool
       test = list_any (λ b. same_bytes b.name.letters d.name.letters && are_rivals b.what d.what) before
@@ -86,9 +86,11 @@ none_more letters before (d ∷ ds) e f =
       by : (t : Bool) → is_level letters d.name d.what ≡ t → total (level_named letters) ds ≡ 0
           → counted t + total (level_named letters) ds ≡ 0
       by true s k =
-          absurd (cc (any_rival letters before d.name d.what e s,
-          none_when test (fault d.name.place DeclaredTwice)
-          (first_empty (when test (fault d.name.place DeclaredTwice)) _ f)))
+          absurd (cc (
+            any_rival letters before d.name d.what e s,
+            none_when test (fault d.name.place DeclaredTwice)
+                (first_empty (when test (fault d.name.place DeclaredTwice)) _ f),
+          ))
       by false s k = omega (arith, k)
 
 pub names_total : (letters : List ℕ) (before ds : List Declaration) → twice_faults before ds ≡ []

@@ -1,25 +1,25 @@
 -- A parameter that is an area stands among the parameters at the place that a call says.
-use Rattle.std.proofs.Common.{◌≡◌, ℕ, zero, suc, ◌+◌, ◌≤◌, ◌==◌, Bool, true, false, ◌&&◌, ◌||◌, List, [], ◌∷◌, ◌++◌}
-use Rattle.std.proofs.Common.{map, length, Option, Some, None, if◌then◌else◌, refl, sym, ap, ◌∙◌, subst, arith}
-use Rattle.std.specs.Prelude.{slice_get, unwrap_or, ⊤}
+use Rattle.std.proofs.Common.{◌≡◌, ℕ, suc, ◌+◌, ◌≤◌, ◌==◌, Bool, true, false, ◌&&◌, ◌||◌, List, [], ◌∷◌, ◌++◌}
+use Rattle.std.proofs.Common.{map, Some, if◌then◌else◌, refl, sym, ap, ◌∙◌, subst, arith}
+use Rattle.std.specs.Prelude.{slice_get}
 use Rattle.std.specs.List.{list_any}
 use Rattle.std.proofs.lemmas.Bool.{eqb-true, eq-eqb}
 use Rattle.pli_language.specs.Keywords.{same_bytes}
 use Rattle.pli_language.specs.Tree as T
-use Rattle.pli_language.specs.Declarations.{Held, Block, Variable, level_of}
-use Rattle.pli_language.specs.Declaring.{root_of, first_or, is_parameter, twice_faults, block_faults, block_head_faults}
+use Rattle.pli_language.specs.Declarations.{Held, Block, level_of}
+use Rattle.pli_language.specs.Declaring.{twice_faults, block_faults, block_head_faults}
 use Rattle.pli_language.specs.Declaring.{declarations_faults, names_of}
 use Rattle.pli_language.specs.Means.{declarations_of}
 use Rattle.pli_typing.specs.TypedTree as Y
 use Rattle.pli_typing.specs.Variables.{variables_in, index_where, declarations_at}
-use Rattle.pli_typing.specs.Calls.{index_in, parameters_at, whole_of}
+use Rattle.pli_typing.specs.Calls.{index_in, parameters_at}
 use Rattle.pli_typing.specs.Converting.{Designated}
 use Rattle.well_formed_trees.specs.Every.{Every}
 use Rattle.well_formed_trees.specs.Surroundings.{Table, Where}
 use Rattle.well_formed_trees.proofs.Lists.{first_empty, second_empty}
 use Rattle.well_formed_trees.proofs.Letters.{same_equal, same_self, both_true}
-use Rattle.well_formed_trees.proofs.Places.{same_some, every_at}
-use Rattle.well_formed_trees.proofs.DeclaredOnce.{total, only_one}
+use Rattle.well_formed_trees.proofs.Places.{every_at}
+use Rattle.well_formed_trees.proofs.DeclaredOnce.{only_one}
 use Rattle.well_formed_trees.proofs.Structures.{BlockChained}
 use Rattle.well_formed_trees.proofs.NamesOnce.{names_total, named_first, first_total, counted}
 use Rattle.well_formed_trees.proofs.Facts.{Facts}

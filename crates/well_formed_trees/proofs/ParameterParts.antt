@@ -1,15 +1,12 @@
 -- The parameters of a procedure, as its own block has them.
-use Rattle.std.proofs.Common.{◌≡◌, ℕ, zero, suc, ◌+◌, ◌≤◌, ◌==◌, Bool, true, false, not, ◌&&◌, ◌||◌, List, [], ◌∷◌}
+use Rattle.std.proofs.Common.{◌≡◌, ℕ, zero, suc, ◌≤◌, ◌==◌, Bool, true, false, List, [], ◌∷◌}
 use Rattle.std.proofs.Common.{◌++◌, map, length, Option, Some, None, if◌then◌else◌, refl, sym, ap, ◌∙◌, subst, arith}
-use Rattle.std.proofs.Common.{inl, inr}
-use Rattle.std.specs.Prelude.{slice_get, unwrap_or, take, drop, nat_lt, ⊤, ◌⊎◌}
-use Rattle.std.specs.List.{list_any}
-use Rattle.std.proofs.lemmas.Bool.{eqb-true, eq-eqb}
+use Rattle.std.specs.Prelude.{slice_get, unwrap_or, drop, nat_lt, ⊤}
+use Rattle.std.proofs.lemmas.Bool.{eqb-true}
 use Rattle.pli_language.specs.declared.expr.Place.{Place}
-use Rattle.pli_language.specs.Keywords.{same_bytes}
 use Rattle.pli_language.specs.Tree as T
-use Rattle.pli_language.specs.Declarations.{Held, Declaration, Block, level_of}
-use Rattle.pli_language.specs.Declaring.{has, own_attributes, stands_alone, root_of, first_or, names_of, is_parameter, same_place}
+use Rattle.pli_language.specs.Declarations.{Held, Block, level_of}
+use Rattle.pli_language.specs.Declaring.{has, own_attributes, stands_alone, root_of, first_or, names_of, same_place}
 use Rattle.pli_language.specs.Declaring.{block_faults, block_head_faults, twice_faults, declarations_faults}
 use Rattle.pli_language.specs.Declaring.{precision_of, precisions_in}
 use Rattle.pli_language.specs.Means.{declarations_of, around_of}
@@ -19,37 +16,31 @@ use Rattle.pli_typing.specs.Generations.{declared_variable}
 use Rattle.pli_typing.specs.Variables as V
 use Rattle.pli_typing.specs.Variables.{variables_in, index_where, declarations_at, index_of_variable, members_of}
 use Rattle.pli_typing.specs.Variables.{head_of_block, from_place, with_members, leaves_in, leaf_of, leaves_of}
-use Rattle.pli_typing.specs.Variables.{WrittenExtent, written_extents, variable_meant, begins_at, root_place, type_of, area_named}
+use Rattle.pli_typing.specs.Variables.{WrittenExtent, written_extents, variable_meant, begins_at, root_place, type_of}
+use Rattle.pli_typing.specs.Variables.{area_named}
 use Rattle.pli_typing.specs.Variables.{area_name, area_found, name_means, size_of_text, size_of_area, class_of}
-use Rattle.pli_typing.specs.Calls.{begins_named, parameter_indices, whole_of, parameters_at, part_designated, index_in}
-use Rattle.pli_typing.specs.Calls.{parameter_place}
-use Rattle.pli_typing.specs.Converting.{Designated, scalar_type, element_type, only_type}
-use Rattle.well_formed_trees.specs.Every.{Every}
+use Rattle.pli_typing.specs.Calls.{begins_named, whole_of, part_designated, index_in}
+use Rattle.pli_typing.specs.Converting.{Designated, scalar_type, only_type}
 use Rattle.well_formed_trees.specs.Ranges.{IsPrecision}
 use Rattle.well_formed_trees.specs.Surroundings.{Table, Where, head_of, parameter, variables_of_block}
 use Rattle.well_formed_trees.specs.Expressions.{IsScalarParameter}
-use Rattle.well_formed_trees.proofs.Lists.{first_empty, second_empty, every_map}
-use Rattle.well_formed_trees.proofs.Letters.{same_equal, same_self, first_true, second_true, both_true}
+use Rattle.well_formed_trees.proofs.Lists.{second_empty}
+use Rattle.well_formed_trees.proofs.Letters.{first_true}
 use Rattle.well_formed_trees.proofs.Places.{same_some, every_at}
-use Rattle.well_formed_trees.proofs.Parameters.{finds}
-use Rattle.well_formed_trees.proofs.ParameterVariables.{Meant, all_meant, all_named, head_fine, each_at}
-use Rattle.well_formed_trees.proofs.HeldAlone.{BlockWell}
+use Rattle.well_formed_trees.proofs.ParameterVariables.{Meant, each_at}
 use Rattle.well_formed_trees.proofs.ResultTypes.{precision_is}
-use Rattle.well_formed_trees.proofs.DeclaredOnce.{total, spot, same_place_self, at_declaration, at_block, one_of_total}
+use Rattle.well_formed_trees.proofs.DeclaredOnce.{total, same_place_self, at_declaration, at_block, one_of_total}
 use Rattle.well_formed_trees.proofs.DeclaredOnce.{only_one}
-use Rattle.well_formed_trees.proofs.Structures.{BlockChained, IsStructure, structures, structure_root, at_held, at_first}
+use Rattle.well_formed_trees.proofs.Structures.{BlockChained, IsStructure, structures, structure_root, at_held}
+use Rattle.well_formed_trees.proofs.Structures.{at_first}
 use Rattle.well_formed_trees.proofs.Structures.{variables_total, roots_total}
 use Rattle.well_formed_trees.proofs.MemberParts.{from_there}
 use Rattle.well_formed_trees.proofs.FineVariables.{IsFineMember, IsFineVariable, variables_fine, all_fine, no_clash}
-use Rattle.well_formed_trees.proofs.FineVariables.{only_area}
-use Rattle.well_formed_trees.proofs.NamesOnce.{names_total, named_first, first_total, counted, level_named}
-use Rattle.well_formed_trees.proofs.Facts.{Facts, IsSeen}
-use Rattle.well_formed_trees.proofs.Found.{IsAmong, every_among}
-use Rattle.well_formed_trees.proofs.MeantVariables.{DeclaresVariable, IsMeant, is_meant, typed_variable, found_there}
-use Rattle.well_formed_trees.proofs.MeantVariables.{any_at, begins_one}
-use Rattle.well_formed_trees.proofs.KindsSound.{type_by, digits_fine, AreaDeclared, AreaFound, area_found_is}
+use Rattle.well_formed_trees.proofs.Facts.{Facts}
+use Rattle.well_formed_trees.proofs.MeantVariables.{IsMeant, typed_variable, found_there}
+use Rattle.well_formed_trees.proofs.MeantVariables.{begins_one}
+use Rattle.well_formed_trees.proofs.KindsSound.{type_by, digits_fine, AreaFound, area_found_is}
 use Rattle.well_formed_trees.proofs.PartFit.{part_with, part_is, whole_with, one_member}
-use Rattle.well_formed_trees.proofs.CalledProcedures.{IsCalled}
 
 abbrev pub place_of_name : List Block → ℕ → T.Name → ℕ
 place_of_name blocks m n = index_where (begins_named n) (variables_in (declarations_at blocks m))
@@ -68,7 +59,8 @@ meant_root blocks program table facts m b e h ms i f =
     let same : declarations_at blocks m ≡ ds = ap declarations_of e in
     let chained = every_at BlockChained blocks m b facts.chained e in
     let faults = every_at (λ b. block_faults b ≡ []) blocks m b facts.fine e in
-    let own = second_empty (block_head_faults b b.head ++ twice_faults [] ds) (declarations_faults (names_of b.head) [] ds)
+    let own = second_empty (block_head_faults b b.head ++ twice_faults [] ds) (declarations_faults (names_of b.head)
+    [] ds)
     faults in
     let ps = names_of (head_of_block (slice_get blocks m)) in
     let names : ps ≡ names_of b.head = ap (λ o. names_of (head_of_block o)) e in

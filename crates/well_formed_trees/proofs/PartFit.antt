@@ -1,52 +1,38 @@
 -- What a name of a variable designates is a part of what is declared, or an element of one.
-use Rattle.std.proofs.Common.{◌≡◌, ℕ, zero, suc, ◌+◌, ◌-◌, ◌≤◌, ◌==◌, Bool, true, false, not, ◌&&◌, ◌||◌, List, [], ◌∷◌}
-use Rattle.std.proofs.Common.{◌++◌, map, length, Option, Some, None, if◌then◌else◌, refl, sym, ap, ◌∙◌, subst, arith}
+use Rattle.std.proofs.Common.{◌≡◌, ℕ, zero, suc, ◌+◌, ◌-◌, ◌==◌, Bool, true, false, not, ◌&&◌, List, [], ◌∷◌}
+use Rattle.std.proofs.Common.{◌++◌, map, length, Some, None, if◌then◌else◌, refl, sym, ap, ◌∙◌, subst, arith}
 use Rattle.std.proofs.Common.{inl, inr}
-use Rattle.std.specs.Prelude.{slice_get, nat_lt, unwrap_or, take, drop, ⊤, ◌⊎◌}
-use Rattle.std.specs.List.{list_any, flat_map}
+use Rattle.std.specs.Prelude.{slice_get, nat_lt, unwrap_or, take, drop, ◌⊎◌}
 use Rattle.std.proofs.lemmas.Bool.Decides.{nat_tests}
-use Rattle.pli_language.specs.declared.expr.Place.{Place}
-use Rattle.pli_language.specs.declared.scope.Found.{Found}
-use Rattle.pli_language.specs.declared.scope.Found.TheVariants as F
-use Rattle.pli_language.specs.declared.scope.DeclarationAt.{DeclarationAt}
 use Rattle.pli_language.specs.Tree as T
-use Rattle.pli_language.specs.Declarations.{Variable, Held, What, Variable', Label, ProcedureName, Declaration, Block}
-use Rattle.pli_language.specs.Declarations.{dimensions_of}
-use Rattle.pli_language.specs.Declaring.{has, own_attributes, stands_alone, is_deeper, precision_of, precisions_in}
-use Rattle.pli_language.specs.Declaring.{attributes_clash, repeats, kinds_in, classes_in, most_digits, names_of, one}
-use Rattle.pli_language.specs.Means.{around_of, declarations_of}
+use Rattle.pli_language.specs.Declarations.{Variable, Held, Block}
+use Rattle.pli_language.specs.Declaring.{has, own_attributes, stands_alone, is_deeper}
+use Rattle.pli_language.specs.Declaring.{attributes_clash}
 use Rattle.pli_typing.specs.TypedTree as Y
 use Rattle.pli_typing.specs.Variables as V
 use Rattle.pli_typing.specs.Variables.{WrittenExtent, written_extents, leaves_in, leaf_of, leaves_of, with_members}
-use Rattle.pli_typing.specs.Variables.{from_place, part_of, type_of, area_named, area_name, area_found, area_in, what_at}
+use Rattle.pli_typing.specs.Variables.{from_place, part_of, type_of, area_named, area_name, area_found, area_in}
+use Rattle.pli_typing.specs.Variables.{what_at}
 use Rattle.pli_typing.specs.Variables.{what_of, name_means, variable_meant, declarations_at, members_of, level_of_block}
 use Rattle.pli_typing.specs.Variables.{size_of_text, size_of_area, bounds_of, extent_of, initial_items, head_of_block}
-use Rattle.pli_typing.specs.Calls.{part_among, part_designated, part_leaves, leaf_of_element, without_first}
-use Rattle.pli_typing.specs.Converting.{Designated, scalar_type, element_type, only_type, area_of_type, is_area}
-use Rattle.pli_typing.specs.Generations.{member_held}
+use Rattle.pli_typing.specs.Calls.{part_designated, part_leaves, leaf_of_element, without_first}
+use Rattle.pli_typing.specs.Converting.{Designated, scalar_type, only_type, area_of_type, is_area}
 use Rattle.well_formed_trees.specs.Every.{Every}
-use Rattle.well_formed_trees.specs.Ranges.{IsPrecision}
-use Rattle.well_formed_trees.specs.Members as M
-use Rattle.well_formed_trees.specs.Members.{IsMember, IsOneLeaf, leaves_of_part, whole}
-use Rattle.well_formed_trees.specs.Surroundings.{Around, Table, Where, IsDeclared, IsArea, IsAreaIf}
-use Rattle.well_formed_trees.specs.Surroundings as W
-use Rattle.well_formed_trees.specs.References as R
+use Rattle.well_formed_trees.specs.Members.{IsMember, whole}
+use Rattle.well_formed_trees.specs.Surroundings.{Where, IsArea}
 use Rattle.well_formed_trees.specs.References.{given_in, IsLocated, leaf_left}
 use Rattle.well_formed_trees.specs.Expressions.{SoundLocator, SoundNumbers}
-use Rattle.well_formed_trees.proofs.Lists.{first_empty, second_empty, first_false, second_false, every_map}
-use Rattle.well_formed_trees.proofs.Letters.{first_true, second_true}
+use Rattle.well_formed_trees.proofs.Lists.{every_map}
 use Rattle.well_formed_trees.proofs.Places.{same_some, every_at, HasAt, has_end}
 use Rattle.well_formed_trees.proofs.KindsSound.{area_written, area_type, area_meant, kind_sound}
 use Rattle.well_formed_trees.proofs.Structures.{AreHeld, IsStructure}
-use Rattle.well_formed_trees.proofs.MemberParts.{PartOf, part_of_member, part_same, one_leaf, structure_dimensions}
+use Rattle.well_formed_trees.proofs.MemberParts.{part_of_member, part_same, one_leaf, structure_dimensions}
 use Rattle.well_formed_trees.proofs.MemberParts.{mapped_at, drop_there}
-use Rattle.well_formed_trees.proofs.FineVariables.{IsFineMember, IsFineVariable, all_fine, no_clash, IsOnlyArea, only_area}
+use Rattle.well_formed_trees.proofs.FineVariables.{IsFineMember, IsFineVariable, all_fine, no_clash, IsOnlyArea}
+use Rattle.well_formed_trees.proofs.FineVariables.{only_area}
 use Rattle.well_formed_trees.proofs.FineVariables.{held_not_alone}
 use Rattle.well_formed_trees.proofs.Facts.{Facts, IsSeen, IsVisible}
-use Rattle.well_formed_trees.proofs.Found.{IsAmong, every_among, FoundAt, found_at}
 use Rattle.well_formed_trees.proofs.MeantVariables.{DeclaresVariable, IsMeant, is_meant, typed_variable, is_declared}
-use Rattle.well_formed_trees.proofs.MeantVariables.{visible_from, fine_declared}
-use Rattle.well_formed_trees.proofs.DeclaredOnce.{IsIn}
 use Rattle.well_formed_trees.proofs.FitValues.{IsSoundType, IsSingle, IsPart}
 
 -- ---- leaves of members
@@ -346,11 +332,13 @@ placed_fit blocks w facts b h d m seen see locator is_element subscripts r =
           (every_own (IsFineMember _) all m.place fine)));
       single = λ e. single_is blocks b h m e;
       is_all =
-          λ e. (whole_part blocks b h m (both_whole (stands_alone h) is_element e).0,
-          r.are.none (both_whole (stands_alone h) is_element e).1);
+          λ e. (
+            whole_part blocks b h m (both_whole (stands_alone h) is_element e).0,
+            r.are.none (both_whole (stands_alone h) is_element e).1,
+          );
       area = λ e. area_is (area_leaf _ blocks b all m.structure m.fine own
-      (every_own (IsThere all) all m.place (all_there all)) (written_extents all)
-      (ap area_of_type (sym (part_only is_element h (map leaf own))) ∙ area_scalar p e));
+          (every_own (IsThere all) all m.place (all_there all)) (written_extents all)
+          (ap area_of_type (sym (part_only is_element h (map leaf own))) ∙ area_scalar p e));
       no_area = λ e n k. no_area_is e n k;
       sound = (
         record {

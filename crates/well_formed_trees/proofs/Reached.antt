@@ -1,8 +1,7 @@
 -- The labels that a context has are in lists around, wherever it goes in.
-use Rattle.std.proofs.Common.{◌≡◌, ℕ, suc, ◌+◌, Bool, true, false, ◌||◌, List, [], ◌∷◌, ◌++◌, map, Option, Some, refl}
+use Rattle.std.proofs.Common.{◌≡◌, ℕ, ◌+◌, Bool, true, false, ◌||◌, List, [], ◌∷◌, ◌++◌, Some, refl}
 use Rattle.std.proofs.Common.{sym, ap, ◌∙◌, subst, inl, inr, length}
-use Rattle.std.specs.Prelude.{slice_get, ⊤, ◌⊎◌}
-use Rattle.std.specs.List.{list_any}
+use Rattle.std.specs.Prelude.{slice_get, ◌⊎◌}
 use Rattle.pli_language.specs.Keywords.{same_bytes}
 use Rattle.pli_language.specs.Tree as T
 use Rattle.pli_language.specs.Declarations as D
@@ -13,8 +12,8 @@ use Rattle.pli_typing.specs.SingleStatements.{Context}
 use Rattle.pli_typing.specs.Variables.{level_of_block}
 use Rattle.pli_typing.specs.Resolving.{letters_of}
 use Rattle.well_formed_trees.specs.Every.{Every}
-use Rattle.well_formed_trees.specs.Surroundings.{Label, Around, IsAround, IsTarget, is_among, labels_of}
-use Rattle.well_formed_trees.proofs.Lists.{every_both, every_map, every_first, every_second}
+use Rattle.well_formed_trees.specs.Surroundings.{Label, Around, IsTarget, is_among, labels_of}
+use Rattle.well_formed_trees.proofs.Lists.{every_both, every_map}
 use Rattle.well_formed_trees.proofs.Letters.{same_self}
 use Rattle.well_formed_trees.proofs.Places.{HasAt, has_first, has_second}
 use Rattle.well_formed_trees.proofs.Facts.{IsSeen, IsReached}
@@ -140,20 +139,22 @@ list_labels b k (T.ItemThen (T.EndLabels labels place) is) h =
 all_among : (before ns : List T.Name)
     → Every (λ n. is_among n.letters (letters_of (before ++ ns)) ≡ true) ns
 all_among before [] = tt
-all_among before (n ∷ ns) =
-    (here before, subst (λ l. Every (λ m. is_among m.letters (letters_of l) ≡ true) ns) (shift before n ns)
-    (all_among (before ++ n ∷ []) ns)) where
-      here : (before : List T.Name) → is_among n.letters (letters_of (before ++ n ∷ ns)) ≡ true
-      here [] = ap (λ b. b || is_among n.letters (letters_of ns)) (same_self n.letters)
-      here (m ∷ ms) = either (same_bytes n.letters m.letters) (here ms) where
-        either : (b : Bool) → is_among n.letters (letters_of (ms ++ n ∷ ns)) ≡ true
-            → (b || is_among n.letters (letters_of (ms ++ n ∷ ns))) ≡ true
-        either true e = refl
-        either false e = e
+all_among before (n ∷ ns) = (
+  here before,
+  subst (λ l. Every (λ m. is_among m.letters (letters_of l) ≡ true) ns) (shift before n ns)
+      (all_among (before ++ n ∷ []) ns),
+) where
+  here : (before : List T.Name) → is_among n.letters (letters_of (before ++ n ∷ ns)) ≡ true
+  here [] = ap (λ b. b || is_among n.letters (letters_of ns)) (same_self n.letters)
+  here (m ∷ ms) = either (same_bytes n.letters m.letters) (here ms) where
+    either : (b : Bool) → is_among n.letters (letters_of (ms ++ n ∷ ns)) ≡ true
+        → (b || is_among n.letters (letters_of (ms ++ n ∷ ns))) ≡ true
+    either true e = refl
+    either false e = e
 
-      shift : (before : List T.Name) (n : T.Name) (ns : List T.Name) → (before ++ n ∷ []) ++ ns ≡ before ++ n ∷ ns
-      shift [] n ns = refl
-      shift (m ∷ ms) n ns = ap (λ l. m ∷ l) (shift ms n ns)
+  shift : (before : List T.Name) (n : T.Name) (ns : List T.Name) → (before ++ n ∷ []) ++ ns ≡ before ++ n ∷ ns
+  shift [] n ns = refl
+  shift (m ∷ ms) n ns = ap (λ l. m ∷ l) (shift ms n ns)
 
 both_reached : (blocks : List Block) (number : ℕ) (b : Block) (a : Around) (more : List Around) (all ns : List T.Name)
     → slice_get blocks number ≡ Some b → a.level ≡ level_of_block blocks number
@@ -172,7 +173,8 @@ both_reached blocks number b a more all (n ∷ ns) e f g m d = (
 )
 
 -- the labels of a block's outermost list
-pub outermost_reached : (blocks : List Block) (number k : ℕ) (b : Block) (a : Around) (more : List Around) (is : T.Items)
+pub outermost_reached : (blocks : List Block) (number k : ℕ) (b : Block) (a : Around) (more : List Around) (is :
+    T.Items)
     → slice_get blocks number ≡ Some b → a.level ≡ level_of_block blocks number
     → a.outermost ≡ letters_of (S.labels_in is) → HasAt b.declarations k (declared_in is)
     → Every (IsReached blocks (without a ∷ more)) (S.labels_in is)

@@ -1,5 +1,5 @@
 -- Each procedure of an accepted source is sound: where its blocks and statements stand, and what these say.
-use Rattle.std.proofs.Common.{◌≡◌, ℕ, suc, Bool, true, false, List, [], ◌∷◌, ◌++◌, Option, Some, None, refl, sym, ap, ◌∙◌, subst}
+use Rattle.std.proofs.Common.{◌≡◌, ℕ, Bool, true, false, List, [], ◌∷◌, sym, ap, ◌∙◌, subst}
 use Rattle.std.specs.Prelude.{slice_get, ⊤}
 use Rattle.pli_language.specs.declared.expr.Place.{Place}
 use Rattle.pli_language.specs.declared.scope.Found.{Found}
@@ -11,8 +11,8 @@ use Rattle.pli_typing.specs.Assigning.{holds_fixed}
 use Rattle.pli_typing.specs.Variables.{name_means}
 use Rattle.pli_typing.specs.Generations.{allocation, freeing}
 use Rattle.pli_typing.specs.Judging.{each}
-use Rattle.pli_typing.specs.SingleStatements.{Context, Turns, OneTurn, CountedTurns, do_statement, in_list, in_block}
-use Rattle.pli_typing.specs.SingleStatements.{in_unit, labels_in, turns, condition, goto_statement, get_of, put_of}
+use Rattle.pli_typing.specs.SingleStatements.{Context, Turns, OneTurn, CountedTurns, do_statement, in_list}
+use Rattle.pli_typing.specs.SingleStatements.{labels_in, turns, condition, goto_statement, get_of, put_of}
 use Rattle.pli_typing.specs.SingleStatements.{jump, jump_found}
 use Rattle.pli_typing.specs.Resolving.{statement, statements, typed_tree}
 use Rattle.well_formed_trees.specs.Every.{Every}
@@ -26,12 +26,10 @@ use Rattle.well_formed_trees.specs.Spelled.{RangedAllocation, RangedFreeing}
 use Rattle.well_formed_trees.specs.WellFormed.{SoundProcedure, procedure_around}
 use Rattle.well_formed_trees.specs.Held.{HeldStmt, HeldStmts, HeldProcedure, IsUnitOf, table_of}
 use Rattle.well_formed_trees.specs.Framed.{FramedProcedure}
-use Rattle.well_formed_trees.specs.Everywhere.{StmtHolds, StmtsHold, ProcedureHolds, GoesAround, HoldsEverywhere}
+use Rattle.well_formed_trees.specs.Everywhere.{StmtHolds, StmtsHold, ProcedureHolds, GoesAround}
 use Rattle.well_formed_trees.specs.SoundStatements.{IsSoundAlone, AcceptedProcedures}
-use Rattle.well_formed_trees.proofs.Lists.{first_empty, second_empty}
+use Rattle.well_formed_trees.proofs.Lists.{first_empty}
 use Rattle.well_formed_trees.proofs.Places.{same_some}
-use Rattle.well_formed_trees.proofs.Facts.{Sees}
-use Rattle.well_formed_trees.proofs.HeldStatements.{StmtFine}
 use Rattle.well_formed_trees.proofs.AcceptedFacts.{facts_kept}
 use Rattle.well_formed_trees.proofs.AcceptedSources.{procedures_framed}
 use Rattle.well_formed_trees.proofs.GroupsBare.{groups_kept}
@@ -142,8 +140,11 @@ mutual
       (k.0.0, (k.0.1, (sound_stmts (W.in_list w (X.labels_in body)) body h.0 k.1, h.1)))
   sound_stmt w (Y.DoCount counter start limit step condition body line) h k =
       (k.0.0, (k.0.1, (sound_stmts (W.in_list w (X.labels_in body)) body h.0 k.1, h.1)))
-  sound_stmt w (Y.Begin (Y.BlockOf head body)) h k =
-      ((h.0.0, (record { line = h.0.1.0.0; level = h.0.1.0.1 }, h.0.1.1)), sound_stmts (inside w head body) body h.1 k.1)
+  sound_stmt w (Y.Begin (Y.BlockOf head body)) h k = (
+    (h.0.0, (record { line = h.0.1.0.0; level = h.0.1.0.1 }, h.0.1.1)),
+    sound_stmts (inside w head body) body h.1
+        k.1,
+  )
   sound_stmt w (Y.OnSystem condition line) h k = h
   sound_stmt w (Y.OnUnit condition (Y.BlockOf head body) line) h k = (
     (unit_head w head head.kind h.0.0, (record { line = h.0.1.0.0; level = h.0.1.0.1 }, h.0.1.1)),

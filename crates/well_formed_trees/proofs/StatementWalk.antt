@@ -1,8 +1,7 @@
 -- What is so of each statement of an accepted source by itself is so everywhere in its typed tree.
-use Rattle.std.proofs.Common.{◌≡◌, ℕ, zero, suc, ◌+◌, Bool, true, false, Option, List, [], ◌∷◌, ◌++◌, length, Some, None}
+use Rattle.std.proofs.Common.{◌≡◌, ℕ, suc, ◌+◌, Bool, true, false, Option, List, [], ◌∷◌, ◌++◌, length, Some, None}
 use Rattle.std.proofs.Common.{refl, sym, ap, ◌∙◌, subst, arith, inl, inr}
-use Rattle.std.specs.Prelude.{slice_get, ⊤, ◌⊎◌}
-use Rattle.pli_language.specs.declared.expr.Place.{Place}
+use Rattle.std.specs.Prelude.{slice_get, ◌⊎◌}
 use Rattle.pli_language.specs.Tree as T
 use Rattle.pli_language.specs.Declarations.{Block, declared_in, declared_in_item, declared_in_stmt, blocks_in}
 use Rattle.pli_language.specs.Declarations.{blocks_in_item, blocks_in_stmt, labels_declared, blocks_of, outermost}
@@ -23,7 +22,7 @@ use Rattle.well_formed_trees.specs.Surroundings as W
 use Rattle.well_formed_trees.specs.Statements.{labels_in}
 use Rattle.well_formed_trees.specs.Written.{IsShaped, IsUnit, EndsLast, AllEndLast, AreProcedures, GroupsBare}
 use Rattle.well_formed_trees.specs.Written.{HoldNoProcedure, AllGroupsBare}
-use Rattle.well_formed_trees.specs.Spelled.{IsRanged, StmtHas, ItemsHave}
+use Rattle.well_formed_trees.specs.Spelled.{IsRanged, ItemsHave}
 use Rattle.well_formed_trees.specs.Held.{entry, entries_in, entries_in_item, entries_in_stmt, table_of}
 use Rattle.well_formed_trees.specs.Everywhere.{StmtHolds, StmtsHold, ProcedureHolds, HoldsEverywhere}
 use Rattle.well_formed_trees.proofs.Lists.{first_empty, second_empty, every_both}
@@ -33,7 +32,7 @@ use Rattle.well_formed_trees.proofs.BlocksHeld.{typed_labels, stmt_length, item_
 use Rattle.well_formed_trees.proofs.ProgramNumbers.{no_procedure}
 use Rattle.well_formed_trees.proofs.HeldStatements.{Stands, in_group, in_on, stands_inside, own_entry, own_is, HasStmt}
 use Rattle.well_formed_trees.proofs.HeldStatements.{HasItems, StmtFine, ItemsFine, alone_fine}
-use Rattle.well_formed_trees.proofs.Facts.{Facts, IsSeen, SeesBlocks, IsReached, InScope, Sees}
+use Rattle.well_formed_trees.proofs.Facts.{Facts, IsSeen, IsReached, Sees}
 use Rattle.well_formed_trees.proofs.Reached.{without, with_labels, reached_back, reached_further, reached_inside}
 use Rattle.well_formed_trees.proofs.Reached.{outermost_reached, group_reached, seen_inside, seen_same}
 
@@ -344,12 +343,11 @@ unit_walk P leaf program table ret c own a more st b u next on line (T.OnSystem 
 unit_walk P leaf program table ret c own a more st b u next on line (T.OnUnit x y place) i m f p = absurd i
 unit_walk P leaf program table ret c own a more st b u next on line (T.Null place) i m f p =
     (unit_leaf P leaf program table ret c own a more st b u next on line (T.Null place) tt f p, tt)
-unit_walk P leaf program table ret c own a more st b u next on line (T.Assign target source place) i m f p =
-    (
-      unit_leaf P leaf program table ret c own a more st b u next on line (T.Assign target source place)
-          (assign_simple c.scope target source place) f p,
-      tt,
-    )
+unit_walk P leaf program table ret c own a more st b u next on line (T.Assign target source place) i m f p = (
+  unit_leaf P leaf program table ret c own a more st b u next on line (T.Assign target source place)
+      (assign_simple c.scope target source place) f p,
+  tt,
+)
 unit_walk P leaf program table ret c own a more st b u next on line (T.Call name x place) i m f p = (
   unit_leaf P leaf program table ret c own a more st b u next on line (T.Call name x place)
       (call_simple c.scope name x place) f p,

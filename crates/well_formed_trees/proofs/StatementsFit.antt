@@ -1,68 +1,56 @@
 -- Statements that break no rule are sound by themselves.
-use Rattle.std.proofs.Common.{◌≡◌, ℕ, zero, suc, ◌+◌, ◌≤◌, ◌==◌, Bool, true, false, not, ◌&&◌, ◌||◌, List, [], ◌∷◌}
-use Rattle.std.proofs.Common.{◌++◌, map, length, Option, Some, None, if◌then◌else◌, refl, sym, ap, ◌∙◌, subst, arith}
+use Rattle.std.proofs.Common.{◌≡◌, ℕ, ◌+◌, Bool, true, false, List, [], ◌∷◌}
+use Rattle.std.proofs.Common.{◌++◌, Option, Some, None, if◌then◌else◌, refl, sym, ap, ◌∙◌, subst, arith}
 use Rattle.std.proofs.Common.{inl, inr}
-use Rattle.std.specs.Prelude.{slice_get, is_some, ⊤, ◌⊎◌}
+use Rattle.std.specs.Prelude.{slice_get, is_some, ⊤}
 use Rattle.pli_language.specs.declared.expr.Place.{Place}
 use Rattle.pli_language.specs.declared.scope.Found.{Found}
 use Rattle.pli_language.specs.declared.scope.Found.TheVariants as F
 use Rattle.pli_language.specs.declared.scope.DeclarationAt.{DeclarationAt}
-use Rattle.pli_language.specs.declared.fault.SourceKind.TheVariants.{Undeclared, TypeMismatch}
+use Rattle.pli_language.specs.declared.fault.SourceKind.TheVariants.{Undeclared}
 use Rattle.pli_language.specs.Tree as T
-use Rattle.pli_language.specs.Declarations.{Held, Variable, Block, What, Variable', Label, ProcedureName}
-use Rattle.pli_language.specs.Declaring.{has, one, classes_in, own_attributes, class_attributes, stands_alone, root_of}
-use Rattle.pli_language.specs.Declaring.{first_or, names_of, is_parameter, is_builtin, block_faults, option_faults}
+use Rattle.pli_language.specs.Declarations.{Block, What, Variable', Label, ProcedureName}
+use Rattle.pli_language.specs.Declaring.{is_builtin, block_faults}
 use Rattle.pli_language.specs.Means.{around_of}
 use Rattle.pli_typing.specs.TypedTree as Y
-use Rattle.pli_typing.specs.Judging.{Judged, Scope, each, fine, broken}
-use Rattle.pli_typing.specs.Variables.{variable_meant, head_of_block, locator_name, name_means, what_at}
+use Rattle.pli_typing.specs.Judging.{Judged, Scope, each, broken}
+use Rattle.pli_typing.specs.Variables.{head_of_block, name_means}
 use Rattle.pli_typing.specs.Calls.{procedure_called, result_type}
-use Rattle.pli_typing.specs.Converting.{Designated, Referent, Designates, Gives, GivesUnknown, GivesEmptyArea}
-use Rattle.pli_typing.specs.Converting.{GivesNothing, NotKnown, Operand, scalar_type, operand_value, own_bit_operand}
-use Rattle.pli_typing.specs.Converting.{number_operand, area_operand, operand_stored, value_with_type, variable_of}
+use Rattle.pli_typing.specs.Converting.{Operand}
+use Rattle.pli_typing.specs.Converting.{operand_stored}
 use Rattle.pli_typing.specs.References.{expression, reference, arguments, expressions, listed, operand, referred}
-use Rattle.pli_typing.specs.References.{operand_from, reference_from, locates, locator_value, locator_found}
 use Rattle.pli_typing.specs.Assigning.{Scalar, assignment, computational_operand, scalar_operand, counter_of, get_item}
 use Rattle.pli_typing.specs.Assigning.{put_item, holds_fixed}
-use Rattle.pli_typing.specs.Generations.{judged_if, in_area, set_target, locator_target, target_or_mismatch, target_with}
-use Rattle.pli_typing.specs.Generations.{declared_target, based_target, target_given, area_given, area_of_target}
-use Rattle.pli_typing.specs.Generations.{Allocating, allocated_based, allocated_controlled, allocated_class}
-use Rattle.pli_typing.specs.Generations.{allocated_what, allocated_found, allocation, pointer_to, freed_class, freed_whole}
-use Rattle.pli_typing.specs.Generations.{freed_reference, freed_referent, freeing, bad_allocation, target_or}
-use Rattle.pli_typing.specs.Generations.{no_allocation, no_freeing}
+use Rattle.pli_typing.specs.Generations.{judged_if}
 use Rattle.pli_typing.specs.SingleStatements.{Context, called_procedure, called_what, called_found, call_statement}
 use Rattle.pli_typing.specs.SingleStatements.{not_called, first_or_none, result_or, result_around, returned}
 use Rattle.pli_typing.specs.SingleStatements.{not_returned, return_statement, condition, number_at, Turns, OneTurn}
 use Rattle.pli_typing.specs.SingleStatements.{CountedTurns, step_or_one, turns_of, turns_with, turns, get_of, put_of}
 use Rattle.well_formed_trees.specs.Every.{Every}
-use Rattle.well_formed_trees.specs.Surroundings.{Table, Where, IsArea, IsAreaIf, IsOfClass, IsDeclared}
-use Rattle.well_formed_trees.specs.References as R
-use Rattle.well_formed_trees.specs.Expressions.{SoundNumber, SoundBit, SoundPointer, SoundReference, SoundStored}
-use Rattle.well_formed_trees.specs.Expressions.{SoundComputational, Fits}
-use Rattle.well_formed_trees.specs.Statements.{IsAssigned, SoundCounter, SoundNumberIf, SoundBitIf, SoundTarget}
-use Rattle.well_formed_trees.specs.Statements.{SoundAllocation, SoundFreeing, SoundGetItem, SoundPutItem}
-use Rattle.well_formed_trees.specs.Spelled.{RangedExpr, RangedReference, RangedExprs, RangedArguments, RangedIf}
+use Rattle.well_formed_trees.specs.Surroundings.{Where, IsArea, IsAreaIf}
+use Rattle.well_formed_trees.specs.Expressions.{SoundNumber, SoundBit, SoundReference, SoundStored}
+use Rattle.well_formed_trees.specs.Expressions.{SoundComputational}
+use Rattle.well_formed_trees.specs.Statements.{IsAssigned, SoundCounter, SoundNumberIf, SoundBitIf}
+use Rattle.well_formed_trees.specs.Statements.{SoundGetItem, SoundPutItem}
+use Rattle.well_formed_trees.specs.Spelled.{RangedExpr, RangedReference, RangedArguments, RangedIf}
 use Rattle.well_formed_trees.specs.Spelled.{IsNamed}
-use Rattle.well_formed_trees.specs.Spelled.{RangedCounting, RangedAllocation, RangedFreeing, RangedPair}
-use Rattle.pli_language.specs.Formats.{Direction, Getting, Putting}
+use Rattle.well_formed_trees.specs.Spelled.{RangedCounting, RangedPair}
+use Rattle.pli_language.specs.Formats.{Getting, Putting}
 use Rattle.well_formed_trees.specs.SoundStatements.{IsSoundAlone}
 use Rattle.well_formed_trees.proofs.Lists.{first_empty, second_empty}
 use Rattle.well_formed_trees.proofs.Places.{same_some, every_at}
 use Rattle.well_formed_trees.proofs.ResultTypes.{head_result}
-use Rattle.well_formed_trees.proofs.FineVariables.{no_clash, IsFineMember, none_above}
 use Rattle.well_formed_trees.proofs.Facts.{Facts, IsSeen, IsVisible, InScope, Sees}
 use Rattle.well_formed_trees.proofs.Found.{IsAmong}
 use Rattle.well_formed_trees.proofs.HeadsHeld.{IsTyped, from_at}
-use Rattle.well_formed_trees.proofs.MeantVariables.{DeclaresVariable, is_meant, is_declared, typed_variable, visible_from}
-use Rattle.well_formed_trees.proofs.MeantVariables.{fine_declared}
+use Rattle.well_formed_trees.proofs.MeantVariables.{visible_from}
 use Rattle.well_formed_trees.proofs.CalledProcedures.{typed_by}
-use Rattle.well_formed_trees.proofs.LocatorsFit.{based_names, few, few_classes, alone_classes}
 use Rattle.well_formed_trees.proofs.ExpressionsFit.{FoundHere, found_here, expression_fit, reference_fit, arguments_fit}
 use Rattle.well_formed_trees.proofs.ExpressionsFit.{expressions_fit, options_fine, called_fit, given_by}
-use Rattle.well_formed_trees.proofs.FitValues.{IsSoundType, SoundValue, SoundGiven, IsPart, IsFit, scalar_is, stored_type}
-use Rattle.well_formed_trees.proofs.FitValues.{own_bit_operand_sound, number_operand_sound, area_operand_sound}
+use Rattle.well_formed_trees.proofs.FitValues.{IsSoundType, IsFit, stored_type}
+use Rattle.well_formed_trees.proofs.FitValues.{own_bit_operand_sound, number_operand_sound}
 use Rattle.well_formed_trees.proofs.FitValues.{operand_stored_sound}
-use Rattle.well_formed_trees.proofs.FitOperators.{AllFit, digits_fit}
+use Rattle.well_formed_trees.proofs.FitOperators.{AllFit}
 use Rattle.well_formed_trees.proofs.AssignmentsFit.{assignment_fit, IsScalarVariable, IsScalarIf, scalar_operand_fit}
 use Rattle.well_formed_trees.proofs.AssignmentsFit.{counter_fit, computational_operand_fit, get_fit, put_fit}
 
@@ -208,9 +196,10 @@ pub each_holds : {X Z : Type 0} (P : Z → Type 0) (Q : X → Type 0) (judge : X
 each_holds P Q judge k [] r f = tt
 each_holds P Q judge k (x ∷ xs) r f =
     let a = (judge x).faults in
-    let b = (each judge xs).faults in
-    (k x r.0 (first_empty a (b ++ []) f),
-    each_holds P Q judge k xs r.1 (first_empty b [] (second_empty a (b ++ []) f)))
+    let b = (each judge xs).faults in (
+      k x r.0 (first_empty a (b ++ []) f),
+      each_holds P Q judge k xs r.1 (first_empty b [] (second_empty a (b ++ []) f)),
+    )
 
 pub gets_fit : (scope : Scope) (w : Where) → InScope scope w → (ps : List T.EditPair) → Every (RangedPair Getting) ps
     → (each (get_of scope) ps).faults ≡ []
@@ -304,7 +293,8 @@ around_result blocks w facts (b ∷ bs) v t e =
           → result_type blocks (first_or_none bs) head ≡ Some t → IsSoundType w t
       own block head f h e =
           let z : 0 + b ≡ b = omega arith in
-          let typed : IsTyped w.program.procedures b block.head = subst (λ n. IsTyped w.program.procedures n block.head) z
+          let typed : IsTyped w.program.procedures b block.head = subst (λ n. IsTyped w.program.procedures n
+          block.head) z
           (from_at (λ n (b : Block). IsTyped w.program.procedures n b.head) 0 blocks b block facts.typed f) in
           let p = typed_by blocks b w.program.procedures facts.procedures
           (subst (IsTyped w.program.procedures b) h typed) in
@@ -332,7 +322,8 @@ all_visible : (c : Context) (w : Where) → Sees c w → Every (IsVisible c.scop
 all_visible c w s =
     let blocks = c.scope.blocks in
     let facts = s.scope.facts in
-    let see : IsVisible blocks w.around c.scope.block = subst (Every (IsSeen blocks w.around)) (sym s.own_around) s.around in
+    let see : IsVisible blocks w.around c.scope.block = subst (Every (IsSeen blocks w.around)) (sym s.own_around)
+    s.around in
     all c.around (λ m i. (visible_from blocks w.program w.table facts w.around c.scope.block m see
     (subst (IsAmong m) (sym s.own_around) i)).0) where
       all : (ns : List ℕ) → ((m : ℕ) → IsAmong m ns → IsVisible c.scope.blocks w.around m)
@@ -348,7 +339,8 @@ return_fit c w s None place r f = plain (result_around c.scope.blocks c.around) 
   plain (Some t) = tt
 return_fit c w s (Some e) place r f =
     let o = operand c.scope e in
-    by (result_around c.scope.blocks c.around) (around_result c.scope.blocks w s.scope.facts c.around (all_visible c w s))
+    by (result_around c.scope.blocks c.around) (around_result c.scope.blocks w s.scope.facts c.around (all_visible c w
+    s))
     (operand_fit c.scope w s.scope e r (first_empty o.faults _ f)) (second_empty o.faults _ f) where
       by : (t : Option Y.LeafType) → ((x : Y.LeafType) → t ≡ Some x → IsSoundType w x)
           → IsFit w (operand c.scope e).value.referent → (returned place t (operand c.scope e).value).faults ≡ []

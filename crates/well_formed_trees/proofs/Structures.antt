@@ -1,25 +1,25 @@
 -- The variables of level 1 that a block declares, each with its members: a structure, in which each member belongs to
 -- those before it; and each variable that is declared is a member of one of them.
 use Rattle.std.proofs.Common.{◌≡◌, ℕ, zero, suc, ◌+◌, ◌≤◌, ◌==◌, Bool, true, false, not, ◌&&◌, ◌||◌, List, [], ◌∷◌}
-use Rattle.std.proofs.Common.{◌++◌, map, length, Option, Some, None, if◌then◌else◌, refl, sym, ap, ◌∙◌, subst, arith}
+use Rattle.std.proofs.Common.{◌++◌, map, length, Some, if◌then◌else◌, refl, sym, ap, ◌∙◌, subst, arith}
 use Rattle.std.proofs.Common.{inl, inr}
 use Rattle.std.specs.Prelude.{slice_get, nat_lt, ⊤, ◌⊎◌}
-use Rattle.std.specs.List.{list_any, flat_map}
+use Rattle.std.specs.List.{flat_map}
 use Rattle.std.proofs.lemmas.Bool.Decides.{nat_tests}
 use Rattle.pli_language.specs.declared.expr.Place.{Place}
 use Rattle.pli_language.specs.Tree as T
 use Rattle.pli_language.specs.Declarations.{Variable, level_of, Held, holders, smaller, held, What, Variable', Label}
 use Rattle.pli_language.specs.Declarations.{ProcedureName, Declaration, Block, variable_declared, labels_declared}
 use Rattle.pli_language.specs.Declarations.{declared_in, declared_in_item, declared_in_stmt, blocks_in, blocks_in_item}
-use Rattle.pli_language.specs.Declarations.{blocks_in_stmt, blocks_of, variables_of, declared_by}
+use Rattle.pli_language.specs.Declarations.{blocks_in_stmt, blocks_of, variables_of}
 use Rattle.pli_language.specs.Declaring.{has, own_attributes, stands_alone, first_or, root_of, is_deeper, has_members}
-use Rattle.pli_language.specs.Declaring.{own_dimensions, is_builtin, attributes_are_bad, declarations_faults}
-use Rattle.pli_language.specs.Declaring.{what_faults, structure_after, level_is_bad, attributes_clash, builtin_clash}
-use Rattle.pli_language.specs.Declaring.{same_place, next_is, held_is}
+use Rattle.pli_language.specs.Declaring.{declarations_faults}
+use Rattle.pli_language.specs.Declaring.{what_faults, structure_after}
+use Rattle.pli_language.specs.Declaring.{held_is}
 use Rattle.pli_typing.specs.Variables.{members_first, member_then, variable_then, variables_in}
 use Rattle.well_formed_trees.specs.Every.{Every}
 use Rattle.well_formed_trees.proofs.Lists.{first_empty, second_empty, first_false, second_false, every_both}
-use Rattle.well_formed_trees.proofs.Places.{same_some, every_at}
+use Rattle.well_formed_trees.proofs.Places.{same_some}
 use Rattle.well_formed_trees.proofs.DeclaredOnce.{total, spot, at_declaration}
 use Rattle.well_formed_trees.proofs.Parameters.{attributes_fine}
 
@@ -197,7 +197,8 @@ structure_then (Variable' h) ms rest k r = by (stands_alone h) (not (has 13 (own
 structure_then Label ms rest k r = r
 structure_then (ProcedureName head) ms rest k r = r
 
-pub structures : (chain : List Variable) (ds : List Declaration) → Chained chain ds → Every IsStructure (variables_in ds)
+pub structures : (chain : List Variable) (ds : List Declaration) → Chained chain ds → Every IsStructure (variables_in
+    ds)
 structures chain [] h = tt
 structures chain (d ∷ ds) h =
     structure_then d.what (members_first ds) (variables_in ds) (members_held (chain_behind d.what) ds h.1)
@@ -327,10 +328,14 @@ first_located d ds h w n = by (stands_alone h) refl where
     there = refl;
   })
   by false e =
-      inr (0, ap (λ w. slice_get (member_then w (members_first ds)) 0) w
-      ∙ ap (λ b. slice_get (if b then [] else h ∷ members_first ds) 0) e)
+      inr (
+        0,
+        ap (λ w. slice_get (member_then w (members_first ds)) 0) w
+            ∙ ap (λ b. slice_get (if b then [] else h ∷ members_first ds) 0) e,
+      )
 
-member_located : (ps : List T.Name) (earlier : List Held) (d : Declaration) (ds : List Declaration) (h : Held) (w : What)
+member_located : (ps : List T.Name) (earlier : List Held) (d : Declaration) (ds : List Declaration) (h : Held) (w :
+    What)
     → d.what ≡ w → Chained (chain_behind w) ds → what_faults ps earlier w ds ≡ [] → InMembers ds h
     → IsLocated (d ∷ ds) h
 member_located ps earlier d ds h Label e c f m = absurd (none_there (members_first ds) m.0 h (no_member ds c) m.1)
@@ -349,8 +354,11 @@ member_located ps earlier d ds h (Variable' g) e c f m = by (stands_alone g) ref
     there = m.1;
   })
   by false a =
-      inr (suc m.0, ap (λ w. slice_get (member_then w (members_first ds)) (suc m.0)) e
-      ∙ (ap (λ b. slice_get (if b then [] else g ∷ members_first ds) (suc m.0)) a ∙ m.1))
+      inr (
+        suc m.0,
+        ap (λ w. slice_get (member_then w (members_first ds)) (suc m.0)) e
+            ∙ (ap (λ b. slice_get (if b then [] else g ∷ members_first ds) (suc m.0)) a ∙ m.1),
+      )
 
 later_located : (ps : List T.Name) (earlier : List Held) (d : Declaration) (ds : List Declaration) (h : Held)
     → Chained (chain_behind d.what) ds → what_faults ps earlier d.what ds ≡ [] → IsLocated ds h

@@ -1,13 +1,12 @@
 -- The label that a GOTO of an accepted source names stands in a list around it.
-use Rattle.std.proofs.Common.{◌≡◌, ℕ, Bool, true, false, ◌||◌, ◌&&◌, List, [], ◌∷◌, ◌++◌, Option, Some, None, refl, sym}
-use Rattle.std.proofs.Common.{ap, ◌∙◌, subst, if◌then◌else◌, zero, suc, ◌+◌, arith}
+use Rattle.std.proofs.Common.{◌≡◌, ℕ, Bool, true, false, ◌||◌, List, [], ◌∷◌, ◌++◌, Option, Some, None, refl, sym}
+use Rattle.std.proofs.Common.{ap, ◌∙◌, subst, if◌then◌else◌}
 use Rattle.std.specs.Prelude.{slice_get, ⊤}
 use Rattle.std.specs.List.{list_any}
 use Rattle.pli_language.specs.declared.expr.Place.{Place}
 use Rattle.pli_language.specs.declared.scope.Found.{Found}
 use Rattle.pli_language.specs.declared.scope.Found.TheVariants as F
 use Rattle.pli_language.specs.declared.scope.DeclarationAt.{DeclarationAt}
-use Rattle.pli_language.specs.Keywords.{same_bytes}
 use Rattle.pli_language.specs.Tree as T
 use Rattle.pli_language.specs.Declarations.{Block, Declaration, What, Variable', Label, ProcedureName}
 use Rattle.pli_language.specs.Declaring.{same_place}
@@ -15,7 +14,7 @@ use Rattle.pli_language.specs.Means.{declarations_of, around_of}
 use Rattle.pli_typing.specs.TypedTree as Y
 use Rattle.pli_typing.specs.Variables.{level_of_block, declarations_at, name_means}
 use Rattle.pli_typing.specs.SingleStatements.{Context, jump, jump_found, is_target_at, is_target, label_declared}
-use Rattle.pli_typing.specs.SingleStatements.{label_what, goto_statement, call_statement, called_found, called_what}
+use Rattle.pli_typing.specs.SingleStatements.{label_what, call_statement, called_found, called_what}
 use Rattle.pli_typing.specs.SingleStatements.{called_procedure, not_called, return_statement, returned, not_returned}
 use Rattle.pli_typing.specs.SingleStatements.{result_around, assign_statement, Turns, OneTurn, CountedTurns}
 use Rattle.pli_typing.specs.SingleStatements.{do_statement, turns, in_list, labels_in}
@@ -33,12 +32,9 @@ use Rattle.well_formed_trees.proofs.AcceptedFacts.{facts_kept}
 use Rattle.well_formed_trees.specs.Every.{Every}
 use Rattle.well_formed_trees.specs.Surroundings.{Around, Where, IsTarget}
 use Rattle.well_formed_trees.specs.Everywhere.{GoesAround, AcceptedTargets}
-use Rattle.well_formed_trees.proofs.Letters.{first_true, same_equal}
-use Rattle.well_formed_trees.proofs.Places.{same_some}
-use Rattle.well_formed_trees.proofs.DeclaredOnce.{AreApart, IsIn, same_declaration, blocks_apart}
-use Rattle.well_formed_trees.proofs.Facts.{Facts, IsReached, Sees, IsSeen}
+use Rattle.well_formed_trees.proofs.DeclaredOnce.{same_declaration}
+use Rattle.well_formed_trees.proofs.Facts.{IsReached, Sees}
 use Rattle.well_formed_trees.proofs.Found.{FoundAt, found_at}
-use Rattle.well_formed_trees.proofs.HeldStatements.{StmtFine}
 use Rattle.well_formed_trees.proofs.HeadsInRange.{ranges_kept}
 use Rattle.well_formed_trees.proofs.Shapes.{shape_kept}
 use Rattle.well_formed_trees.proofs.GroupsBare.{groups_kept}
@@ -149,7 +145,8 @@ no_area place v from GivesEmptyArea = tt
 no_area place v from GivesNothing = tt
 no_area place v from NotKnown = tt
 
-no_to : (place : Place) (d : Designated) (t : Option Y.LeafType) (o : Operand) → IsNoGoto (assigned_to place d t o).value
+no_to : (place : Place) (d : Designated) (t : Option Y.LeafType) (o : Operand) → IsNoGoto (assigned_to place d t
+    o).value
 no_to place d None o = no_aggregate place d o o.referent
 no_to place d (Some (Y.AreaLeaf n)) o = no_area place (variable_of d.reference) o.place o.referent
 no_to place d (Some (Y.FixedLeaf p)) o = tt

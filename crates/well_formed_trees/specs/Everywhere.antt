@@ -38,19 +38,19 @@ abbrev mutual
 
 -- in a procedure, around whose block the table has what holds it
 pub record ProcedureHolds (P : Where → Y.Stmt → Type 0) (table : Table) (program : Y.Program) (p : Y.Procedure) : Type 0
-    where
-  pub head : Y.BlockHead
-  pub body : Y.Stmts
-  pub is : p.block ≡ Y.BlockOf head body
-  pub outer : List Around
-  pub listed : IsListed table head (procedure_around head body outer)
-  pub statements :
-      StmtsHold P (record {
-        program = program;
-        table = table;
-        around = procedure_around head body outer;
-        returning = Returns p.result;
-      }) body
+  where
+    pub head : Y.BlockHead
+    pub body : Y.Stmts
+    pub is : p.block ≡ Y.BlockOf head body
+    pub outer : List Around
+    pub listed : IsListed table head (procedure_around head body outer)
+    pub statements :
+        StmtsHold P (record {
+          program = program;
+          table = table;
+          around = procedure_around head body outer;
+          returning = Returns p.result;
+        }) body
 
 -- in a typed tree
 abbrev pub HoldsEverywhere : (Where → Y.Stmt → Type 0) → T.Tree → Type 0

@@ -1,5 +1,5 @@
 -- What `SoundStmt` says of the expressions of a statement by itself.
-use Rattle.std.specs.Prelude.{◌≡◌, List, [], Option, None, ⊤}
+use Rattle.std.specs.Prelude.{◌≡◌, List, [], None, ⊤}
 use Rattle.pli_language.specs.declared.token.Token.{Token}
 use Rattle.pli_language.specs.Tokens.{Tokens}
 use Rattle.pli_language.specs.Tree as T
