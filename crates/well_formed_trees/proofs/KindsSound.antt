@@ -195,7 +195,7 @@ IsKept Y.BasedClass = ⊥
 IsKept Y.ControlledClass = ⊥
 IsKept _ = ⊤
 
-kept_by : (a b c d : Bool) → c ≡ false → d ≡ false
+pub kept_by : (a b c d : Bool) → c ≡ false → d ≡ false
     → IsKept (if a then Y.ParameterClass
     else (if b then Y.StaticClass else (if c then Y.ControlledClass
     else (if d then Y.BasedClass else Y.AutomaticClass))))

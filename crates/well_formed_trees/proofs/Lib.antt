@@ -60,5 +60,7 @@ pub mod StatementWalk
 pub mod Targets
 pub mod AcceptedSources
 pub mod SoundProcedures
+pub mod StructuredVariables
 pub mod WellFormedRows
 mod IllFormedRows
+mod ElementRows

@@ -19,7 +19,7 @@ use Rattle.well_formed_trees.proofs.Structures.{Begins, AreHeld, IsStructure, at
 
 -- ---- members by their depths
 
-among_are : (hs : List Held) → M.leaves_among (map member_held hs) ≡ length (leaves_in hs)
+pub among_are : (hs : List Held) → M.leaves_among (map member_held hs) ≡ length (leaves_in hs)
 among_are [] = refl
 among_are (a ∷ []) = refl
 among_are (a ∷ b ∷ more) = by (is_deeper a b) (among_are (b ∷ more)) where
@@ -43,7 +43,7 @@ first_are : (hs : List Held) → M.first_member (map member_held hs) ≡ map mem
 first_are [] = refl
 first_are (h ∷ hs) = ap (λ l. member_held h ∷ l) (deeper_are h hs)
 
-map_length : {X Z : Type 0} (f : X → Z) (xs : List X) → length (map f xs) ≡ length xs
+pub map_length : {X Z : Type 0} (f : X → Z) (xs : List X) → length (map f xs) ≡ length xs
 map_length f [] = refl
 map_length f (x ∷ xs) = ap suc (map_length f xs)
 

@@ -16,3 +16,4 @@ pub mod Framed
 pub mod Placed
 pub mod Everywhere
 pub mod SoundStatements
+pub mod Structured

@@ -7,6 +7,7 @@ ghost use Rattle.well_formed_trees.specs.Written.{GroupsKept};
 ghost use Rattle.well_formed_trees.specs.Framed.{AcceptedFramed};
 ghost use Rattle.well_formed_trees.specs.Everywhere.{AcceptedTargets};
 ghost use Rattle.well_formed_trees.specs.SoundStatements.{AcceptedProcedures};
+ghost use Rattle.well_formed_trees.specs.Structured.{AcceptedVariables};
 ghost use Rattle.well_formed_trees.specs.Held.{BlocksKept, NestingKept, TableKept, EntriesKept, DepthsKept};
 ghost use Rattle.well_formed_trees.specs.Held.{MainKept, ResultsKept, ParametersKept};
 
@@ -106,4 +107,10 @@ pub fn accepted_targets()
 /// Each procedure of an accepted source is sound, with all its blocks, statements and expressions.
 pub fn accepted_procedures()
     ensures { AcceptedProcedures }
+{}
+
+/// Each variable of an accepted source has the members of a structure, each leaf as many bounds as its member has
+/// dimensions, and areas are variables by themselves.
+pub fn accepted_variables()
+    ensures { AcceptedVariables }
 {}
