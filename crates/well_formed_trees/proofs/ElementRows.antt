@@ -17,13 +17,13 @@ abbrev elements : T.Tree
 elements =
     program
     (T.Declare (
-      declared (Some 1) (dimensioned (name (65 ∷ []) (at 2 7))
-          (T.Upper (extent (T.Number 2 (at 2 9))) ∷ []) ∷ []) [] []
-      ∷ declared (Some 2) (unsubscripted (name (88 ∷ []) (at 2 15)) ∷ []) [] (T.Fixed None ∷ [])
-      ∷ declared (Some 1) (dimensioned (name (66 ∷ []) (at 2 26))
-          (T.Upper (extent (T.Number 2 (at 2 28))) ∷ T.Upper (extent (T.Number 2 (at 2 31))) ∷ []) ∷ []) [] []
-      ∷ declared (Some 2) (unsubscripted (name (88 ∷ []) (at 2 37)) ∷ []) [] (T.Fixed None ∷ [])
-      ∷ []
+    declared (Some 1) (dimensioned (name (65 ∷ []) (at 2 7))
+    (T.Upper (extent (T.Number 2 (at 2 9))) ∷ []) ∷ []) [] []
+    ∷ declared (Some 2) (unsubscripted (name (88 ∷ []) (at 2 15)) ∷ []) [] (T.Fixed None ∷ [])
+    ∷ declared (Some 1) (dimensioned (name (66 ∷ []) (at 2 26))
+    (T.Upper (extent (T.Number 2 (at 2 28))) ∷ T.Upper (extent (T.Number 2 (at 2 31))) ∷ []) ∷ []) [] []
+    ∷ declared (Some 2) (unsubscripted (name (88 ∷ []) (at 2 37)) ∷ []) [] (T.Fixed None ∷ [])
+    ∷ []
     ) (at 2 1) ∷ [])
     (T.Statement [] (T.Assign (T.Plain (T.Last (name (65 ∷ []) (at 3 1)) (T.Listed (exprs (T.Number 1 (at 3 3) ∷ [])))))
     (T.Refers (T.Plain (T.Last (name (66 ∷ []) (at 3 8))

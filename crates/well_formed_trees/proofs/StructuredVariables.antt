@@ -1,37 +1,34 @@
 -- Each variable of an accepted source has the members of a structure, with their dimensions, and areas by themselves.
 use Rattle.std.proofs.Common.{◌≡◌, ℕ, zero, suc, ◌+◌, ◌≤◌, ◌==◌, Bool, true, false, List, [], ◌∷◌, ◌++◌, map, length}
 use Rattle.std.proofs.Common.{Option, Some, None, if◌then◌else◌, refl, sym, ap, ◌∙◌, subst, arith, inl, inr}
-use Rattle.std.specs.Prelude.{slice_get, unwrap_or, nat_lt, ⊤, ◌⊎◌}
+use Rattle.std.specs.Prelude.{slice_get, unwrap_or, ◌⊎◌}
 use Rattle.std.proofs.lemmas.Bool.Decides.{nat_tests}
 use Rattle.std.proofs.lemmas.List.{length-append}
-use Rattle.pli_language.specs.Tree as T
 use Rattle.pli_language.specs.Declarations.{Variable, Held, Block, blocks_of}
 use Rattle.pli_language.specs.Declaring.{has, own_attributes, is_deeper, is_parameter, names_of, root_of, first_or}
 use Rattle.pli_language.specs.Declaring.{block_faults, block_head_faults, twice_faults, declarations_faults}
 use Rattle.pli_language.specs.Means.{declarations_of}
 use Rattle.pli_typing.specs.TypedTree as Y
-use Rattle.pli_typing.specs.Judging.{Judged, Scope, each}
+use Rattle.pli_typing.specs.Judging.{each}
 use Rattle.pli_typing.specs.Converting.{area_of_type}
-use Rattle.pli_typing.specs.Generations.{member_held, declared_variable, declared_variables}
+use Rattle.pli_typing.specs.Generations.{member_held, declared_variable}
 use Rattle.pli_typing.specs.Resolving.{typed_tree}
 use Rattle.pli_typing.specs.Variables as V
 use Rattle.pli_typing.specs.Variables.{leaves_in, leaf_of, leaves_of, written_extents, variables_in, declarations_at}
 use Rattle.pli_typing.specs.Variables.{head_of_block, bounds_of, extent_of, type_of, variable_meant}
 use Rattle.well_formed_trees.specs.Every.{Every}
-use Rattle.well_formed_trees.specs.Members as M
 use Rattle.well_formed_trees.specs.Surroundings.{Table, variables_of_block}
 use Rattle.well_formed_trees.specs.Declarations.{AreMembers, IsBelow, HaveBounds, leaf_dimensions, AreasAlone}
-use Rattle.well_formed_trees.specs.Declarations.{IsNoArea, IsOnlyArea, HoldsArea}
+use Rattle.well_formed_trees.specs.Declarations.{IsNoArea, HoldsArea}
 use Rattle.well_formed_trees.specs.Held.{table_of}
 use Rattle.well_formed_trees.specs.Structured.{IsStructured, AcceptedVariables}
-use Rattle.well_formed_trees.proofs.Lists.{first_empty, second_empty, every_map}
+use Rattle.well_formed_trees.proofs.Lists.{second_empty}
 use Rattle.well_formed_trees.proofs.Places.{every_at, HasAt, has_end}
-use Rattle.well_formed_trees.proofs.Structures.{AreHeld, IsStructure, BlockChained, structures, structure_root}
+use Rattle.well_formed_trees.proofs.Structures.{AreHeld, IsStructure, BlockChained, structures}
 use Rattle.well_formed_trees.proofs.MemberParts.{among_are, map_length, structure_dimensions}
-use Rattle.well_formed_trees.proofs.FineVariables as A
 use Rattle.well_formed_trees.proofs.FineVariables.{IsFineMember, IsFineVariable, variables_fine, all_fine, no_clash}
-use Rattle.well_formed_trees.proofs.FineVariables.{only_area, none_above}
-use Rattle.well_formed_trees.proofs.KindsSound.{area_written, area_type, kept_by, IsKept, area_leaf_of}
+use Rattle.well_formed_trees.proofs.FineVariables.{only_area}
+use Rattle.well_formed_trees.proofs.KindsSound.{area_written, area_type, kept_by, IsKept}
 use Rattle.well_formed_trees.proofs.ProgramNumbers.{lists_kept}
 use Rattle.well_formed_trees.proofs.Facts.{Facts}
 use Rattle.well_formed_trees.proofs.AcceptedFacts.{facts_kept}
@@ -51,9 +48,10 @@ are_below : (depth : ℕ) (chain : List Variable) (ms : List Held) → length ch
 are_below depth chain [] e h = tt
 are_below depth chain (m ∷ ms) e h =
     let s = shorter m.above chain h.0 in
-    let next : length (m.above ++ m.variable ∷ []) ≡ length m.above + 1 = length-append m.above (m.variable ∷ []) in
-    ((some_above (length m.above) h.1.0, omega (arith, s, e)),
-    are_below (length m.above) (m.above ++ m.variable ∷ []) ms (omega (arith, next)) h.1.1)
+    let next : length (m.above ++ m.variable ∷ []) ≡ length m.above + 1 = length-append m.above (m.variable ∷ []) in (
+      (some_above (length m.above) h.1.0, omega (arith, s, e)),
+      are_below (length m.above) (m.above ++ m.variable ∷ []) ms (omega (arith, next)) h.1.1,
+    )
 
 are_members : (all : List Held) → IsStructure all → AreMembers (map member_held all)
 are_members [] s = absurd s
@@ -149,7 +147,8 @@ areas_alone blocks b root ms s f =
       first : (m : Held) → root ∷ ms ≡ m ∷ [] → root ≡ m
       first m e = cc e
 
-      by : Every (λ m. IsNoArea (leaf_of blocks b (written_extents (root ∷ ms)) m).type) (root ∷ ms) ⊎ AnArea (root ∷ ms)
+      by : Every (λ m. IsNoArea (leaf_of blocks b (written_extents (root ∷ ms)) m).type) (root ∷ ms) ⊎ AnArea (root ∷
+          ms)
           → AreasAlone (declared_variable (record { blocks = blocks; block = b }) (root ∷ ms)).value
       by (inl k) = inl (no_leaf (leaf_of blocks b (written_extents (root ∷ ms))) (root ∷ ms) k)
       by (inr a) =
