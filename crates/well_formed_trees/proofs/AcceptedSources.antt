@@ -1,7 +1,12 @@
 -- The typed tree of each accepted source is framed.
-use Rattle.std.proofs.Common.{List, [], ◌∷◌, sym, ◌∙◌, subst}
+use Rattle.std.proofs.Common.{◌≡◌, ℕ, List, [], ◌∷◌, sym, ◌∙◌, subst}
+use Rattle.pli_language.specs.declared.token.Token.{Token}
+use Rattle.pli_language.specs.Tokens.{Tokens}
+use Rattle.pli_language.specs.Tree as T
+use Rattle.pli_language.specs.Parsing.{Spells}
+use Rattle.pli_language.specs.Declaring.{declaring_faults}
 use Rattle.pli_typing.specs.TypedTree as Y
-use Rattle.pli_typing.specs.Resolving.{typed_tree}
+use Rattle.pli_typing.specs.Resolving.{typing_faults, typed_tree}
 use Rattle.well_formed_trees.specs.Every.{Every}
 use Rattle.well_formed_trees.specs.Surroundings.{Table}
 use Rattle.well_formed_trees.specs.Blocks.{BlockLabelsOnce, procedure_numbers}
@@ -29,6 +34,17 @@ all_framed table program (p ∷ ps) h l t r = (
   all_framed table program ps h.1 l.1 t.1 r.1,
 )
 
+pub procedures_framed : (s : List ℕ) (tokens : List Token) (tree : T.Tree) → Tokens s tokens → Spells s tokens tree
+    → declaring_faults tree ≡ [] → typing_faults tree ≡ []
+    → Every (FramedProcedure (table_of tree) (typed_tree tree)) (typed_tree tree).procedures
+procedures_framed s tokens tree t h declared typed =
+    let shape = shape_kept s tokens tree h in
+    let ranges = ranges_kept s tokens tree t h in
+    let program = typed_tree tree in
+    all_framed (table_of tree) program program.procedures (blocks_kept tree shape ranges typed)
+    (labels_kept tree shape declared) (parameters_kept tree shape ranges declared typed)
+    (results_kept tree shape ranges declared typed)
+
 pub accepted_framed : AcceptedFramed
 accepted_framed s tokens tree t h declared typed =
     let shape = shape_kept s tokens tree h in
@@ -43,10 +59,7 @@ accepted_framed s tokens tree t h declared typed =
           (numbers_kept tree shape);
       entries = depths_kept tree ranges;
       nested = nesting_kept tree;
-      procedures =
-          all_framed (table_of tree) program program.procedures (blocks_kept tree shape ranges typed)
-          (labels_kept tree shape declared) (parameters_kept tree shape ranges declared typed)
-          (results_kept tree shape ranges declared typed);
+      procedures = procedures_framed s tokens tree t h declared typed;
       lists = lists_kept tree ∙ sym many;
       outermost = outermost_kept tree;
     }

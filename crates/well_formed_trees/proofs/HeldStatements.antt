@@ -111,17 +111,17 @@ pub record Stands (table : Table) (c : Context) (may : Bool) (ret : Returning) (
   pub returns : may ≡ true → ret ≡ Returns (result_around c.scope.blocks c.around)
 
 -- the level of a block is that of the blocks around it and one more
-level_found : (blocks : List Block) (number deep : ℕ) (b : Block) → slice_get blocks number ≡ Some b
+pub level_found : (blocks : List Block) (number deep : ℕ) (b : Block) → slice_get blocks number ≡ Some b
     → length b.around ≡ suc (suc deep) → level_of_block blocks number ≡ deep
 level_found blocks number deep b e f =
     let a : level_of_block blocks number ≡ length b.around - 2 = ap (λ o. depth_of_block o - 2) e in
     omega (arith, a, f)
 
 -- an own entry, as the typed block says it
-abbrev own_entry : (number level : ℕ) → List Label → List Around → List Around
+abbrev pub own_entry : (number level : ℕ) → List Label → List Around → List Around
 own_entry number level ls w = record { number = number; level = level; outermost = ls; inner = [] } ∷ w
 
-own_is : (number level : ℕ) (ls : List Label) (labels : List T.Name) (w : List Around) → level ≡ length w
+pub own_is : (number level : ℕ) (ls : List Label) (labels : List T.Name) (w : List Around) → level ≡ length w
     → ls ≡ letters_of labels → own_entry number level ls w ≡ entry number labels w
 own_is number level ls labels w e f =
     ap (λ l. own_entry number l ls w) e ∙ ap (λ ls. own_entry number (length w) ls w) f
@@ -129,7 +129,7 @@ own_is number level ls labels w e f =
 inner_is : (w : List Around) (ls ks : List Label) → ls ≡ ks → with_inner ls w ≡ with_inner ks w
 inner_is w ls ks e = ap (λ ls. with_inner ls w) e
 
-in_group : {table : Table} {c : Context} {may : Bool} {ret : Returning} {a : Around} {more : List Around}
+pub in_group : {table : Table} {c : Context} {may : Bool} {ret : Returning} {a : Around} {more : List Around}
     (labels : List T.Name) → Stands table c may ret a more
     → Stands table (in_list c labels) may ret (record a { inner = letters_of labels ++ a.inner }) more
 in_group labels st = record {
@@ -144,7 +144,7 @@ in_group labels st = record {
 }
 
 -- no RETURN stands in an on-unit
-in_on : {table : Table} {c : Context} {may : Bool} {ret : Returning} {a : Around} {more : List Around}
+pub in_on : {table : Table} {c : Context} {may : Bool} {ret : Returning} {a : Around} {more : List Around}
     → Stands table c may ret a more → Stands table (in_unit c) false NoReturn (record a { inner = [] }) more
 in_on st = record {
   deep = st.deep;
@@ -158,7 +158,7 @@ in_on st = record {
 }
 
 -- into a block, of which the blocks and the table have what its place has
-stands_inside : {table : Table} (c : Context) (may : Bool) (ret : Returning) {w : List Around} (next : ℕ)
+pub stands_inside : {table : Table} (c : Context) (may : Bool) (ret : Returning) {w : List Around} (next : ℕ)
     (labels : List T.Name) (b : Block) → b.around ≡ next ∷ c.around → length c.around ≡ suc (length w)
     → slice_get c.scope.blocks next ≡ Some b → slice_get table next ≡ Some (entry next labels w)
     → (may ≡ true → ret ≡ Returns (result_or c.scope.blocks c.around b.head (result_around c.scope.blocks c.around)))
@@ -250,6 +250,11 @@ pub record IsFrom (blocks : List Block) (p : Y.Procedure) : Type 0 where
   pub parameters : p.parameters ≡ parameter_indices blocks number head.parameters
   pub holder : ℕ
   pub result : p.result ≡ result_type blocks holder head
+  pub around : List ℕ
+  pub around_is : block.around ≡ number ∷ around
+  pub holder_is : first_or_none around ≡ holder
+  pub level_is : (head_of p.block).level ≡ level_of_block blocks number
+  pub kind_is : (head_of p.block).kind ≡ Y.ProcedureBlock
 
 abbrev pub HeldFrom : Table → List Block → Y.Procedure → Type 0
 HeldFrom table blocks p = HeldProcedure table p × IsFrom blocks p
@@ -278,7 +283,7 @@ StmtsHeld table ret c w next is =
     (statements c next is).procedures
 
 -- that the blocks and the table have what stands from a place on
-abbrev HasStmt : Table → Context → List Around → ℕ → T.Stmt → Type 0
+abbrev pub HasStmt : Table → Context → List Around → ℕ → T.Stmt → Type 0
 HasStmt table c w next s =
     HasAt c.scope.blocks next (blocks_in_stmt c.around next s) × HasAt table next (entries_in_stmt w next s)
 
@@ -287,14 +292,14 @@ HasItems table c w next is =
     HasAt c.scope.blocks next (blocks_in c.around next is) × HasAt table next (entries_in w next is)
 
 -- that it is in range, and breaks no rule of typing
-abbrev StmtFine : Context → (b u : ℕ) → Bool → ℕ → T.Stmt → Type 0
+abbrev pub StmtFine : Context → (b u : ℕ) → Bool → ℕ → T.Stmt → Type 0
 StmtFine c b u may next s = StmtHas IsRanged b u may s × ((statement c next s).faults ≡ [])
 
 abbrev pub ItemsFine : Context → (b u : ℕ) → Bool → ℕ → T.Items → Type 0
 ItemsFine c b u may next is = ItemsHave IsRanged b u may is × ((statements c next is).faults ≡ [])
 
 -- what goes on behind a part is fine, too
-alone_fine : (fs : List SourceFault) → fs ++ [] ≡ [] → fs ≡ []
+pub alone_fine : (fs : List SourceFault) → fs ++ [] ≡ [] → fs ≡ []
 alone_fine fs e = first_empty fs [] e
 
 -- a group's list, whose labels the typed list has, too
@@ -349,7 +354,7 @@ procedure_held table c w next head body l e held listed line m =
     }
 
 -- what a procedure's own RETURN may be
-procedure_returns : (c : Context) (head : T.ProcedureHead) (further : Option Y.LeafType)
+pub procedure_returns : (c : Context) (head : T.ProcedureHead) (further : Option Y.LeafType)
     → first_or_none c.around ≡ c.scope.block
     → Returns (result_type c.scope.blocks c.scope.block head)
     ≡ Returns (result_or c.scope.blocks c.around (Some head) further)
@@ -358,8 +363,9 @@ procedure_returns c head further e =
 
 from_block : (c : Context) (next : ℕ) (head : T.ProcedureHead) (block : Block) (body : Y.Stmts)
     → slice_get c.scope.blocks next ≡ Some (record block { head = Some head }) → IsNamed head.labels
+    → block.around ≡ next ∷ c.around → first_or_none c.around ≡ c.scope.block
     → IsFrom c.scope.blocks (procedure_of c next head body)
-from_block c next head block body e h = record {
+from_block c next head block body e h around first = record {
   number = next;
   head = head;
   block = record block { head = Some head };
@@ -371,6 +377,11 @@ from_block c next head block body e h = record {
   parameters = refl;
   holder = c.scope.block;
   result = refl;
+  around = c.around;
+  around_is = around;
+  holder_is = first;
+  level_is = refl;
+  kind_is = refl;
 }
 
 mutual
@@ -517,7 +528,7 @@ mutual
       let inner : 1 ≤ level_of_block c.scope.blocks next = omega (arith, deep) in (
         n.0,
         (
-          (inner, (p, from_block c next head block r.value own_blocks.0 k.0.0.0.1)),
+          (inner, (p, from_block c next head block r.value own_blocks.0 k.0.0.0.1 refl st.first)),
           every_both (HeldInside table c.scope.blocks) r.procedures (statements c (next + length bs) is).procedures m.1
               n.1,
         ),
@@ -609,7 +620,7 @@ outer_held table c deep first next (T.ItemThen (T.Procedure head body) is) o l h
     let p = procedure_held table c [] next head body l.0 m.0 refl (has_first table next es fs h.1).0 k.0.0.0.0.1.0
     m.1.0 in
     let block : Block = record { around = next ∷ c.around; head = Some head; declarations = declared_in body } in (
-      (p, from_block c next head block r.value (has_first c.scope.blocks next bs cs h.0).0 k.0.0.0.1),
+      (p, from_block c next head block r.value (has_first c.scope.blocks next bs cs h.0).0 k.0.0.0.1 refl first),
       every_both (HeldFrom table c.scope.blocks) r.procedures (statements c (next + length bs) is).procedures
           (inside_held table c.scope.blocks r.procedures m.1.1) n,
     )

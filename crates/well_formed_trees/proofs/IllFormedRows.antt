@@ -1,18 +1,20 @@
 -- Pieces of typed trees that aren't well formed, one for each main rule.
-use Rattle.std.proofs.Common.{[], ◌∷◌, None, refl, inl, inr, arith}
+use Rattle.std.proofs.Common.{◌≡◌, [], ◌∷◌, None, refl, inl, inr, arith}
 use Rattle.std.specs.Prelude.{◌^◌, pos}
 use Rattle.pli_language.specs.Formats.{Putting, Getting, formats_move_data, format_moves_data}
 use Rattle.pli_language.specs.Tree as T
 use Rattle.pli_typing.specs.TypedTree as Y
-use Rattle.pli_typing.proofs.RowTrees.{at}
+use Rattle.pli_typing.proofs.RowTrees.{at, name, items, procedure}
 use Rattle.well_formed_trees.specs.Ranges.{IsLine, IsConstant, IsPrecision, IsLength, IsFormat, IsFormatList, IsTimes}
 use Rattle.well_formed_trees.specs.Surroundings.{Where, NoReturn, IsTarget, in_unit, in_list}
-use Rattle.well_formed_trees.specs.References.{IsLocated}
+use Rattle.well_formed_trees.specs.References.{IsLocated, leaf_left}
 use Rattle.well_formed_trees.specs.Expressions.{IsProcedure, Fits}
 use Rattle.well_formed_trees.specs.EarlyNumbers.{Early}
 use Rattle.well_formed_trees.specs.Declarations.{IsExtent, IsRising, IsInitial, AreMembers}
 use Rattle.well_formed_trees.specs.Blocks.{BlockLabelsOnce}
 use Rattle.well_formed_trees.specs.Statements.{SoundStmt}
+use Rattle.well_formed_trees.specs.Written.{GroupsBare}
+use Rattle.well_formed_trees.specs.Everywhere.{GoesAround}
 use Rattle.well_formed_trees.specs.WellFormed.{AreNumbered, IsHeld, HasMain, IsResult, AreApart, AreNested}
 use Rattle.well_formed_trees.proofs.WellFormedRows.{typed_program, table, main_entry, begin_entry, in_main, inner}
 use Rattle.well_formed_trees.proofs.WellFormedRows.{main_head, number}
@@ -186,3 +188,28 @@ text_of_number h = h
 -- a member two structures further in than the variable before it
 too_deep : ¬ AreMembers (record { depth = 0; dimensions = 0 } ∷ record { depth = 2; dimensions = 0 } ∷ [])
 too_deep h = absurd (omega (arith, h.1.0.1))
+
+-- ---- where statements stand
+
+-- a procedure in a group
+procedure_in_group : ¬ GroupsBare
+    (T.Do (items (procedure (name (80 ∷ []) (at 4 1) ∷ []) (at 4 4) [] [] [] ∷ [])) (at 3 1))
+procedure_in_group h = h.0
+
+-- GOTO L, where no list around has an L
+label_nowhere : ¬ GoesAround (record {
+  program = record { variables = []; procedures = [] };
+  table = [];
+  around = record { number = 1; level = 0; outermost = (77 ∷ []) ∷ []; inner = [] } ∷ [];
+  returning = NoReturn;
+}) (Y.Goto 0 (76 ∷ []) 4)
+label_nowhere (inl h) = absurd (cc h.1)
+label_nowhere (inr h) = h
+
+-- an element of an array of one dimension has none of its bounds, and matches a scalar
+element_left : leaf_left 1 (record {
+  type = Y.BitLeaf;
+  bounds = record { lower = Y.ConstantExtent (pos 1); upper = Y.ConstantExtent (pos 9) } ∷ [];
+  initial = [];
+}) ≡ record { type = Y.BitLeaf; bounds = []; initial = [] }
+element_left = refl

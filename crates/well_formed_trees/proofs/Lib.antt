@@ -12,6 +12,7 @@ pub mod MainProcedure
 pub mod ResultTypes
 pub mod Nests
 pub mod Shapes
+pub mod GroupsBare
 pub mod Entries
 pub mod TableNests
 pub mod EntriesSound
@@ -28,9 +29,38 @@ pub mod PlacesNest
 pub mod PlacesEntered
 pub mod PlacesRise
 pub mod Letters
+pub mod DeclaredOnce
 pub mod HeldAlone
 pub mod Parameters
 pub mod ParameterVariables
+pub mod Structures
+pub mod MemberParts
+pub mod FitValues
+pub mod FitOperators
+pub mod HeadsHeld
+pub mod Found
+pub mod Facts
+pub mod FineVariables
+pub mod NamesOnce
+pub mod MeantVariables
+pub mod CalledProcedures
+pub mod KindsSound
+pub mod PartFit
+pub mod ParameterParts
+pub mod ParameterAreas
+pub mod ArgumentsFit
+pub mod LocatorsFit
+pub mod ExpressionsFit
+pub mod AssignmentsFit
+pub mod StatementsFit
+pub mod AllocationsFit
+pub mod Reached
+pub mod AcceptedFacts
+pub mod StatementWalk
+pub mod Targets
 pub mod AcceptedSources
+pub mod SoundProcedures
+pub mod StructuredVariables
 pub mod WellFormedRows
 mod IllFormedRows
+mod ElementRows

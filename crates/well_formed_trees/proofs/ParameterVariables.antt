@@ -36,13 +36,13 @@ use Rattle.well_formed_trees.proofs.Parameters.{IsOfName, parameter_is, any_decl
 
 -- ---- what blocks declare, as it is listed
 
-each_at : {X Z : Type 0} (f : X → Judged Z) (xs : List X) (i : ℕ) (x : X) → slice_get xs i ≡ Some x
+pub each_at : {X Z : Type 0} (f : X → Judged Z) (xs : List X) (i : ℕ) (x : X) → slice_get xs i ≡ Some x
     → slice_get (each f xs).value i ≡ Some (f x).value
 each_at f [] i x e = absurd (cc e)
 each_at f (y ∷ ys) zero x e = ap (λ z. Some (f z).value) (same_some y x e)
 each_at f (y ∷ ys) (suc i) x e = each_at f ys i x e
 
-variables_at : (all : List Block) (k : ℕ) (bs : List Block) (i : ℕ) (b : Block) → slice_get bs i ≡ Some b
+pub variables_at : (all : List Block) (k : ℕ) (bs : List Block) (i : ℕ) (b : Block) → slice_get bs i ≡ Some b
     → slice_get (block_variables all k bs).value i
     ≡ Some (declared_variables (record { blocks = all; block = k + i })).value
 variables_at all k [] i b e = absurd (cc e)
@@ -54,7 +54,7 @@ variables_at all k (c ∷ bs) (suc i) b e =
     variables_at all (k + 1) bs i b e
     ∙ ap (λ n. Some (declared_variables (record { blocks = all; block = n })).value) z
 
-block_variables_are : (tree : T.Tree) (number : ℕ) (b : Block) → slice_get (blocks_of tree) number ≡ Some b
+pub block_variables_are : (tree : T.Tree) (number : ℕ) (b : Block) → slice_get (blocks_of tree) number ≡ Some b
     → variables_of_block (typed_tree tree) number
     ≡ (declared_variables (record { blocks = blocks_of tree; block = number })).value
 unfolding resolved
@@ -85,15 +85,15 @@ class_is blocks number b head h members e f p =
 -- ---- one parameter
 
 -- the variable that a name finds among those of a block
-record Meant (blocks : List Block) (number : ℕ) (ps : List T.Name) (n : T.Name) : Type 0 where
-  variable : Held
-  members : List Held
-  found :
+pub record Meant (blocks : List Block) (number : ℕ) (ps : List T.Name) (n : T.Name) : Type 0 where
+  pub variable : Held
+  pub members : List Held
+  pub found :
       slice_get (variables_in (declarations_of (slice_get blocks number)))
       (index_where (begins_named n) (variables_in (declarations_of (slice_get blocks number))))
       ≡ Some (variable ∷ members)
-  letters : variable.variable.declared.name.letters ≡ n.letters
-  is : is_parameter ps variable ≡ true
+  pub letters : variable.variable.declared.name.letters ≡ n.letters
+  pub is : is_parameter ps variable ≡ true
 
 meant_by : (blocks : List Block) (number : ℕ) (ps : List T.Name) (n : T.Name) (hs : List Held)
     → slice_get (variables_in (declarations_of (slice_get blocks number)))
@@ -127,7 +127,7 @@ meant blocks number b ps n e k f p d =
 -- ---- all parameters of a procedure
 
 -- each name is among all of them
-all_named : (before ns : List T.Name) → Every (λ n. IsOfName (before ++ ns) n.letters) ns
+pub all_named : (before ns : List T.Name) → Every (λ n. IsOfName (before ++ ns) n.letters) ns
 all_named before [] = tt
 all_named before (n ∷ ns) = (
   any_middle (λ m. same_bytes m.letters n.letters) before n ns (same_self n.letters),
@@ -142,7 +142,7 @@ all_declared ds ns h =
     every_map (λ n. when (not (declares ds n)) (fault n.place Undeclared) ≡ []) (λ n. declares ds n ≡ true)
     (λ n e. not_false (declares ds n) (none_when (not (declares ds n)) (fault n.place Undeclared) e)) ns h
 
-all_meant : (blocks : List Block) (number : ℕ) (b : Block) (ps ns : List T.Name) → slice_get blocks number ≡ Some b
+pub all_meant : (blocks : List Block) (number : ℕ) (b : Block) (ps ns : List T.Name) → slice_get blocks number ≡ Some b
     → AllWell b.declarations → declarations_faults ps [] b.declarations ≡ []
     → Every (λ n. IsOfName ps n.letters) ns → Every (λ n. declares b.declarations n ≡ true) ns
     → Every (Meant blocks number ps) ns
@@ -214,12 +214,12 @@ all_apart blocks number ps before (n ∷ ns) h e =
 -- ---- procedures
 
 -- what the head of a procedure's block breaks of parameters, and what its declarations break
-record HeadFine (b : Block) (head : T.ProcedureHead) : Type 0 where
-  declared : Every (λ n. declares b.declarations n ≡ true) head.parameters
-  twice : names_twice [] head.parameters ≡ []
-  variables : declarations_faults head.parameters [] b.declarations ≡ []
+pub record HeadFine (b : Block) (head : T.ProcedureHead) : Type 0 where
+  pub declared : Every (λ n. declares b.declarations n ≡ true) head.parameters
+  pub twice : names_twice [] head.parameters ≡ []
+  pub variables : declarations_faults head.parameters [] b.declarations ≡ []
 
-head_fine : (b : Block) (head : T.ProcedureHead) → b.head ≡ Some head → block_faults b ≡ [] → HeadFine b head
+pub head_fine : (b : Block) (head : T.ProcedureHead) → b.head ≡ Some head → block_faults b ≡ [] → HeadFine b head
 head_fine b head e f =
     let twice = twice_faults [] b.declarations in
     let variables = declarations_faults (names_of b.head) [] b.declarations in

@@ -79,7 +79,7 @@ level_fine ps h after e =
     first_false (level_is_bad h) _ (first_false _ _ (first_false _ _ (first_false _ _ (first_false _ _
     (first_false _ _ (first_false _ _ e))))))
 
-class_fine : (ps : List T.Name) (h : Held) (after : List Declaration) → attributes_are_bad ps h after ≡ false
+pub class_fine : (ps : List T.Name) (h : Held) (after : List Declaration) → attributes_are_bad ps h after ≡ false
     → (is_parameter ps h && ((stands_alone h && has_class (own_attributes h)) || has 12 (own_attributes h))) ≡ false
 class_fine ps h after e = second_false _ _ (first_false _ _ e)
 
@@ -111,7 +111,7 @@ abbrev pub IsRoot : List Held → Type 0
 IsRoot [] = ⊥
 IsRoot (h ∷ members) = (h.above ≡ []) × (level_of h.variable ≡ 1)
 
-attributes_fine : (ps : List T.Name) (earlier : List Held) (h : Held) (after : List Declaration)
+pub attributes_fine : (ps : List T.Name) (earlier : List Held) (h : Held) (after : List Declaration)
     → variable_faults ps earlier h after ≡ [] → attributes_are_bad ps h after ≡ false
 attributes_fine ps earlier h after e =
     none_when (attributes_are_bad ps h after) (fault h.variable.declared.name.place BadAttributes)

@@ -179,7 +179,7 @@ option_is blocks holder [] (T.Returns all ∷ os) n e = absurd n
 option_is blocks holder labels (T.Main ∷ os) n e = option_is blocks holder labels os n e
 option_is blocks holder labels (T.Recursive ∷ os) n e = option_is blocks holder labels os n e
 
-head_result : (b : Block) (head : T.ProcedureHead) → b.head ≡ Some head → block_faults b ≡ []
+pub head_result : (b : Block) (head : T.ProcedureHead) → b.head ≡ Some head → block_faults b ≡ []
     → flat_map (option_faults head.labels) head.options ≡ []
 head_result b head e f =
     let twice = twice_faults [] b.declarations in

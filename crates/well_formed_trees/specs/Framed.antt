@@ -1,5 +1,5 @@
--- Framed: what is proved so far of the typed tree of each accepted source, which is `IsWellFormed` but for expressions,
--- references, callees, targets of GOTO, and what blocks declare.
+-- Framed: the part of `IsWellFormed` that says nothing of expressions, references, callees, targets of GOTO, and what
+-- blocks declare.
 use Rattle.std.specs.Prelude.{◌≡◌, ℕ, ◌<◌, ◌≤◌, List, [], length}
 use Rattle.pli_language.specs.declared.token.Token.{Token}
 use Rattle.pli_language.specs.Tokens.{Tokens}

@@ -14,3 +14,6 @@ pub mod Spelled
 pub mod Held
 pub mod Framed
 pub mod Placed
+pub mod Everywhere
+pub mod SoundStatements
+pub mod Structured

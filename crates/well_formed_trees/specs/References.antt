@@ -1,5 +1,5 @@
 -- What references designate: members of declared variables, all of them or elements, and of which kinds.
-use Rattle.std.specs.Prelude.{◌≡◌, ◌≢◌, ℕ, suc, ◌≤◌, List, [], length, Option, ⊤, ◌⊎◌}
+use Rattle.std.specs.Prelude.{◌≡◌, ◌≢◌, ℕ, suc, ◌≤◌, List, [], length, map, drop, Option, ⊤, ◌⊎◌}
 use Rattle.pli_typing.specs.TypedTree as Y
 use Rattle.well_formed_trees.specs.Members.{IsMember, IsOneLeaf, leaves_of_part, whole}
 use Rattle.well_formed_trees.specs.Surroundings.{Where, IsDeclared}
@@ -79,9 +79,13 @@ pub record IsWhole (w : Where) (r : Y.Reference) : Type 0 where
   pub all : part_of r ≡ whole designates.d
   pub none : subscripts_of r ≡ Y.NoNumber
 
--- the kinds of all leaves of what is designated
+-- a leaf of an element, with the bounds that no subscripts stand for
+abbrev pub leaf_left : (subscripts : ℕ) → Y.Leaf → Y.Leaf
+leaf_left n l = record { type = l.type; bounds = drop n l.bounds; initial = l.initial }
+
+-- all leaves of what is designated
 abbrev pub Leaves : {w : Where} {r : Y.Reference} → Designates w r → List Y.Leaf
-Leaves {w} {r} d = leaves_of_part d.d (part_of r)
+Leaves {w} {r} d = map (leaf_left (given_in (subscripts_of r))) (leaves_of_part d.d (part_of r))
 
 -- a variable whose generations have names
 abbrev pub HasName : Y.StorageClass → Type 0

@@ -3,7 +3,11 @@
 ghost use Rattle.well_formed_trees.specs.WellFormed.{ShapeKept, NumbersKept, ListsKept, OutermostKept, LabelsKept};
 ghost use Rattle.well_formed_trees.specs.Spelled.{RangesKept};
 ghost use Rattle.well_formed_trees.specs.Placed.{PlacesKept};
+ghost use Rattle.well_formed_trees.specs.Written.{GroupsKept};
 ghost use Rattle.well_formed_trees.specs.Framed.{AcceptedFramed};
+ghost use Rattle.well_formed_trees.specs.Everywhere.{AcceptedTargets};
+ghost use Rattle.well_formed_trees.specs.SoundStatements.{AcceptedProcedures};
+ghost use Rattle.well_formed_trees.specs.Structured.{AcceptedVariables};
 ghost use Rattle.well_formed_trees.specs.Held.{BlocksKept, NestingKept, TableKept, EntriesKept, DepthsKept};
 ghost use Rattle.well_formed_trees.specs.Held.{MainKept, ResultsKept, ParametersKept};
 
@@ -11,6 +15,11 @@ ghost use Rattle.well_formed_trees.specs.Held.{MainKept, ResultsKept, Parameters
 /// but in BEGIN blocks.
 pub fn shape_kept()
     ensures { ShapeKept }
+{}
+
+/// Procedures stand in the outermost lists of blocks, and in no group.
+pub fn groups_kept()
+    ensures { GroupsKept }
 {}
 
 /// Lines, constants, texts and format lists of what is spelled are in range, and nothing stands deeper than it may.
@@ -87,4 +96,21 @@ pub fn places_kept()
 /// The typed tree of each accepted source is well formed but for what its expressions, GOTO and declarations say.
 pub fn accepted_framed()
     ensures { AcceptedFramed }
+{}
+
+/// The label that a GOTO of an accepted source names stands in a list around it, in the block at the level that it
+/// says.
+pub fn accepted_targets()
+    ensures { AcceptedTargets }
+{}
+
+/// Each procedure of an accepted source is sound, with all its blocks, statements and expressions.
+pub fn accepted_procedures()
+    ensures { AcceptedProcedures }
+{}
+
+/// Each variable of an accepted source has the members of a structure, each leaf as many bounds as its member has
+/// dimensions, and areas are variables by themselves.
+pub fn accepted_variables()
+    ensures { AcceptedVariables }
 {}
