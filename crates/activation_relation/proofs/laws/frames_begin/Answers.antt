@@ -1,0 +1,8 @@
+use Rattle.activation_relation.proofs.FrameWords.{frames_begun, made_beside}
+use Rattle.activation_relation.proofs.laws.frames_begin.Goals as goal
+
+pub returns : goal.returns
+returns c = record {
+  begun = frames_begun;
+  within = λ parts base m parent as' φ φs laid. made_beside parts base parent as' φ φs laid.0 m;
+}

@@ -1,0 +1,34 @@
+// Laws of the definitions: each function's contract is one law, and calling it does nothing.
+
+ghost use Rattle.activation_relation.specs.ServiceLaws.{ActsServed, BlocksServed, UnitsServed, ChainsKept};
+ghost use Rattle.activation_relation.specs.FrameLaws.{FramesKept, FramesBegin};
+
+/// Service 1 makes an act, or tells a line.
+pub fn acts_served()
+    ensures { ActsServed }
+{}
+
+/// Services 4, 5 and 31 enter and leave a block as the storage machine does.
+pub fn blocks_served()
+    ensures { BlocksServed }
+{}
+
+/// Services 28 to 30 and 33 have the on-units of the storage machine, by the places of their code.
+pub fn units_served()
+    ensures { UnitsServed }
+{}
+
+/// The storage machine's activations and the layers stay side by side.
+pub fn chains_kept()
+    ensures { ChainsKept }
+{}
+
+/// Frames stay through what changes beside them, and those further out through the end of the others.
+pub fn frames_kept()
+    ensures { FramesKept }
+{}
+
+/// The stores of a block's beginning make its frame, and change nothing else.
+pub fn frames_begin()
+    ensures { FramesBegin }
+{}
