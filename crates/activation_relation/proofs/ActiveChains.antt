@@ -1,20 +1,18 @@
--- The chain of activations and layers, after blocks are entered and left and after ON and REVERT; and the stacks of texts and formats.
+-- The chain of activations and layers, after blocks are entered and left and after ON and REVERT.
 use Rattle.std.proofs.Common.{◌≡◌, ℕ, zero, suc, ◌+◌, ◌-◌, List, [], ◌∷◌, ◌++◌, length, Some, Bool, true, false, refl, sym, ap}
 use Rattle.std.proofs.Common.{◌∙◌, subst, arith}
 use Rattle.std.specs.Prelude.{cond, drop}
-use Rattle.std.proofs.lemmas.List.{length-append}
 use Rattle.pli_language.specs.declared.condition.Condition.{Condition}
 use Rattle.pli_typing.specs.TypedTree as Y
 use Rattle.pli_meaning.specs.StorageState as M
 use Rattle.pli_meaning.specs.StorageState.{State, Activation, without_unit, same_condition, newest_ended, without_newest}
 use Rattle.pli_meaning.specs.StorageState.{without_owner}
 use Rattle.pli_meaning.specs.Raising.{Entry}
-use Rattle.pli_serving.specs.Blocks as B
 use Rattle.pli_serving.specs.ServiceState as S
 use Rattle.storage_relation.specs.Stored.{AreLow}
 use Rattle.activation_relation.specs.Layers.{Layer, Point}
 use Rattle.activation_relation.specs.Chains.{UnitPlaces, IsUnit, AreUnits, IsActive, AreActive}
-use Rattle.activation_relation.specs.Changes.{pushed, popped, popped_from, unwound, established, reverted, entries_back}
+use Rattle.activation_relation.specs.Changes.{pushed, popped, popped_from, unwound, established, reverted}
 use Rattle.activation_relation.specs.Changes.{ended_times, newest_with, units_of}
 use Rattle.activation_relation.specs.ServiceLaws.{IsNewest, IsLayerOf}
 use Rattle.activation_relation.proofs.Blocks.{Newest, newest_of, same_length}
@@ -165,23 +163,3 @@ reverted_active units p c active = by p.state.activations p.control.layers activ
           (without_same units c a.units φ.units h.0.units) h.0,
       h.1,
     )
-
--- ---- the stacks of texts and of places in format lists
-
-oldest_back : {A : Type 0} (above below : List A) → B.oldest (length below) (above ++ below) ≡ below
-oldest_back {A = A} above below =
-    let long = length-append above below in
-    let rest : length (above ++ below) - length below ≡ length above = omega (arith, long) in
-    ap (λ n. drop n (above ++ below)) rest ∙ dropped above
-  where
-    dropped : (xs : List A) → drop (length xs) (xs ++ below) ≡ below
-    dropped [] = refl
-    dropped (x ∷ xs) = dropped xs
-
-pub texts_return :
-    (φ : Layer) (above below : List S.Entry) → φ.texts ≡ length below → entries_back [] φ (above ++ below) ≡ below
-texts_return φ above below e = ap (λ n. B.oldest n (above ++ below)) e ∙ oldest_back above below
-
-pub edits_return :
-    (φ : Layer) (above below : List S.EditPlace) → φ.edits ≡ length below → B.oldest φ.edits (above ++ below) ≡ below
-edits_return φ above below e = ap (λ n. B.oldest n (above ++ below)) e ∙ oldest_back above below

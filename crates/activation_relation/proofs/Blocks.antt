@@ -2,7 +2,8 @@
 use Rattle.std.proofs.Common.{◌≡◌, ℕ, suc, ◌+◌, ◌-◌, List, [], ◌∷◌, ◌++◌, length, map, Some, None, Bool, true, false}
 use Rattle.std.proofs.Common.{refl, sym, ap, ◌∙◌, subst, arith, Option}
 use Rattle.std.specs.Prelude.{cond, nat_lt, nat_le, filter, drop}
-use Rattle.std.proofs.lemmas.Bool.{leb-true}
+use Rattle.std.proofs.lemmas.Bool.{le-leb}
+use Rattle.std.proofs.lemmas.List.{length-append}
 use Rattle.pli_typing.specs.TypedTree as Y
 use Rattle.pli_meaning.specs.declared.outcome.End.TheVariants as E
 use Rattle.pli_meaning.specs.declared.outcome.Limit.TheVariants as L
@@ -24,7 +25,7 @@ use Rattle.storage_relation.proofs.FoundValues.{served_left}
 use Rattle.activation_relation.specs.Layers.{Layer, Point, activation_of, services_of, now}
 use Rattle.activation_relation.specs.Chains.{UnitPlaces, AreActive, IsActive}
 use Rattle.activation_relation.specs.Changes.{with_line, with_act, pushed, popped, popped_from, Keeps, KeepsNone, KeepsTop}
-use Rattle.activation_relation.specs.Changes.{entries_back}
+use Rattle.activation_relation.specs.Changes.{StandsOver}
 use Rattle.activation_relation.specs.ServiceLaws.{at_point, HasActLeft, IsEntering, IsNewest}
 
 -- ---- acts
@@ -72,7 +73,10 @@ entering :
     }) m kind φ.at) (run_ended (E.Limit L.Depth) (services_of p))
 entering p m φ kind texts line q is deep =
     let v = services_of p in
-    let below : length p.control.entries - texts ≡ φ.texts = let b = is.below in omega (arith, b) in
+    let long = length-append is.arguments φ.entries in
+    let many = is.many in
+    let whole = ap (λ es. length es) is.below in
+    let below : length p.control.entries - texts ≡ length φ.entries = omega (arith, long, many, whole) in
     let new : B.activation_of v (record { kind = φ.kind; line = φ.line }) φ.at texts ≡ activation_of φ =
     ap (λ n. record {
       kind = φ.kind;
@@ -82,13 +86,19 @@ entering p m φ kind texts line q is deep =
       line = φ.line;
       units = [];
     }) below
-    ∙ ap (λ n. record { kind = φ.kind; frame = φ.at; texts = φ.texts; edits = n; line = φ.line; units = [] })
-    (sym is.places)
+    ∙ ap (λ xs. record {
+      kind = φ.kind;
+      frame = φ.at;
+      texts = length φ.entries;
+      edits = length xs;
+      line = φ.line;
+      units = [];
+    }) (sym is.places)
     ∙ ap (λ us. record {
       kind = φ.kind;
       frame = φ.at;
-      texts = φ.texts;
-      edits = φ.edits;
+      texts = length φ.entries;
+      edits = length φ.edits;
       line = φ.line;
       units = us;
     }) (sym is.units)
@@ -129,39 +139,46 @@ depth_answered units p m φ kind texts line active is many =
 
 -- ---- the newest block ends
 
--- what units on top isn't among so many oldest
-oldest_more :
-    (texts : ℕ) (text : List ℕ) (below : List S.Entry) → nat_le texts (length below) ≡ true →
-    B.oldest texts (TextEntry text ∷ below) ≡ B.oldest texts below
-oldest_more texts text below few =
-    let less = leb-true texts (length below) few in
-    let one : suc (length below) - texts ≡ suc (length below - texts) = omega (arith, less) in
-    ap (λ n. drop n (TextEntry text ∷ below)) one
+oldest_back : {A : Type 0} (above below : List A) → B.oldest (length below) (above ++ below) ≡ below
+oldest_back {A = A} above below =
+    let long = length-append above below in
+    let rest : length (above ++ below) - length below ≡ length above = omega (arith, long) in
+    ap (λ n. drop n (above ++ below)) rest ∙ dropped above
+  where
+    dropped : (xs : List A) → drop (length xs) (xs ++ below) ≡ below
+    dropped [] = refl
+    dropped (x ∷ xs) = dropped xs
+
+pub left_below : {A : Type 0} (below xs : List A) → StandsOver below xs → B.oldest (length below) xs ≡ below
+left_below below xs over = ap (B.oldest (length below)) over.1 ∙ oldest_back over.0 below
 
 pub kept_left :
-    (keep texts : ℕ) (entries kept : List S.Entry) → Keeps keep texts entries kept →
-    B.entries_left texts keep entries ≡ Some (kept ++ B.oldest texts entries)
-kept_left _ _ _ _ (KeepsNone texts entries) = refl
-kept_left _ _ _ _ (KeepsTop texts text below few) =
-    ap (λ q. cond q (Some (TextEntry text ∷ B.oldest texts below)) None) few
-    ∙ ap (λ es. Some (TextEntry text ∷ es)) (sym (oldest_more texts text below few))
+    (keep : ℕ) (below entries kept : List S.Entry) → Keeps keep below entries kept →
+    B.entries_left (length below) keep entries ≡ Some (kept ++ below)
+kept_left _ _ _ _ (KeepsNone below entries over) = ap (λ es. Some es) (left_below below entries over)
+kept_left _ _ _ _ (KeepsTop text below entries over) =
+    let long = length-append over.0 below in
+    let whole = ap (λ es. length es) over.1 in
+    let few : nat_le (length below) (length entries) ≡ true =
+    le-leb (length below) (length entries) (omega (arith, long, whole)) in
+    ap (λ q. cond q (Some (TextEntry text ∷ B.oldest (length below) entries)) None) few
+    ∙ ap (λ es. Some (TextEntry text ∷ es)) (left_below below entries over)
 
 ended_by :
     (p : Point) (φ : Layer) (φs : List Layer) (a : Activation) (as' : List Activation) (keep : ℕ)
     (kept : List S.Entry) → p.control.layers ≡ φ ∷ φs → p.state.activations ≡ a ∷ as' → a.height ≡ suc (length as') →
     length (map activation_of φs) ≡ length as' → AreLow (suc (length as')) p.state.living →
-    Keeps keep φ.texts p.control.entries kept →
+    Keeps keep φ.entries p.control.entries kept → StandsOver φ.edits p.control.edits →
     B.newest_ended (services_of p) keep (activation_of φ) (map activation_of φs) ≡ Some (services_of (popped kept p))
-ended_by p φ φs a as' keep kept newest first height few low keeps =
+ended_by p φ φs a as' keep kept newest first height few low keeps over =
     let v = services_of p in
     let n = length as' in
     let left = map activation_of φs in
-    let texts : List S.Entry = kept ++ B.oldest φ.texts p.control.entries in
-    let with' : List S.Living → Services = λ ls. record v {
+    let with' : List S.Living → List S.EditPlace → Services = λ ls xs. record v {
       activations = left;
       living = ls;
-      entries = texts;
-      edits = B.oldest φ.edits p.control.edits;
+      entries = kept ++ φ.entries;
+      edits = xs;
       line = φ.line;
     } in
     let after : State = record p.state { living = without_owner a.height p.state.living; activations = as' } in
@@ -172,8 +189,10 @@ ended_by p φ φs a as' keep kept newest first height few low keeps =
     ∙ served_left p.places n p.state.living low
     ∙ ap (λ h. map (served_living p.places) (without_owner h p.state.living)) (sym height)
     in
-    ap (B.ended_with (record v { line = φ.line }) left φ.edits) (kept_left keep φ.texts p.control.entries kept keeps)
-    ∙ ap (λ ls. Some (with' ls)) living
+    ap (B.ended_with (record v { line = φ.line }) left (length φ.edits))
+    (kept_left keep φ.entries p.control.entries kept keeps)
+    ∙ ap (λ ls. Some (with' ls (B.oldest (length φ.edits) p.control.edits))) living
+    ∙ ap (λ xs. Some (with' (map (served_living p.places) after.living) xs)) (left_below φ.edits p.control.edits over)
     ∙ ap (λ t. Some (services_of (record (popped_from kept (φ ∷ φs) p) { state = t }))) (sym ended)
     ∙ ap (λ φs. Some (services_of (popped_from kept φs p))) (sym newest)
 
@@ -199,28 +218,30 @@ newest_of units p φ φs active newest =
 
 pub end_answered :
     (units : UnitPlaces) (p : Point) (φ : Layer) (φs : List Layer) (keep : ℕ) (kept : List S.Entry) →
-    IsNewest units p φ φs → Keeps keep φ.texts p.control.entries kept →
+    IsNewest units p φ φs → Keeps keep φ.entries p.control.entries kept → StandsOver φ.edits p.control.edits →
     B.newest_ended (services_of p) keep (activation_of φ) (map activation_of φs) ≡ Some (services_of (popped kept p))
-end_answered units p φ φs keep kept is keeps =
+end_answered units p φ φs keep kept is keeps over =
     let n = newest_of units p φ φs is.active is.newest in
     let low = subst (λ (xs : List Activation). AreLow (length xs) p.state.living) n.first is.low in
     ended_by p φ φs n.activation n.others keep kept is.newest n.first n.is.height
-    (served_length units n.others φs n.rest) low keeps
+    (served_length units n.others φs n.rest) low keeps over
 
 pub leave_answered :
     (units : UnitPlaces) (p : Point) (m : List ℕ) (φ : Layer) (φs : List Layer) (keep a1 : ℕ)
-    (kept : List S.Entry) → IsNewest units p φ φs → Keeps keep φ.texts p.control.entries kept →
+    (kept : List S.Entry) → IsNewest units p φ φs → Keeps keep φ.entries p.control.entries kept →
+    StandsOver φ.edits p.control.edits →
     B.leave_served (at_point p m) keep a1 ≡ Done (services_of (popped kept p)) m keep a1
-leave_answered units p m φ φs keep a1 kept is keeps =
+leave_answered units p m φ φs keep a1 kept is keeps over =
     ap (λ φs. B.left_by (at_point p m) keep a1 (map activation_of φs)) is.newest
-    ∙ ap (λ o. or_bad o (λ v. Done v m keep a1)) (end_answered units p φ φs keep kept is keeps)
+    ∙ ap (λ o. or_bad o (λ v. Done v m keep a1)) (end_answered units p φ φs keep kept is keeps over)
 
 pub return_answered :
     (units : UnitPlaces) (p : Point) (m : List ℕ) (φ : Layer) (φs : List Layer) (code resume : ℕ) →
-    IsNewest units p φ φs → φ.kind ≡ S.OnUnitBlock code resume →
+    IsNewest units p φ φs → φ.kind ≡ S.OnUnitBlock code resume → Keeps 0 φ.entries p.control.entries [] →
+    StandsOver φ.edits p.control.edits →
     B.return_served (at_point p m) ≡ Done (services_of (popped [] p)) m resume code
-return_answered units p m φ φs code resume is kind =
-    let ended = end_answered units p φ φs 0 [] is (KeepsNone φ.texts p.control.entries) in
+return_answered units p m φ φs code resume is kind keeps over =
+    let ended = end_answered units p φ φs 0 [] is keeps over in
     ap (λ φs. B.returned_by (at_point p m) (map activation_of φs)) is.newest
     ∙ ap (λ k. B.unit_left (at_point p m) k
     (B.newest_ended (services_of p) 0 (activation_of φ) (map activation_of φs))) kind

@@ -1,6 +1,6 @@
 -- Frames in memory: which changes they stay through, and that a block's beginning makes one.
 use Rattle.std.proofs.Common.{◌≡◌, ◌⊎◌, inl, inr, ℕ, zero, suc, ◌+◌, ◌-◌, ◌*◌, ◌/◌, ◌^◌, ◌<◌, ◌≤◌, List, [], ◌∷◌, ◌++◌}
-use Rattle.std.proofs.Common.{length, Bool, true, false, refl, sym, ap, ◌∙◌, subst, arith}
+use Rattle.std.proofs.Common.{Some, length, Bool, true, false, refl, sym, ap, ◌∙◌, subst, arith}
 use Rattle.std.specs.Prelude.{drop, cond, ◌==◌}
 use Rattle.rv_meaning.specs.Memory.{load}
 use Rattle.pli_meaning.specs.StorageState.{Activation, ancestor, height_of}
@@ -16,9 +16,10 @@ use Rattle.activation_relation.specs.Frames.{FrameStands, FirstStands, FramesSta
 use Rattle.activation_relation.specs.Frames.{frame_start, frame_bytes, frame_under, upper_top, lower_end, word_place}
 use Rattle.activation_relation.specs.Frames.{place_from, ancestor_frame, stored, frame_stores, words_from, Stores}
 use Rattle.activation_relation.specs.FrameLaws.{AreWords}
+use Rattle.activation_relation.specs.Owned.{AreWithin}
 use Rattle.activation_relation.specs.ServiceLaws.{FramesFall}
 use Rattle.activation_relation.proofs.StoredWords.{Apart, apart_append, apart_run, Writes, writes_first, writes_later}
-use Rattle.activation_relation.proofs.StoredWords.{writes_behind, writes_before, writes_run, Within, within_append}
+use Rattle.activation_relation.proofs.StoredWords.{writes_behind, writes_before, writes_run, within_append}
 use Rattle.activation_relation.proofs.StoredWords.{within_run, stored_beside, beside_word, same_word, length_stored}
 
 -- ---- sizes
@@ -31,7 +32,7 @@ levels_covered level parameters = omega arith
 
 -- ---- changes beside frames
 
-back_same :
+pub back_same :
     (kind : S.BlockKind) (base back at : ℕ) (m new : List ℕ) → load 4 new at ≡ load 4 m at →
     GoesBack kind base back at m → GoesBack kind base back at new
 back_same S.ProcedureBlock base back at m new same h = same ∙ h
@@ -53,8 +54,8 @@ frame_kept parts base at count m new a as' φ φs h laid beside is =
       lower = word (φ.at + 40) (omega arith) (omega (arith, levels)) ∙ h.lower;
       display_words =
           λ n few. word (φ.at + (144 + 4 * n)) (omega arith) (omega (arith, levels, few)) ∙ h.display_words n few;
-      waits = λ n few. word (word_place φ n) (omega (arith, few, words, over)) (omega (arith, few, words, over))
-          ∙ h.waits n few;
+      waits = λ n v few e. word (word_place φ n) (omega (arith, few, words, over)) (omega (arith, few, words, over))
+          ∙ h.waits n v few e;
     }
   where
     levels : 144 + 4 * φ.level ≤ fixed_size φ.level φ.parameters
@@ -180,15 +181,15 @@ module _ (parts : MemoryParts) (base parent : ℕ) (as' : List Activation) (φ :
       let n = fixed_size φ.level φ.parameters in
       let levels = levels_covered φ.level φ.parameters in
       let registers : φ.saved ≤ 7 = laid.saved in
-      let display_in : Within φ.at n from_display =
+      let display_in : AreWithin φ.at n from_display =
       within_append φ.at n (words_from (place_from φ.at (display 0)) shown 0 φ.level) own_word
       (within_run φ.at n (place_from φ.at (display 0)) shown 0 φ.level (omega arith) (omega (arith, levels)))
       ((omega arith, omega (arith, levels)), tt) in
-      let below_in : Within φ.at n from_below = (
+      let below_in : AreWithin φ.at n from_below = (
         (omega arith, omega (arith, levels)),
         ((omega arith, omega (arith, levels)), display_in),
       ) in
-      let saved_in : Within φ.at n from_saved =
+      let saved_in : AreWithin φ.at n from_saved =
       within_append φ.at n (words_from (place_from φ.at (saved_register 0)) φ.held 0 φ.saved) from_below
       (within_run φ.at n (place_from φ.at (saved_register 0)) φ.held 0 φ.saved (omega arith)
       (omega (arith, levels, registers))) below_in in
@@ -272,7 +273,7 @@ goes_back (S.OnUnitBlock code resume) base back at m h = tt
 pub frame_made :
     (parts : MemoryParts) (base : ℕ) (m : List ℕ) (a : Activation) (as' : List Activation) (φ : Layer)
     (φs : List Layer) → AreLaid parts (φ ∷ φs) → AreWords base φ → φ.lower ≤ length m →
-    ((n : ℕ) → n < φ.words → load 4 m (word_place φ n) ≡ φ.waits n) →
+    ((n v : ℕ) → n < φ.words → φ.waits n ≡ Some v → load 4 m (word_place φ n) ≡ v) →
     FrameStands parts base (stored (frame_stores parts base a.parent as' φ φs) m) a as' φ φs
 frame_made parts base m a as' φ φs laid words room waits =
     record {
@@ -291,11 +292,11 @@ frame_made parts base m a as' φ φs laid words room waits =
           let low = frame_low parts φs (height_of (ancestor as' a.parent n)) laid.1 in
           (writes_display parts base a.parent as' φ φs n (omega (arith, low, above, inside, small)) less).does m
           (omega (arith, levels, inside, less));
-      waits = λ n less.
+      waits = λ n v less e.
           same_word φ.at (fixed_size φ.level φ.parameters) (word_place φ n) m new
           (made_beside parts base a.parent as' φ φs laid.0 m)
           (inr (let c = words_covered φ.words in omega (arith, less, c, above)))
-          ∙ waits n less;
+          ∙ waits n v less e;
     }
   where
     new : List ℕ
@@ -322,7 +323,7 @@ frame_made parts base m a as' φ φs laid words room waits =
 pub frames_begun :
     (parts : MemoryParts) (base : ℕ) (m : List ℕ) (a : Activation) (as' : List Activation) (φ : Layer)
     (φs : List Layer) → FramesStand parts base m as' φs → AreLaid parts (φ ∷ φs) → AreWords base φ →
-    φ.lower ≤ length m → ((n : ℕ) → n < φ.words → load 4 m (word_place φ n) ≡ φ.waits n) →
+    φ.lower ≤ length m → ((n v : ℕ) → n < φ.words → φ.waits n ≡ Some v → load 4 m (word_place φ n) ≡ v) →
     FramesStand parts base (stored (frame_stores parts base a.parent as' φ φs) m) (a ∷ as') (φ ∷ φs)
 frames_begun parts base m a as' φ φs h laid words room waits =
     let n = fixed_size φ.level φ.parameters in

@@ -4,3 +4,7 @@ pub mod Units
 pub mod ActiveChains
 pub mod StoredWords
 pub mod FrameWords
+pub mod Displays
+pub mod WaitingWords
+pub mod Landings
+pub mod OwnPlaces

@@ -8,6 +8,7 @@ use Rattle.rv_meaning.proofs.MemoryLaws.{length-store, load-store_same, load-sto
 use Rattle.rv_meaning.proofs.MemoryLaws.{byte-store_below, byte-store_past}
 use Rattle.storage_relation.specs.Stored.{Beside, IsBeside}
 use Rattle.activation_relation.specs.Frames.{Stores, stored, words_from}
+use Rattle.activation_relation.specs.Owned.{AreWithin}
 
 pub length_stored : (xs : Stores) (m : List ℕ) → length (stored xs m) ≡ length m
 length_stored [] m = refl
@@ -105,17 +106,13 @@ writes_run from value n (suc left) j low high small =
 
 -- ---- bytes outside
 
-abbrev pub Within : (at count : ℕ) → Stores → Type 0
-Within at count [] = Unit {0}
-Within at count (x ∷ xs) = ((at ≤ x.0) × (x.0 + 4 ≤ at + count)) × Within at count xs
-
-pub within_append : (at count : ℕ) (xs ys : Stores) → Within at count xs → Within at count ys → Within at count (xs ++ ys)
+pub within_append : (at count : ℕ) (xs ys : Stores) → AreWithin at count xs → AreWithin at count ys → AreWithin at count (xs ++ ys)
 within_append at count [] ys h i = i
 within_append at count (x ∷ xs) ys h i = (h.0, within_append at count xs ys h.1 i)
 
 pub within_run :
     (at count from : ℕ) (value : ℕ → ℕ) (n left : ℕ) → at ≤ from → from + 4 * (n + left) ≤ at + count →
-    Within at count (words_from from value n left)
+    AreWithin at count (words_from from value n left)
 within_run at count from value n zero low high = tt
 within_run at count from value n (suc left) low high = (
   (omega (arith, low), omega (arith, high)),
@@ -123,7 +120,7 @@ within_run at count from value n (suc left) low high = (
 )
 
 pub stored_beside :
-    (at count : ℕ) (xs : Stores) (m : List ℕ) → Within at count xs → IsBeside at count m (stored xs m)
+    (at count : ℕ) (xs : Stores) (m : List ℕ) → AreWithin at count xs → IsBeside at count m (stored xs m)
 stored_beside at count [] m h = record { as_many = refl; same = λ j o. refl }
 stored_beside at count (x ∷ xs) m h =
     let rest = stored_beside at count xs (store 4 m x.0 x.1) h.1 in

@@ -90,12 +90,12 @@ pub data AreInForce (units : UnitPlaces) (φs : List Layer) (most : ℕ) :
       (f : Activation × M.OnUnit) (x : S.Activation × S.OnUnit) → f.0.height ≤ most →
       x.0.frame ≡ frame_at φs f.0.height → IsUnit units f.1 x.1 → AreInForce units φs most (Some f) (Some x)
 
-frame_below :
+pub frame_below :
     (φ : Layer) (φs : List Layer) (height : ℕ) → height ≤ length φs → frame_at (φ ∷ φs) height ≡ frame_at φs height
 frame_below φ φs height h =
     ap (λ q. cond q φ.at (frame_at φs height)) (eqb-other height (suc (length φs)) (omega (arith, h)))
 
-frame_own : (φ : Layer) (φs : List Layer) → frame_at (φ ∷ φs) (suc (length φs)) ≡ φ.at
+pub frame_own : (φ : Layer) (φs : List Layer) → frame_at (φ ∷ φs) (suc (length φs)) ≡ φ.at
 frame_own φ φs = ap (λ q. cond q φ.at (frame_at φs (suc (length φs)))) (eqb-refl (suc (length φs)))
 
 further :

@@ -16,9 +16,9 @@ use Rattle.storage_relation.proofs.FoundValues.{served_left}
 use Rattle.storage_relation.proofs.Holders.{eqb-refl, eqb-other}
 use Rattle.activation_relation.specs.Layers.{Layer, Point, activation_of, services_of}
 use Rattle.activation_relation.specs.Chains.{UnitPlaces, AreActive}
-use Rattle.activation_relation.specs.Changes.{Keeps, unwound, ended_times, entries_back}
+use Rattle.activation_relation.specs.Changes.{Keeps, StandsOver, unwound, ended_times}
 use Rattle.activation_relation.specs.ServiceLaws.{at_point, FramesFall}
-use Rattle.activation_relation.proofs.Blocks.{served_length, same_length, kept_left}
+use Rattle.activation_relation.proofs.Blocks.{served_length, same_length, kept_left, left_below}
 
 -- ---- which layer a frame is
 
@@ -218,9 +218,10 @@ pub unwind_answered :
     (units : UnitPlaces) (p : Point) (m : List ℕ) (count above keep : ℕ) (φ : Layer) (φs : List Layer)
     (kept : List S.Entry) → AreActive units p.state.activations p.control.layers →
     AreLow (length p.state.activations) p.state.living → FramesFall above p.control.layers →
-    drop count p.control.layers ≡ φ ∷ φs → Keeps keep φ.texts p.control.entries kept →
+    drop count p.control.layers ≡ φ ∷ φs → Keeps keep φ.entries p.control.entries kept →
+    StandsOver φ.edits p.control.edits →
     B.unwind_served (at_point p m) φ.at keep ≡ Done (services_of (unwound count kept φ p)) m φ.at keep
-unwind_answered units p m count above keep φ φs kept active low fall there keeps =
+unwind_answered units p m count above keep φ φs kept active low fall there keeps over =
     let v = services_of p in
     let c = at_point p m in
     let left = map activation_of (φ ∷ φs) in
@@ -228,13 +229,13 @@ unwind_answered units p m count above keep φ φs kept active low fall there kee
     let same = same_length units p.state.activations p.control.layers active in
     let l = left_behind units p.places count (suc (length φs)) p.state p.state.activations p.control.layers refl active
     (omega (arith, many, same)) low in
-    let texts : List S.Entry = kept ++ B.oldest φ.texts p.control.entries in
-    let with' : List S.Activation → List S.Living → S.Services = λ xs ls. record v {
+    let with' : List S.Activation → List S.Living → List S.EditPlace → S.Services = λ xs ls es. record v {
       activations = xs;
       living = ls;
-      entries = texts;
-      edits = B.oldest φ.edits p.control.edits;
+      entries = kept ++ φ.entries;
+      edits = es;
     } in
+    let edits' = B.oldest (length φ.edits) p.control.edits in
     let k = kept_behind count p.state in
     let now' : World → Input → ℕ → Answer = λ w i n. Done (record (services_of (unwound count kept φ p)) {
       world = w;
@@ -242,13 +243,15 @@ unwind_answered units p m count above keep φ φs kept active low fall there kee
       serials = n;
     }) m φ.at keep in
     ap (λ xs. B.unwound c φ.at keep xs) (found_frame above count p.control.layers φ φs fall there)
-    ∙ ap (λ o. or_bad (B.ended_with v left φ.edits o) (λ v. Done v m φ.at keep))
-    (kept_left keep φ.texts p.control.entries kept keeps)
-    ∙ ap (λ n. Done (with' left (filter (λ (l : S.Living). nat_le l.owner n) v.living)) m φ.at keep)
+    ∙ ap (λ o. or_bad (B.ended_with v left (length φ.edits) o) (λ v. Done v m φ.at keep))
+    (kept_left keep φ.entries p.control.entries kept keeps)
+    ∙ ap (λ n. Done (with' left (filter (λ (l : S.Living). nat_le l.owner n) v.living) edits') m φ.at keep)
     (map_length (φ ∷ φs))
-    ∙ ap (λ ls. Done (with' left ls) m φ.at keep) l.living
-    ∙ ap (λ xs. Done (with' (map activation_of xs) (map (served_living p.places) (ended_times count p.state).living)) m
-    φ.at keep) (sym there)
+    ∙ ap (λ ls. Done (with' left ls edits') m φ.at keep) l.living
+    ∙ ap (λ es. Done (with' left (map (served_living p.places) (ended_times count p.state).living) es) m φ.at keep)
+    (left_below φ.edits p.control.edits over)
+    ∙ ap (λ xs. Done (with' (map activation_of xs) (map (served_living p.places) (ended_times count p.state).living)
+    φ.edits) m φ.at keep) (sym there)
     ∙ ap (λ w. now' w p.state.input p.state.serials) (sym k.world)
     ∙ ap (λ i. now' (ended_times count p.state).world i p.state.serials) (sym k.input)
     ∙ ap (λ n. now' (ended_times count p.state).world (ended_times count p.state).input n) (sym k.serials)

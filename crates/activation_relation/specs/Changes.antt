@@ -1,16 +1,15 @@
 -- What comes of a point: acts, blocks that are entered and left, and on-units.
-use Rattle.std.specs.Prelude.{ℕ, zero, suc, ◌≡◌, nat_le, true, List, [], ◌∷◌, ◌++◌, length, None, Some, Option, drop}
+use Rattle.std.specs.Prelude.{ℕ, zero, suc, ◌≡◌, List, [], ◌∷◌, ◌++◌, None, Some, drop}
 use Rattle.pli_language.specs.declared.condition.Condition.{Condition}
 use Rattle.pli_typing.specs.TypedTree as Y
-use Rattle.pli_meaning.specs.World.{World, counted, raising}
+use Rattle.pli_meaning.specs.World.{World}
 use Rattle.pli_meaning.specs.StorageState as M
-use Rattle.pli_meaning.specs.StorageState.{State, Activation, with_world, with_activations, newest_ended, without_unit}
+use Rattle.pli_meaning.specs.StorageState.{State, with_world, with_activations, newest_ended, without_unit}
 use Rattle.pli_meaning.specs.Raising.{Entry}
 use Rattle.pli_meaning.specs.Executing.{with_activation}
-use Rattle.pli_serving.specs.Blocks.{oldest}
 use Rattle.pli_serving.specs.ServiceState as S
 use Rattle.pli_serving.specs.ServiceState.{TextEntry}
-use Rattle.activation_relation.specs.Layers.{Layer, Control, Point}
+use Rattle.activation_relation.specs.Layers.{Layer, Point}
 
 -- ---- acts
 
@@ -32,10 +31,7 @@ pushed head entry φ line p =
 
 -- ---- the newest block ends
 
--- what is kept above the texts that stood below a block
-abbrev pub entries_back : (kept : List S.Entry) → Layer → List S.Entry → List S.Entry
-entries_back kept φ entries = kept ++ oldest φ.texts entries
-
+-- texts and places in format lists are those that stood below it; a text may be kept above them
 abbrev pub popped_from : (kept : List S.Entry) → List Layer → Point → Point
 popped_from kept [] p = p
 popped_from kept (φ ∷ φs) p =
@@ -43,8 +39,8 @@ popped_from kept (φ ∷ φs) p =
       state = newest_ended p.state;
       control = record p.control {
         layers = φs;
-        entries = entries_back kept φ p.control.entries;
-        edits = oldest φ.edits p.control.edits;
+        entries = kept ++ φ.entries;
+        edits = φ.edits;
         line = φ.line;
       };
     }
@@ -52,12 +48,16 @@ popped_from kept (φ ∷ φs) p =
 abbrev pub popped : (kept : List S.Entry) → Point → Point
 popped kept p = popped_from kept p.control.layers p
 
--- what a call of the services keeps of the texts: none, or the top one where it stands above those of the block
-pub data Keeps : (keep texts : ℕ) → List S.Entry → (kept : List S.Entry) → Type 0 where
-  KeepsNone : (texts : ℕ) (entries : List S.Entry) → Keeps 0 texts entries []
+-- a stack that has grown: what stood below is as it was
+abbrev pub StandsOver : {A : Type 0} → (below xs : List A) → Type 0
+StandsOver {A} below xs = (above : List A) × (xs ≡ above ++ below)
+
+-- what a call of the services keeps of the texts above those of a block: none, or the top one
+pub data Keeps : (keep : ℕ) → (below entries kept : List S.Entry) → Type 0 where
+  KeepsNone : (below entries : List S.Entry) → StandsOver below entries → Keeps 0 below entries []
   KeepsTop :
-      (texts : ℕ) (text : List ℕ) (entries : List S.Entry) → nat_le texts (length entries) ≡ true →
-      Keeps 1 texts (TextEntry text ∷ entries) (TextEntry text ∷ [])
+      (text : List ℕ) (below entries : List S.Entry) → StandsOver below entries →
+      Keeps 1 below (TextEntry text ∷ entries) (TextEntry text ∷ [])
 
 -- ---- so many blocks end together, where the program goes on further out
 
@@ -73,8 +73,8 @@ unwound count kept φ p =
       state = ended_times count p.state;
       control = record p.control {
         layers = drop count p.control.layers;
-        entries = entries_back kept φ p.control.entries;
-        edits = oldest φ.edits p.control.edits;
+        entries = kept ++ φ.entries;
+        edits = φ.edits;
       };
     }
 

@@ -1,5 +1,5 @@
 -- Frames in memory: the words that stand in each, and its place between the two stacks.
-use Rattle.std.specs.Prelude.{ℕ, zero, suc, ◌+◌, ◌-◌, ◌*◌, ◌%◌, ◌<◌, ◌≤◌, ◌≡◌, ℤ, pos, negsuc, List, [], ◌∷◌, ◌++◌, length, ⊤}
+use Rattle.std.specs.Prelude.{ℕ, zero, suc, ◌+◌, ◌-◌, ◌*◌, ◌%◌, ◌<◌, ◌≤◌, ◌≡◌, ℤ, pos, negsuc, List, [], ◌∷◌, ◌++◌, length, ⊤, Some}
 use Rattle.rv_meaning.specs.Memory.{load, store}
 use Rattle.pli_meaning.specs.StorageState.{Activation, ancestor, height_of}
 use Rattle.pli_serving.specs.ServiceState as S
@@ -64,7 +64,7 @@ pub record FrameStands (parts : MemoryParts) (base : ℕ) (m : List ℕ) (a : Ac
   -- the display: one word for each level around
   pub display_words :
       (n : ℕ) → n < φ.level → load 4 m (place_from φ.at (display n)) ≡ base + ancestor_frame as' φs a.parent n
-  pub waits : (n : ℕ) → n < φ.words → load 4 m (word_place φ n) ≡ φ.waits n
+  pub waits : (n v : ℕ) → n < φ.words → φ.waits n ≡ Some v → load 4 m (word_place φ n) ≡ v
 
 -- what the start's frame tells
 pub record FirstStands (parts : MemoryParts) (m : List ℕ) : Type 0 where

@@ -1,5 +1,5 @@
 -- What machine and services have of each activation, newest first, and the services' state as a function of it.
-use Rattle.std.specs.Prelude.{ℕ, Bool, List, map, Option}
+use Rattle.std.specs.Prelude.{ℕ, List, map, Option, length}
 use Rattle.pli_language.specs.declared.condition.Condition.{Condition}
 use Rattle.pli_meaning.specs.Control.{Label}
 use Rattle.pli_meaning.specs.StorageState.{State}
@@ -11,10 +11,11 @@ use Rattle.storage_relation.specs.Served.{Now, served_living}
 
 -- ---- layers
 
--- words of a frame that wait where a list of statements runs: how many, and what they hold
-pub record Waits : Type 0 where
+-- where a list of statements runs: the first free byte of the upper stack, and how many words of the frame wait with what
+pub record Carried : Type 0 where
+  pub top : ℕ
   pub words : ℕ
-  pub values : ℕ → ℕ
+  pub values : ℕ → Option ℕ
 
 -- what there is of one activation beside the storage machine's; of the newest, what its code knows just there
 pub record Layer : Type 0 where
@@ -32,17 +33,17 @@ pub record Layer : Type 0 where
   pub back : ℕ
   pub saved : ℕ
   pub held : ℕ → ℕ
-  -- its words for temporaries
-  pub waits : ℕ → ℕ
+  -- what its words for temporaries hold, where that is known
+  pub waits : ℕ → Option ℕ
   -- the first free byte of the upper stack, and the top of the lower one
   pub top : ℕ
   pub lower : ℕ
-  -- texts and places in format lists that stood below it, and the line that is current again when it ends
-  pub texts : ℕ
-  pub edits : ℕ
+  -- texts and places in format lists that stand below it, and the line that is current again when it ends
+  pub entries : List S.Entry
+  pub edits : List S.EditPlace
   pub line : ℕ
-  -- the labels of the lists that it is carrying out, with what waits there
-  pub carried : Label → Option Waits
+  -- the labels of the lists that it is carrying out
+  pub carried : Label → Option Carried
 
 -- ---- the services
 
@@ -60,8 +61,8 @@ activation_of φ =
     record {
       kind = φ.kind;
       frame = φ.at;
-      texts = φ.texts;
-      edits = φ.edits;
+      texts = length φ.entries;
+      edits = length φ.edits;
       line = φ.line;
       units = φ.units;
     }

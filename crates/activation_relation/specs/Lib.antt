@@ -4,3 +4,6 @@ pub mod Changes
 pub mod ServiceLaws
 pub mod Frames
 pub mod FrameLaws
+pub mod Points
+pub mod Landing
+pub mod Owned

@@ -22,8 +22,8 @@ use Rattle.storage_relation.specs.Stored.{AreLow}
 use Rattle.activation_relation.specs.Layers.{Layer, Point, services_of, now}
 use Rattle.activation_relation.specs.Chains.{UnitPlaces, AreActive, RunsFor, IsUnit}
 use Rattle.activation_relation.specs.Chains.{HasParent, StandsAt, frame_at}
-use Rattle.activation_relation.specs.Changes.{with_line, with_act, pushed, popped, Keeps, unwound, established}
-use Rattle.activation_relation.specs.Changes.{reverted, awaiting, entries_back}
+use Rattle.activation_relation.specs.Changes.{with_line, with_act, pushed, popped, Keeps, StandsOver, unwound, established}
+use Rattle.activation_relation.specs.Changes.{reverted, awaiting}
 
 -- a call at a point, with a memory
 abbrev pub at_point : Point → List ℕ → Call
@@ -51,8 +51,11 @@ pub record IsEntering (p : Point) (φ : Layer) (kind texts : ℕ) : Type 0 where
   pub entered :
       B.entered_of kind p.control.line p.control.waiting ≡ Some (record { kind = φ.kind; line = φ.line })
   pub given : are_texts texts p.control.entries ≡ true
-  pub below : φ.texts + texts ≡ length p.control.entries
-  pub places : φ.edits ≡ length p.control.edits
+  -- what stands below it: all but the texts of its arguments
+  pub arguments : List S.Entry
+  pub below : p.control.entries ≡ arguments ++ φ.entries
+  pub many : length arguments ≡ texts
+  pub places : φ.edits ≡ p.control.edits
   pub units : φ.units ≡ []
 
 -- what is newest, with as much storage as its activations own
@@ -81,19 +84,22 @@ pub record BlocksServed : Type 0 where
       B.enter_served (at_point p m) kind φ.at line texts ≡ run_ended (E.Limit L.Depth) (services_of p)
   pub left :
       (units : UnitPlaces) (p : Point) (m : List ℕ) (φ : Layer) (φs : List Layer) (keep a1 : ℕ)
-      (kept : List S.Entry) → IsNewest units p φ φs → Keeps keep φ.texts p.control.entries kept →
+      (kept : List S.Entry) → IsNewest units p φ φs → Keeps keep φ.entries p.control.entries kept →
+      StandsOver φ.edits p.control.edits →
       B.leave_served (at_point p m) keep a1 ≡ Done (services_of (popped kept p)) m keep a1
   -- the end of an on-unit, which goes on where its raise said
   pub returned :
       (units : UnitPlaces) (p : Point) (m : List ℕ) (φ : Layer) (φs : List Layer) (code resume : ℕ) →
-      IsNewest units p φ φs → φ.kind ≡ S.OnUnitBlock code resume →
+      IsNewest units p φ φs → φ.kind ≡ S.OnUnitBlock code resume → Keeps 0 φ.entries p.control.entries [] →
+      StandsOver φ.edits p.control.edits →
       B.return_served (at_point p m) ≡ Done (services_of (popped [] p)) m resume code
   -- where the program goes on in a block further out, by its frame, those above it have ended
   pub unwound :
       (units : UnitPlaces) (p : Point) (m : List ℕ) (count above keep : ℕ) (φ : Layer) (φs : List Layer)
       (kept : List S.Entry) → AreActive units p.state.activations p.control.layers →
       AreLow (length p.state.activations) p.state.living → FramesFall above p.control.layers →
-      drop count p.control.layers ≡ φ ∷ φs → Keeps keep φ.texts p.control.entries kept →
+      drop count p.control.layers ≡ φ ∷ φs → Keeps keep φ.entries p.control.entries kept →
+      StandsOver φ.edits p.control.edits →
       B.unwind_served (at_point p m) φ.at keep ≡ Done (services_of (unwound count kept φ p)) m φ.at keep
 
 -- ---- on-units
@@ -166,9 +172,3 @@ pub record ChainsKept : Type 0 where
   pub reverted :
       (units : UnitPlaces) (p : Point) (c : Condition) → AreActive units p.state.activations p.control.layers →
       AreActive units (reverted c p).state.activations (reverted c p).control.layers
-  -- texts and places in format lists that stood below a block are back when it ends, whatever stood above them
-  pub texts_back :
-      (φ : Layer) (above below : List S.Entry) → φ.texts ≡ length below →
-      entries_back [] φ (above ++ below) ≡ below
-  pub edits_back :
-      (φ : Layer) (above below : List S.EditPlace) → φ.edits ≡ length below → B.oldest φ.edits (above ++ below) ≡ below

@@ -1,7 +1,8 @@
 // Laws of the definitions: each function's contract is one law, and calling it does nothing.
 
 ghost use Rattle.activation_relation.specs.ServiceLaws.{ActsServed, BlocksServed, UnitsServed, ChainsKept};
-ghost use Rattle.activation_relation.specs.FrameLaws.{FramesKept, FramesBegin};
+ghost use Rattle.activation_relation.specs.FrameLaws.{FramesKept, FramesBegin, WordsWait, FramesEnd};
+ghost use Rattle.activation_relation.specs.Owned.{FramesApart};
 
 /// Service 1 makes an act, or tells a line.
 pub fn acts_served()
@@ -31,4 +32,19 @@ pub fn frames_kept()
 /// The stores of a block's beginning make its frame, and change nothing else.
 pub fn frames_begin()
     ensures { FramesBegin }
+{}
+
+/// What is stored in words of a frame waits there, also while other blocks run.
+pub fn words_wait()
+    ensures { WordsWait }
+{}
+
+/// A block that ends finds in its frame where it goes back, and what the registers held.
+pub fn frames_end()
+    ensures { FramesEnd }
+{}
+
+/// Frames lie beside all that is stored, so code that stores in one leaves the other.
+pub fn frames_apart()
+    ensures { FramesApart }
 {}

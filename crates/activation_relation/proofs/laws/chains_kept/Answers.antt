@@ -1,5 +1,5 @@
 use Rattle.activation_relation.proofs.ActiveChains.{pushed_active, popped_active, unwound_active, established_active}
-use Rattle.activation_relation.proofs.ActiveChains.{reverted_active, texts_return, edits_return}
+use Rattle.activation_relation.proofs.ActiveChains.{reverted_active}
 use Rattle.activation_relation.proofs.laws.chains_kept.Goals as goal
 
 pub returns : goal.returns
@@ -9,6 +9,4 @@ returns c = record {
   unwound = unwound_active;
   established = established_active;
   reverted = reverted_active;
-  texts_back = texts_return;
-  edits_back = edits_return;
 }
