@@ -175,9 +175,8 @@ module _ (parts : MemoryParts) (base parent : ℕ) (as' : List Activation) (φ :
   abbrev all_words : Stores
   all_words = frame_stores parts base parent as' φ φs
 
-  pub made_beside :
-      IsLaid parts φ φs → (m : List ℕ) → IsBeside φ.at (fixed_size φ.level φ.parameters) m (stored all_words m)
-  made_beside laid m =
+  pub made_within : IsLaid parts φ φs → AreWithin φ.at (fixed_size φ.level φ.parameters) all_words
+  made_within laid =
       let n = fixed_size φ.level φ.parameters in
       let levels = levels_covered φ.level φ.parameters in
       let registers : φ.saved ≤ 7 = laid.saved in
@@ -193,7 +192,11 @@ module _ (parts : MemoryParts) (base parent : ℕ) (as' : List Activation) (φ :
       within_append φ.at n (words_from (place_from φ.at (saved_register 0)) φ.held 0 φ.saved) from_below
       (within_run φ.at n (place_from φ.at (saved_register 0)) φ.held 0 φ.saved (omega arith)
       (omega (arith, levels, registers))) below_in in
-      stored_beside φ.at n all_words m ((omega arith, omega (arith, levels)), saved_in)
+      ((omega arith, omega (arith, levels)), saved_in)
+
+  pub made_beside :
+      IsLaid parts φ φs → (m : List ℕ) → IsBeside φ.at (fixed_size φ.level φ.parameters) m (stored all_words m)
+  made_beside laid m = stored_beside φ.at (fixed_size φ.level φ.parameters) all_words m (made_within laid)
 
   -- a word of the first 36 bytes, or the one at 40, is none of the display
   beside_display : (p : ℕ) → p + 4 ≤ φ.at + 36 → Apart p from_display

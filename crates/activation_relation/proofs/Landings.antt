@@ -28,6 +28,7 @@ resumes_later w acts more a as' φ φs q h r =
     let m = r.more in
     record {
       stands = r.stands;
+      idle = r.idle;
       changed = r.changed;
       layers = r.layers;
       own = r.own;
@@ -118,6 +119,7 @@ resumes_moved :
 resumes_moved w acts a as' φ φs own x q r =
     record {
       stands = r.stands;
+      idle = r.idle;
       changed = r.changed;
       layers = r.layers;
       own = r.own;

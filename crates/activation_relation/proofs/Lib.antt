@@ -8,3 +8,5 @@ pub mod Displays
 pub mod WaitingWords
 pub mod Landings
 pub mod OwnPlaces
+pub mod Accounts
+pub mod PointSteps

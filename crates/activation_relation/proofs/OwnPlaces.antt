@@ -211,7 +211,7 @@ free_clear k π s parts φs owned laid n h e =
 
 -- ---- words stored there
 
-clear_part :
+pub clear_part :
     (at count from other p n : ℕ) → Beside from other at count → at ≤ p → p + n ≤ at + count → Beside from other p n
 clear_part at count from other p n (inl h) low high = inl (omega (arith, h, low))
 clear_part at count from other p n (inr h) low high = inr (omega (arith, h, high))

@@ -39,6 +39,7 @@ with_units own a = record a { units = own }
 pub record Resumes (w : Surroundings) (acts : ℕ) (a : Activation) (as' : List Activation) (φ : Layer) (φs : List Layer)
     (q : Point) : Type 0 where
   pub stands : Stands w q
+  pub idle : q.control.waiting ≡ None
   pub changed : Changed
   pub layers : q.control.layers ≡ resumed changed φ ∷ φs
   pub own : List (Condition × M.OnUnit)

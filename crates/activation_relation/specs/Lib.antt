@@ -7,3 +7,5 @@ pub mod FrameLaws
 pub mod Points
 pub mod Landing
 pub mod Owned
+pub mod Account
+pub mod PointLaws

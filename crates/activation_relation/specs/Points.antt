@@ -1,5 +1,5 @@
 -- What holds at a point, whatever the machine, and a machine that has come there.
-use Rattle.std.specs.Prelude.{ℕ, ◌+◌, ◌*◌, ◌<◌, ◌≤◌, ◌≡◌, List, [], ◌∷◌, length, ⊤, None}
+use Rattle.std.specs.Prelude.{ℕ, ◌+◌, ◌*◌, ◌<◌, ◌≤◌, ◌≡◌, List, [], ◌∷◌, length, ⊤}
 use Rattle.rv_meaning.specs.Machine as V
 use Rattle.rv_meaning.specs.Machine.{IsValidBase}
 use Rattle.pli_meaning.specs.declared.outcome.End.TheVariants.{Running}
@@ -8,10 +8,11 @@ use Rattle.pli_coding.specs.Frames.{MemoryParts}
 use Rattle.pli_coding.specs.Linking.{Links}
 use Rattle.pli_coding.specs.Registers.{frame_register, stack_register, held, held_registers}
 use Rattle.storage_relation.specs.Served.{Holds}
-use Rattle.storage_relation.specs.Stored.{AreLow}
+use Rattle.storage_relation.specs.Stored.{AreLow, Lives}
 use Rattle.activation_relation.specs.Layers.{Layer, Point, now}
 use Rattle.activation_relation.specs.Chains.{UnitPlaces, AreActive}
 use Rattle.activation_relation.specs.Changes.{StandsOver}
+use Rattle.activation_relation.specs.Owned.{AreOwned}
 use Rattle.activation_relation.specs.Frames.{FramesStand, AreLaid, frame_under, upper_top}
 
 -- around code: the parts of memory, where symbols and on-units stand, and how many acts are allowed
@@ -35,8 +36,9 @@ pub record Stands (w : Surroundings) (p : Point) : Type 0 where
   pub active : AreActive w.units p.state.activations p.control.layers
   pub laid : AreLaid w.parts p.control.layers
   pub low : AreLow (length p.state.activations) p.state.living
+  pub lives : Lives p.places p.state
+  pub owned : AreOwned p.keeper p.places p.state w.parts p.control.layers
   pub over : AreOver p.control.entries p.control.edits p.control.layers
-  pub idle : p.control.waiting ≡ None
   pub running : p.state.world.end ≡ Running
   pub allowed : p.state.world.acts ≤ w.acts
 

@@ -3,6 +3,8 @@
 ghost use Rattle.activation_relation.specs.ServiceLaws.{ActsServed, BlocksServed, UnitsServed, ChainsKept};
 ghost use Rattle.activation_relation.specs.FrameLaws.{FramesKept, FramesBegin, WordsWait, FramesEnd};
 ghost use Rattle.activation_relation.specs.Owned.{FramesApart};
+ghost use Rattle.activation_relation.specs.Account.{StacksPaid};
+ghost use Rattle.activation_relation.specs.PointLaws.{PointsGo, MemoriesGo};
 
 /// Service 1 makes an act, or tells a line.
 pub fn acts_served()
@@ -47,4 +49,19 @@ pub fn frames_end()
 /// Frames lie beside all that is stored, so code that stores in one leaves the other.
 pub fn frames_apart()
     ensures { FramesApart }
+{}
+
+/// Each activation pays for what it takes of the stacks, so one more fits while fewer are active than may be.
+pub fn stacks_paid()
+    ensures { StacksPaid }
+{}
+
+/// What holds at a point holds at those to which acts, blocks and on-units lead.
+pub fn points_go()
+    ensures { PointsGo }
+{}
+
+/// Memory has then what the storage machine has, and all frames.
+pub fn memories_go()
+    ensures { MemoriesGo }
 {}
