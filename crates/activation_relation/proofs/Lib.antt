@@ -10,3 +10,4 @@ pub mod Landings
 pub mod OwnPlaces
 pub mod Accounts
 pub mod PointSteps
+pub mod Returning

@@ -9,3 +9,5 @@ pub mod Landing
 pub mod Owned
 pub mod Account
 pub mod PointLaws
+pub mod Entering
+pub mod LandingLaws

@@ -5,6 +5,8 @@ ghost use Rattle.activation_relation.specs.FrameLaws.{FramesKept, FramesBegin, W
 ghost use Rattle.activation_relation.specs.Owned.{FramesApart};
 ghost use Rattle.activation_relation.specs.Account.{StacksPaid};
 ghost use Rattle.activation_relation.specs.PointLaws.{PointsGo, MemoriesGo};
+ghost use Rattle.activation_relation.specs.LandingLaws.{JumpsLand, ReturnsLeave};
+ghost use Rattle.activation_relation.specs.Entering.{BlocksReturn};
 
 /// Service 1 makes an act, or tells a line.
 pub fn acts_served()
@@ -64,4 +66,19 @@ pub fn points_go()
 /// Memory has then what the storage machine has, and all frames.
 pub fn memories_go()
     ensures { MemoriesGo }
+{}
+
+/// Jumps land in every block that is active, seen from further in, later, and from within a list of statements.
+pub fn jumps_land()
+    ensures { JumpsLand }
+{}
+
+/// A RETURN goes on at the end of the nearest block that is no begin block.
+pub fn returns_leave()
+    ensures { ReturnsLeave }
+{}
+
+/// A block that ends has left all but storage as it was, and the machine of the block below.
+pub fn blocks_return()
+    ensures { BlocksReturn }
 {}
