@@ -11,3 +11,4 @@ pub mod OwnPlaces
 pub mod Accounts
 pub mod PointSteps
 pub mod Returning
+pub mod Rows

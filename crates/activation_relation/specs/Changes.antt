@@ -31,7 +31,10 @@ pushed head entry φ line p =
 
 -- ---- the newest block ends
 
--- texts and places in format lists are those that stood below it; a text may be kept above them
+-- the texts are those that stood below it; one may be kept above them
+abbrev pub texts_back : (kept : List S.Entry) → Layer → (entries : List S.Entry) → List S.Entry
+texts_back kept φ entries = kept ++ φ.entries
+
 abbrev pub popped_from : (kept : List S.Entry) → List Layer → Point → Point
 popped_from kept [] p = p
 popped_from kept (φ ∷ φs) p =
@@ -39,7 +42,7 @@ popped_from kept (φ ∷ φs) p =
       state = newest_ended p.state;
       control = record p.control {
         layers = φs;
-        entries = kept ++ φ.entries;
+        entries = texts_back kept φ p.control.entries;
         edits = φ.edits;
         line = φ.line;
       };
@@ -73,7 +76,7 @@ unwound count kept φ p =
       state = ended_times count p.state;
       control = record p.control {
         layers = drop count p.control.layers;
-        entries = kept ++ φ.entries;
+        entries = texts_back kept φ p.control.entries;
         edits = φ.edits;
       };
     }

@@ -9,11 +9,13 @@ use Rattle.pli_meaning.specs.StorageState.{State, Activation}
 use Rattle.pli_serving.specs.Bytes.{offset_word}
 use Rattle.pli_serving.specs.ServiceState as S
 use Rattle.pli_coding.specs.Frames.{return_address, frame_below, saved_register}
-use Rattle.pli_coding.specs.Registers.{frame_register, stack_register, held, held_registers, a0}
+use Rattle.pli_coding.specs.Registers.{return_register, frame_register, stack_register, held, held_registers, a0, a2}
+use Rattle.pli_meaning.specs.Raising.{Entry}
 use Rattle.activation_relation.specs.Layers.{Layer, Point, services_of}
 use Rattle.activation_relation.specs.Changes.{popped}
 use Rattle.activation_relation.specs.Frames.{place_from, frame_start}
-use Rattle.activation_relation.specs.Landing.{Jumps, Returns, Lands, Leaves, Resumes}
+use Rattle.activation_relation.specs.Landing.{Jumps, Returns, Lands, Resumes}
+use Rattle.activation_relation.specs.Chains.{frame_at}
 use Rattle.activation_relation.specs.Points.{Surroundings, Stands, Machines, IsAt, AreAt}
 
 -- ---- later points
@@ -71,13 +73,24 @@ Behind w p numbers credits index aims =
     ((base : ℕ) (valid : V.IsValidBase base) → IsGiven v p q (f base valid)) →
     aims.done credits f (services_of q) v q.state
 
--- a block is entered at an instruction: its run comes to what it means; it comes back with any credits that are wanted, since
--- those of the call are paid back where it ends
-pub record Enters (w : Surroundings) (comes : Comes) (index debt : ℕ) (meaning : Meaning (Option BasicValue)) : Type 1 where
+-- where a block begins: the frame of its static parent is in a0, and the number of its arguments' texts in a2; a procedure is
+-- told where it goes back
+pub record IsCalled (w : Surroundings) (p : Point) (entry : Entry) (texts back base : ℕ) (s : V.State) : Type 0 where
+  pub parent : V.value s a0 ≡ base + frame_at p.control.layers entry.parent
+  pub texts_given : V.value s a2 ≡ texts
+  pub return : V.value s return_register ≡ base + 4 * back
+
+-- a procedure that is entered at an instruction, with arguments as its code finds them: its run comes to what it means; it comes
+-- back with any credits that are wanted, since those of the call are paid back where it ends
+pub record Enters (w : Surroundings) (comes : Comes) (given : Entry → Point → (base : ℕ) → V.State → Type 0)
+    (index debt : ℕ) (meaning : Entry → Meaning (Option BasicValue)) : Type 1 where
   pub does :
-      (aims : Aims) (p : Point) (numbers : ℕ → ℕ) (credits wanted back : ℕ) (f : Machines) → Stands w p →
-      AreAt w p numbers index f → Lands w aims.jumped p → Leaves w aims.returned p → 1 ≤ wanted →
-      Behind w p numbers wanted back aims → comes (credits + debt) f (services_of p) aims (meaning w.acts p.state)
+      (entry : Entry) (aims : Aims) (p : Point) (numbers : ℕ → ℕ) (credits wanted texts back : ℕ) (f : Machines) →
+      Stands w p → AreAt w p numbers index f →
+      ((base : ℕ) (valid : V.IsValidBase base) →
+      IsCalled w p entry texts back base (f base valid) × given entry p base (f base valid)) →
+      Lands w aims.jumped p → 1 ≤ wanted → Behind w p numbers wanted back aims →
+      comes (credits + debt) f (services_of p) aims (meaning entry w.acts p.state)
 
 -- ---- the laws
 

@@ -11,3 +11,4 @@ pub mod Account
 pub mod PointLaws
 pub mod Entering
 pub mod LandingLaws
+pub mod Rows

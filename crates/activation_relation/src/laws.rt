@@ -7,6 +7,7 @@ ghost use Rattle.activation_relation.specs.Account.{StacksPaid};
 ghost use Rattle.activation_relation.specs.PointLaws.{PointsGo, MemoriesGo};
 ghost use Rattle.activation_relation.specs.LandingLaws.{JumpsLand, ReturnsLeave};
 ghost use Rattle.activation_relation.specs.Entering.{BlocksReturn};
+ghost use Rattle.activation_relation.specs.Rows.{RunsBegin, UnitRuns};
 
 /// Service 1 makes an act, or tells a line.
 pub fn acts_served()
@@ -81,4 +82,14 @@ pub fn returns_leave()
 /// A block that ends has left all but storage as it was, and the machine of the block below.
 pub fn blocks_return()
     ensures { BlocksReturn }
+{}
+
+/// All of this holds where a run begins.
+pub fn runs_begin()
+    ensures { RunsBegin }
+{}
+
+/// The frame of an on-unit above that of a procedure, word by word, in a worked row.
+pub fn unit_runs()
+    ensures { UnitRuns }
 {}
