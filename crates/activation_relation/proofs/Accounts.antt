@@ -1,6 +1,7 @@
 -- The account of the two stacks: its sum, and what becomes of it.
-use Rattle.std.proofs.Common.{◌≡◌, ◌≢◌, ℕ, zero, suc, ◌+◌, ◌*◌, ◌<◌, ◌≤◌, List, [], ◌∷◌, length, Bool, true, false, refl}
-use Rattle.std.proofs.Common.{sym, ap, ◌∙◌, subst, arith}
+use Rattle.std.proofs.Common.{◌≡◌, ◌≢◌, ℕ, zero, suc, ◌+◌, ◌*◌, ◌<◌, ◌≤◌, List, [], ◌∷◌, length, Bool, true, false}
+use Rattle.std.proofs.Common.{refl}
+use Rattle.std.proofs.Common.{sym, ap, ◌∙◌, arith}
 use Rattle.std.proofs.lemmas.Bool.{eqb-true}
 use Rattle.std.proofs.lemmas.Bool.Decides.{nat_tests}
 use Rattle.std.specs.Prelude.{cond, ◌==◌, nat_le}
@@ -9,7 +10,7 @@ use Rattle.area_keeper.specs.Keeper.{Keeper}
 use Rattle.pli_coding.specs.Frames.{MemoryParts}
 use Rattle.pli_coding.specs.Images.{first_frame_bytes}
 use Rattle.storage_relation.proofs.Holders.{eqb-refl, eqb-other}
-use Rattle.activation_relation.specs.Account.{bytes_taken, owned_bytes, automatic_bytes, IsPaid, ArePaid, HasRoom}
+use Rattle.activation_relation.specs.Account.{bytes_taken, owned_bytes, automatic_bytes, ArePaid, HasRoom}
 use Rattle.activation_relation.specs.Frames.{upper_top, lower_end}
 use Rattle.activation_relation.specs.Layers.{Layer}
 
@@ -23,7 +24,8 @@ owned_up_to k (suc n) ls = owned_bytes k (suc n) ls + owned_up_to k n ls
 -- one variable counts once at most, by its owner
 one_owner :
     (k : Keeper) (l : Living) (ls : List Living) (n : ℕ) →
-    owned_up_to k n (l ∷ ls) ≤ (cond (nat_le l.owner n) (cond (l.owner == 0) 0 (bytes_taken k l)) 0) + owned_up_to k n ls
+    owned_up_to k n (l ∷ ls)
+    ≤ (cond (nat_le l.owner n) (cond (l.owner == 0) 0 (bytes_taken k l)) 0) + owned_up_to k n ls
 unfolding owned_up_to
 one_owner k l ls zero = omega arith
 one_owner k l ls (suc n) =
@@ -119,13 +121,13 @@ pub paid_made :
     ArePaid k parts most (l ∷ living) (record φ { top = upper; lower = lower } ∷ φs)
 paid_made k parts most living l φ φs upper lower paid owner grows = (
   let one = paid.0 in
-  let own : owned_bytes k (suc (length φs)) (l ∷ living)
-  ≡ bytes_taken k l + owned_bytes k (suc (length φs)) living =
-  ap (λ o. cond (o == suc (length φs)) (bytes_taken k l + owned_bytes k (suc (length φs)) living)
-  (owned_bytes k (suc (length φs)) living)) owner
-  ∙ ap (λ q. cond q (bytes_taken k l + owned_bytes k (suc (length φs)) living)
-  (owned_bytes k (suc (length φs)) living)) (eqb-refl (suc (length φs))) in
-  omega (arith, one, own, grows),
+      let own : owned_bytes k (suc (length φs)) (l ∷ living)
+      ≡ bytes_taken k l + owned_bytes k (suc (length φs)) living =
+      ap (λ o. cond (o == suc (length φs)) (bytes_taken k l + owned_bytes k (suc (length φs)) living)
+      (owned_bytes k (suc (length φs)) living)) owner
+      ∙ ap (λ q. cond q (bytes_taken k l + owned_bytes k (suc (length φs)) living)
+      (owned_bytes k (suc (length φs)) living)) (eqb-refl (suc (length φs))) in
+      omega (arith, one, own, grows),
   others φs (omega arith) paid.1,
 )
   where
@@ -135,12 +137,12 @@ paid_made k parts most living l φ φs upper lower paid owner grows = (
     others [] few h = tt
     others (ψ ∷ ψs) few h = (
       let one = h.0 in
-      let other : (l.owner == suc (length ψs)) ≡ false =
-      eqb-other l.owner (suc (length ψs)) (omega (arith, owner, few)) in
-      let same : owned_bytes k (suc (length ψs)) (l ∷ living) ≡ owned_bytes k (suc (length ψs)) living =
-      ap (λ q. cond q (bytes_taken k l + owned_bytes k (suc (length ψs)) living)
-      (owned_bytes k (suc (length ψs)) living)) other in
-      omega (arith, one, same),
+          let other : (l.owner == suc (length ψs)) ≡ false =
+          eqb-other l.owner (suc (length ψs)) (omega (arith, owner, few)) in
+          let same : owned_bytes k (suc (length ψs)) (l ∷ living) ≡ owned_bytes k (suc (length ψs)) living =
+          ap (λ q. cond q (bytes_taken k l + owned_bytes k (suc (length ψs)) living)
+          (owned_bytes k (suc (length ψs)) living)) other in
+          omega (arith, one, same),
       others ψs (omega (arith, few)) h.1,
     )
 
@@ -177,7 +179,7 @@ paid_ended k parts most living φ φs paid = others φs (omega arith) paid.1
     others [] few h = tt
     others (ψ ∷ ψs) few h = (
       let one = h.0 in
-      let same = owned_still k (suc (length φs)) (suc (length ψs)) living (omega (arith, few)) in
-      omega (arith, one, same),
+          let same = owned_still k (suc (length φs)) (suc (length ψs)) living (omega (arith, few)) in
+          omega (arith, one, same),
       others ψs (omega (arith, few)) h.1,
     )

@@ -1,11 +1,12 @@
 -- The chain of activations and layers, after blocks are entered and left and after ON and REVERT.
-use Rattle.std.proofs.Common.{◌≡◌, ℕ, zero, suc, ◌+◌, ◌-◌, List, [], ◌∷◌, ◌++◌, length, Some, Bool, true, false, refl, sym, ap}
-use Rattle.std.proofs.Common.{◌∙◌, subst, arith}
+use Rattle.std.proofs.Common.{◌≡◌, ℕ, zero, suc, List, [], ◌∷◌, length, Bool, true, false, refl, sym, ap}
+use Rattle.std.proofs.Common.{subst, arith}
 use Rattle.std.specs.Prelude.{cond, drop}
 use Rattle.pli_language.specs.declared.condition.Condition.{Condition}
 use Rattle.pli_typing.specs.TypedTree as Y
 use Rattle.pli_meaning.specs.StorageState as M
-use Rattle.pli_meaning.specs.StorageState.{State, Activation, without_unit, same_condition, newest_ended, without_newest}
+use Rattle.pli_meaning.specs.StorageState.{State, Activation, without_unit, same_condition, newest_ended}
+use Rattle.pli_meaning.specs.StorageState.{without_newest}
 use Rattle.pli_meaning.specs.StorageState.{without_owner}
 use Rattle.pli_meaning.specs.Raising.{Entry}
 use Rattle.pli_serving.specs.ServiceState as S
@@ -15,8 +16,8 @@ use Rattle.activation_relation.specs.Chains.{UnitPlaces, IsUnit, AreUnits, IsAct
 use Rattle.activation_relation.specs.Changes.{pushed, popped, popped_from, unwound, established, reverted}
 use Rattle.activation_relation.specs.Changes.{ended_times, newest_with, units_of}
 use Rattle.activation_relation.specs.ServiceLaws.{IsNewest, IsLayerOf}
-use Rattle.activation_relation.proofs.Blocks.{Newest, newest_of, same_length}
-use Rattle.activation_relation.proofs.Unwinding.{activations_ended, active_behind, low_left, left_behind}
+use Rattle.activation_relation.proofs.Blocks.{Newest, newest_of}
+use Rattle.activation_relation.proofs.Unwinding.{activations_ended, active_behind, low_left}
 
 no_units : (units : UnitPlaces) (xs : List (Condition × S.OnUnit)) → xs ≡ [] → AreUnits units [] xs
 no_units units xs e = subst (λ ys. AreUnits units [] ys) (sym e) tt
@@ -73,9 +74,9 @@ unwound_active units p count φ kept active low =
     let as' = p.state.activations in
     let there = activations_ended count p.state in (
       subst (λ xs. AreActive units xs (drop count p.control.layers)) (sym there)
-      (active_behind units count as' p.control.layers active),
+          (active_behind units count as' p.control.layers active),
       subst (λ (xs : List Activation). AreLow (length xs) (ended_times count p.state).living) (sym there)
-      (lows units count p.state as' p.control.layers refl active low),
+          (lows units count p.state as' p.control.layers refl active low),
     )
   where
     -- also where more end than there are

@@ -1,6 +1,6 @@
 -- What services 1, 4, 5 and 31 answer at a point.
-use Rattle.std.proofs.Common.{◌≡◌, ℕ, suc, ◌+◌, ◌-◌, List, [], ◌∷◌, ◌++◌, length, map, Some, None, Bool, true, false}
-use Rattle.std.proofs.Common.{refl, sym, ap, ◌∙◌, subst, arith, Option}
+use Rattle.std.proofs.Common.{◌≡◌, ℕ, suc, ◌-◌, List, [], ◌∷◌, ◌++◌, length, map, Some, None, Bool, true, false}
+use Rattle.std.proofs.Common.{refl, sym, ap, ◌∙◌, subst, arith}
 use Rattle.std.specs.Prelude.{cond, nat_lt, nat_le, filter, drop}
 use Rattle.std.proofs.lemmas.Bool.{le-leb}
 use Rattle.std.proofs.lemmas.List.{length-append}
@@ -8,7 +8,7 @@ use Rattle.pli_typing.specs.TypedTree as Y
 use Rattle.pli_meaning.specs.declared.outcome.End.TheVariants as E
 use Rattle.pli_meaning.specs.declared.outcome.Limit.TheVariants as L
 use Rattle.pli_meaning.specs.World.{counted}
-use Rattle.pli_meaning.specs.StorageState.{State, Activation, Living, most_activations, without_owner, newest_ended}
+use Rattle.pli_meaning.specs.StorageState.{State, Activation, most_activations, without_owner, newest_ended}
 use Rattle.pli_meaning.specs.StorageState.{without_newest}
 use Rattle.pli_meaning.specs.Raising.{Entry}
 use Rattle.pli_serving.specs.ActsAndEnds as W
@@ -20,11 +20,12 @@ use Rattle.pli_serving.specs.Outcomes.{bad_unless, or_bad}
 use Rattle.pli_serving.specs.ServiceState as S
 use Rattle.pli_serving.specs.ServiceState.{Services, TextEntry}
 use Rattle.storage_relation.specs.Served.{served_living}
-use Rattle.storage_relation.specs.Stored.{Places, AreLow}
+use Rattle.storage_relation.specs.Stored.{AreLow}
 use Rattle.storage_relation.proofs.FoundValues.{served_left}
-use Rattle.activation_relation.specs.Layers.{Layer, Point, activation_of, services_of, now}
+use Rattle.activation_relation.specs.Layers.{Layer, Point, activation_of, services_of}
 use Rattle.activation_relation.specs.Chains.{UnitPlaces, AreActive, IsActive}
-use Rattle.activation_relation.specs.Changes.{with_line, with_act, pushed, popped, popped_from, Keeps, KeepsNone, KeepsTop}
+use Rattle.activation_relation.specs.Changes.{with_line, with_act, pushed, popped, popped_from, Keeps, KeepsNone}
+use Rattle.activation_relation.specs.Changes.{KeepsTop}
 use Rattle.activation_relation.specs.Changes.{StandsOver}
 use Rattle.activation_relation.specs.ServiceLaws.{at_point, HasActLeft, IsEntering, IsNewest}
 

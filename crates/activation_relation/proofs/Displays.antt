@@ -1,6 +1,7 @@
--- Displays: the frames of static ancestors, copied where a block begins, and read where the program goes on further out.
-use Rattle.std.proofs.Common.{◌≡◌, ◌≢◌, ◌⊎◌, inl, inr, ℕ, zero, suc, ◌+◌, ◌<◌, ◌≤◌, List, [], ◌∷◌, length, Option, None}
-use Rattle.std.proofs.Common.{Some, Bool, true, false, refl, sym, ap, ◌∙◌, subst, arith}
+-- Displays: the frames of static ancestors, copied where a block begins, and read where the program goes on further
+-- out.
+use Rattle.std.proofs.Common.{◌≡◌, ◌≢◌, ℕ, suc, ◌+◌, ◌<◌, ◌≤◌, List, [], ◌∷◌, length}
+use Rattle.std.proofs.Common.{Some, Bool, true, false, refl, sym, ap, ◌∙◌, arith}
 use Rattle.std.proofs.lemmas.Bool.{eqb-true, eqb-false}
 use Rattle.std.specs.Prelude.{cond, ◌==◌}
 use Rattle.rv_meaning.specs.Memory.{load}
@@ -72,7 +73,8 @@ display_copied units parts base m [] φs outer parent n active h has less =
     absurd (omega (arith, some, none))
 display_copied units parts base m (a ∷ as') [] outer parent n active h has less = absurd active
 display_copied units parts base m (a ∷ as') (φ ∷ φs) outer parent n active h has less =
-    by (a.height == parent) refl (λ below. display_copied units parts base m as' φs outer parent n active.1 h.1 below less)
+    by (a.height == parent) refl
+    (λ below. display_copied units parts base m as' φs outer parent n active.1 h.1 below less)
   where
     long : length φs ≡ length as'
     long = same_length units as' φs active.1

@@ -1,6 +1,6 @@
 -- Frames in memory: which changes they stay through, and that a block's beginning makes one.
-use Rattle.std.proofs.Common.{◌≡◌, ◌⊎◌, inl, inr, ℕ, zero, suc, ◌+◌, ◌-◌, ◌*◌, ◌/◌, ◌^◌, ◌<◌, ◌≤◌, List, [], ◌∷◌, ◌++◌}
-use Rattle.std.proofs.Common.{Some, length, Bool, true, false, refl, sym, ap, ◌∙◌, subst, arith}
+use Rattle.std.proofs.Common.{◌≡◌, inl, inr, ℕ, zero, suc, ◌+◌, ◌-◌, ◌*◌, ◌^◌, ◌<◌, ◌≤◌, List, [], ◌∷◌, ◌++◌}
+use Rattle.std.proofs.Common.{Some, length, Bool, true, false, ◌∙◌, subst, arith}
 use Rattle.std.specs.Prelude.{drop, cond, ◌==◌}
 use Rattle.rv_meaning.specs.Memory.{load}
 use Rattle.pli_meaning.specs.StorageState.{Activation, ancestor, height_of}
@@ -8,19 +8,19 @@ use Rattle.pli_serving.specs.ServiceState as S
 use Rattle.pli_coding.specs.Frames.{MemoryParts, return_address, frame_below, saved_register, own_offset, lower_top}
 use Rattle.pli_coding.specs.Frames.{display, fixed_size, temporary_bytes}
 use Rattle.pli_coding.specs.Images.{first_frame_bytes}
-use Rattle.pli_coding.specs.Registers.{held_registers}
 use Rattle.storage_relation.specs.Stored.{Beside, IsBeside}
 use Rattle.activation_relation.specs.Layers.{Layer}
 use Rattle.activation_relation.specs.Chains.{frame_at}
-use Rattle.activation_relation.specs.Frames.{FrameStands, FirstStands, FramesStand, GoesBack, IsLaid, AreLaid, AreBeside}
-use Rattle.activation_relation.specs.Frames.{frame_start, frame_bytes, frame_under, upper_top, lower_end, word_place}
-use Rattle.activation_relation.specs.Frames.{place_from, ancestor_frame, stored, frame_stores, words_from, Stores}
+use Rattle.activation_relation.specs.Frames.{FrameStands, FramesStand, GoesBack, IsLaid, AreLaid, AreBeside}
+use Rattle.activation_relation.specs.Frames.{frame_start, frame_bytes, frame_under, upper_top, word_place}
+use Rattle.activation_relation.specs.Frames.{place_from, ancestor_frame, return_stores, stored, frame_stores}
+use Rattle.activation_relation.specs.Frames.{words_from, Stores}
 use Rattle.activation_relation.specs.FrameLaws.{AreWords}
 use Rattle.activation_relation.specs.Owned.{AreWithin}
 use Rattle.activation_relation.specs.ServiceLaws.{FramesFall}
 use Rattle.activation_relation.proofs.StoredWords.{Apart, apart_append, apart_run, Writes, writes_first, writes_later}
 use Rattle.activation_relation.proofs.StoredWords.{writes_behind, writes_before, writes_run, within_append}
-use Rattle.activation_relation.proofs.StoredWords.{within_run, stored_beside, beside_word, same_word, length_stored}
+use Rattle.activation_relation.proofs.StoredWords.{within_run, stored_beside, beside_word, same_word}
 
 -- ---- sizes
 
@@ -139,7 +139,8 @@ falls_from parts above (φ ∷ φs) laid over =
 pub frames_fall : (parts : MemoryParts) (φs : List Layer) → AreLaid parts φs → FramesFall (upper_top parts φs) φs
 frames_fall parts φs laid = falls_from parts (upper_top parts φs) φs laid (omega arith)
 
-frame_low : (parts : MemoryParts) (φs : List Layer) (height : ℕ) → AreLaid parts φs → frame_at φs height ≤ upper_top parts φs
+frame_low :
+    (parts : MemoryParts) (φs : List Layer) (height : ℕ) → AreLaid parts φs → frame_at φs height ≤ upper_top parts φs
 frame_low parts [] height laid = omega arith
 frame_low parts (φ ∷ φs) height laid = by (height == suc (length φs)) (frame_low parts φs height laid.1)
   where
@@ -152,6 +153,21 @@ under_low parts [] laid = omega arith
 under_low parts (φ ∷ φs) laid = let f = laid.0.fixed in omega (arith, f)
 
 -- ---- a frame begins
+
+within_back :
+    (kind : S.BlockKind) (at count p value : ℕ) → at ≤ p → p + 4 ≤ at + count →
+    AreWithin at count (return_stores kind p value)
+within_back S.ProcedureBlock at count p value low high = ((low, high), tt)
+within_back S.BeginBlock at count p value low high = tt
+within_back (S.OnUnitBlock code resume) at count p value low high = ((low, high), tt)
+
+back_written :
+    (kind : S.BlockKind) (base back p : ℕ) (xs : Stores) (m : List ℕ) → base + 4 * back < 2 ^ 32 → Apart p xs →
+    p + 4 ≤ length m → GoesBack kind base back p (stored (return_stores kind p (base + 4 * back) ++ xs) m)
+back_written S.ProcedureBlock base back p xs m small apart inside =
+    (writes_first p (base + 4 * back) xs small apart).does m inside
+back_written S.BeginBlock base back p xs m small apart inside = tt
+back_written (S.OnUnitBlock code resume) base back p xs m small apart inside = tt
 
 module _ (parts : MemoryParts) (base parent : ℕ) (as' : List Activation) (φ : Layer) (φs : List Layer) where
   abbrev shown : ℕ → ℕ
@@ -171,6 +187,9 @@ module _ (parts : MemoryParts) (base parent : ℕ) (as' : List Activation) (φ :
 
   abbrev from_saved : Stores
   from_saved = words_from (place_from φ.at (saved_register 0)) φ.held 0 φ.saved ++ from_below
+
+  abbrev back_word : Stores
+  back_word = return_stores φ.kind (place_from φ.at return_address) (base + 4 * φ.back)
 
   abbrev all_words : Stores
   all_words = frame_stores parts base parent as' φ φs
@@ -192,7 +211,9 @@ module _ (parts : MemoryParts) (base parent : ℕ) (as' : List Activation) (φ :
       within_append φ.at n (words_from (place_from φ.at (saved_register 0)) φ.held 0 φ.saved) from_below
       (within_run φ.at n (place_from φ.at (saved_register 0)) φ.held 0 φ.saved (omega arith)
       (omega (arith, levels, registers))) below_in in
-      ((omega arith, omega (arith, levels)), saved_in)
+      within_append φ.at n back_word from_saved
+      (within_back φ.kind φ.at n (place_from φ.at return_address) (base + 4 * φ.back) (omega arith)
+      (omega (arith, levels))) saved_in
 
   pub made_beside :
       IsLaid parts φ φs → (m : List ℕ) → IsBeside φ.at (fixed_size φ.level φ.parameters) m (stored all_words m)
@@ -202,17 +223,19 @@ module _ (parts : MemoryParts) (base parent : ℕ) (as' : List Activation) (φ :
   beside_display : (p : ℕ) → p + 4 ≤ φ.at + 36 → Apart p from_display
   beside_display p low =
       apart_append p (words_from (place_from φ.at (display 0)) shown 0 φ.level) own_word
-      (apart_run p (place_from φ.at (display 0)) shown 0 φ.level (inl (omega (arith, low)))) (inl (omega (arith, low)), tt)
+      (apart_run p (place_from φ.at (display 0)) shown 0 φ.level (inl (omega (arith, low))))
+      (inl (omega (arith, low)), tt)
 
   beside_lower : (p : ℕ) → p + 4 ≤ φ.at + 36 → Apart p from_lower
   beside_lower p low = (inl (omega (arith, low)), beside_display p low)
 
-  writes_back : base + 4 * φ.back < 2 ^ 32 → φ.saved ≤ 7 → Writes all_words (place_from φ.at return_address) (base + 4 * φ.back)
-  writes_back small few =
-      writes_first (place_from φ.at return_address) (base + 4 * φ.back) from_saved small
+  goes_back : base + 4 * φ.back < 2 ^ 32 → φ.saved ≤ 7 → (m : List ℕ) → φ.at + 4 ≤ length m →
+      GoesBack φ.kind base φ.back (place_from φ.at return_address) (stored all_words m)
+  goes_back small few m inside =
+      back_written φ.kind base φ.back (φ.at + 0) from_saved m small
       (apart_append (φ.at + 0) (words_from (place_from φ.at (saved_register 0)) φ.held 0 φ.saved) from_below
       (apart_run (φ.at + 0) (place_from φ.at (saved_register 0)) φ.held 0 φ.saved (inl (omega arith)))
-      (inl (omega arith), beside_lower (φ.at + 0) (omega arith)))
+      (inl (omega arith), beside_lower (φ.at + 0) (omega arith))) (omega (arith, inside))
 
   writes_saved : (n : ℕ) → φ.held n < 2 ^ 32 → φ.saved ≤ 7 → n < φ.saved →
       Writes all_words (place_from φ.at (saved_register n)) (φ.held n)
@@ -220,14 +243,14 @@ module _ (parts : MemoryParts) (base parent : ℕ) (as' : List Activation) (φ :
       let p = φ.at + (8 + 4 * 0) + 4 * n in
       let same : p ≡ φ.at + (8 + 4 * n) = omega arith in
       subst (λ q. Writes all_words q (φ.held n)) same
-      (writes_later (place_from φ.at return_address, base + 4 * φ.back) from_saved p (φ.held n)
+      (writes_behind back_word from_saved p (φ.held n)
       (writes_before (words_from (place_from φ.at (saved_register 0)) φ.held 0 φ.saved) from_below p (φ.held n)
       (writes_run (place_from φ.at (saved_register 0)) φ.held 0 φ.saved n (omega arith) (omega (arith, less)) small)
       (inr (omega arith), beside_lower p (omega (arith, less, few)))))
 
   behind_saved : (p value : ℕ) → Writes from_below p value → Writes all_words p value
   behind_saved p value w =
-      writes_later (place_from φ.at return_address, base + 4 * φ.back) from_saved p value
+      writes_behind back_word from_saved p value
       (writes_behind (words_from (place_from φ.at (saved_register 0)) φ.held 0 φ.saved) from_below p value w)
 
   behind_lower : (p value : ℕ) → Writes from_display p value → Writes all_words p value
@@ -268,11 +291,6 @@ module _ (parts : MemoryParts) (base parent : ℕ) (as' : List Activation) (φ :
       (writes_behind (words_from (place_from φ.at (display 0)) shown 0 φ.level) own_word (φ.at + 36) φ.at
       (writes_first (φ.at + 36) φ.at [] small tt))
 
-goes_back : (kind : S.BlockKind) (base back at : ℕ) (m : List ℕ) → load 4 m at ≡ base + 4 * back → GoesBack kind base back at m
-goes_back S.ProcedureBlock base back at m h = h
-goes_back S.BeginBlock base back at m h = tt
-goes_back (S.OnUnitBlock code resume) base back at m h = tt
-
 pub frame_made :
     (parts : MemoryParts) (base : ℕ) (m : List ℕ) (a : Activation) (as' : List Activation) (φ : Layer)
     (φs : List Layer) → AreLaid parts (φ ∷ φs) → AreWords base φ → φ.lower ≤ length m →
@@ -280,15 +298,16 @@ pub frame_made :
     FrameStands parts base (stored (frame_stores parts base a.parent as' φ φs) m) a as' φ φs
 frame_made parts base m a as' φ φs laid words room waits =
     record {
-      back = goes_back φ.kind base φ.back (φ.at + 0) new
-          ((writes_back parts base a.parent as' φ φs words.back few).does m (omega (arith, levels, inside)));
+      back = goes_back parts base a.parent as' φ φs words.back few m (omega (arith, levels, inside));
       below =
           (writes_below parts base a.parent as' φ φs (omega (arith, under, above, inside, small))).does m
           (omega (arith, levels, inside));
       saved = λ n less.
           (writes_saved parts base a.parent as' φ φs n (words.held n less) few less).does m
           (omega (arith, levels, inside, less, few));
-      own = (writes_own parts base a.parent as' φ φs (omega (arith, inside, small))).does m (omega (arith, levels, inside));
+      own =
+          (writes_own parts base a.parent as' φ φs (omega (arith, inside, small))).does m
+          (omega (arith, levels, inside));
       lower =
           (writes_lower parts base a.parent as' φ φs (omega (arith, small))).does m (omega (arith, levels, inside));
       display_words = λ n less.

@@ -1,5 +1,5 @@
 -- The laws of landing and of leaving: later, further in, and in lists of statements.
-use Rattle.std.proofs.Common.{◌≡◌, ◌≢◌, ℕ, zero, suc, ◌+◌, ◌*◌, ◌<◌, ◌≤◌, List, [], ◌∷◌, length, Option, Some, None, Bool}
+use Rattle.std.proofs.Common.{◌≡◌, ℕ, suc, ◌≤◌, List, [], ◌∷◌, length, Option, Some, None, Bool}
 use Rattle.std.proofs.Common.{true, false, refl, sym, ap, ◌∙◌, subst, arith}
 use Rattle.std.specs.Prelude.{cond, ◌==◌, ◌&&◌}
 use Rattle.pli_language.specs.declared.condition.Condition.{Condition}
@@ -8,16 +8,15 @@ use Rattle.pli_meaning.specs.Control.{Label, is_among}
 use Rattle.pli_meaning.specs.StorageState as M
 use Rattle.pli_meaning.specs.StorageState.{State, Activation, newest_ended, without_newest, with_world}
 use Rattle.pli_serving.specs.ServiceState as S
-use Rattle.pli_coding.specs.Assembly.{LabelPlace}
-use Rattle.pli_coding.specs.Linking.{place_of}
+use Rattle.pli_coding.specs.Assembly.{Symbol, LabelPlace, ReturnPlace}
 use Rattle.storage_relation.proofs.Holders.{eqb-refl, eqb-other}
 use Rattle.activation_relation.specs.Layers.{Layer, Carried, Point, services_of}
-use Rattle.activation_relation.specs.Changes.{ended_times}
-use Rattle.activation_relation.specs.Landing.{Jumps, Returns, Landing, LandsFrom, Arrives, Resumes, closed, closed_jumps}
+use Rattle.activation_relation.specs.Landing.{Jumps, Returns, LandsFrom, Arrives, Resumes, closed, closed_jumps}
 use Rattle.activation_relation.specs.Landing.{HasResult, closed_returns, Changed, resumed, same_lists, with_units}
 use Rattle.activation_relation.specs.Landing.{with_list, caught_jumps, either, Returning, LeavesFrom}
+use Rattle.activation_relation.specs.Landing.{Coming, HasCome}
 use Rattle.activation_relation.specs.Landing.{is_begin, LandingLaws, LeavingLaws}
-use Rattle.activation_relation.specs.Points.{Surroundings, Machines, AreAt}
+use Rattle.activation_relation.specs.Points.{Surroundings, Machines}
 
 -- ---- one block goes on
 
@@ -57,8 +56,8 @@ pub lands_later :
 lands_later w J acts more count [] φs h lands = tt
 lands_later w J acts more count (a ∷ as') [] h lands = tt
 lands_later w J acts more count (a ∷ as') (φ ∷ φs) h lands = (
-  λ label c index s q numbers f carried there state arrives at.
-      lands.0 label c index s q numbers f carried there state (arrives_later w acts more a as' φ φs c q h arrives) at,
+  λ label c x carried come arrives.
+      lands.0 label c x carried come (arrives_later w acts more a as' φ φs c x.point h arrives),
   lands_later w J acts more (suc count) as' φs h lands.1,
 )
 
@@ -70,9 +69,9 @@ pub lands_mapped :
 lands_mapped w J K acts count [] φs more lands = tt
 lands_mapped w J K acts count (a ∷ as') [] more lands = tt
 lands_mapped w J K acts count (a ∷ as') (φ ∷ φs) more lands = (
-  λ label c index s q numbers f carried there state arrives at.
-      more index f (services_of q) (suc (length φs)) label s (omega arith)
-      (lands.0 label c index s q numbers f carried there state arrives at),
+  λ label c x carried come arrives.
+      more x.index x.machines (services_of x.point) (suc (length φs)) label x.state (omega arith)
+      (lands.0 label c x carried come arrives),
   lands_mapped w J K acts (suc count) as' φs
       (λ c f v height label s low j. more c f v height label s (omega (arith, low)) j) lands.1,
 )
@@ -87,16 +86,27 @@ closed_is s = by s.activations
     by [] = refl
     by (a ∷ as') = refl
 
+-- one block more has ended
+one_ended : Coming → Coming
+one_ended x = record x { state = newest_ended x.state }
+
+come_further :
+    (w : Surroundings) (count : ℕ) (to : Symbol) (x : Coming) → HasCome w (suc count) to x →
+    HasCome w count to (one_ended x)
+unfolding one_ended
+come_further w count to x h = record { place = h.place; ended = h.ended; at = h.at }
+
 further_in :
     (w : Surroundings) (J : Jumps) (acts more count : ℕ) (as' : List Activation) (φs : List Layer) → acts ≤ more →
     LandsFrom w J acts count as' φs → LandsFrom w (closed_jumps J) more (suc count) as' φs
+unfolding one_ended
 further_in w J acts more count [] φs h lands = tt
 further_in w J acts more count (a ∷ as') [] h lands = tt
 further_in w J acts more count (a ∷ as') (φ ∷ φs) h lands = (
-  λ label c index s q numbers f carried there state arrives at.
-      subst (λ t. J index f (services_of q) (suc (length φs)) label t) (closed_is s)
-      (lands.0 label c index (newest_ended s) q numbers f carried there state
-      (arrives_later w acts more a as' φ φs c q h arrives) at),
+  λ label c x carried come arrives.
+      subst (λ t. J x.index x.machines (services_of x.point) (suc (length φs)) label t) (closed_is x.state)
+      (lands.0 label c (one_ended x) carried (come_further w count (LabelPlace φ.block label) x come)
+      (arrives_later w acts more a as' φ φs c x.point h arrives)),
   further_in w J acts more (suc count) as' φs h lands.1,
 )
 
@@ -105,7 +115,7 @@ pub lands_entered :
     (φs : List Layer) → acts ≤ more → ((label : Label) → φ.carried label ≡ None) → LandsFrom w J acts 0 as' φs →
     LandsFrom w (closed_jumps J) more 0 (a ∷ as') (φ ∷ φs)
 lands_entered w J acts more a as' φ φs h none lands = (
-  λ label c index s q numbers f carried there state arrives at.
+  λ label c x carried come arrives.
       let no : None ≡ Some c = sym (none label) ∙ carried in absurd (cc no),
   further_in w J acts more 0 as' φs h lands,
 )
@@ -148,8 +158,8 @@ pub lands_moved :
     LandsFrom w J acts 0 (with_units own a ∷ as') (same_lists units waits top φ ∷ φs)
 lands_moved w J acts a as' φ φs own units waits top lands =
     let x : Changed = record { units = units; waits = waits; top = top; carried = φ.carried } in (
-      λ label c index s q numbers f carried there state arrives at.
-          lands.0 label c index s q numbers f carried there state (arrives_moved w acts a as' φ φs own x c q arrives) at,
+      λ label c y carried come arrives.
+          lands.0 label c y carried come (arrives_moved w acts a as' φ φs own x c y.point arrives),
       lands.1,
     )
 
@@ -162,14 +172,14 @@ pub lands_listed :
     (w : Surroundings) (J : Jumps) (own : ℕ → Machines → S.Services → Label → State → Type 0) (acts : ℕ)
     (labels : List Label) (c : Carried) (a : Activation) (as' : List Activation) (φ : Layer) (φs : List Layer) →
     LandsFrom w J acts 0 (a ∷ as') (φ ∷ φs) →
-    ((label : Label) (index : ℕ) (q : Point) (numbers : ℕ → ℕ) (f : Machines) → is_among label labels ≡ true →
-    place_of w.links (LabelPlace φ.block label) ≡ 4 * index → Arrives w acts a as' φ φs c q →
-    AreAt w q numbers index f → own index f (services_of q) label q.state) →
+    ((label : Label) (x : Coming) → is_among label labels ≡ true →
+    HasCome w 0 (LabelPlace φ.block label) x → Arrives w acts a as' φ φs c x.point →
+    own x.index x.machines (services_of x.point) label x.state) →
     LandsFrom w (caught_jumps (suc (length φs)) labels own J) acts 0 (a ∷ as') (with_list labels c φ ∷ φs)
 lands_listed w J own acts labels c a as' φ φs lands goes = (
-  λ label d index s q numbers f carried there state arrives at.
-      newest label d index s q numbers f there state
-      (arrives_moved w acts a as' φ φs a.units (listed φ) d q arrives) at (is_among label labels) refl carried,
+  λ label d x carried come arrives.
+      newest label d x come (arrives_moved w acts a as' φ φs a.units (listed φ) d x.point arrives)
+      (is_among label labels) refl carried,
   lands_mapped w J (caught_jumps (suc (length φs)) labels own J) acts 1 as' φs
       (λ e f v height label s low j.
       subst (λ q. either (q && is_among label labels) (own e f v label s) (J e f v height label s))
@@ -180,28 +190,27 @@ lands_listed w J own acts labels c a as' φ φs lands goes = (
     listed ψ =
         record { units = ψ.units; waits = ψ.waits; top = ψ.top; carried = (with_list labels c ψ).carried }
 
+    -- at one of its own labels, or at another
+    goal : Label → Coming → Bool → Type 0
+    goal label x b =
+        either b (own x.index x.machines (services_of x.point) label x.state)
+        (J x.index x.machines (services_of x.point) (suc (length φs)) label x.state)
+
+    test : (label : Label) (b : Bool) → is_among label labels ≡ b →
+        ((suc (length φs) == suc (length φs)) && is_among label labels) ≡ b
+    test label b is = ap (λ q. q && is_among label labels) (eqb-refl (suc (length φs))) ∙ is
+
     newest :
-        (label : Label) (d : Carried) (index : ℕ) (s : State) (q : Point) (numbers : ℕ → ℕ) (f : Machines) →
-        place_of w.links (LabelPlace φ.block label) ≡ 4 * index → q.state ≡ s → Arrives w acts a as' φ φs d q →
-        AreAt w q numbers index f → (b : Bool) → is_among label labels ≡ b →
+        (label : Label) (d : Carried) (x : Coming) → HasCome w 0 (LabelPlace φ.block label) x →
+        Arrives w acts a as' φ φs d x.point → (b : Bool) → is_among label labels ≡ b →
         cond b (Some c) (φ.carried label) ≡ Some d →
-        either ((suc (length φs) == suc (length φs)) && is_among label labels) (own index f (services_of q) label s)
-        (J index f (services_of q) (suc (length φs)) label s)
-    newest label d index s q numbers f there state arrives at true is carried =
+        goal label x ((suc (length φs) == suc (length φs)) && is_among label labels)
+    newest label d x come arrives true is carried =
         let same : c ≡ d = some_carried c d carried in
-        let here = subst (λ e. Arrives w acts a as' φ φs e q) (sym same) arrives in
-        let goal : State → Bool → Type 0 = λ t b. either b (own index f (services_of q) label t)
-        (J index f (services_of q) (suc (length φs)) label t) in
-        let test : ((suc (length φs) == suc (length φs)) && is_among label labels) ≡ true =
-        ap (λ b. b && is_among label labels) (eqb-refl (suc (length φs))) ∙ is in
-        subst (goal s) (sym test) (subst (λ t. own index f (services_of q) label t) state
-        (goes label index q numbers f is there here at))
-    newest label d index s q numbers f there state arrives at false is carried =
-        let goal : Bool → Type 0 = λ b. either b (own index f (services_of q) label s)
-        (J index f (services_of q) (suc (length φs)) label s) in
-        let test : ((suc (length φs) == suc (length φs)) && is_among label labels) ≡ false =
-        ap (λ b. b && is_among label labels) (eqb-refl (suc (length φs))) ∙ is in
-        subst goal (sym test) (lands.0 label d index s q numbers f carried there state arrives at)
+        subst (goal label x) (sym (test label true is))
+        (goes label x is come (subst (λ e. Arrives w acts a as' φ φs e x.point) (sym same) arrives))
+    newest label d x come arrives false is carried =
+        subst (goal label x) (sym (test label false is)) (lands.0 label d x carried come arrives)
 
 pub landing_laws : LandingLaws
 landing_laws =
@@ -229,8 +238,7 @@ leaves_later w R acts more count (a ∷ as') (φ ∷ φs) h leaves =
         either q (LeavesFrom w R more (suc count) as' φs) (Returning w R more count a as' φ φs)
     by true l rest = rest l
     by false l rest =
-        λ v index s q numbers f there state resumes at has.
-        l v index s q numbers f there state (resumes_later w acts more a as' φ φs q h resumes) at has
+        λ v x come resumes has. l v x come (resumes_later w acts more a as' φ φs x.point h resumes) has
 
 pub leaves_mapped :
     (w : Surroundings) (R S' : Returns) (acts count : ℕ) (as' : List Activation) (φs : List Layer) →
@@ -247,12 +255,13 @@ leaves_mapped w R S' acts count (a ∷ as') (φ ∷ φs) more leaves =
         either q (LeavesFrom w S' acts (suc count) as' φs) (Returning w S' acts count a as' φ φs)
     by true l rest = rest l
     by false l rest =
-        λ v index s q numbers f there state resumes at has.
-        more f (services_of q) v s (l v index s q numbers f there state resumes at has)
+        λ v x come resumes has.
+        more x.machines (services_of x.point) v x.state (l v x come resumes has)
 
 leaves_further :
     (w : Surroundings) (R : Returns) (acts more count : ℕ) (as' : List Activation) (φs : List Layer) → acts ≤ more →
     LeavesFrom w R acts count as' φs → LeavesFrom w (closed_returns R) more (suc count) as' φs
+unfolding one_ended
 leaves_further w R acts more count [] φs h leaves = tt
 leaves_further w R acts more count (a ∷ as') [] h leaves = tt
 leaves_further w R acts more count (a ∷ as') (φ ∷ φs) h leaves =
@@ -265,9 +274,10 @@ leaves_further w R acts more count (a ∷ as') (φ ∷ φs) h leaves =
         (Returning w (closed_returns R) more (suc count) a as' φ φs)
     by true l rest = rest l
     by false l rest =
-        λ v index s q numbers f there state resumes at has.
-        subst (λ t. R 0 f (services_of q) v t) (closed_is s)
-        (l v index (newest_ended s) q numbers f there state (resumes_later w acts more a as' φ φs q h resumes) at has)
+        λ v x come resumes has.
+        subst (λ t. R 0 x.machines (services_of x.point) v t) (closed_is x.state)
+        (l v (one_ended x) (come_further w count (ReturnPlace φ.block) x come)
+        (resumes_later w acts more a as' φ φs x.point h resumes) has)
 
 pub leaves_begun :
     (w : Surroundings) (R : Returns) (acts more : ℕ) (a : Activation) (as' : List Activation) (φ : Layer)
@@ -298,9 +308,9 @@ leaves_moved w R acts a as' φ φs own x leaves = by (is_begin φ.kind) leaves
         either q (LeavesFrom w R acts 1 as' φs) (Returning w R acts 0 (with_units own a) as' (resumed x φ) φs)
     by true l = l
     by false l =
-        λ v index s q numbers f there state resumes at has.
-        l v index s q numbers f there state (resumes_moved w acts a as' φ φs own x q resumes) at (λ b valid.
-        same_result v (f b valid).memory x φ q.control.entries (has b valid))
+        λ v y come resumes has.
+        l v y come (resumes_moved w acts a as' φ φs own x y.point resumes) (λ base valid.
+        same_result v (y.machines base valid).memory x φ y.point.control.entries (has base valid))
 
 pub leaving_laws : LeavingLaws
 leaving_laws = record { later = leaves_later; mapped = leaves_mapped; begun = leaves_begun; moved = leaves_moved }

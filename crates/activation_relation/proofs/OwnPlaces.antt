@@ -1,8 +1,9 @@
 -- Frames beside storage: what lives lies in its owner's bytes, so frames and the free bytes are no storage's.
-use Rattle.std.proofs.Common.{◌≡◌, ◌≢◌, ◌⊎◌, inl, inr, ℕ, zero, suc, ◌+◌, ◌/◌, ◌-◌, ◌<◌, ◌≤◌, List, [], ◌∷◌, length, Option, Some, None}
+use Rattle.std.proofs.Common.{◌≡◌, ◌≢◌, ◌⊎◌, inl, inr, ℕ, zero, suc, ◌+◌, ◌/◌, ◌-◌, ◌≤◌, List, [], ◌∷◌, length}
+use Rattle.std.proofs.Common.{Option, Some, None}
 use Rattle.std.proofs.Common.{Bool, true, false, refl, sym, ap, ◌∙◌, subst, arith}
-use Rattle.std.proofs.lemmas.Bool.{cases_eq, eqb-true}
-use Rattle.std.specs.Prelude.{cond, ◌==◌}
+use Rattle.std.proofs.lemmas.Bool.{cases_eq}
+use Rattle.std.specs.Prelude.{◌==◌}
 use Rattle.rv_meaning.specs.Memory.{store}
 use Rattle.rv_meaning.proofs.MemoryLaws.{length-store}
 use Rattle.pli_meaning.specs.StorageState.{State, Living, living_of, heap_serial}
@@ -10,18 +11,17 @@ use Rattle.area_keeper.specs.Keeper.{Keeper}
 use Rattle.area_keeper.specs.KeptAreas.{with_part}
 use Rattle.pli_serving.specs.Bytes.{number_bytes}
 use Rattle.pli_coding.specs.Frames.{MemoryParts, fixed_size, temporary_bytes}
-use Rattle.pli_coding.specs.Images.{first_frame_bytes}
 use Rattle.storage_relation.specs.Changes.{with_memory}
 use Rattle.storage_relation.specs.Served.{Now, Holds}
-use Rattle.storage_relation.specs.Standing.{Holder, held, holder_in, holder_of, heap_holder, bytes_of}
+use Rattle.storage_relation.specs.Standing.{Holder, held, holder_in, holder_of, bytes_of}
 use Rattle.storage_relation.specs.Stored.{Places, IsClear, Beside}
 use Rattle.storage_relation.proofs.Changes.{apart_holds}
 use Rattle.storage_relation.proofs.Holders.{eqb-other, held-living}
 use Rattle.storage_relation.proofs.Values.{store_is}
 use Rattle.activation_relation.specs.Layers.{Layer}
-use Rattle.activation_relation.specs.Frames.{AreLaid, AreBeside, upper_top, lower_end, Stores, stored, frame_start, frame_bytes}
+use Rattle.activation_relation.specs.Frames.{AreLaid, AreBeside, upper_top, lower_end, Stores, stored, frame_start}
+use Rattle.activation_relation.specs.Frames.{frame_bytes}
 use Rattle.activation_relation.specs.Owned.{IsOwnPlace, owns_by, IsPlaceOf, AreOwned, AreOwnersLow, AreWithin}
-use Rattle.activation_relation.proofs.FrameWords.{levels_covered}
 
 -- ---- places
 

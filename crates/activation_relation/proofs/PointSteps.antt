@@ -1,6 +1,6 @@
 -- From one point to the next: acts, blocks that are entered and left, on-units, and what memory has then.
-use Rattle.std.proofs.Common.{◌≡◌, ◌≢◌, ◌⊎◌, inl, inr, ℕ, zero, suc, ◌+◌, ◌-◌, ◌<◌, ◌≤◌, List, [], ◌∷◌, ◌++◌, length}
-use Rattle.std.proofs.Common.{Option, Some, None, Bool, true, false, refl, sym, ap, ◌∙◌, subst, arith}
+use Rattle.std.proofs.Common.{◌≡◌, ℕ, zero, suc, ◌+◌, ◌-◌, ◌<◌, ◌≤◌, List, [], ◌∷◌, ◌++◌, length}
+use Rattle.std.proofs.Common.{Some, None, Bool, true, false, refl, sym, ap, ◌∙◌, subst, arith}
 use Rattle.std.proofs.lemmas.List.{append_assoc}
 use Rattle.std.specs.Prelude.{cond, ◌==◌, drop}
 use Rattle.pli_language.specs.declared.condition.Condition.{Condition}
@@ -8,7 +8,8 @@ use Rattle.pli_typing.specs.TypedTree as Y
 use Rattle.pli_meaning.specs.World.{World, counted, raising}
 use Rattle.pli_meaning.specs.declared.outcome.End.TheVariants.{Running}
 use Rattle.pli_meaning.specs.StorageState as M
-use Rattle.pli_meaning.specs.StorageState.{State, Activation, Living, living_of, newest_ended, without_newest, without_owner}
+use Rattle.pli_meaning.specs.StorageState.{State, Activation, Living, living_of, newest_ended, without_newest}
+use Rattle.pli_meaning.specs.StorageState.{without_owner}
 use Rattle.pli_meaning.specs.StorageState.{with_activations, with_world}
 use Rattle.pli_meaning.specs.Raising.{Entry}
 use Rattle.pli_serving.specs.ServiceState as S
@@ -17,7 +18,7 @@ use Rattle.pli_coding.specs.Frames.{MemoryParts, fixed_size, temporary_bytes}
 use Rattle.storage_relation.specs.Changes.{with_memory, ended}
 use Rattle.storage_relation.specs.Served.{Now, Holds}
 use Rattle.storage_relation.specs.Standing.{holder_of, bytes_of}
-use Rattle.storage_relation.specs.Stored.{Places, AreLow, Lives, Beside, IsClear}
+use Rattle.storage_relation.specs.Stored.{Places, AreLow, Lives, IsClear}
 use Rattle.storage_relation.proofs.Changes.{ended_holds}
 use Rattle.storage_relation.proofs.Living.{lives_ended}
 use Rattle.storage_relation.proofs.Making.{same_held}
@@ -26,13 +27,13 @@ use Rattle.activation_relation.specs.Layers.{Layer, Point, Control, now, service
 use Rattle.activation_relation.specs.Chains.{UnitPlaces, AreActive, IsUnit}
 use Rattle.activation_relation.specs.Changes.{with_line, with_act, pushed, popped, popped_from, unwound, established}
 use Rattle.activation_relation.specs.Changes.{reverted, ended_times, StandsOver, newest_with, units_of}
+use Rattle.activation_relation.specs.Changes.{awaiting}
 use Rattle.activation_relation.specs.Frames.{FramesStand, AreLaid, IsLaid, frame_stores, stored, upper_top, lower_end}
 use Rattle.activation_relation.specs.FrameLaws.{AreWords}
-use Rattle.activation_relation.specs.Owned.{AreOwned, AreOwnersLow, IsPlaceOf, AreWithin}
+use Rattle.activation_relation.specs.Owned.{AreOwned, IsPlaceOf, AreWithin}
 use Rattle.activation_relation.specs.PointLaws.{IsNext}
 use Rattle.activation_relation.specs.Points.{Surroundings, Stands, AreOver}
-use Rattle.activation_relation.specs.ServiceLaws.{IsNewest}
-use Rattle.activation_relation.proofs.ActiveChains.{pushed_active, popped_active, unwound_active, established_active}
+use Rattle.activation_relation.proofs.ActiveChains.{pushed_active, unwound_active, established_active}
 use Rattle.activation_relation.proofs.ActiveChains.{reverted_active}
 use Rattle.activation_relation.proofs.Blocks.{same_length}
 use Rattle.activation_relation.proofs.FrameWords.{laid_behind, frames_behind, frames_begun, made_within}
@@ -58,6 +59,20 @@ with_act_stands w p change h running few =
 
 line_stands : (w : Surroundings) (p : Point) (line : ℕ) → Stands w p → Stands w (with_line line p)
 line_stands w p line h =
+    record {
+      active = h.active;
+      laid = h.laid;
+      low = h.low;
+      lives = h.lives;
+      owned = h.owned;
+      over = h.over;
+      running = h.running;
+      allowed = h.allowed;
+    }
+
+pub awaited_stands :
+    (w : Surroundings) (p : Point) (code resume : ℕ) → Stands w p → Stands w (awaiting code resume p)
+awaited_stands w p code resume h =
     record {
       active = h.active;
       laid = h.laid;
@@ -167,7 +182,8 @@ owned_behind units k π parts (suc n) s (a ∷ as') (φ ∷ φs) e active low h 
 over_append : {A : Type 0} (kept below xs : List A) → StandsOver below xs → StandsOver below (kept ++ xs)
 over_append kept below xs h = (kept ++ h.0, ap (λ ys. kept ++ ys) h.1 ∙ sym (append_assoc kept h.0 below))
 
-over_then : {A : Type 0} (low middle high : List A) → StandsOver low middle → StandsOver middle high → StandsOver low high
+over_then :
+    {A : Type 0} (low middle high : List A) → StandsOver low middle → StandsOver middle high → StandsOver low high
 over_then low middle high a b = (b.0 ++ a.0, b.1 ∙ ap (λ ys. b.0 ++ ys) a.1 ∙ sym (append_assoc b.0 a.0 low))
 
 over_kept :
@@ -351,7 +367,8 @@ changed_layers w p as' xs h many active =
     over [] o = o
     over (φ ∷ φs) o = o
 
-established_length : (c : Condition) (u : M.OnUnit) (as' : List Activation) → length (M.established c u as') ≡ length as'
+established_length :
+    (c : Condition) (u : M.OnUnit) (as' : List Activation) → length (M.established c u as') ≡ length as'
 established_length c u [] = refl
 established_length c u (a ∷ as') = refl
 

@@ -1,23 +1,23 @@
 -- A block that ends has left all but storage as it was: later points, and the machine of the block below.
-use Rattle.std.proofs.Common.{◌≡◌, ℕ, suc, ◌+◌, ◌*◌, ◌<◌, ◌≤◌, List, [], ◌∷◌, ◌++◌, length, Bool, true, false, refl, sym}
+use Rattle.std.proofs.Common.{◌≡◌, ℕ, ◌+◌, ◌*◌, ◌<◌, ◌≤◌, List, [], ◌∷◌, ◌++◌, refl, sym}
 use Rattle.std.proofs.Common.{ap, ◌∙◌, subst, arith}
 use Rattle.std.specs.Prelude.{cond, nat_lt, drop}
 use Rattle.rv_meaning.specs.Machine as V
 use Rattle.rv_meaning.specs.Memory.{load}
 use Rattle.pli_meaning.specs.World.{World}
-use Rattle.pli_meaning.specs.StorageState.{State, Activation, newest_ended}
+use Rattle.pli_meaning.specs.StorageState.{Activation}
 use Rattle.pli_serving.specs.ServiceState as S
 use Rattle.pli_coding.specs.Frames.{return_address, saved_register}
 use Rattle.pli_coding.specs.Registers.{held, held_registers}
 use Rattle.storage_relation.specs.Served.{Holds}
 use Rattle.activation_relation.specs.Layers.{Layer, Point, now}
 use Rattle.activation_relation.specs.Changes.{popped, popped_from}
-use Rattle.activation_relation.specs.Entering.{Later, GoesBelow, HoldsBefore}
+use Rattle.activation_relation.specs.Entering.{Later, GoesBelow, HoldsBefore, BlockEnd}
 use Rattle.activation_relation.specs.FrameLaws.{restored}
-use Rattle.activation_relation.specs.Frames.{FramesStand, AreLaid, place_from, frame_start, frame_under, upper_top}
-use Rattle.activation_relation.specs.Landing.{Resumes, with_units, resumed}
+use Rattle.activation_relation.specs.Frames.{FramesStand, AreLaid, place_from}
+use Rattle.activation_relation.specs.Landing.{Resumes}
 use Rattle.activation_relation.specs.Points.{Surroundings, Stands, IsAt}
-use Rattle.activation_relation.proofs.Blocks.{Newest, newest_of}
+use Rattle.activation_relation.proofs.Blocks.{newest_of}
 use Rattle.activation_relation.proofs.PointSteps.{left_memory}
 use Rattle.activation_relation.proofs.Unwinding.{activations_ended, kept_behind}
 use Rattle.activation_relation.proofs.WaitingWords.{back_found, top_found, registers_back}
@@ -73,25 +73,30 @@ newest_frames w q base m φ φs h e frames =
     )
 
 pub machine_below :
-    (w : Surroundings) (q : Point) (φ : Layer) (φs : List Layer) (kept : List S.Entry) (before after : ℕ → ℕ)
-    (index back base : ℕ) (s t : V.State) → Stands w q → q.control.layers ≡ φ ∷ φs →
-    IsAt w q after index base s → HoldsBefore φ before after → GoesBelow φ base s t → t.pc ≡ base + 4 * back →
-    IsAt w (popped kept q) before back base t
-machine_below w q φ φs kept before after index back base s t h newest at is goes pc =
-    subst (λ ls. IsAt w (popped_from kept ls q) before back base t) (sym newest)
+    (w : Surroundings) (q : Point) (e : BlockEnd) (base : ℕ) (s t : V.State) → Stands w q →
+    q.control.layers ≡ e.layer ∷ e.others → IsAt w q e.after e.index base s → HoldsBefore e.layer e.before e.after →
+    GoesBelow e.layer base s t → t.pc ≡ base + 4 * e.back → IsAt w (popped e.kept q) e.before e.back base t
+machine_below w q e base s t h newest at is goes pc =
+    subst (λ ls. IsAt w (popped_from e.kept ls q) e.before e.back base t) (sym newest)
     (record {
       pc = pc;
       frame = goes.frame ∙ f.2.0.below;
       top = goes.top ∙ ap (λ n. base + n) (top_found w.parts φ φs laid);
       registers = λ n less. goes.registers n less ∙ same n less
-          ∙ registers_back w.parts base s.memory f.0 f.1 φ φs before after f.2 (is.saved, is.others) n;
+          ∙ registers_back w.parts base s.memory f.0 f.1 φ φs e.before e.after f.2 (is.saved, is.others) n;
       frames =
           subst (λ m. FramesStand w.parts base m p.state.activations φs) (sym goes.memory) left.1;
       storage = subst (λ m. Holds (now p m)) (sym goes.memory) left.0;
     })
   where
+    φ : Layer
+    φ = e.layer
+
+    φs : List Layer
+    φs = e.others
+
     p : Point
-    p = popped_from kept (φ ∷ φs) q
+    p = popped_from e.kept (φ ∷ φs) q
 
     f : (a : Activation) × (as' : List Activation) × FramesStand w.parts base s.memory (a ∷ as') (φ ∷ φs)
     f = newest_frames w q base s.memory φ φs h newest at.frames
@@ -101,15 +106,15 @@ machine_below w q φ φs kept before after index back base s t h newest at is go
 
     left : Holds (now p s.memory) × FramesStand w.parts base s.memory p.state.activations p.control.layers
     left =
-        subst (λ ls. Holds (now (popped_from kept ls q) s.memory)
-        × FramesStand w.parts base s.memory (popped_from kept ls q).state.activations
-        (popped_from kept ls q).control.layers) newest
-        (left_memory w q base s.memory φ φs kept (h, at.storage, at.frames) newest)
+        subst (λ ls. Holds (now (popped_from e.kept ls q) s.memory)
+        × FramesStand w.parts base s.memory (popped_from e.kept ls q).state.activations
+        (popped_from e.kept ls q).control.layers) newest
+        (left_memory w q base s.memory φ φs e.kept (h, at.storage, at.frames) newest)
 
     same :
         (n : ℕ) → n < held_registers →
         cond (nat_lt n φ.saved) (load 4 s.memory (place_from φ.at (saved_register n))) (V.value s (held n))
-        ≡ restored φ s.memory after n
+        ≡ restored φ s.memory e.after n
     same n less =
         ap (λ x. cond (nat_lt n φ.saved) (load 4 s.memory (place_from φ.at (saved_register n))) x)
         (at.registers n less)

@@ -1,6 +1,6 @@
 -- The first moment of a run, and the worked row.
-use Rattle.std.proofs.Common.{◌≡◌, ℕ, ◌+◌, ◌<◌, ◌≤◌, List, [], ◌∷◌, length, Some, refl, arith, inl}
-use Rattle.pli_meaning.specs.StorageState.{heap_serial, first_state}
+use Rattle.std.proofs.Common.{ℕ, ◌+◌, ◌<◌, ◌≤◌, List, [], ◌∷◌, length, refl, arith, inl}
+use Rattle.pli_meaning.specs.StorageState.{heap_serial}
 use Rattle.area_keeper.specs.Keeper.{Keeper}
 use Rattle.pli_serving.specs.Bytes.{Layout}
 use Rattle.pli_coding.specs.Frames.{MemoryParts}
@@ -9,7 +9,7 @@ use Rattle.storage_relation.specs.Stored.{Places}
 use Rattle.activation_relation.specs.Chains.{AreActive}
 use Rattle.activation_relation.specs.Frames.{FramesStand, AreLaid, stored}
 use Rattle.activation_relation.specs.Points.{Surroundings, Stands}
-use Rattle.activation_relation.specs.Rows.{first_point, first_stores, UnitRuns, row_units, row_activations, row_layers, row_parts}
+use Rattle.activation_relation.specs.Rows.{first_point, first_stores, row_units, row_activations, row_layers, row_parts}
 use Rattle.activation_relation.proofs.StoredWords.{Writes, writes_first, writes_later}
 
 pub first_stands :

@@ -1,5 +1,5 @@
 -- Words that are stored one after the other: what is loaded then, and what stays.
-use Rattle.std.proofs.Common.{◌≡◌, ◌≢◌, ◌⊎◌, inl, inr, ℕ, zero, suc, ◌+◌, ◌-◌, ◌*◌, ◌^◌, ◌<◌, ◌≤◌, List, [], ◌∷◌, ◌++◌}
+use Rattle.std.proofs.Common.{◌≡◌, ◌≢◌, ◌⊎◌, inl, inr, ℕ, zero, suc, ◌+◌, ◌*◌, ◌^◌, ◌<◌, ◌≤◌, List, [], ◌∷◌, ◌++◌}
 use Rattle.std.proofs.Common.{length, refl, sym, ap, ◌∙◌, subst, arith}
 use Rattle.std.specs.Prelude.{slice_index}
 use Rattle.std.proofs.lemmas.Bool.{cases_eq}
@@ -106,7 +106,8 @@ writes_run from value n (suc left) j low high small =
 
 -- ---- bytes outside
 
-pub within_append : (at count : ℕ) (xs ys : Stores) → AreWithin at count xs → AreWithin at count ys → AreWithin at count (xs ++ ys)
+pub within_append :
+    (at count : ℕ) (xs ys : Stores) → AreWithin at count xs → AreWithin at count ys → AreWithin at count (xs ++ ys)
 within_append at count [] ys h i = i
 within_append at count (x ∷ xs) ys h i = (h.0, within_append at count xs ys h.1 i)
 

@@ -1,7 +1,7 @@
 -- On-units: what services 28 to 30 and 33 answer at a point.
-use Rattle.std.proofs.Common.{◌≡◌, ◌≢◌, ℕ, suc, ◌<◌, ◌≤◌, List, [], ◌∷◌, length, map, Option, Some, None, Bool, true, false}
+use Rattle.std.proofs.Common.{◌≡◌, ℕ, suc, ◌≤◌, List, [], ◌∷◌, length, map, Option, Some, None, Bool, true, false}
 use Rattle.std.proofs.Common.{refl, sym, ap, ◌∙◌, subst, arith}
-use Rattle.std.specs.Prelude.{cond, ◌==◌, slice_get}
+use Rattle.std.specs.Prelude.{cond, ◌==◌}
 use Rattle.pli_language.specs.declared.condition.Condition.{Condition}
 use Rattle.pli_typing.specs.TypedTree as Y
 use Rattle.pli_meaning.specs.World.{raising}
@@ -151,8 +151,8 @@ raise_by p m c n code resume o left is small found =
     ∙ ap (λ o. U.raise_answered call v' code resume o) found
 
 -- what is found where the storage machine finds a block's unit
-pub record FoundUnit (units : UnitPlaces) (φs : List Layer) (a : Activation) (unit : Y.Block) (o : Option (S.Activation × S.OnUnit)) :
-    Type 0 where
+pub record FoundUnit (units : UnitPlaces) (φs : List Layer) (a : Activation) (unit : Y.Block)
+    (o : Option (S.Activation × S.OnUnit)) : Type 0 where
   pub at : ℕ
   pub by : S.Activation
   pub stands : StandsAt units unit at
@@ -203,7 +203,7 @@ raise_answered units p m c n code resume a unit active left is small found =
       f.at,
       f.stands,
       raise_by p m c n code resume (Some (f.by, S.CodeUnit f.at)) left is small f.is
-      ∙ ap (λ x. Done (services_of (awaiting code resume (with_act (raising c code) p))) m f.at x) f.frame,
+          ∙ ap (λ x. Done (services_of (awaiting code resume (with_act (raising c code) p))) m f.at x) f.frame,
     )
 
 -- what the services find where the storage machine finds none but the system's

@@ -1,8 +1,8 @@
 -- Blocks that end together: what service 6 answers, and the chain behind.
-use Rattle.std.proofs.Common.{◌≡◌, ℕ, zero, suc, ◌+◌, ◌-◌, ◌<◌, ◌≤◌, ◌⊎◌, inl, inr, List, [], ◌∷◌, ◌++◌, length, map}
-use Rattle.std.proofs.Common.{Some, Bool, true, false, refl, sym, ap, ◌∙◌, subst, arith}
+use Rattle.std.proofs.Common.{◌≡◌, ℕ, zero, suc, ◌+◌, ◌<◌, ◌≤◌, List, [], ◌∷◌, ◌++◌, length, map}
+use Rattle.std.proofs.Common.{Bool, true, false, refl, sym, ap, ◌∙◌, subst, arith}
 use Rattle.std.proofs.lemmas.Bool.{leb-true, le-leb, eqb-false}
-use Rattle.std.specs.Prelude.{cond, nat_le, filter, drop, ◌==◌, not}
+use Rattle.std.specs.Prelude.{cond, nat_le, filter, drop, ◌==◌}
 use Rattle.pli_meaning.specs.StorageState.{State, Activation, Living, without_owner, newest_ended, without_newest}
 use Rattle.pli_meaning.specs.World.{World}
 use Rattle.pli_meaning.specs.InputLines.{Input}
@@ -18,7 +18,7 @@ use Rattle.activation_relation.specs.Layers.{Layer, Point, activation_of, servic
 use Rattle.activation_relation.specs.Chains.{UnitPlaces, AreActive}
 use Rattle.activation_relation.specs.Changes.{Keeps, StandsOver, unwound, ended_times}
 use Rattle.activation_relation.specs.ServiceLaws.{at_point, FramesFall}
-use Rattle.activation_relation.proofs.Blocks.{served_length, same_length, kept_left, left_below}
+use Rattle.activation_relation.proofs.Blocks.{same_length, kept_left, left_below}
 
 -- ---- which layer a frame is
 

@@ -1,22 +1,20 @@
 -- Words that wait in the newest frame, the lower stack's top, and what a block finds in its frame when it ends.
-use Rattle.std.proofs.Common.{◌≡◌, ◌≢◌, ◌⊎◌, inl, inr, ℕ, zero, suc, ◌+◌, ◌-◌, ◌*◌, ◌^◌, ◌<◌, ◌≤◌, List, [], ◌∷◌, length}
-use Rattle.std.proofs.Common.{Option, None, Some, Bool, true, false, refl, sym, ap, ◌∙◌, subst, arith}
+use Rattle.std.proofs.Common.{◌≡◌, ◌≢◌, ◌⊎◌, inl, inr, ℕ, suc, ◌+◌, ◌-◌, ◌*◌, ◌^◌, ◌<◌, ◌≤◌, List, [], ◌∷◌, length}
+use Rattle.std.proofs.Common.{Some, Bool, true, false, refl, sym, ap, ◌∙◌, subst, arith}
 use Rattle.std.proofs.lemmas.Bool.{cases_eq, cases_lt, ltb-true, ltb-false}
-use Rattle.std.specs.Prelude.{cond, ◌==◌, drop, nat_lt}
+use Rattle.std.specs.Prelude.{cond, drop, nat_lt}
 use Rattle.rv_meaning.specs.Memory.{load, store}
-use Rattle.rv_meaning.proofs.MemoryLaws.{length-store, load-store_same, load-store_other}
-use Rattle.pli_meaning.specs.StorageState.{Activation, Binding, OnUnit}
-use Rattle.pli_language.specs.declared.condition.Condition.{Condition}
-use Rattle.pli_meaning.specs.Control.{Label}
+use Rattle.rv_meaning.proofs.MemoryLaws.{load-store_same, load-store_other}
+use Rattle.pli_meaning.specs.StorageState.{Activation}
 use Rattle.pli_serving.specs.ServiceState as S
-use Rattle.pli_coding.specs.Frames.{MemoryParts, return_address, frame_below, saved_register, own_offset, lower_top}
-use Rattle.pli_coding.specs.Frames.{display, fixed_size, temporary_bytes}
-use Rattle.storage_relation.specs.Stored.{IsBeside}
+use Rattle.pli_coding.specs.Frames.{MemoryParts, return_address, saved_register, lower_top}
+use Rattle.pli_coding.specs.Frames.{temporary_bytes}
 use Rattle.storage_relation.proofs.Holders.{eqb-refl, eqb-other}
-use Rattle.activation_relation.specs.Layers.{Layer, Carried}
+use Rattle.activation_relation.specs.Layers.{Layer}
 use Rattle.activation_relation.specs.Frames.{FrameStands, FramesStand, GoesBack, AreLaid, upper_top, word_place}
-use Rattle.activation_relation.specs.Frames.{frame_start, frame_under, place_from, stored}
-use Rattle.activation_relation.specs.FrameLaws.{waiting, lowered, restored}
+use Rattle.activation_relation.specs.Frames.{frame_start, place_from}
+use Rattle.activation_relation.specs.FrameLaws.{waiting, lowered, restored, Unframed}
+use Rattle.activation_relation.specs.FrameLaws.{activation_with, layer_with}
 use Rattle.activation_relation.proofs.FrameWords.{words_covered, levels_covered, back_same, frames_kept, beside_above}
 use Rattle.activation_relation.proofs.FrameWords.{frames_behind}
 use Rattle.activation_relation.proofs.StoredWords.{stored_beside}
@@ -148,12 +146,9 @@ lower_stored parts base lower m a as' φ φs h is = (
 
 pub frame_changed :
     (parts : MemoryParts) (base : ℕ) (m : List ℕ) (a : Activation) (as' : List Activation) (φ : Layer)
-    (φs : List Layer) (bindings : List Binding) (own : List (Condition × OnUnit))
-    (units : List (Condition × S.OnUnit)) (top : ℕ) (carried : Label → Option Carried) →
-    FramesStand parts base m (a ∷ as') (φ ∷ φs) →
-    FramesStand parts base m (record a { bindings = bindings; units = own } ∷ as')
-    (record φ { units = units; top = top; carried = carried } ∷ φs)
-frame_changed parts base m a as' φ φs bindings own units top carried h = (
+    (φs : List Layer) (x : Unframed) → FramesStand parts base m (a ∷ as') (φ ∷ φs) →
+    FramesStand parts base m (activation_with x a ∷ as') (layer_with x φ ∷ φs)
+frame_changed parts base m a as' φ φs x h = (
   record {
     back = h.0.back;
     below = h.0.below;

@@ -1,7 +1,7 @@
 -- The account of the two stacks, in bytes: what each activation has taken of them, and that one more fits.
-use Rattle.std.specs.Prelude.{ℕ, suc, ◌+◌, ◌*◌, ◌<◌, ◌≤◌, ◌≡◌, ◌==◌, nat_le, List, [], ◌∷◌, length, ⊤, if◌then◌else◌}
+use Rattle.std.specs.Prelude.{ℕ, suc, ◌+◌, ◌*◌, ◌<◌, ◌≤◌, ◌≡◌, ◌==◌, List, [], ◌∷◌, length, ⊤, if◌then◌else◌}
 use Rattle.pli_typing.specs.Signatures.{rounded_up}
-use Rattle.pli_meaning.specs.StorageState.{State, Living, most_activations, without_owner}
+use Rattle.pli_meaning.specs.StorageState.{Living, most_activations, without_owner}
 use Rattle.area_keeper.specs.Keeper.{Keeper}
 use Rattle.pli_coding.specs.Frames.{MemoryParts, name_bytes}
 use Rattle.pli_coding.specs.Images.{first_frame_bytes}

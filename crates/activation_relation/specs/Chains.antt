@@ -1,5 +1,5 @@
 -- The storage machine's activations beside the layers: one for each, with its units, and its static parents.
-use Rattle.std.specs.Prelude.{ℕ, zero, suc, slice_get, ◌<◌, ◌≡◌, ◌==◌, List, [], ◌∷◌, length, Option, Some, None, ⊤, if◌then◌else◌}
+use Rattle.std.specs.Prelude.{ℕ, zero, suc, slice_get, ◌<◌, ◌≡◌, ◌==◌, List, [], ◌∷◌, length, Some, ⊤, if◌then◌else◌}
 use Rattle.pli_language.specs.declared.condition.Condition.{Condition}
 use Rattle.pli_typing.specs.TypedTree as Y
 use Rattle.pli_meaning.specs.StorageState as M

@@ -1,5 +1,6 @@
--- How a block is entered from a point and comes back to one that is later: what its code promises, and what it does at its end.
-use Rattle.std.specs.Prelude.{ℕ, ◌+◌, ◌*◌, ◌<◌, ◌≤◌, ◌≡◌, List, ◌∷◌, ◌++◌, Option, None, Some, nat_lt, if◌then◌else◌, [], ⊤}
+-- How a block is entered from a point and comes back to one that is later: what its code promises, and what it does
+-- at its end.
+use Rattle.std.specs.Prelude.{ℕ, ◌+◌, ◌*◌, ◌<◌, ◌≤◌, ◌≡◌, List, ◌∷◌, ◌++◌, Option, None, Some, nat_lt, if◌then◌else◌}
 use Rattle.rv_meaning.specs.Machine as V
 use Rattle.rv_meaning.specs.Memory.{load}
 use Rattle.rv_meaning.specs.Words.{word, flag}
@@ -20,7 +21,8 @@ use Rattle.activation_relation.specs.Points.{Surroundings, Stands, Machines, IsA
 
 -- ---- later points
 
--- blocks that were entered in between have been left, and places in format lists are as they were; storage may have changed
+-- blocks that were entered in between have been left, and places in format lists are as they were; storage may have
+-- changed
 pub record Later (p q : Point) : Type 0 where
   pub activations : q.state.activations ≡ p.state.activations
   pub layers : q.control.layers ≡ p.control.layers
@@ -29,7 +31,8 @@ pub record Later (p q : Point) : Type 0 where
 
 -- ---- the end of a block
 
--- what the code of a block's end does to the machine: the stack and the frame are those of the block below, and the registers
+-- what the code of a block's end does to the machine: the stack and the frame are those of the block below, and the
+-- registers
 -- that it saved are loaded
 pub record GoesBelow (φ : Layer) (base : ℕ) (s t : V.State) : Type 0 where
   pub frame : V.value t frame_register ≡ load 4 s.memory (place_from φ.at frame_below)
@@ -44,6 +47,18 @@ pub record GoesBelow (φ : Layer) (base : ℕ) (s t : V.State) : Type 0 where
 pub record HoldsBefore (φ : Layer) (before after : ℕ → ℕ) : Type 0 where
   pub saved : (n : ℕ) → n < φ.saved → φ.held n ≡ before n
   pub others : (n : ℕ) → φ.saved ≤ n → after n ≡ before n
+
+-- the end of the newest block, above the others: what is kept of its texts, the numbers in registers before and after
+-- it, and
+-- the instructions where it ends and where the block below goes on
+pub record BlockEnd : Type 0 where
+  pub layer : Layer
+  pub others : List Layer
+  pub kept : List S.Entry
+  pub before : ℕ → ℕ
+  pub after : ℕ → ℕ
+  pub index : ℕ
+  pub back : ℕ
 
 -- ---- what is promised where a block is entered
 
@@ -73,14 +88,16 @@ Behind w p numbers credits index aims =
     ((base : ℕ) (valid : V.IsValidBase base) → IsGiven v p q (f base valid)) →
     aims.done credits f (services_of q) v q.state
 
--- where a block begins: the frame of its static parent is in a0, and the number of its arguments' texts in a2; a procedure is
+-- where a block begins: the frame of its static parent is in a0, and the number of its arguments' texts in a2; a
+-- procedure is
 -- told where it goes back
 pub record IsCalled (w : Surroundings) (p : Point) (entry : Entry) (texts back base : ℕ) (s : V.State) : Type 0 where
   pub parent : V.value s a0 ≡ base + frame_at p.control.layers entry.parent
   pub texts_given : V.value s a2 ≡ texts
   pub return : V.value s return_register ≡ base + 4 * back
 
--- a procedure that is entered at an instruction, with arguments as its code finds them: its run comes to what it means; it comes
+-- a procedure that is entered at an instruction, with arguments as its code finds them: its run comes to what it
+-- means; it comes
 -- back with any credits that are wanted, since those of the call are paid back where it ends
 pub record Enters (w : Surroundings) (comes : Comes) (given : Entry → Point → (base : ℕ) → V.State → Type 0)
     (index debt : ℕ) (meaning : Entry → Meaning (Option BasicValue)) : Type 1 where
@@ -108,10 +125,9 @@ pub record BlocksReturn : Type 0 where
       (popped kept q).control.entries ≡ kept ++ φ.entries
   -- and its code leaves the machine that the block below had, with all numbers in registers and words as they were
   pub machine :
-      (w : Surroundings) (q : Point) (φ : Layer) (φs : List Layer) (kept : List S.Entry) (before after : ℕ → ℕ)
-      (index back base : ℕ) (s t : V.State) → Stands w q → q.control.layers ≡ φ ∷ φs →
-      IsAt w q after index base s → HoldsBefore φ before after → GoesBelow φ base s t → t.pc ≡ base + 4 * back →
-      IsAt w (popped kept q) before back base t
+      (w : Surroundings) (q : Point) (e : BlockEnd) (base : ℕ) (s t : V.State) → Stands w q →
+      q.control.layers ≡ e.layer ∷ e.others → IsAt w q e.after e.index base s → HoldsBefore e.layer e.before e.after →
+      GoesBelow e.layer base s t → t.pc ≡ base + 4 * e.back → IsAt w (popped e.kept q) e.before e.back base t
   -- a procedure goes back to the instruction that its call said
   pub procedure :
       (w : Surroundings) (q : Point) (φ : Layer) (φs : List Layer) (after : ℕ → ℕ) (index base : ℕ) (s : V.State) →

@@ -14,7 +14,8 @@ use Rattle.storage_relation.specs.Stored.{IsBeside}
 use Rattle.activation_relation.specs.Layers.{Layer, Carried}
 use Rattle.activation_relation.specs.Chains.{UnitPlaces, AreActive, HasParent, frame_at}
 use Rattle.activation_relation.specs.Frames.{FramesStand, AreLaid, AreBeside, stored, frame_stores}
-use Rattle.activation_relation.specs.Frames.{place_from, ancestor_frame, upper_top, word_place, frame_start, frame_under}
+use Rattle.activation_relation.specs.Frames.{place_from, ancestor_frame, upper_top, word_place, frame_start}
+use Rattle.activation_relation.specs.Frames.{frame_under}
 use Rattle.activation_relation.specs.ServiceLaws.{FramesFall}
 
 -- ---- what stays
@@ -46,7 +47,8 @@ pub record AreWords (base : ℕ) (φ : Layer) : Type 0 where
   pub base_fits : base + φ.lower < 2 ^ 32
 
 pub record FramesBegin : Type 0 where
-  -- the display that a beginning copies out of its static parent's frame is that of its own ancestors, and behind it comes the
+  -- the display that a beginning copies out of its static parent's frame is that of its own ancestors, and behind it
+  -- comes the
   -- parent itself
   pub copied :
       (units : UnitPlaces) (parts : MemoryParts) (base : ℕ) (m : List ℕ) (as' : List Activation) (φs : List Layer)
@@ -56,7 +58,8 @@ pub record FramesBegin : Type 0 where
   pub parent :
       (as' : List Activation) (φs : List Layer) (outer parent : ℕ) → HasParent (suc outer) parent as' →
       ancestor_frame as' φs parent outer ≡ frame_at φs parent
-  -- the stores of a beginning make the frame, and all others stand as before; its words for temporaries are as they were
+  -- the stores of a beginning make the frame, and all others stand as before; its words for temporaries are as they
+  -- were
   pub begun :
       (parts : MemoryParts) (base : ℕ) (m : List ℕ) (a : Activation) (as' : List Activation) (φ : Layer)
       (φs : List Layer) → FramesStand parts base m as' φs → AreLaid parts (φ ∷ φs) → AreWords base φ →
@@ -78,6 +81,20 @@ waiting n v φ = record φ { waits = λ j. if j == n then Some v else φ.waits j
 abbrev pub lowered : (lower : ℕ) → Layer → Layer
 lowered lower φ = record φ { lower = lower }
 
+-- what is no part of a frame
+pub record Unframed : Type 0 where
+  pub bindings : List Binding
+  pub own : List (Condition × OnUnit)
+  pub units : List (Condition × S.OnUnit)
+  pub top : ℕ
+  pub carried : Label → Option Carried
+
+abbrev pub activation_with : Unframed → Activation → Activation
+activation_with x a = record a { bindings = x.bindings; units = x.own }
+
+abbrev pub layer_with : Unframed → Layer → Layer
+layer_with x φ = record φ { units = x.units; top = x.top; carried = x.carried }
+
 pub record WordsWait : Type 0 where
   -- what is stored in a word of the newest block waits there; nothing else changes
   pub stored :
@@ -93,11 +110,8 @@ pub record WordsWait : Type 0 where
   -- its units, its stack and the lists that it carries out are no part of its frame, nor what its variables stand for
   pub changed :
       (parts : MemoryParts) (base : ℕ) (m : List ℕ) (a : Activation) (as' : List Activation) (φ : Layer)
-      (φs : List Layer) (bindings : List Binding) (own : List (Condition × OnUnit))
-      (units : List (Condition × S.OnUnit)) (top : ℕ) (carried : Label → Option Carried) →
-      FramesStand parts base m (a ∷ as') (φ ∷ φs) →
-      FramesStand parts base m (record a { bindings = bindings; units = own } ∷ as')
-      (record φ { units = units; top = top; carried = carried } ∷ φs)
+      (φs : List Layer) (x : Unframed) → FramesStand parts base m (a ∷ as') (φ ∷ φs) →
+      FramesStand parts base m (activation_with x a ∷ as') (layer_with x φ ∷ φs)
   -- what waits in a block is there when the blocks above it have ended, whatever they did beside its frame
   pub across :
       (parts : MemoryParts) (base count n v : ℕ) (m : List ℕ) (as' : List Activation) (φs : List Layer)
@@ -129,7 +143,8 @@ pub record FramesEnd : Type 0 where
       (φs : List Layer) (before after : ℕ → ℕ) → FramesStand parts base m (a ∷ as') (φ ∷ φs) →
       ((n : ℕ) → n < φ.saved → φ.held n ≡ before n) × ((n : ℕ) → φ.saved ≤ n → after n ≡ before n) →
       (n : ℕ) → restored φ m after n ≡ before n
-  -- where the program goes on further out it finds, by the display, the frame of the activation that the storage machine
+  -- where the program goes on further out it finds, by the display, the frame of the activation that the storage
+  -- machine
   -- names, and there the frame's own place
   pub outer :
       (units : UnitPlaces) (parts : MemoryParts) (base : ℕ) (m : List ℕ) (a : Activation) (as' : List Activation)

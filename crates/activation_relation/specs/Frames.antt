@@ -1,5 +1,5 @@
 -- Frames in memory: the words that stand in each, and its place between the two stacks.
-use Rattle.std.specs.Prelude.{ℕ, zero, suc, ◌+◌, ◌-◌, ◌*◌, ◌%◌, ◌<◌, ◌≤◌, ◌≡◌, ℤ, pos, negsuc, List, [], ◌∷◌, ◌++◌, length, ⊤, Some}
+use Rattle.std.specs.Prelude.{ℕ, zero, suc, ◌+◌, ◌-◌, ◌*◌, ◌<◌, ◌≤◌, ◌≡◌, ℤ, pos, negsuc, List, [], ◌∷◌, ◌++◌, ⊤, Some}
 use Rattle.rv_meaning.specs.Memory.{load, store}
 use Rattle.pli_meaning.specs.StorageState.{Activation, ancestor, height_of}
 use Rattle.pli_serving.specs.ServiceState as S
@@ -111,11 +111,16 @@ abbrev pub words_from : (at : ℕ) → (ℕ → ℕ) → (n left : ℕ) → Stor
 words_from at value n zero = []
 words_from at value n (suc left) = (at + 4 * n, value n) ∷ words_from at value (suc n) left
 
--- as code writes them: what is saved, the frame below, the display, the frame's own place, and the lower stack's top
+-- a begin block is left by no call
+abbrev pub return_stores : S.BlockKind → (at value : ℕ) → Stores
+return_stores S.BeginBlock at value = []
+return_stores kind at value = (at, value) ∷ []
+
+-- as code writes them: what is saved, the frame below, the lower stack's top, the display, and the frame's own place
 abbrev pub frame_stores : MemoryParts → (base parent : ℕ) → List Activation → Layer → List Layer → Stores
 frame_stores parts base parent as' φ φs =
-    (place_from φ.at return_address, base + 4 * φ.back)
-    ∷ (words_from (place_from φ.at (saved_register 0)) φ.held 0 φ.saved
+    return_stores φ.kind (place_from φ.at return_address) (base + 4 * φ.back)
+    ++ (words_from (place_from φ.at (saved_register 0)) φ.held 0 φ.saved
     ++ ((place_from φ.at frame_below, base + frame_under parts φs)
     ∷ (place_from φ.at lower_top, φ.lower)
     ∷ (words_from (place_from φ.at (display 0)) (λ n. base + ancestor_frame as' φs parent n) 0 φ.level

@@ -1,5 +1,6 @@
 -- Where jumps land, and where returns go on: by layers, for every machine that comes there.
-use Rattle.std.specs.Prelude.{ℕ, suc, ◌+◌, ◌*◌, ◌<◌, ◌≤◌, ◌≡◌, ◌==◌, Bool, true, false, ◌&&◌, List, [], ◌∷◌, length, ⊤, None}
+use Rattle.std.specs.Prelude.{ℕ, suc, ◌+◌, ◌*◌, ◌<◌, ◌≤◌, ◌≡◌, ◌==◌, Bool, true, false, ◌&&◌, List, [], ◌∷◌, length}
+use Rattle.std.specs.Prelude.{⊤, None}
 use Rattle.std.specs.Prelude.{Some, Option, if◌then◌else◌}
 use Rattle.rv_meaning.specs.Machine as V
 use Rattle.rv_meaning.specs.Memory.{load}
@@ -12,7 +13,7 @@ use Rattle.pli_meaning.specs.StorageState as M
 use Rattle.pli_meaning.specs.StorageState.{State, Activation, with_world, newest_ended}
 use Rattle.pli_serving.specs.Bytes.{offset_word}
 use Rattle.pli_serving.specs.ServiceState as S
-use Rattle.pli_coding.specs.Assembly.{LabelPlace, ReturnPlace}
+use Rattle.pli_coding.specs.Assembly.{Symbol, LabelPlace, ReturnPlace}
 use Rattle.pli_coding.specs.Frames.{result}
 use Rattle.pli_coding.specs.Linking.{place_of}
 use Rattle.storage_relation.specs.Telling.{Tells}
@@ -57,7 +58,8 @@ same_lists units waits top φ =
 abbrev pub Jumps : Type 1
 Jumps = ℕ → Machines → S.Services → (height : ℕ) → Label → State → Type 0
 
--- at a label of a list that it is carrying out: what waits there is as it was, and nothing stands on the stacks of texts and
+-- at a label of a list that it is carrying out: what waits there is as it was, and nothing stands on the stacks of
+-- texts and
 -- formats but what stood below the block
 pub record Arrives (w : Surroundings) (acts : ℕ) (a : Activation) (as' : List Activation) (φ : Layer) (φs : List Layer)
     (c : Carried) (q : Point) : Type 0 where
@@ -67,13 +69,26 @@ pub record Arrives (w : Surroundings) (acts : ℕ) (a : Activation) (as' : List 
   pub entries : q.control.entries ≡ φ.entries
   pub edits : q.control.edits ≡ φ.edits
 
--- from so many blocks further in: the state is the one where the jump was made, and each of those blocks ends
-abbrev pub Landing : Surroundings → Jumps → (acts count : ℕ) → Activation → List Activation → Layer → List Layer → Type 0
+-- a run that has come to an instruction: where it left the blocks further in, the point now, and its machines
+pub record Coming : Type 0 where
+  pub index : ℕ
+  pub state : State
+  pub point : Point
+  pub numbers : ℕ → ℕ
+  pub machines : Machines
+
+-- it is that of a symbol, and each of so many blocks further in has ended
+pub record HasCome (w : Surroundings) (count : ℕ) (to : Symbol) (x : Coming) : Type 0 where
+  pub place : place_of w.links to ≡ 4 * x.index
+  pub ended : x.point.state ≡ ended_times count x.state
+  pub at : AreAt w x.point x.numbers x.index x.machines
+
+abbrev pub Landing :
+    Surroundings → Jumps → (acts count : ℕ) → Activation → List Activation → Layer → List Layer → Type 0
 Landing w J acts count a as' φ φs =
-    (label : Label) (c : Carried) (index : ℕ) (s : State) (q : Point) (numbers : ℕ → ℕ) (f : Machines) →
-    φ.carried label ≡ Some c → place_of w.links (LabelPlace φ.block label) ≡ 4 * index →
-    q.state ≡ ended_times count s → Arrives w acts a as' φ φs c q → AreAt w q numbers index f →
-    J index f (services_of q) (suc (length φs)) label s
+    (label : Label) (c : Carried) (x : Coming) → φ.carried label ≡ Some c →
+    HasCome w count (LabelPlace φ.block label) x → Arrives w acts a as' φ φs c x.point →
+    J x.index x.machines (services_of x.point) (suc (length φs)) label x.state
 
 abbrev pub LandsFrom : Surroundings → Jumps → (acts count : ℕ) → List Activation → List Layer → Type 0
 LandsFrom w J acts count [] φs = ⊤
@@ -110,7 +125,8 @@ either true yes' no' = yes'
 either false yes' no' = no'
 
 -- what a list aims at: it goes on itself at its own labels
-abbrev pub caught_jumps : (height : ℕ) → List Label → (ℕ → Machines → S.Services → Label → State → Type 0) → Jumps → Jumps
+abbrev pub caught_jumps :
+    (height : ℕ) → List Label → (ℕ → Machines → S.Services → Label → State → Type 0) → Jumps → Jumps
 caught_jumps height labels own J =
     λ c f v h label s. either ((h == height) && is_among label labels) (own c f v label s) (J c f v h label s)
 
@@ -130,13 +146,14 @@ HasResult (Some (BasicPointer n)) φ entries m =
 HasResult (Some (BasicText t)) φ entries m = entries ≡ S.TextEntry t ∷ φ.entries
 
 -- at its return place, with its result; no credits are left there, since those of the call are paid back
-abbrev pub Returning : Surroundings → Returns → (acts count : ℕ) → Activation → List Activation → Layer → List Layer → Type 0
+abbrev pub Returning :
+    Surroundings → Returns → (acts count : ℕ) → Activation → List Activation → Layer → List Layer → Type 0
 Returning w R acts count a as' φ φs =
-    (v : Option BasicValue) (index : ℕ) (s : State) (q : Point) (numbers : ℕ → ℕ) (f : Machines) →
-    place_of w.links (ReturnPlace φ.block) ≡ 4 * index → q.state ≡ ended_times count s →
-    Resumes w acts a as' φ φs q → AreAt w q numbers index f →
-    ((base : ℕ) (valid : V.IsValidBase base) → HasResult v φ q.control.entries (f base valid).memory) →
-    R 0 f (services_of q) v s
+    (v : Option BasicValue) (x : Coming) → HasCome w count (ReturnPlace φ.block) x →
+    Resumes w acts a as' φ φs x.point →
+    ((base : ℕ) (valid : V.IsValidBase base) →
+    HasResult v φ x.point.control.entries (x.machines base valid).memory) →
+    R 0 x.machines (services_of x.point) v x.state
 
 abbrev pub is_begin : S.BlockKind → Bool
 is_begin S.BeginBlock = true
@@ -184,9 +201,9 @@ pub record LandingLaws : Type 1 where
       (w : Surroundings) (J : Jumps) (own : ℕ → Machines → S.Services → Label → State → Type 0) (acts : ℕ)
       (labels : List Label) (c : Carried) (a : Activation) (as' : List Activation) (φ : Layer) (φs : List Layer) →
       LandsFrom w J acts 0 (a ∷ as') (φ ∷ φs) →
-      ((label : Label) (index : ℕ) (q : Point) (numbers : ℕ → ℕ) (f : Machines) → is_among label labels ≡ true →
-      place_of w.links (LabelPlace φ.block label) ≡ 4 * index → Arrives w acts a as' φ φs c q →
-      AreAt w q numbers index f → own index f (services_of q) label q.state) →
+      ((label : Label) (x : Coming) → is_among label labels ≡ true →
+      HasCome w 0 (LabelPlace φ.block label) x → Arrives w acts a as' φ φs c x.point →
+      own x.index x.machines (services_of x.point) label x.state) →
       LandsFrom w (caught_jumps (suc (length φs)) labels own J) acts 0 (a ∷ as') (with_list labels c φ ∷ φs)
 
 pub record LeavingLaws : Type 1 where

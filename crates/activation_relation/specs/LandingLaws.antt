@@ -1,5 +1,5 @@
 -- The laws of landing and leaving, for aims that are told by a test; the proofs have them for any aims.
-use Rattle.std.specs.Prelude.{ℕ, suc, ◌*◌, ◌≤◌, ◌≡◌, Bool, true, List, [], ◌∷◌, length, Option, None}
+use Rattle.std.specs.Prelude.{ℕ, suc, ◌≤◌, ◌≡◌, Bool, true, List, ◌∷◌, length, Option, None}
 use Rattle.pli_language.specs.declared.condition.Condition.{Condition}
 use Rattle.pli_meaning.specs.BasicValues.{BasicValue}
 use Rattle.pli_meaning.specs.Control.{Label, is_among}
@@ -7,11 +7,12 @@ use Rattle.pli_meaning.specs.StorageState as M
 use Rattle.pli_meaning.specs.StorageState.{State, Activation}
 use Rattle.pli_serving.specs.ServiceState as S
 use Rattle.pli_coding.specs.Assembly.{LabelPlace}
-use Rattle.pli_coding.specs.Linking.{place_of}
-use Rattle.activation_relation.specs.Layers.{Layer, Carried, Point, services_of}
-use Rattle.activation_relation.specs.Landing.{Jumps, Returns, LandsFrom, LeavesFrom, closed_jumps, closed_returns, Arrives}
+use Rattle.activation_relation.specs.Layers.{Layer, Carried, services_of}
+use Rattle.activation_relation.specs.Landing.{Jumps, Returns, LandsFrom, LeavesFrom, closed_jumps, closed_returns}
+use Rattle.activation_relation.specs.Landing.{Arrives}
 use Rattle.activation_relation.specs.Landing.{caught_jumps, with_list, same_lists, with_units, Changed, resumed}
-use Rattle.activation_relation.specs.Points.{Surroundings, Machines, AreAt}
+use Rattle.activation_relation.specs.Landing.{Coming, HasCome}
+use Rattle.activation_relation.specs.Points.{Surroundings, Machines}
 
 abbrev pub JumpTest : Type 0
 JumpTest = ℕ → Machines → S.Services → (height : ℕ) → Label → State → Bool
@@ -49,9 +50,9 @@ pub record JumpsLand : Type 0 where
       (w : Surroundings) (J : JumpTest) (own : LabelTest) (acts : ℕ) (labels : List Label) (c : Carried)
       (a : Activation) (as' : List Activation) (φ : Layer) (φs : List Layer) →
       LandsFrom w (jumps_by J) acts 0 (a ∷ as') (φ ∷ φs) →
-      ((label : Label) (index : ℕ) (q : Point) (numbers : ℕ → ℕ) (f : Machines) → is_among label labels ≡ true →
-      place_of w.links (LabelPlace φ.block label) ≡ 4 * index → Arrives w acts a as' φ φs c q →
-      AreAt w q numbers index f → labels_by own index f (services_of q) label q.state) →
+      ((label : Label) (x : Coming) → is_among label labels ≡ true →
+      HasCome w 0 (LabelPlace φ.block label) x → Arrives w acts a as' φ φs c x.point →
+      labels_by own x.index x.machines (services_of x.point) label x.state) →
       LandsFrom w (caught_jumps (suc (length φs)) labels (labels_by own) (jumps_by J)) acts 0 (a ∷ as')
       (with_list labels c φ ∷ φs)
 

@@ -11,7 +11,8 @@ use Rattle.storage_relation.specs.Served.{Now, served_living}
 
 -- ---- layers
 
--- where a list of statements runs: the first free byte of the upper stack, and how many words of the frame wait with what
+-- where a list of statements runs: the first free byte of the upper stack, and how many words of the frame wait with
+-- what
 pub record Carried : Type 0 where
   pub top : ℕ
   pub words : ℕ

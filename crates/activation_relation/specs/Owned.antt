@@ -1,16 +1,16 @@
--- Frames beside storage: what an activation owns lies in its own bytes of either stack, and what all of them take is bounded.
-use Rattle.std.specs.Prelude.{ℕ, suc, ◌+◌, ◌-◌, ◌*◌, ◌<◌, ◌≤◌, ◌≡◌, ◌⊎◌, ◌==◌, Bool, true, false, List, [], ◌∷◌, length, Some, ⊤}
-use Rattle.std.specs.Prelude.{if◌then◌else◌}
-use Rattle.pli_meaning.specs.StorageState.{State, Living, Activation, living_of, heap_serial, most_activations}
+-- Frames beside storage: what an activation owns lies in its own bytes of either stack, and what all of them take is
+-- bounded.
+use Rattle.std.specs.Prelude.{ℕ, suc, ◌+◌, ◌-◌, ◌≤◌, ◌≡◌, ◌⊎◌, ◌==◌, Bool, true, false, List, [], ◌∷◌, length, Some, ⊤}
+use Rattle.pli_meaning.specs.StorageState.{State, Living, living_of, heap_serial}
 use Rattle.area_keeper.specs.Keeper.{Keeper}
 use Rattle.pli_coding.specs.Frames.{MemoryParts, fixed_size}
-use Rattle.pli_coding.specs.Images.{first_frame_bytes}
 use Rattle.storage_relation.specs.Changes.{with_memory}
 use Rattle.storage_relation.specs.Served.{Now, Holds}
 use Rattle.storage_relation.specs.Standing.{Holder, held, holder_of, bytes_of}
-use Rattle.storage_relation.specs.Stored.{Places, IsClear, Beside}
+use Rattle.storage_relation.specs.Stored.{Places, IsClear}
 use Rattle.activation_relation.specs.Layers.{Layer}
-use Rattle.activation_relation.specs.Frames.{AreLaid, AreBeside, upper_top, lower_end, Stores, stored, frame_start, frame_bytes}
+use Rattle.activation_relation.specs.Frames.{AreLaid, AreBeside, upper_top, lower_end, Stores, stored, frame_start}
+use Rattle.activation_relation.specs.Frames.{frame_bytes}
 
 -- ---- what an activation owns
 

@@ -1,5 +1,5 @@
 -- The laws of points: what holds at one holds at those to which acts, blocks and on-units lead, with their memories.
-use Rattle.std.specs.Prelude.{ℕ, ◌+◌, ◌<◌, ◌≤◌, ◌≡◌, ◌∷◌, List, length, drop, None}
+use Rattle.std.specs.Prelude.{ℕ, ◌<◌, ◌≤◌, ◌≡◌, ◌∷◌, List, length, drop, None}
 use Rattle.pli_language.specs.declared.condition.Condition.{Condition}
 use Rattle.pli_typing.specs.TypedTree as Y
 use Rattle.pli_meaning.specs.World.{counted, raising}
@@ -10,8 +10,9 @@ use Rattle.storage_relation.specs.Served.{Holds}
 use Rattle.activation_relation.specs.Layers.{Layer, Point, now}
 use Rattle.activation_relation.specs.Chains.{IsUnit}
 use Rattle.activation_relation.specs.Changes.{with_line, with_act, pushed, popped, unwound, established, reverted}
+use Rattle.activation_relation.specs.Changes.{awaiting}
 use Rattle.activation_relation.specs.Changes.{StandsOver}
-use Rattle.activation_relation.specs.Frames.{FramesStand, AreLaid, IsLaid, frame_stores, stored}
+use Rattle.activation_relation.specs.Frames.{FramesStand, IsLaid, frame_stores, stored}
 use Rattle.activation_relation.specs.FrameLaws.{AreWords}
 use Rattle.activation_relation.specs.Points.{Surroundings, Stands, AreOver}
 use Rattle.activation_relation.specs.ServiceLaws.{IsLayerOf}
@@ -31,6 +32,8 @@ pub record PointsGo : Type 0 where
   pub raised :
       (w : Surroundings) (p : Point) (c : Condition) (code : ℕ) → Stands w p → p.state.world.acts < w.acts →
       Stands w (with_act (raising c code) p)
+  -- while a raise waits for its unit
+  pub awaited : (w : Surroundings) (p : Point) (code resume : ℕ) → Stands w p → Stands w (awaiting code resume p)
   pub entered :
       (w : Surroundings) (p : Point) (head : Y.BlockHead) (entry : Entry) (φ : Layer) (line : ℕ) → Stands w p →
       IsNext w p head entry φ → Stands w (pushed head entry φ line p)

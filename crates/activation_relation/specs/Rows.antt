@@ -1,6 +1,7 @@
--- Where a run begins, and a worked row: a procedure that is called by the main one, and an on-unit of the main procedure that runs
+-- Where a run begins, and a worked row: a procedure that is called by the main one, and an on-unit of the main
+-- procedure that runs
 -- above it.
-use Rattle.std.specs.Prelude.{ℕ, ◌+◌, ◌*◌, ◌<◌, ◌≤◌, ◌≡◌, List, [], ◌∷◌, Option, None, Some, length, false}
+use Rattle.std.specs.Prelude.{ℕ, ◌+◌, ◌<◌, ◌≤◌, ◌≡◌, List, [], ◌∷◌, None, length}
 use Rattle.pli_language.specs.declared.condition.Condition.TheVariants as C
 use Rattle.pli_typing.specs.TypedTree as Y
 use Rattle.pli_meaning.specs.StorageState as M
@@ -11,7 +12,7 @@ use Rattle.pli_serving.specs.ServiceState as S
 use Rattle.pli_coding.specs.Frames.{MemoryParts, own_offset, lower_top}
 use Rattle.pli_coding.specs.Images.{first_frame_bytes}
 use Rattle.storage_relation.specs.Stored.{Places}
-use Rattle.activation_relation.specs.Layers.{Layer, Control, Point, Carried}
+use Rattle.activation_relation.specs.Layers.{Layer, Control, Point}
 use Rattle.activation_relation.specs.Chains.{UnitPlaces, AreActive}
 use Rattle.activation_relation.specs.Frames.{FramesStand, AreLaid, Stores, stored, frame_stores, place_from}
 use Rattle.activation_relation.specs.Points.{Surroundings, Stands}

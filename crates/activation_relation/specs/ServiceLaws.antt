@@ -22,7 +22,8 @@ use Rattle.storage_relation.specs.Stored.{AreLow}
 use Rattle.activation_relation.specs.Layers.{Layer, Point, services_of, now}
 use Rattle.activation_relation.specs.Chains.{UnitPlaces, AreActive, RunsFor, IsUnit}
 use Rattle.activation_relation.specs.Chains.{HasParent, StandsAt, frame_at}
-use Rattle.activation_relation.specs.Changes.{with_line, with_act, pushed, popped, Keeps, StandsOver, unwound, established}
+use Rattle.activation_relation.specs.Changes.{with_line, with_act, pushed, popped, Keeps, StandsOver, unwound}
+use Rattle.activation_relation.specs.Changes.{established}
 use Rattle.activation_relation.specs.Changes.{reverted, awaiting}
 
 -- a call at a point, with a memory

@@ -5,6 +5,7 @@ pub returns : goal.returns
 returns c = record {
   acted = P.acted_stands;
   raised = P.raised_stands;
+  awaited = P.awaited_stands;
   entered = P.entered_stands;
   left = P.left_stands;
   unwound = P.unwound_stands;
