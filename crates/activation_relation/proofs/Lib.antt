@@ -12,3 +12,4 @@ pub mod Accounts
 pub mod PointSteps
 pub mod Returning
 pub mod Rows
+pub mod BlockVariables

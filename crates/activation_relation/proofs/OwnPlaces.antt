@@ -95,7 +95,7 @@ beside_behind parts (φ ∷ φs) at count laid h =
           beside_over ψs l.1 (omega (arith, above, fixed, o)),
         )
 
-beside_place :
+pub beside_place :
     (parts : MemoryParts) (φs : List Layer) (owner at count : ℕ) → IsPlaceOf parts φs owner at count →
     AreLaid parts φs → AreBeside parts at count φs
 beside_place parts [] owner at count place laid = inl place

@@ -32,8 +32,7 @@ pub record Later (p q : Point) : Type 0 where
 -- ---- the end of a block
 
 -- what the code of a block's end does to the machine: the stack and the frame are those of the block below, and the
--- registers
--- that it saved are loaded
+-- registers that it saved are loaded
 pub record GoesBelow (φ : Layer) (base : ℕ) (s t : V.State) : Type 0 where
   pub frame : V.value t frame_register ≡ load 4 s.memory (place_from φ.at frame_below)
   pub top : V.value t stack_register ≡ base + frame_start φ
@@ -49,8 +48,7 @@ pub record HoldsBefore (φ : Layer) (before after : ℕ → ℕ) : Type 0 where
   pub others : (n : ℕ) → φ.saved ≤ n → after n ≡ before n
 
 -- the end of the newest block, above the others: what is kept of its texts, the numbers in registers before and after
--- it, and
--- the instructions where it ends and where the block below goes on
+-- it, and the instructions where it ends and where the block below goes on
 pub record BlockEnd : Type 0 where
   pub layer : Layer
   pub others : List Layer
@@ -89,16 +87,14 @@ Behind w p numbers credits index aims =
     aims.done credits f (services_of q) v q.state
 
 -- where a block begins: the frame of its static parent is in a0, and the number of its arguments' texts in a2; a
--- procedure is
--- told where it goes back
+-- procedure is told where it goes back
 pub record IsCalled (w : Surroundings) (p : Point) (entry : Entry) (texts back base : ℕ) (s : V.State) : Type 0 where
   pub parent : V.value s a0 ≡ base + frame_at p.control.layers entry.parent
   pub texts_given : V.value s a2 ≡ texts
   pub return : V.value s return_register ≡ base + 4 * back
 
 -- a procedure that is entered at an instruction, with arguments as its code finds them: its run comes to what it
--- means; it comes
--- back with any credits that are wanted, since those of the call are paid back where it ends
+-- means; it comes back with any credits that are wanted, since those of the call are paid back where it ends
 pub record Enters (w : Surroundings) (comes : Comes) (given : Entry → Point → (base : ℕ) → V.State → Type 0)
     (index debt : ℕ) (meaning : Entry → Meaning (Option BasicValue)) : Type 1 where
   pub does :

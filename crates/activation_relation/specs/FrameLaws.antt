@@ -48,8 +48,7 @@ pub record AreWords (base : ℕ) (φ : Layer) : Type 0 where
 
 pub record FramesBegin : Type 0 where
   -- the display that a beginning copies out of its static parent's frame is that of its own ancestors, and behind it
-  -- comes the
-  -- parent itself
+  -- comes the parent itself
   pub copied :
       (units : UnitPlaces) (parts : MemoryParts) (base : ℕ) (m : List ℕ) (as' : List Activation) (φs : List Layer)
       (outer parent n : ℕ) → AreActive units as' φs → FramesStand parts base m as' φs →
@@ -144,8 +143,7 @@ pub record FramesEnd : Type 0 where
       ((n : ℕ) → n < φ.saved → φ.held n ≡ before n) × ((n : ℕ) → φ.saved ≤ n → after n ≡ before n) →
       (n : ℕ) → restored φ m after n ≡ before n
   -- where the program goes on further out it finds, by the display, the frame of the activation that the storage
-  -- machine
-  -- names, and there the frame's own place
+  -- machine names, and there the frame's own place
   pub outer :
       (units : UnitPlaces) (parts : MemoryParts) (base : ℕ) (m : List ℕ) (a : Activation) (as' : List Activation)
       (φ : Layer) (φs : List Layer) (n : ℕ) → AreActive units (a ∷ as') (φ ∷ φs) →

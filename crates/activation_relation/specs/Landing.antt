@@ -59,8 +59,7 @@ abbrev pub Jumps : Type 1
 Jumps = ℕ → Machines → S.Services → (height : ℕ) → Label → State → Type 0
 
 -- at a label of a list that it is carrying out: what waits there is as it was, and nothing stands on the stacks of
--- texts and
--- formats but what stood below the block
+-- texts and formats but what stood below the block
 pub record Arrives (w : Surroundings) (acts : ℕ) (a : Activation) (as' : List Activation) (φ : Layer) (φs : List Layer)
     (c : Carried) (q : Point) : Type 0 where
   pub resumes : Resumes w (suc acts) a as' φ φs q

@@ -12,3 +12,4 @@ pub mod PointLaws
 pub mod Entering
 pub mod LandingLaws
 pub mod Rows
+pub mod Variables

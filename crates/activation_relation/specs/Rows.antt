@@ -1,6 +1,5 @@
 -- Where a run begins, and a worked row: a procedure that is called by the main one, and an on-unit of the main
--- procedure that runs
--- above it.
+-- procedure that runs above it.
 use Rattle.std.specs.Prelude.{ℕ, ◌+◌, ◌<◌, ◌≤◌, ◌≡◌, List, [], ◌∷◌, None, length}
 use Rattle.pli_language.specs.declared.condition.Condition.TheVariants as C
 use Rattle.pli_typing.specs.TypedTree as Y

@@ -8,6 +8,7 @@ ghost use Rattle.activation_relation.specs.PointLaws.{PointsGo, MemoriesGo};
 ghost use Rattle.activation_relation.specs.LandingLaws.{JumpsLand, ReturnsLeave};
 ghost use Rattle.activation_relation.specs.Entering.{BlocksReturn};
 ghost use Rattle.activation_relation.specs.Rows.{RunsBegin, UnitRuns};
+ghost use Rattle.activation_relation.specs.Variables.{VariablesBegin};
 
 /// Service 1 makes an act, or tells a line.
 pub fn acts_served()
@@ -92,4 +93,9 @@ pub fn runs_begin()
 /// The frame of an on-unit above that of a procedure, word by word, in a worked row.
 pub fn unit_runs()
     ensures { UnitRuns }
+{}
+
+/// A variable that is made in the newest block takes bytes of the block's own.
+pub fn variables_begin()
+    ensures { VariablesBegin }
 {}
