@@ -13,3 +13,4 @@ pub mod PointSteps
 pub mod Returning
 pub mod Rows
 pub mod BlockVariables
+pub mod BeginningCode

@@ -1,5 +1,5 @@
 -- A block that ends has left all but storage as it was: later points, and the machine of the block below.
-use Rattle.std.proofs.Common.{◌≡◌, ℕ, ◌+◌, ◌*◌, ◌<◌, ◌≤◌, List, [], ◌∷◌, ◌++◌, refl, sym}
+use Rattle.std.proofs.Common.{◌≡◌, ℕ, ◌+◌, ◌*◌, ◌<◌, ◌≤◌, List, [], ◌∷◌, ◌++◌, length, refl, sym}
 use Rattle.std.proofs.Common.{ap, ◌∙◌, subst, arith}
 use Rattle.std.specs.Prelude.{cond, nat_lt, drop}
 use Rattle.rv_meaning.specs.Machine as V
@@ -84,6 +84,7 @@ machine_below w q e base s t h newest at is goes pc =
       top = goes.top ∙ ap (λ n. base + n) (top_found w.parts φ φs laid);
       registers = λ n less. goes.registers n less ∙ same n less
           ∙ registers_back w.parts base s.memory f.0 f.1 φ φs e.before e.after f.2 (is.saved, is.others) n;
+      room = subst (λ m. w.parts.stack_end ≤ length m) (sym goes.memory) at.room;
       frames =
           subst (λ m. FramesStand w.parts base m p.state.activations φs) (sym goes.memory) left.1;
       storage = subst (λ m. Holds (now p m)) (sym goes.memory) left.0;

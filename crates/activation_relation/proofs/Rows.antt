@@ -1,5 +1,5 @@
 -- The first moment of a run, and the worked row.
-use Rattle.std.proofs.Common.{ℕ, ◌+◌, ◌<◌, ◌≤◌, List, [], ◌∷◌, length, refl, arith, inl}
+use Rattle.std.proofs.Common.{ℕ, ◌+◌, ◌^◌, ◌<◌, ◌≤◌, List, [], ◌∷◌, length, refl, arith, inl}
 use Rattle.pli_meaning.specs.StorageState.{heap_serial}
 use Rattle.area_keeper.specs.Keeper.{Keeper}
 use Rattle.pli_serving.specs.Bytes.{Layout}
@@ -30,7 +30,7 @@ first_stands w k y π input room heap =
 
 pub first_frame :
     (parts : MemoryParts) (base : ℕ) (m : List ℕ) → parts.stack_start + first_frame_bytes ≤ parts.stack_end →
-    (parts.stack_end < 4294967296) × (parts.stack_end ≤ length m) →
+    (parts.stack_end < 2 ^ 32) × (parts.stack_end ≤ length m) →
     FramesStand parts base (stored (first_stores parts) m) [] []
 first_frame parts base m room fits =
     let start = parts.stack_start in

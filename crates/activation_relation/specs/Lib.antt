@@ -13,3 +13,4 @@ pub mod Entering
 pub mod LandingLaws
 pub mod Rows
 pub mod Variables
+pub mod CodeStores

@@ -50,6 +50,7 @@ pub record IsAt (w : Surroundings) (p : Point) (numbers : ℕ → ℕ) (index ba
   pub frame : V.value s frame_register ≡ base + frame_under w.parts p.control.layers
   pub top : V.value s stack_register ≡ base + upper_top w.parts p.control.layers
   pub registers : (n : ℕ) → n < held_registers → V.value s (held n) ≡ numbers n
+  pub room : w.parts.stack_end ≤ length s.memory
   pub frames : FramesStand w.parts base s.memory p.state.activations p.control.layers
   pub storage : Holds (now p s.memory)
 

@@ -1,6 +1,6 @@
 -- Where a run begins, and a worked row: a procedure that is called by the main one, and an on-unit of the main
 -- procedure that runs above it.
-use Rattle.std.specs.Prelude.{ℕ, ◌+◌, ◌<◌, ◌≤◌, ◌≡◌, List, [], ◌∷◌, None, length}
+use Rattle.std.specs.Prelude.{ℕ, ◌+◌, ◌^◌, ◌<◌, ◌≤◌, ◌≡◌, List, [], ◌∷◌, None, length}
 use Rattle.pli_language.specs.declared.condition.Condition.TheVariants as C
 use Rattle.pli_typing.specs.TypedTree as Y
 use Rattle.pli_meaning.specs.StorageState as M
@@ -47,7 +47,7 @@ pub record RunsBegin : Type 0 where
       Stands w (first_point k y π input)
   pub frame :
       (parts : MemoryParts) (base : ℕ) (m : List ℕ) → parts.stack_start + first_frame_bytes ≤ parts.stack_end →
-      (parts.stack_end < 4294967296) × (parts.stack_end ≤ length m) →
+      (parts.stack_end < 2 ^ 32) × (parts.stack_end ≤ length m) →
       FramesStand parts base (stored (first_stores parts) m) [] []
 
 -- ---- a worked row

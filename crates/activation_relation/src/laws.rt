@@ -9,6 +9,7 @@ ghost use Rattle.activation_relation.specs.LandingLaws.{JumpsLand, ReturnsLeave}
 ghost use Rattle.activation_relation.specs.Entering.{BlocksReturn};
 ghost use Rattle.activation_relation.specs.Rows.{RunsBegin, UnitRuns};
 ghost use Rattle.activation_relation.specs.Variables.{VariablesBegin};
+ghost use Rattle.activation_relation.specs.CodeStores.{CodeStores};
 
 /// Service 1 makes an act, or tells a line.
 pub fn acts_served()
@@ -98,4 +99,9 @@ pub fn unit_runs()
 /// A variable that is made in the newest block takes bytes of the block's own.
 pub fn variables_begin()
     ensures { VariablesBegin }
+{}
+
+/// The stores of a block's beginning are those of its code, and its end loads the registers that it saved.
+pub fn code_stores()
+    ensures { CodeStores }
 {}
