@@ -312,7 +312,8 @@ frame_made parts base m a as' φ φs laid words room waits =
           (writes_lower parts base a.parent as' φ φs (omega (arith, small))).does m (omega (arith, levels, inside));
       display_words = λ n less.
           let low = frame_low parts φs (height_of (ancestor as' a.parent n)) laid.1 in
-          (writes_display parts base a.parent as' φ φs n (omega (arith, low, above, inside, small)) less).does m
+          let few' : n < φ.level = omega (arith, less) in
+          (writes_display parts base a.parent as' φ φs n (omega (arith, low, above, inside, small)) few').does m
           (omega (arith, levels, inside, less));
       waits = λ n v less e.
           same_word φ.at (fixed_size φ.level φ.parameters) (word_place φ n) m new

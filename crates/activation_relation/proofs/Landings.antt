@@ -153,15 +153,14 @@ arrives_moved w acts a as' φ φs own x c q r =
 
 pub lands_moved :
     (w : Surroundings) (J : Jumps) (acts : ℕ) (a : Activation) (as' : List Activation) (φ : Layer)
-    (φs : List Layer) (own : List (Condition × M.OnUnit)) (units : List (Condition × S.OnUnit))
-    (waits : ℕ → Option ℕ) (top : ℕ) → LandsFrom w J acts 0 (a ∷ as') (φ ∷ φs) →
-    LandsFrom w J acts 0 (with_units own a ∷ as') (same_lists units waits top φ ∷ φs)
-lands_moved w J acts a as' φ φs own units waits top lands =
-    let x : Changed = record { units = units; waits = waits; top = top; carried = φ.carried } in (
-      λ label c y carried come arrives.
-          lands.0 label c y carried come (arrives_moved w acts a as' φ φs own x c y.point arrives),
-      lands.1,
-    )
+    (φs : List Layer) (own : List (Condition × M.OnUnit)) (x : Changed) → LandsFrom w J acts 0 (a ∷ as') (φ ∷ φs) →
+    LandsFrom w J acts 0 (with_units own a ∷ as') (same_lists x φ ∷ φs)
+lands_moved w J acts a as' φ φs own x lands = (
+  λ label c y carried come arrives.
+      lands.0 label c y carried come
+      (arrives_moved w acts a as' φ φs own (record x { carried = φ.carried }) c y.point arrives),
+  lands.1,
+)
 
 -- ---- lists of statements
 

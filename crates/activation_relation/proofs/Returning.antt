@@ -1,6 +1,6 @@
 -- A block that ends has left all but storage as it was: later points, and the machine of the block below.
 use Rattle.std.proofs.Common.{◌≡◌, ℕ, ◌+◌, ◌*◌, ◌<◌, ◌≤◌, List, [], ◌∷◌, ◌++◌, length, refl, sym}
-use Rattle.std.proofs.Common.{ap, ◌∙◌, subst, arith}
+use Rattle.std.proofs.Common.{None, ap, ◌∙◌, subst, arith}
 use Rattle.std.specs.Prelude.{cond, nat_lt, drop}
 use Rattle.rv_meaning.specs.Machine as V
 use Rattle.rv_meaning.specs.Memory.{load}
@@ -23,7 +23,7 @@ use Rattle.activation_relation.proofs.Unwinding.{activations_ended, kept_behind}
 use Rattle.activation_relation.proofs.WaitingWords.{back_found, top_found, registers_back}
 
 pub later_same : (p : Point) → Later p p
-later_same p = record { activations = refl; layers = refl; edits = refl; acts = omega arith }
+later_same p = record { activations = refl; layers = refl; edits = refl; waiting = refl; acts = omega arith }
 
 pub later_then : (p q r : Point) → Later p q → Later q r → Later p r
 later_then p q r a b =
@@ -33,14 +33,15 @@ later_then p q r a b =
       activations = b.activations ∙ a.activations;
       layers = b.layers ∙ a.layers;
       edits = b.edits ∙ a.edits;
+      waiting = b.waiting ∙ a.waiting;
       acts = omega (arith, m, n);
     }
 
 pub left_later :
     (w : Surroundings) (p q : Point) (acts : ℕ) (a : Activation) (φ : Layer) (kept : List S.Entry) →
-    p.state.world.acts ≤ acts → φ.edits ≡ p.control.edits →
+    p.state.world.acts ≤ acts → φ.edits ≡ p.control.edits → p.control.waiting ≡ None →
     Resumes w acts a p.state.activations φ p.control.layers q → Later p (popped kept q)
-left_later w p q acts a φ kept few edits r =
+left_later w p q acts a φ kept few edits idle r =
     subst (λ ls. Later p (popped_from kept ls q)) (sym r.layers)
     (let k = ap (λ (x : World). x.acts) (kept_behind 1 q.state).world in
     let m = r.more in
@@ -48,6 +49,7 @@ left_later w p q acts a φ kept few edits r =
       activations = activations_ended 1 q.state ∙ ap (drop 1) r.activations;
       layers = refl;
       edits = edits;
+      waiting = r.idle ∙ sym idle;
       acts = omega (arith, few, k, m);
     })
 

@@ -162,14 +162,16 @@ frame_changed parts base m a as' φ φs x h = (
 )
 
 pub words_across :
-    (parts : MemoryParts) (base count n v : ℕ) (m : List ℕ) (as' : List Activation) (φs : List Layer)
-    (a : Activation) (rest : List Activation) (φ : Layer) (behind : List Layer) →
-    FramesStand parts base m as' φs → (drop count as' ≡ a ∷ rest) × (drop count φs ≡ φ ∷ behind) → n < φ.words →
-    φ.waits n ≡ Some v → load 4 m (word_place φ n) ≡ v
-words_across parts base count n v m as' φs a rest φ behind h is few e =
-    let there = subst (λ xs. FramesStand parts base m xs (φ ∷ behind)) is.0
-    (subst (λ ls. FramesStand parts base m (drop count as') ls) is.1 (frames_behind parts base count m as' φs h)) in
-    there.0.waits n v few e
+    (parts : MemoryParts) (base count : ℕ) (m : List ℕ) (as' : List Activation) (φs : List Layer) (φ : Layer)
+    (behind : List Layer) → FramesStand parts base m as' φs → drop count φs ≡ φ ∷ behind → (n v : ℕ) →
+    n < φ.words → φ.waits n ≡ Some v → load 4 m (word_place φ n) ≡ v
+words_across parts base count m as' φs φ behind h is n v few e =
+    by (drop count as') (subst (λ ls. FramesStand parts base m (drop count as') ls) is
+    (frames_behind parts base count m as' φs h))
+  where
+    by : (xs : List Activation) → FramesStand parts base m xs (φ ∷ behind) → load 4 m (word_place φ n) ≡ v
+    by [] there = absurd there
+    by (a ∷ rest) there = there.0.waits n v few e
 
 -- ---- a block ends
 

@@ -27,6 +27,7 @@ pub record Later (p q : Point) : Type 0 where
   pub activations : q.state.activations ≡ p.state.activations
   pub layers : q.control.layers ≡ p.control.layers
   pub edits : q.control.edits ≡ p.control.edits
+  pub waiting : q.control.waiting ≡ p.control.waiting
   pub acts : p.state.world.acts ≤ q.state.world.acts
 
 -- ---- the end of a block
@@ -113,7 +114,7 @@ pub record BlocksReturn : Type 0 where
   -- a block that was entered at a point and ends has left all but storage as it was
   pub later :
       (w : Surroundings) (p q : Point) (acts : ℕ) (a : Activation) (φ : Layer) (kept : List S.Entry) →
-      p.state.world.acts ≤ acts → φ.edits ≡ p.control.edits →
+      p.state.world.acts ≤ acts → φ.edits ≡ p.control.edits → p.control.waiting ≡ None →
       Resumes w acts a p.state.activations φ p.control.layers q → Later p (popped kept q)
   pub entries :
       (w : Surroundings) (q : Point) (acts : ℕ) (a : Activation) (as' : List Activation) (φ : Layer)

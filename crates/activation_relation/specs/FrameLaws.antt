@@ -113,10 +113,9 @@ pub record WordsWait : Type 0 where
       FramesStand parts base m (activation_with x a ∷ as') (layer_with x φ ∷ φs)
   -- what waits in a block is there when the blocks above it have ended, whatever they did beside its frame
   pub across :
-      (parts : MemoryParts) (base count n v : ℕ) (m : List ℕ) (as' : List Activation) (φs : List Layer)
-      (a : Activation) (rest : List Activation) (φ : Layer) (behind : List Layer) →
-      FramesStand parts base m as' φs → (drop count as' ≡ a ∷ rest) × (drop count φs ≡ φ ∷ behind) → n < φ.words →
-      φ.waits n ≡ Some v → load 4 m (word_place φ n) ≡ v
+      (parts : MemoryParts) (base count : ℕ) (m : List ℕ) (as' : List Activation) (φs : List Layer) (φ : Layer)
+      (behind : List Layer) → FramesStand parts base m as' φs → drop count φs ≡ φ ∷ behind → (n v : ℕ) →
+      n < φ.words → φ.waits n ≡ Some v → load 4 m (word_place φ n) ≡ v
 
 -- ---- a block ends
 

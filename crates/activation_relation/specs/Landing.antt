@@ -48,9 +48,8 @@ pub record Resumes (w : Surroundings) (acts : ℕ) (a : Activation) (as' : List 
   pub more : acts ≤ q.state.world.acts
 
 -- it still carries out the same lists
-abbrev pub same_lists : List (Condition × S.OnUnit) → (waits : ℕ → Option ℕ) → (top : ℕ) → Layer → Layer
-same_lists units waits top φ =
-    resumed (record { units = units; waits = waits; top = top; carried = φ.carried }) φ
+abbrev pub same_lists : Changed → Layer → Layer
+same_lists x φ = resumed (record x { carried = φ.carried }) φ
 
 -- ---- GOTO
 
@@ -192,9 +191,8 @@ pub record LandingLaws : Type 1 where
   -- whatever the newest block did to its units, its words and the stack
   pub moved :
       (w : Surroundings) (J : Jumps) (acts : ℕ) (a : Activation) (as' : List Activation) (φ : Layer)
-      (φs : List Layer) (own : List (Condition × M.OnUnit)) (units : List (Condition × S.OnUnit))
-      (waits : ℕ → Option ℕ) (top : ℕ) → LandsFrom w J acts 0 (a ∷ as') (φ ∷ φs) →
-      LandsFrom w J acts 0 (with_units own a ∷ as') (same_lists units waits top φ ∷ φs)
+      (φs : List Layer) (own : List (Condition × M.OnUnit)) (x : Changed) → LandsFrom w J acts 0 (a ∷ as') (φ ∷ φs) →
+      LandsFrom w J acts 0 (with_units own a ∷ as') (same_lists x φ ∷ φs)
   -- in a list, which goes on itself at its own labels
   pub listed :
       (w : Surroundings) (J : Jumps) (own : ℕ → Machines → S.Services → Label → State → Type 0) (acts : ℕ)
