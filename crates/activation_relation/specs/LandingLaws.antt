@@ -43,7 +43,8 @@ pub record JumpsLand : Type 0 where
       LandsFrom w (closed_jumps (jumps_by J)) more 0 (a ∷ as') (φ ∷ φs)
   pub moved :
       (w : Surroundings) (J : JumpTest) (acts : ℕ) (a : Activation) (as' : List Activation) (φ : Layer)
-      (φs : List Layer) (own : List (Condition × M.OnUnit)) (x : Changed) → LandsFrom w (jumps_by J) acts 0 (a ∷ as') (φ ∷ φs) →
+      (φs : List Layer) (own : List (Condition × M.OnUnit)) (x : Changed) →
+      LandsFrom w (jumps_by J) acts 0 (a ∷ as') (φ ∷ φs) →
       LandsFrom w (jumps_by J) acts 0 (with_units own a ∷ as') (same_lists x φ ∷ φs)
   pub listed :
       (w : Surroundings) (J : JumpTest) (own : LabelTest) (acts : ℕ) (labels : List Label) (c : Carried)
