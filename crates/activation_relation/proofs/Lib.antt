@@ -1,0 +1,16 @@
+pub mod Blocks
+pub mod Unwinding
+pub mod Units
+pub mod ActiveChains
+pub mod StoredWords
+pub mod FrameWords
+pub mod Displays
+pub mod WaitingWords
+pub mod Landings
+pub mod OwnPlaces
+pub mod Accounts
+pub mod PointSteps
+pub mod Returning
+pub mod Rows
+pub mod BlockVariables
+pub mod BeginningCode

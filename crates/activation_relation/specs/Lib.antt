@@ -1,0 +1,16 @@
+pub mod Layers
+pub mod Chains
+pub mod Changes
+pub mod ServiceLaws
+pub mod Frames
+pub mod FrameLaws
+pub mod Points
+pub mod Landing
+pub mod Owned
+pub mod Account
+pub mod PointLaws
+pub mod Entering
+pub mod LandingLaws
+pub mod Rows
+pub mod Variables
+pub mod CodeStores
