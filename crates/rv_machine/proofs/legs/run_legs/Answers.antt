@@ -1,12 +1,13 @@
 use Rattle.std.proofs.Common.{rules, ◌≡◌, ◌<◌, refl, ◌∙◌, arith, length}
 use Rattle.rv_machine.specs.Operations.{program_at}
+use Rattle.rv_machine.specs.Outcomes.{state}
 use Rattle.rv_machine.specs.Places.{left, address}
 use Rattle.rv_machine.proofs.Halts.{calls_inside}
 use Rattle.rv_machine.proofs.Runs.{leg_on, stepped, stopped, all_run, none_ran, run_as, fault_step, calls_step}
 use Rattle.rv_machine.proofs.legs.run_legs.Goals as goal
 
-pub loop-place-init : goal.loop-place-init
-loop-place-init g c = record {
+pub legs-init : goal.legs-init
+legs-init g c = record {
   all_ran = none_ran g.S.Services.serves _ (left c.args.place) c.args.base c.args.place.index (left c.args.place) _ _ _ _ refl refl;
   placed = c.requires.placed;
   within = omega arith;
@@ -14,13 +15,13 @@ loop-place-init g c = record {
   sized = c.requires.sized;
 }
 
-pub loop-place-preserved : goal.loop-place-preserved
-loop-place-preserved g c =
+pub legs-preserved : goal.legs-preserved
+legs-preserved g c =
     let halts = rw c.in-Call.is at c.run_in-leg.ensures.halts in
     let below = halts.0 in
     let within = c.run_in-leg.ensures.within in
-    let before = c.loop-place.invariant.within in
-    let ran = leg_on g.S.Services.serves _ _ (left c.args.place) _ _ _ _ _ _ refl within before c.loop-place.invariant.all_ran c.run_in-leg.ensures.ran in
+    let before = c.legs.invariant.within in
+    let ran = leg_on g.S.Services.serves _ _ (left c.args.place) _ _ _ _ _ _ refl within before c.legs.invariant.all_ran c.run_in-leg.ensures.ran in
     let placed = c.run_in-leg.ensures.placed in
     let near = placed.near in
     let few = placed.few in
@@ -33,15 +34,15 @@ loop-place-preserved g c =
       placed = record { near = omega arith; before = omega arith; few = omega arith };
       within = omega arith;
       zero = c.in-Ran.ensures.zero ∙ c.run_in-leg.ensures.zero;
-      sized = c.in-Ran.ensures.sized ∙ c.run_in-leg.ensures.sized ∙ c.loop-place.invariant.sized;
+      sized = c.in-Ran.ensures.sized ∙ c.run_in-leg.ensures.sized ∙ c.legs.invariant.sized;
     }
 
 pub returns-in-Bound-clause-run : goal.returns-in-Bound-clause-run
 returns-in-Bound-clause-run g c =
     let reached = rw c.in-Bound.is at c.run_in-leg.ensures.halts in
     let within = c.run_in-leg.ensures.within in
-    let before = c.loop-place.invariant.within in
-    let ran = leg_on g.S.Services.serves _ _ (left c.args.place) _ _ _ _ _ _ refl within before c.loop-place.invariant.all_ran c.run_in-leg.ensures.ran in
+    let before = c.legs.invariant.within in
+    let ran = leg_on g.S.Services.serves _ _ (left c.args.place) _ _ _ _ _ _ refl within before c.legs.invariant.all_ran c.run_in-leg.ensures.ran in
     run_as g.S.Services.serves _ _ _ _ _ _ _ _ _ _ _ _ _ _ _ _ _ refl refl (omega arith) refl refl
     (all_run g.S.Services.serves _ (left c.args.place) c.args.base c.run_in-leg.result.place.index c.run_in-leg.result.place.reach _ _ _ _ _ refl reached ran)
 
@@ -50,18 +51,19 @@ returns-in-Fault-clause-run g c =
     let halts = rw c.in-Fault.is at c.run_in-leg.ensures.halts in
     let below = halts.0 in
     let within = c.run_in-leg.ensures.within in
-    let before = c.loop-place.invariant.within in
-    let ran = leg_on g.S.Services.serves _ _ (left c.args.place) _ _ _ _ _ _ refl within before c.loop-place.invariant.all_ran c.run_in-leg.ensures.ran in
+    let before = c.legs.invariant.within in
+    let ran = leg_on g.S.Services.serves _ _ (left c.args.place) _ _ _ _ _ _ refl within before c.legs.invariant.all_ran c.run_in-leg.ensures.ran in
     stopped g.S.Services.serves _ _ (left c.args.place) c.args.base c.args.base c.run_in-leg.result.place.index c.run_in-leg.result.place.reach _ _ _ _ _ _ _ _ _ _
-    refl refl refl refl (λ e. absurd (cc)) below (omega arith) ran (fault_step g.S.Services.serves _ _ _ _ halts.1)
+    refl refl refl refl (λ e. absurd (cc)) below (omega arith) ran (fault_step g.S.Services.serves (program_at c.args.base c.args.code.now) c.legs.services
+    (state c.run_in-leg.new.registers c.run_in-leg.new.storage.bytes (address c.args.base c.run_in-leg.result.place.index)) c.in-Fault.fault halts.1)
 
 pub returns-in_default-clause-run : goal.returns-in_default-clause-run
 returns-in_default-clause-run g c =
     let halts = rw c.in-Call.is at c.run_in-leg.ensures.halts in
     let below = halts.0 in
     let within = c.run_in-leg.ensures.within in
-    let before = c.loop-place.invariant.within in
-    let ran = leg_on g.S.Services.serves _ _ (left c.args.place) _ _ _ _ _ _ refl within before c.loop-place.invariant.all_ran c.run_in-leg.ensures.ran in
+    let before = c.legs.invariant.within in
+    let ran = leg_on g.S.Services.serves _ _ (left c.args.place) _ _ _ _ _ _ refl within before c.legs.invariant.all_ran c.run_in-leg.ensures.ran in
     stopped g.S.Services.serves _ _ (left c.args.place) c.args.base c.args.base c.run_in-leg.result.place.index c.run_in-leg.result.place.reach _ _ _ _ _ _ _ _ _ _
     refl refl refl refl c.in_default.not-Ran below (omega arith) ran
     (calls_step g.S.Services.serves (program_at c.args.base c.args.code.now) _ _ _ halts.1 (c.call.ensures.step (address c.args.base c.run_in-leg.result.place.index)))

@@ -6,8 +6,8 @@ use Rattle.rv_machine.specs.Places.{IsPlaced, left, address}
 use Rattle.rv_machine.specs.Steps.{RanFor}
 use Rattle.rv_machine.proofs.legs.run_legs.Given as goal
 
-abbrev pub invariant-loop-place : goal.invariant-loop-place
-invariant-loop-place g l = record {
+abbrev pub invariant-legs : goal.invariant-legs
+invariant-legs g l = record {
   all_ran : RanFor g.S.Services.serves (program_at l.base l.code) (left l.fn.place - left l.place)
       (record { services = l.initial.services; state = state l.initial.registers l.initial.storage.bytes (address l.base l.fn.place.index) })
       (record { services = l.services; state = state l.registers l.storage.bytes (address l.base l.place.index) });
@@ -17,5 +17,5 @@ invariant-loop-place g l = record {
   sized : length l.storage.bytes ≡ memory_size;
 }
 
-abbrev pub decreases-loop-place : goal.decreases-loop-place
-decreases-loop-place g l = left l.place
+abbrev pub decreases-legs : goal.decreases-legs
+decreases-legs g l = left l.place
