@@ -8,7 +8,8 @@ use Rattle.rv_machine.proofs.legs.run_legs.Goals as goal
 
 pub legs-init : goal.legs-init
 legs-init g c = record {
-  all_ran = none_ran g.S.Services.serves _ (left c.args.place) c.args.base c.args.place.index (left c.args.place) _ _ _ _ refl refl;
+  all_ran = none_ran g.S.Services.serves _ (left c.args.place) c.args.base c.args.place.index (left c.args.place) _ _ _
+      _ refl refl;
   placed = c.requires.placed;
   within = omega arith;
   zero = c.requires.zero;
@@ -21,16 +22,21 @@ legs-preserved g c =
     let below = halts.0 in
     let within = c.run_in-leg.ensures.within in
     let before = c.legs.invariant.within in
-    let ran = leg_on g.S.Services.serves _ _ (left c.args.place) _ _ _ _ _ _ refl within before c.legs.invariant.all_ran c.run_in-leg.ensures.ran in
+    let ran = leg_on g.S.Services.serves _ _ (left c.args.place) _ _ _ _ _ _ refl within before
+    c.legs.invariant.all_ran c.run_in-leg.ensures.ran in
     let placed = c.run_in-leg.ensures.placed in
     let near = placed.near in
     let few = placed.few in
     let short = c.requires.short in
     let fits = c.requires.based.1 in
-    let inside : c.run_in-leg.result.place.index < length c.args.code.now = calls_inside c.args.base c.run_in-leg.result.place.index c.args.code.now _ _ c.requires.based.0 near (omega arith) halts.1 in
+    let inside : c.run_in-leg.result.place.index < length c.args.code.now = calls_inside c.args.base
+    c.run_in-leg.result.place.index c.args.code.now _ _ c.requires.based.0 near (omega arith) halts.1 in
     record {
-      all_ran = stepped g.S.Services.serves _ _ (left c.args.place) c.args.base c.args.base c.run_in-leg.result.place.index c.run_in-leg.result.place.reach _ _ _ _ _ _ _ _
-          refl refl refl below (omega arith) ran (calls_step g.S.Services.serves (program_at c.args.base c.args.code.now) _ _ _ halts.1 (c.in-Ran.ensures.step (address c.args.base c.run_in-leg.result.place.index)));
+      all_ran = stepped g.S.Services.serves _ _ (left c.args.place) c.args.base c.args.base
+          c.run_in-leg.result.place.index c.run_in-leg.result.place.reach _ _ _ _ _ _ _ _
+          refl refl refl below (omega arith) ran
+          (calls_step g.S.Services.serves (program_at c.args.base c.args.code.now) _ _ _ halts.1
+          (c.in-Ran.ensures.step (address c.args.base c.run_in-leg.result.place.index)));
       placed = record { near = omega arith; before = omega arith; few = omega arith };
       within = omega arith;
       zero = c.in-Ran.ensures.zero ∙ c.run_in-leg.ensures.zero;
@@ -42,9 +48,11 @@ returns-in-Bound-clause-run g c =
     let reached = rw c.in-Bound.is at c.run_in-leg.ensures.halts in
     let within = c.run_in-leg.ensures.within in
     let before = c.legs.invariant.within in
-    let ran = leg_on g.S.Services.serves _ _ (left c.args.place) _ _ _ _ _ _ refl within before c.legs.invariant.all_ran c.run_in-leg.ensures.ran in
+    let ran = leg_on g.S.Services.serves _ _ (left c.args.place) _ _ _ _ _ _ refl within before
+    c.legs.invariant.all_ran c.run_in-leg.ensures.ran in
     run_as g.S.Services.serves _ _ _ _ _ _ _ _ _ _ _ _ _ _ _ _ _ refl refl (omega arith) refl refl
-    (all_run g.S.Services.serves _ (left c.args.place) c.args.base c.run_in-leg.result.place.index c.run_in-leg.result.place.reach _ _ _ _ _ refl reached ran)
+    (all_run g.S.Services.serves _ (left c.args.place) c.args.base c.run_in-leg.result.place.index
+    c.run_in-leg.result.place.reach _ _ _ _ _ refl reached ran)
 
 pub returns-in-Fault-clause-run : goal.returns-in-Fault-clause-run
 returns-in-Fault-clause-run g c =
@@ -52,10 +60,14 @@ returns-in-Fault-clause-run g c =
     let below = halts.0 in
     let within = c.run_in-leg.ensures.within in
     let before = c.legs.invariant.within in
-    let ran = leg_on g.S.Services.serves _ _ (left c.args.place) _ _ _ _ _ _ refl within before c.legs.invariant.all_ran c.run_in-leg.ensures.ran in
-    stopped g.S.Services.serves _ _ (left c.args.place) c.args.base c.args.base c.run_in-leg.result.place.index c.run_in-leg.result.place.reach _ _ _ _ _ _ _ _ _ _
-    refl refl refl refl (λ e. absurd (cc)) below (omega arith) ran (fault_step g.S.Services.serves (program_at c.args.base c.args.code.now) c.legs.services
-    (state c.run_in-leg.new.registers c.run_in-leg.new.storage.bytes (address c.args.base c.run_in-leg.result.place.index)) c.in-Fault.fault halts.1)
+    let ran = leg_on g.S.Services.serves _ _ (left c.args.place) _ _ _ _ _ _ refl within before
+    c.legs.invariant.all_ran c.run_in-leg.ensures.ran in
+    stopped g.S.Services.serves _ _ (left c.args.place) c.args.base c.args.base c.run_in-leg.result.place.index
+    c.run_in-leg.result.place.reach _ _ _ _ _ _ _ _ _ _
+    refl refl refl refl (λ e. absurd (cc)) below (omega arith) ran
+    (fault_step g.S.Services.serves (program_at c.args.base c.args.code.now) c.legs.services
+    (state c.run_in-leg.new.registers c.run_in-leg.new.storage.bytes
+    (address c.args.base c.run_in-leg.result.place.index)) c.in-Fault.fault halts.1)
 
 pub returns-in_default-clause-run : goal.returns-in_default-clause-run
 returns-in_default-clause-run g c =
@@ -63,7 +75,10 @@ returns-in_default-clause-run g c =
     let below = halts.0 in
     let within = c.run_in-leg.ensures.within in
     let before = c.legs.invariant.within in
-    let ran = leg_on g.S.Services.serves _ _ (left c.args.place) _ _ _ _ _ _ refl within before c.legs.invariant.all_ran c.run_in-leg.ensures.ran in
-    stopped g.S.Services.serves _ _ (left c.args.place) c.args.base c.args.base c.run_in-leg.result.place.index c.run_in-leg.result.place.reach _ _ _ _ _ _ _ _ _ _
+    let ran = leg_on g.S.Services.serves _ _ (left c.args.place) _ _ _ _ _ _ refl within before
+    c.legs.invariant.all_ran c.run_in-leg.ensures.ran in
+    stopped g.S.Services.serves _ _ (left c.args.place) c.args.base c.args.base c.run_in-leg.result.place.index
+    c.run_in-leg.result.place.reach _ _ _ _ _ _ _ _ _ _
     refl refl refl refl c.in_default.not-Ran below (omega arith) ran
-    (calls_step g.S.Services.serves (program_at c.args.base c.args.code.now) _ _ _ halts.1 (c.call.ensures.step (address c.args.base c.run_in-leg.result.place.index)))
+    (calls_step g.S.Services.serves (program_at c.args.base c.args.code.now) _ _ _ halts.1
+    (c.call.ensures.step (address c.args.base c.run_in-leg.result.place.index)))

@@ -9,7 +9,11 @@ use Rattle.rv_machine.proofs.legs.run_legs.Given as goal
 abbrev pub invariant-legs : goal.invariant-legs
 invariant-legs g l = record {
   all_ran : RanFor g.S.Services.serves (program_at l.base l.code) (left l.fn.place - left l.place)
-      (record { services = l.initial.services; state = state l.initial.registers l.initial.storage.bytes (address l.base l.fn.place.index) })
+      (record {
+        services = l.initial.services;
+        state = state l.initial.registers l.initial.storage.bytes
+            (address l.base l.fn.place.index);
+      })
       (record { services = l.services; state = state l.registers l.storage.bytes (address l.base l.place.index) });
   placed : IsPlaced l.place;
   within : left l.place ≤ left l.fn.place;
