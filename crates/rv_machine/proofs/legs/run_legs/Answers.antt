@@ -1,4 +1,4 @@
-use Rattle.std.proofs.Common.{rules, ◌≡◌, ◌<◌, refl, ◌∙◌, arith, length}
+use Rattle.std.proofs.Common.{◌<◌, refl, ◌∙◌, arith, length}
 use Rattle.rv_machine.specs.Operations.{program_at}
 use Rattle.rv_machine.specs.Outcomes.{state}
 use Rattle.rv_machine.specs.Places.{left, address}
