@@ -12,6 +12,7 @@ mod going;
 mod halt;
 mod joining;
 mod leg;
+mod legs;
 mod loading;
 pub mod machine;
 mod narrow;
