@@ -25,7 +25,7 @@ use Rattle.pli_headline.specs.ProvedSoFar.{Names, Types, types_of, main_labels, 
 use Rattle.pli_headline.proofs.Numbers.{below_small}
 use Rattle.pli_headline.proofs.Linking.{times_marked}
 use Rattle.pli_headline.proofs.Items.{Linked}
-use Rattle.pli_headline.proofs.Sizes.{most}
+use Rattle.pli_headline.proofs.PieceSizes.{most}
 use Rattle.pli_headline.proofs.Statements.{Block, Standing, IsEndMarkedOnce, Does, known_in}
 use Rattle.pli_headline.proofs.InnerLevels.{IsAmong}
 use Rattle.pli_headline.proofs.InnerFrames.{other_level}

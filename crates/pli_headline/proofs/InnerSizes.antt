@@ -23,9 +23,11 @@ use Rattle.pli_coding.specs.Statements.{turn_of, turns_code, words_back, words_b
 use Rattle.pli_coding.specs.Statements.{limit_kept, while_kept, stepped_code, block_held}
 use Rattle.pli_headline.proofs.Variables.{HasTypes}
 use Rattle.pli_headline.proofs.DeclaredNames.{named_in, has_in}
-use Rattle.pli_headline.proofs.Sizes.{most, number_size, bit_size, text_size, act_size, met_size', once_size}
+use Rattle.pli_headline.proofs.PieceSizes.{most}
+use Rattle.pli_headline.proofs.Sizes.{number_size, bit_size, text_size, act_size, met_size', once_size}
 use Rattle.pli_headline.proofs.Sizes.{limit_words_size, step_words_size, condition_words_size, statement_size}
-use Rattle.pli_headline.proofs.Sizes.{no_variable_words, target_size, start_words_size, text_target_size}
+use Rattle.pli_headline.proofs.WholeSizes.{no_variable_words}
+use Rattle.pli_headline.proofs.Sizes.{target_size, start_words_size, text_target_size}
 use Rattle.pli_coding.specs.Streams.{value_words}
 use Rattle.pli_headline.proofs.PlainInside.{DeclaresPlain, DeclarePlain}
 

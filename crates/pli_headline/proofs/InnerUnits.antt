@@ -23,7 +23,7 @@ use Rattle.pli_headline.specs.ProvedSoFar.{Types, OuterBlock, main_labels, main_
 use Rattle.pli_headline.specs.InnerWords.{all_inner_words}
 use Rattle.pli_coding.specs.Images.{blocks_among}
 use Rattle.pli_headline.proofs.StandingBytes.{ConstantsStand, constants_moved}
-use Rattle.pli_headline.proofs.Sizes.{most}
+use Rattle.pli_headline.proofs.PieceSizes.{most}
 use Rattle.pli_headline.proofs.InnerLevels.{IsAmong}
 use Rattle.pli_headline.proofs.InnerFrames.{other_level}
 use Rattle.pli_headline.proofs.Gotos.{LabelsStand}

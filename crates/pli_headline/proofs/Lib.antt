@@ -209,7 +209,9 @@ pub mod InnerUnits
 pub mod Finishing
 pub mod Statics
 pub mod InitialRead
+pub mod PieceSizes
 pub mod Sizes
+pub mod WholeSizes
 pub mod InnerSizes
 pub mod MainProcedure
 pub mod PlainInside

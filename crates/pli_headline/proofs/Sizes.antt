@@ -1,49 +1,47 @@
--- What is proved so far takes fewer words for temporaries than its code has; and the first memory has its full length.
-use Rattle.std.proofs.Common.{◌≡◌, ℕ, suc, ◌+◌, ◌-◌, ◌*◌, ◌^◌, ◌≤◌, List, [], ◌∷◌, ◌++◌, length, None, Bool, true, false, refl, ap, ◌∙◌, arith, length-append, Option, Some, inl, inr, sym, subst}
-use Rattle.std.specs.Prelude.{ℤ, pos, cond, max, map, replicate, ◌&&◌, if◌then◌else◌}
-use Rattle.std.proofs.lemmas.Bool.Decides.{nat_tests}
-use Rattle.std.proofs.lemmas.List.{length-map, length-replicate}
+-- What is proved so far takes fewer words for temporaries than its code has.
+use Rattle.std.proofs.Common.{◌≡◌, ℕ, suc, ◌+◌, ◌-◌, ◌≤◌, List, [], ◌∷◌, ◌++◌, length, None, Bool, true, false, refl}
+use Rattle.std.proofs.Common.{ap, ◌∙◌, arith, Option, Some, inl, inr, sym, subst}
+use Rattle.std.specs.Prelude.{ℤ, pos, cond, max, map, ◌&&◌, if◌then◌else◌}
 use Rattle.rv_meaning.specs.declared.instr.Register.{Register}
-use Rattle.rv_meaning.specs.Memory.{bytes_of_words}
-use Rattle.rv_meaning.specs.Encoding.{word_of}
-use Rattle.rv_meaning.specs.Machine.{memory_size}
-use Rattle.rv_meaning.proofs.ImageBytes.{length-bytes_of_words}
-use Rattle.pli_typing.specs.Signatures.{Bounds, rounded_up}
+use Rattle.pli_typing.specs.Signatures.{Bounds}
 use Rattle.pli_typing.specs.TypedTree as Y
 use Rattle.pli_language.specs.Tree as T
 use Rattle.pli_meaning.specs.Codes.{subscript_code}
-use Rattle.pli_meaning.specs.DeclaredShapes.{variables_of_block}
-use Rattle.pli_meaning.specs.Pictures.{Picture, first_bytes}
 use Rattle.rv_meaning.specs.declared.instr.BranchTest.TheVariants as Test
 use Rattle.pli_coding.specs.Registers.{zero_register, a0, a1, a2, u1, u2, u3, frame_register}
 use Rattle.pli_coding.specs.Assembly.{Code, size_of, JumpAhead, JumpBack}
 use Rattle.pli_coding.specs.Instructions.{is_immediate, skip_where, error_raised, small, constant, number, store_word}
 use Rattle.pli_coding.specs.Instructions.{move, service, tested_service}
-use Rattle.pli_coding.specs.Frames.{words_place, buffer_lower, has_constant_size}
-use Rattle.pli_coding.specs.Environments.{Environment, Taken, none_taken, is_register_left, with_number, save, fetch}
-use Rattle.pli_coding.specs.Arithmetic.{signed_code, absolute_code, sign_code, calculated_code, modulo_code, divided_code, extreme_code, negated_code, combined_code, compared_code, fitted_code}
-use Rattle.pli_coding.specs.Expressions.{number_code, extremes_code, bit_code, text_code, reference_code, subscripts_code, given_in, type_in, address_in}
+use Rattle.pli_coding.specs.Frames.{buffer_lower, has_constant_size}
+use Rattle.pli_coding.specs.Environments.{Environment, Taken, with_number, save, fetch}
+use Rattle.pli_coding.specs.Arithmetic.{signed_code, absolute_code, sign_code, calculated_code, modulo_code}
+use Rattle.pli_coding.specs.Arithmetic.{divided_code, extreme_code, negated_code, combined_code, compared_code}
+use Rattle.pli_coding.specs.Arithmetic.{fitted_code}
+use Rattle.pli_coding.specs.Expressions.{number_code, extremes_code, bit_code, text_code, reference_code}
+use Rattle.pli_coding.specs.Expressions.{subscripts_code, given_in, type_in, address_in}
 use Rattle.pli_coding.specs.Storing.{stored_into, is_near, word_stored, top_stored, record_code, record_given}
 use Rattle.pli_coding.specs.Storing.{first_leaf, aggregate_code}
-use Rattle.pli_coding.specs.Streams.{has_fixed, get_item_words, get_items_words, get_words, value_put, number_put, text_put, as_text, item_put, items_put, edit_begun, edit_ended, put_pair, put_pairs, put_item_words, put_items_words, put_words, skip_option, field_stored, field_awaited, number_got, bit_got, item_got, items_got, get_pair, get_pairs, value_words, text_got}
+use Rattle.pli_coding.specs.Streams.{has_fixed, get_item_words, get_items_words, get_words, value_put, number_put}
+use Rattle.pli_coding.specs.Streams.{text_put, as_text, item_put, items_put, edit_begun, edit_ended, put_pair}
+use Rattle.pli_coding.specs.Streams.{put_pairs, put_item_words, put_items_words, put_words, skip_option, field_stored}
+use Rattle.pli_coding.specs.Streams.{field_awaited, number_got, bit_got, item_got, items_got, get_pair, get_pairs}
+use Rattle.pli_coding.specs.Streams.{value_words, text_got}
 use Rattle.pli_coding.specs.Allocating.{act_code}
-use Rattle.pli_coding.specs.Statements.{if_met, while_met, block_words, stmt_code, stmts_code, stmt_words}
+use Rattle.pli_coding.specs.Statements.{if_met, while_met, stmt_code, stmts_code, stmt_words}
 use Rattle.pli_coding.specs.Statements.{stmts_words, marked, once_code, bit_if, in_turns, before_turns, number_if}
 use Rattle.pli_coding.specs.Statements.{start_code, limit_code, constant_step, step_kept, step_code, started_code}
 use Rattle.pli_coding.specs.Statements.{start_place, step_place, limit_place, turn_of, turns_code, words_back}
 use Rattle.pli_coding.specs.Statements.{words_behind_limit, words_behind_condition, limit_kept, while_kept}
-use Rattle.pli_coding.specs.Statements.{stepped_code, block_held}
-use Rattle.pli_coding.specs.Temporaries.{number_words, numbers_words, text_words, bit_words, reference_words, subscripts_words}
-use Rattle.pli_headline.specs.ProvedSoFar.{Names, ArePlain, Types, IsOwn, IsProvedNumber, AreProvedNumbers}
+use Rattle.pli_coding.specs.Statements.{stepped_code}
+use Rattle.pli_coding.specs.Temporaries.{number_words, numbers_words, text_words, bit_words, reference_words}
+use Rattle.pli_coding.specs.Temporaries.{subscripts_words}
+use Rattle.pli_headline.specs.ProvedSoFar.{Names, Types, IsProvedNumber, AreProvedNumbers}
 use Rattle.pli_headline.specs.ProvedSoFar.{IsProvedBit, IsProvedText, IsProvedItem, AreProvedItems, AreProvedPairs}
 use Rattle.pli_headline.specs.ProvedSoFar.{IsProvedGetItem, AreProvedGetItems, AreProvedGetPairs, IsProvedStatement}
 use Rattle.pli_headline.specs.ProvedSoFar.{AreProvedStatements, IsProvedBitIf, IsProvedNumberIf, text_leaf}
 use Rattle.pli_headline.specs.ProvedSoFar.{constant_bounds, IsElement, IsPart, IsAssigned, AreSubscripts}
-use Rattle.pli_headline.specs.ProvedSoFar.{array_variable, IsDimension, IsProvedStart, IsAssignedText, IsReadBy}
-use Rattle.pli_coding.specs.Entries.{variables_words}
-use Rattle.pli_coding.specs.Procedures.{procedure_begun, procedure_ended, procedure_in}
-use Rattle.pli_headline.specs.Headline.{FitsMemory}
-use Rattle.pli_headline.proofs.Scalars.{IsNumeric, by_plain}
+use Rattle.pli_headline.specs.ProvedSoFar.{array_variable, IsProvedStart, IsAssignedText, IsReadBy}
+use Rattle.pli_headline.proofs.Scalars.{IsNumeric}
 use Rattle.pli_headline.proofs.Linking.{size_append}
 use Rattle.pli_headline.proofs.ConstantSteps.{constant_means}
 use Rattle.pli_headline.proofs.ElementsMarks.{elements_size}
@@ -58,45 +56,10 @@ use Rattle.pli_coding.specs.Locating.{loaded, stored, reached, found_reached, fr
 use Rattle.pli_coding.specs.Locating.{leaf_number, is_simple, are_simple, less_lower, range_loaded, place_kept}
 use Rattle.pli_coding.specs.Locating.{counted_in, subscript_counted, subscript_given, subscripts_counted, text_pushed}
 use Rattle.pli_coding.specs.Locating.{text_stored}
-use Rattle.pli_coding.specs.Extents.{extents_words}
 use Rattle.pli_headline.proofs.Targets.{part_type}
-use Rattle.pli_headline.proofs.ArrayFrames.{held_constant}
+use Rattle.pli_headline.proofs.PieceSizes.{most, own_words, asked_words, displaced_by, saved_size, both_size, two_size}
 
 -- ---- words of expressions
-
-pub most : (a b n : ℕ) → a ≤ n → b ≤ n → max a b ≤ n
-most a b n h i = grind (arith, nat_tests)
-
-pub own_words : (block : Names) (types : Types) (type : Y.LeafType) (r : Y.Reference) → IsOwn block types type r → reference_words r ≡ 0
-own_words block types type r is = ap reference_words is.is
-
-asked_words : (block : Names) (types : Types) (r : Y.Reference) (dimension : ℕ) → IsDimension block types r dimension → reference_words r ≡ 0
-asked_words block types r dimension is = ap reference_words is.is
-
-displaced_by : (q : Bool) (x : Code) (y : Code) → 1 ≤ size_of x → 1 ≤ size_of y → 1 ≤ size_of (cond q x y)
-displaced_by true x y h i = h
-displaced_by false x y h i = i
-
-stored_size : (r v : Register) (z : ℤ) → 1 ≤ size_of (store_word r v z)
-stored_size r v z = displaced_by (is_immediate z) _ _ (omega arith) (omega arith)
-
-saved_size : (r : Register) (t : Taken) → 1 ≤ size_of (save r t)
-saved_size r t = displaced_by (is_register_left t) _ _ (omega arith) (stored_size frame_register r (words_place t.words 1))
-
-both_size : (a c last : Code) (t : Taken) (m n : ℕ) → m ≤ size_of a + 1 → n ≤ size_of c + 1 → max m (suc n) ≤ size_of (a ++ (save a0 t ++ (c ++ last))) + 1
-both_size a c last t m n h i =
-    let one = saved_size a0 t in
-    let s1 = size_append a (save a0 t ++ (c ++ last)) in
-    let s2 = size_append (save a0 t) (c ++ last) in
-    let s3 = size_append c last in
-    most _ _ _ (omega (arith, h, s1)) (omega (arith, i, one, s1, s2, s3))
-
--- two texts, one above the other
-two_size : (a c last : Code) (m n : ℕ) → m ≤ size_of a + 1 → n ≤ size_of c + 1 → max m n ≤ size_of (a ++ (c ++ last)) + 1
-two_size a c last m n h i =
-    let s1 = size_append a (c ++ last) in
-    let s2 = size_append c last in
-    most _ _ _ (omega (arith, h, s1)) (omega (arith, i, s1, s2))
 
 -- each dimension takes a test
 counted_size : (e : Environment) (t : Taken) (d : ℕ) (xs : Y.Numbers) (bs : List Bounds) → given_in xs ≤ length bs
@@ -811,47 +774,3 @@ mutual
       let s1 = size_append (marked e.block labels) (stmt_code e t first ++ stmts_code e t rest) in
       let s2 = size_append (stmt_code e t first) (stmts_code e t rest) in
       most _ _ _ (omega (arith, a, s1, s2)) (omega (arith, c, s1, s2))
-
--- ---- words of the procedure
-
-pub no_variable_words : (ds : List Y.DeclaredVariable) → ArePlain ds → variables_words ds ≡ 0
-no_variable_words [] are = refl
-no_variable_words (d ∷ ds) are =
-    by_plain (λ u. variables_words (u ∷ ds) ≡ max 0 (variables_words ds)) (λ p i. refl) (λ i. refl) (λ n i. refl) (λ n i. refl)
-    (λ type b bs i held are'. ap (λ q. max (if q then 0 else extents_words (array_variable type (b ∷ bs) i)) (variables_words ds)) (held_constant type held (b ∷ bs) i)) d are.0
-    ∙ ap (λ n. max 0 n) (no_variable_words ds are.1)
-
--- they are fewer than the words of its code
-pub procedure_size : (e : Environment) (head : Y.BlockHead) (block : Names) (types : Types) (body : Y.Stmts) → HasTypes e block types → ArePlain (variables_of_block e.program head.number) → AreProvedStatements block types body → block_words e head.number (stmts_words body) ≤ size_of (procedure_in e head body [] None)
-procedure_size e head block types body has plain are =
-    let words = block_words e head.number (stmts_words body) in
-    let held = block_held e head.number body in
-    let begun = procedure_begun e head words held [] in
-    let code = stmts_code e none_taken body in
-    let ended = procedure_ended e head words held None in
-    let none = no_variable_words (variables_of_block e.program head.number) plain in
-    let n = statements_size e none_taken block types has body are in
-    let s1 = size_append begun (code ++ ended) in
-    let s2 = size_append code ended in
-    let room : stmts_words body ≤ size_of (procedure_in e head body [] None) = omega (arith, n, s1, s2) in
-    most _ _ _ (omega (arith, none)) room
-
--- ---- the first memory
-
-memory_length : (c gap statics n : ℕ) → gap ≡ rounded_up 16 c - c → c ≤ 4 * 2 ^ 20 → statics ≤ 3 * 2 ^ 20 → n ≡ memory_size - (rounded_up 16 c + statics) → c + (gap + (statics + n)) ≡ memory_size
-memory_length c gap statics n e h i f = omega (arith, e, h, i, f)
-
-pub first_length : (image : Picture) → FitsMemory image → length (first_bytes image) ≡ memory_size
-first_length image fits =
-    let code = bytes_of_words (map word_of image.code) in
-    let n = length code in
-    let gap : List ℕ = replicate (rounded_up 16 n - n) 0 in
-    let rest : List ℕ = replicate (memory_size - (rounded_up 16 n + length image.statics)) 0 in
-    let a = length-append code (gap ++ (image.statics ++ rest)) in
-    let b = length-append gap (image.statics ++ rest) in
-    let c = length-append image.statics rest in
-    let words = length-bytes_of_words (map word_of image.code) in
-    let same = length-map image.code word_of in
-    let small' = fits.code_fits in
-    let m = memory_length n (length gap) (length image.statics) (length rest) (length-replicate (rounded_up 16 n - n) 0) (omega (arith, words, same, small')) fits.statics_fit (length-replicate (memory_size - (rounded_up 16 n + length image.statics)) 0) in
-    omega (arith, a, b, c, m)

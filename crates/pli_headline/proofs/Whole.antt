@@ -23,7 +23,7 @@ use Rattle.pli_headline.proofs.Items.{Linked}
 use Rattle.pli_headline.proofs.Promises.{Laws, Comes_at, from_flow, Works, promised}
 use Rattle.pli_headline.proofs.InitialPlaced.{data_stand}
 use Rattle.pli_headline.proofs.Marks.{others_code, others_of, Placed, placed}
-use Rattle.pli_headline.proofs.Sizes.{procedure_size, first_length}
+use Rattle.pli_headline.proofs.WholeSizes.{procedure_size, first_length}
 use Rattle.pli_headline.specs.InnerWords.{all_inner_words}
 use Rattle.pli_headline.proofs.InnerSizes.{procedure_inner}
 use Rattle.pli_headline.proofs.MainProcedure.{main_head, alone_of, main_environment, main_words, main_sizes, main_plain, declared_at}
