@@ -222,7 +222,7 @@ block_structured blocks program table facts n b e =
     (all_structured blocks n (variables_in (declarations_at blocks n)) chained
     (variables_fine (names_of (head_of_block (slice_get blocks n))) [] (declarations_at blocks n) fine))
 
-none_behind : {X Z : Type 0} (xs : List X) (zs : List Z) (n : ℕ) → length xs ≡ length zs → slice_get zs n ≡ None
+pub none_behind : {X Z : Type 0} (xs : List X) (zs : List Z) (n : ℕ) → length xs ≡ length zs → slice_get zs n ≡ None
     → slice_get xs n ≡ None
 none_behind [] zs n e f = refl
 none_behind (x ∷ xs) [] n e f = absurd (never (length xs) e) where

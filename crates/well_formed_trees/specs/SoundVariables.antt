@@ -1,0 +1,33 @@
+-- More of what is so of each declared variable, where the table of blocks has what is around its block.
+use Rattle.std.specs.Prelude.{◌≡◌, ℕ, List, [], length, slice_get, Some}
+use Rattle.pli_language.specs.declared.token.Token.{Token}
+use Rattle.pli_language.specs.Tokens.{Tokens}
+use Rattle.pli_language.specs.Tree as T
+use Rattle.pli_language.specs.Parsing.{Spells}
+use Rattle.pli_language.specs.Declaring.{declaring_faults}
+use Rattle.pli_typing.specs.TypedTree as Y
+use Rattle.pli_typing.specs.Resolving.{typing_faults, typed_tree}
+use Rattle.well_formed_trees.specs.Every.{Every}
+use Rattle.well_formed_trees.specs.Surroundings.{Around, Where, NoReturn, variables_of_block}
+use Rattle.well_formed_trees.specs.Expressions.{SoundNumber}
+use Rattle.well_formed_trees.specs.Held.{table_of}
+
+-- so is each variable of a block of an accepted source, with its block around
+abbrev pub AcceptedSoVariables : (Where → Y.DeclaredVariable → Type 0) → Type 0
+AcceptedSoVariables P =
+    (s : List ℕ) (tokens : List Token) (tree : T.Tree) → Tokens s tokens → Spells s tokens tree
+    → declaring_faults tree ≡ [] → typing_faults tree ≡ [] → (number : ℕ) (around : List Around)
+    → slice_get (table_of tree) number ≡ Some around
+    → Every (P (record {
+      program = typed_tree tree;
+      table = table_of tree;
+      around = around;
+      returning = NoReturn;
+    })) (variables_of_block (typed_tree tree) number)
+
+-- what is evaluated for extents is a sound number
+abbrev pub HasSoundValues : Where → Y.DeclaredVariable → Type 0
+HasSoundValues w d = Every (λ e. SoundNumber w e.value) d.evaluations
+
+abbrev pub AcceptedEvaluations : Type 0
+AcceptedEvaluations = AcceptedSoVariables HasSoundValues
