@@ -156,7 +156,7 @@ block_sound blocks w ranged n b e i =
     subst (Every (HasSoundValues w)) (sym (i.facts.variables n b e))
     (all_sound scope w i (variables_in (declarations_at blocks n)) r (i.facts.judged n b e))
 
-abbrev where_of : T.Tree → List Around → Where
+abbrev pub where_of : T.Tree → List Around → Where
 where_of tree around =
     record { program = typed_tree tree; table = table_of tree; around = around; returning = NoReturn }
 

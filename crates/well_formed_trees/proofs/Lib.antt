@@ -64,6 +64,10 @@ pub mod AcceptedSources
 pub mod SoundProcedures
 pub mod StructuredVariables
 pub mod EvaluationsSound
+pub mod ExtentsSound
+pub mod ExtentsPlaced
+pub mod MembersFine
+pub mod LeavesSound
 pub mod WellFormedRows
 mod IllFormedRows
 mod ElementRows

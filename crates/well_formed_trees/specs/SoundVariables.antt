@@ -10,6 +10,7 @@ use Rattle.pli_typing.specs.Resolving.{typing_faults, typed_tree}
 use Rattle.well_formed_trees.specs.Every.{Every}
 use Rattle.well_formed_trees.specs.Surroundings.{Around, Where, NoReturn, variables_of_block}
 use Rattle.well_formed_trees.specs.Expressions.{SoundNumber}
+use Rattle.well_formed_trees.specs.Declarations.{IsLeaf}
 use Rattle.well_formed_trees.specs.Held.{table_of}
 
 -- so is each variable of a block of an accepted source, with its block around
@@ -31,3 +32,10 @@ HasSoundValues w d = Every (λ e. SoundNumber w e.value) d.evaluations
 
 abbrev pub AcceptedEvaluations : Type 0
 AcceptedEvaluations = AcceptedSoVariables HasSoundValues
+
+-- each leaf is of its kind, with bounds and values of INITIAL in range, as the variable's class lets it be
+abbrev pub HasSoundLeaves : Where → Y.DeclaredVariable → Type 0
+HasSoundLeaves w d = Every (IsLeaf w d.class (length d.evaluations)) d.leaves
+
+abbrev pub AcceptedLeaves : Type 0
+AcceptedLeaves = AcceptedSoVariables HasSoundLeaves

@@ -8,7 +8,7 @@ ghost use Rattle.well_formed_trees.specs.Framed.{AcceptedFramed};
 ghost use Rattle.well_formed_trees.specs.Everywhere.{AcceptedTargets};
 ghost use Rattle.well_formed_trees.specs.SoundStatements.{AcceptedProcedures};
 ghost use Rattle.well_formed_trees.specs.Structured.{AcceptedVariables};
-ghost use Rattle.well_formed_trees.specs.SoundVariables.{AcceptedEvaluations};
+ghost use Rattle.well_formed_trees.specs.SoundVariables.{AcceptedEvaluations, AcceptedLeaves};
 ghost use Rattle.well_formed_trees.specs.Held.{BlocksKept, NestingKept, TableKept, EntriesKept, DepthsKept};
 ghost use Rattle.well_formed_trees.specs.Held.{MainKept, ResultsKept, ParametersKept};
 
@@ -119,4 +119,10 @@ pub fn accepted_variables()
 /// What is evaluated for the extents of each variable of an accepted source is a sound number in the variable's block.
 pub fn accepted_evaluations()
     ensures { AcceptedEvaluations }
+{}
+
+/// Each leaf of a variable of an accepted source has an extent, bounds and values of INITIAL that are in range and that
+/// the variable's class lets it have.
+pub fn accepted_leaves()
+    ensures { AcceptedLeaves }
 {}
