@@ -1,7 +1,7 @@
 -- Where the table of blocks has what is around a block's first statement, the block sees all that is around it.
-use Rattle.std.proofs.Common.{◌≡◌, ℕ, suc, ◌+◌, ◌-◌, List, [], ◌∷◌, ◌++◌, length, Some, refl, sym, ap, ◌∙◌, subst}
+use Rattle.std.proofs.Common.{◌≡◌, ℕ, suc, ◌+◌, ◌-◌, List, [], ◌∷◌, length, Some, refl, sym, ap, ◌∙◌, subst}
 use Rattle.std.proofs.Common.{arith, inl, inr}
-use Rattle.std.specs.Prelude.{slice_get, ⊤}
+use Rattle.std.specs.Prelude.{slice_get}
 use Rattle.pli_language.specs.Tree as T
 use Rattle.pli_language.specs.Declarations.{Block, blocks_in, blocks_in_item, blocks_in_stmt, blocks_of}
 use Rattle.pli_typing.specs.TypedTree as Y
@@ -9,14 +9,14 @@ use Rattle.pli_typing.specs.SingleStatements as S
 use Rattle.pli_typing.specs.Resolving.{letters_of}
 use Rattle.pli_typing.specs.Variables.{level_of_block, depth_of_block}
 use Rattle.well_formed_trees.specs.Every.{Every}
-use Rattle.well_formed_trees.specs.Surroundings.{Around, Table, with_inner, without_inner, NoReturn}
+use Rattle.well_formed_trees.specs.Surroundings.{Around, with_inner, without_inner, NoReturn}
 use Rattle.well_formed_trees.specs.Held.{entry, entries_in, entries_in_item, entries_in_stmt, table_of}
 use Rattle.well_formed_trees.proofs.Lists.{every_both}
 use Rattle.well_formed_trees.proofs.Places.{HasAt, has_first, has_second, has_end, every_at}
 use Rattle.well_formed_trees.proofs.BlocksHeld.{item_length, stmt_length}
 use Rattle.well_formed_trees.proofs.HeadsHeld.{numbers_around, match_at, inner_numbers}
 use Rattle.well_formed_trees.proofs.HeadsHeld.{outer_numbers}
-use Rattle.well_formed_trees.proofs.Facts.{Facts, IsSeen, SeesBlocks, InScope}
+use Rattle.well_formed_trees.proofs.Facts.{Facts, IsSeen, InScope}
 
 -- ---- levels are those of the blocks
 

@@ -1,7 +1,7 @@
 -- What is evaluated for the extents of each variable of an accepted source is a sound number.
-use Rattle.std.proofs.Common.{◌≡◌, ℕ, Bool, true, false, List, [], ◌∷◌, ◌++◌, map, Option, Some, None, refl, sym, ap}
-use Rattle.std.proofs.Common.{◌∙◌, subst, if◌then◌else◌}
-use Rattle.std.specs.Prelude.{slice_get, unwrap_or, ⊤}
+use Rattle.std.proofs.Common.{◌≡◌, ℕ, Bool, true, false, List, [], ◌∷◌, ◌++◌, Option, Some, None, refl, sym, ap}
+use Rattle.std.proofs.Common.{subst, if◌then◌else◌}
+use Rattle.std.specs.Prelude.{slice_get, unwrap_or}
 use Rattle.std.specs.List.{flat_map}
 use Rattle.pli_language.specs.Tree as T
 use Rattle.pli_language.specs.Declarations.{dimensions_of, Held, Block, blocks_of}
@@ -12,7 +12,7 @@ use Rattle.pli_typing.specs.Judging.{Scope, each}
 use Rattle.pli_typing.specs.Converting.{number_operand, no_variable}
 use Rattle.pli_typing.specs.References.{operand}
 use Rattle.pli_typing.specs.Generations.{names_demanded, extent_demanded, extent_number, evaluation, declared_with}
-use Rattle.pli_typing.specs.Generations.{declared_variable, declared_variables}
+use Rattle.pli_typing.specs.Generations.{declared_variable}
 use Rattle.pli_typing.specs.Resolving.{typed_tree}
 use Rattle.pli_typing.specs.Variables.{WrittenExtent, WrittenCheck, is_open, if_open, open_in_bound, open_in_size}
 use Rattle.pli_typing.specs.Variables.{open_in_attribute, open_in, with_extent, in_order, written_extents}
@@ -76,25 +76,26 @@ held_ranged h r =
     (every_flat RangedBound IsRangedWritten open_in_bound bound_ranged (dimensions_of h.variable) r.0)
     (every_flat RangedAttribute IsRangedWritten open_in_attribute attribute_ranged (own_attributes h) r.1)
 
-with_ranged : (w : WrittenExtent) (vs : List WrittenExtent) → IsRangedWritten w → Every IsRangedWritten vs
-    → Every IsRangedWritten (with_extent w vs)
-with_ranged w [] r h = (r, tt)
-with_ranged w (v ∷ vs) r h =
+-- what is so of all extents is so of those that are kept
+with_every : (P : WrittenExtent → Type 0) (w : WrittenExtent) (vs : List WrittenExtent) → P w → Every P vs
+    → Every P (with_extent w vs)
+with_every P w [] r h = (r, tt)
+with_every P w (v ∷ vs) r h =
     by (stands_before (place_of_expr w.value) (place_of_expr v.value))
-    (same_place (place_of_expr w.value) (place_of_expr v.value)) (with_ranged w vs r h.1) where
-      by : (b c : Bool) → Every IsRangedWritten (with_extent w vs)
-          → Every IsRangedWritten (if b then w ∷ v ∷ vs else (if c then v ∷ vs else v ∷ with_extent w vs))
+    (same_place (place_of_expr w.value) (place_of_expr v.value)) (with_every P w vs r h.1) where
+      by : (b c : Bool) → Every P (with_extent w vs)
+          → Every P (if b then w ∷ v ∷ vs else (if c then v ∷ vs else v ∷ with_extent w vs))
       by true c k = (r, h)
       by false true k = h
       by false false k = (h.0, k)
 
-order_ranged : (ws : List WrittenExtent) → Every IsRangedWritten ws → Every IsRangedWritten (in_order ws)
-order_ranged [] h = tt
-order_ranged (w ∷ ws) h = with_ranged w (in_order ws) h.0 (order_ranged ws h.1)
+pub order_every : (P : WrittenExtent → Type 0) (ws : List WrittenExtent) → Every P ws → Every P (in_order ws)
+order_every P [] h = tt
+order_every P (w ∷ ws) h = with_every P w (in_order ws) h.0 (order_every P ws h.1)
 
 written_ranged : (all : List Held) → Every RangedHeld all → Every IsRangedWritten (written_extents all)
 written_ranged all h =
-    order_ranged (flat_map open_in all) (every_flat RangedHeld IsRangedWritten open_in held_ranged all h)
+    order_every IsRangedWritten (flat_map open_in all) (every_flat RangedHeld IsRangedWritten open_in held_ranged all h)
 
 -- ---- evaluations
 

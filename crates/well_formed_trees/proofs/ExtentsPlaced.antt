@@ -1,14 +1,14 @@
 -- An extent that isn't constant is among the evaluations of its variable.
-use Rattle.std.proofs.Common.{◌≡◌, ℕ, zero, suc, ◌+◌, ◌<◌, ◌==◌, Bool, true, false, not, ◌&&◌, ◌||◌, List, [], ◌∷◌}
-use Rattle.std.proofs.Common.{◌++◌, length, Option, Some, None, refl, sym, ap, ◌∙◌, subst, if◌then◌else◌, arith}
+use Rattle.std.proofs.Common.{◌≡◌, ℕ, suc, ◌+◌, ◌<◌, ◌==◌, Bool, true, false, not, ◌||◌, List, [], ◌∷◌}
+use Rattle.std.proofs.Common.{◌++◌, length, Some, refl, ap, ◌∙◌, if◌then◌else◌, arith}
 use Rattle.std.specs.Prelude.{is_some}
 use Rattle.std.specs.List.{list_any, flat_map}
 use Rattle.std.proofs.lemmas.Bool.Decides.{nat_tests}
 use Rattle.pli_language.specs.declared.expr.Place.{Place}
 use Rattle.pli_language.specs.Tree as T
 use Rattle.pli_language.specs.Declarations.{dimensions_of, Held}
-use Rattle.pli_language.specs.Declaring.{own_attributes, constant, place_of_expr, same_place}
-use Rattle.pli_typing.specs.Variables.{WrittenExtent, WrittenCheck, is_open, if_open, open_in_bound, open_in_size}
+use Rattle.pli_language.specs.Declaring.{own_attributes, place_of_expr, same_place}
+use Rattle.pli_typing.specs.Variables.{WrittenExtent, WrittenCheck, if_open, open_in_bound}
 use Rattle.pli_typing.specs.Variables.{open_in_attribute, open_in, with_extent, in_order, written_extents}
 use Rattle.pli_typing.specs.Variables.{stands_before, index_where}
 use Rattle.well_formed_trees.specs.Every.{Every}

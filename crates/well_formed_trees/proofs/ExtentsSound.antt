@@ -1,17 +1,17 @@
 -- An extent that breaks no rule is as the class of its variable lets it be; bounds and sizes are in range.
-use Rattle.std.proofs.Common.{◌≡◌, ℕ, zero, suc, ◌+◌, ◌<◌, ◌≤◌, ◌==◌, ℤ, pos, negsuc, neg_ℤ, Bool, true, false, not}
-use Rattle.std.proofs.Common.{◌&&◌, ◌||◌, List, [], ◌∷◌, ◌++◌, length, Option, Some, None, refl, sym, ap, ◌∙◌, subst}
+use Rattle.std.proofs.Common.{◌≡◌, ℕ, zero, suc, ◌<◌, ◌≤◌, ℤ, pos, negsuc, neg_ℤ, Bool, true, false, not}
+use Rattle.std.proofs.Common.{◌&&◌, ◌||◌, List, [], ◌∷◌, length, Option, Some, None, refl, sym, ap, subst}
 use Rattle.std.proofs.Common.{if◌then◌else◌, arith}
 use Rattle.std.specs.Prelude.{is_some, nat_le, nat_lt, int_le, ⊤}
-use Rattle.std.specs.List.{list_any, flat_map}
+use Rattle.std.specs.List.{flat_map}
 use Rattle.std.proofs.lemmas.Bool.Decides.{nat_tests}
 use Rattle.pli_language.specs.declared.expr.PrefixOp.TheVariants as P
 use Rattle.pli_language.specs.declared.fault.SourceKind.TheVariants.{BadExtent}
 use Rattle.pli_language.specs.Refusals.{fault}
 use Rattle.pli_language.specs.Tree as T
-use Rattle.pli_language.specs.Declaring.{Use, Passed, Evaluated, Kept, Returned, when, constant, may_be_star}
+use Rattle.pli_language.specs.Declaring.{Use, Passed, Evaluated, Kept, when, constant, may_be_star}
 use Rattle.pli_language.specs.Declaring.{may_be_open, refer_is_bad_extent, is_below, is_outside, extent_is_bad}
-use Rattle.pli_language.specs.Declaring.{pair_is_bad, bound_faults, longest_text, size_faults, is_negative}
+use Rattle.pli_language.specs.Declaring.{pair_is_bad, bound_faults, longest_text, is_negative}
 use Rattle.pli_language.specs.Declaring.{attribute_extent_faults, place_of_expr, same_place}
 use Rattle.pli_typing.specs.TypedTree as Y
 use Rattle.pli_typing.specs.Variables.{WrittenExtent, evaluated, amount_of, extent_of, bounds_of, size_of_text}
@@ -148,7 +148,7 @@ pair_by written x y None None false e = ((tt, tt), tt)
 pair_by written x y (Some low) d true e = ((tt, tt), tt)
 pair_by written x y None d true e = ((tt, tt), tt)
 
-one_ranged : IsInteger (pos 1)
+pub one_ranged : IsInteger (pos 1)
 one_ranged = omega arith
 
 pub bounds_sound : (way : Use) (class : Y.StorageClass) → IsUse way class → (written : List WrittenExtent)

@@ -9,23 +9,23 @@ use Rattle.pli_language.specs.declared.fault.SourceKind.TheVariants.{TooLarge}
 use Rattle.pli_language.specs.Refusals.{fault}
 use Rattle.pli_language.specs.Tree as T
 use Rattle.pli_language.specs.Declarations.{Variable, dimensions_of, Held, Block, blocks_of}
-use Rattle.pli_language.specs.Declaring.{Use, has, own_attributes, root_of, first_or, is_deeper, is_parameter, use_of}
+use Rattle.pli_language.specs.Declaring.{Use, has, own_attributes, root_of, is_deeper, is_parameter, use_of}
 use Rattle.pli_language.specs.Declaring.{names_of, own_dimensions, inherited_dimensions, most_dimensions, bound_faults}
-use Rattle.pli_language.specs.Declaring.{attribute_extent_faults, attributes_clash, precision_of, precisions_in}
-use Rattle.pli_language.specs.Declaring.{block_faults, block_head_faults, twice_faults, declarations_faults}
+use Rattle.pli_language.specs.Declaring.{attributes_clash, precision_of, precisions_in}
 use Rattle.pli_language.specs.Means.{around_of, declarations_of}
 use Rattle.pli_typing.specs.TypedTree as Y
 use Rattle.pli_typing.specs.Judging.{Scope, each}
 use Rattle.pli_typing.specs.Generations.{evaluation, declared_variable}
 use Rattle.pli_typing.specs.Resolving.{typed_tree}
 use Rattle.pli_typing.specs.Variables as V
-use Rattle.pli_typing.specs.Variables.{WrittenExtent, written_extents, variables_in, declarations_at, leaves_in, leaf_of}
+use Rattle.pli_typing.specs.Variables.{WrittenExtent, written_extents, variables_in, declarations_at}
+use Rattle.pli_typing.specs.Variables.{leaves_in, leaf_of}
 use Rattle.pli_typing.specs.Variables.{head_of_block, class_of, variable_meant, type_of, size_of_text, size_of_area}
 use Rattle.pli_typing.specs.Variables.{area_named, area_name, extent_of, bounds_of}
 use Rattle.well_formed_trees.specs.Every.{Every}
 use Rattle.well_formed_trees.specs.Ranges.{IsPrecision}
 use Rattle.well_formed_trees.specs.Spelled.{RangedBound}
-use Rattle.well_formed_trees.specs.Surroundings.{Around, Where, NoReturn, IsAreaIf, variables_of_block}
+use Rattle.well_formed_trees.specs.Surroundings.{Where, IsAreaIf, variables_of_block}
 use Rattle.well_formed_trees.specs.Declarations.{IsExtent, AreBounds, IsAreaSize, IsNotRefer, IsLeafType, IsLeaf}
 use Rattle.well_formed_trees.specs.Held.{table_of}
 use Rattle.well_formed_trees.specs.SoundVariables.{HasSoundLeaves, AcceptedLeaves}
@@ -33,9 +33,9 @@ use Rattle.well_formed_trees.proofs.Lists.{first_empty, second_empty, every_firs
 use Rattle.well_formed_trees.proofs.Places.{every_at}
 use Rattle.well_formed_trees.proofs.Parameters.{none_when}
 use Rattle.well_formed_trees.proofs.ResultTypes.{precision_is}
-use Rattle.well_formed_trees.proofs.Structures.{AreHeld, IsStructure, BlockChained, structures, structure_root}
+use Rattle.well_formed_trees.proofs.Structures.{AreHeld, IsStructure, structure_root}
 use Rattle.well_formed_trees.proofs.MemberParts.{map_length}
-use Rattle.well_formed_trees.proofs.FineVariables.{IsFineMember, IsFineVariable, variables_fine, all_fine, no_clash}
+use Rattle.well_formed_trees.proofs.FineVariables.{IsFineMember, IsFineVariable, all_fine, no_clash}
 use Rattle.well_formed_trees.proofs.KindsSound.{digits_fine, area_named_sound}
 use Rattle.well_formed_trees.proofs.HeadsInRange.{ranges_kept}
 use Rattle.well_formed_trees.proofs.ProgramNumbers.{lists_kept}
@@ -70,9 +70,11 @@ above_hold : (P : Variable → Type 0) (chain : List Variable) (ms : List Held) 
     → Every (λ m. P m.variable) ms → Every (λ m. Every P m.above) ms
 above_hold P chain [] k h own = tt
 above_hold P chain (m ∷ ms) k h own =
-    let above = every_first P m.above h.0.0 (subst (Every P) h.0.1 k) in
-    (above, above_hold P (m.above ++ m.variable ∷ []) ms (every_both P m.above (m.variable ∷ []) above (own.0, tt))
-    h.1.1 own.1)
+    let above = every_first P m.above h.0.0 (subst (Every P) h.0.1 k) in (
+      above,
+      above_hold P (m.above ++ m.variable ∷ []) ms (every_both P m.above (m.variable ∷ []) above (own.0, tt))
+          h.1.1 own.1,
+    )
 
 every_mapped : {X Z : Type 0} (P : Z → Type 0) (f : X → Z) (xs : List X) → Every (λ x. P (f x)) xs
     → Every P (map f xs)
@@ -220,7 +222,7 @@ known_dimensions ps class written (h ∷ hs) k =
 
 -- ---- variables
 
-evaluations_length : (scope : Scope) (own : Y.Variable) (written ws : List WrittenExtent)
+pub evaluations_length : (scope : Scope) (own : Y.Variable) (written ws : List WrittenExtent)
     → length (each (evaluation scope own written) ws).value ≡ length ws
 evaluations_length scope own written [] = refl
 evaluations_length scope own written (x ∷ xs) = ap suc (evaluations_length scope own written xs)

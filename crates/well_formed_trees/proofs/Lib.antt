@@ -68,6 +68,7 @@ pub mod ExtentsSound
 pub mod ExtentsPlaced
 pub mod MembersFine
 pub mod LeavesSound
+pub mod ChecksSound
 pub mod WellFormedRows
 mod IllFormedRows
 mod ElementRows

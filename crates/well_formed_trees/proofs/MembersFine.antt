@@ -1,7 +1,7 @@
 -- What the rules of attributes say of each member of a variable: its class, REFER, and what INITIAL gives.
 use Rattle.std.proofs.Common.{◌≡◌, ℕ, ◌+◌, ◌≤◌, ◌==◌, Bool, true, false, not, ◌&&◌, ◌||◌, List, [], ◌∷◌, ◌++◌, length}
 use Rattle.std.proofs.Common.{Option, Some, None, refl, sym, ap, ◌∙◌, subst, if◌then◌else◌, arith}
-use Rattle.std.specs.Prelude.{is_some, nat_lt, ⊤}
+use Rattle.std.specs.Prelude.{is_some, nat_lt}
 use Rattle.std.specs.List.{list_any, flat_map}
 use Rattle.std.proofs.lemmas.Bool.Decides.{nat_tests}
 use Rattle.pli_language.specs.declared.fault.SourceKind.TheVariants.{BadExtent, BadRefer}
@@ -11,16 +11,16 @@ use Rattle.pli_language.specs.Tree as T
 use Rattle.pli_language.specs.Declarations.{Variable, level_of, dimensions_of, Held, Declaration, Block}
 use Rattle.pli_language.specs.Declaring.{Use, Passed, Evaluated, Kept, when, has, has_kind, kinds_in, classes_in, one}
 use Rattle.pli_language.specs.Declaring.{own_attributes, class_attributes, root_of, own_dimensions, has_members}
-use Rattle.pli_language.specs.Declaring.{is_parameter, use_of, attributes_clash, attributes_are_bad, value_fits}
+use Rattle.pli_language.specs.Declaring.{is_parameter, use_of, attributes_clash, value_fits}
 use Rattle.pli_language.specs.Declaring.{initial_fits, fits_digits, precision_of, precisions_in, bound_faults}
 use Rattle.pli_language.specs.Declaring.{attribute_extent_faults, extent_is_bad, may_refer, keeps_extent, refer_faults}
-use Rattle.pli_language.specs.Declaring.{bound_refer_faults, attribute_refer_faults, place_of_expr, constant}
+use Rattle.pli_language.specs.Declaring.{bound_refer_faults, attribute_refer_faults, place_of_expr}
 use Rattle.pli_language.specs.Declaring.{variable_faults, row_of}
 use Rattle.pli_typing.specs.TypedTree as Y
 use Rattle.pli_typing.specs.Variables.{WrittenExtent, class_of, type_of, size_of_text, size_of_area, area_named}
 use Rattle.pli_typing.specs.Variables.{area_name, initial_items}
 use Rattle.well_formed_trees.specs.Every.{Every}
-use Rattle.well_formed_trees.specs.Ranges.{IsInteger, IsLength}
+use Rattle.well_formed_trees.specs.Ranges.{IsLength}
 use Rattle.well_formed_trees.specs.Spelled.{RangedValue, RangedInitial, RangedAttribute}
 use Rattle.well_formed_trees.specs.Declarations.{IsInitial, IsInitialItem}
 use Rattle.well_formed_trees.proofs.Lists.{first_empty, second_empty, first_false, second_false, all_empty, every_map}
@@ -44,7 +44,8 @@ class_by a b c d =
     else (if b then Y.StaticClass else (if c then Y.ControlledClass
     else (if d then Y.BasedClass else Y.AutomaticClass)))
 
-use_is : (a b c d e f : Bool) → (((one e + one b) + one c) + one d) + one f ≤ 1 → IsUse (use_by a b d) (class_by a b c d)
+use_is : (a b c d e f : Bool) → (((one e + one b) + one c) + one d) + one f ≤ 1
+    → IsUse (use_by a b d) (class_by a b c d)
 use_is true b c d e f h = tt
 use_is false true c d e f h = tt
 use_is false false true true e f h = absurd (omega (arith, h))

@@ -10,7 +10,7 @@ use Rattle.pli_typing.specs.Resolving.{typing_faults, typed_tree}
 use Rattle.well_formed_trees.specs.Every.{Every}
 use Rattle.well_formed_trees.specs.Surroundings.{Around, Where, NoReturn, variables_of_block}
 use Rattle.well_formed_trees.specs.Expressions.{SoundNumber}
-use Rattle.well_formed_trees.specs.Declarations.{IsLeaf}
+use Rattle.well_formed_trees.specs.Declarations.{IsLeaf, IsCheck}
 use Rattle.well_formed_trees.specs.Held.{table_of}
 
 -- so is each variable of a block of an accepted source, with its block around
@@ -39,3 +39,13 @@ HasSoundLeaves w d = Every (IsLeaf w d.class (length d.evaluations)) d.leaves
 
 abbrev pub AcceptedLeaves : Type 0
 AcceptedLeaves = AcceptedSoVariables HasSoundLeaves
+
+-- what is checked behind an evaluation is a constant or evaluated
+abbrev pub HasSoundChecks : Y.DeclaredVariable → Type 0
+HasSoundChecks d = Every (λ e. IsCheck (length d.evaluations) e.check) d.evaluations
+
+abbrev pub AcceptedChecks : Type 0
+AcceptedChecks =
+    (s : List ℕ) (tokens : List Token) (tree : T.Tree) → Tokens s tokens → Spells s tokens tree
+    → declaring_faults tree ≡ [] → typing_faults tree ≡ [] → (number : ℕ)
+    → Every HasSoundChecks (variables_of_block (typed_tree tree) number)

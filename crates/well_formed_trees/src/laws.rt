@@ -8,7 +8,7 @@ ghost use Rattle.well_formed_trees.specs.Framed.{AcceptedFramed};
 ghost use Rattle.well_formed_trees.specs.Everywhere.{AcceptedTargets};
 ghost use Rattle.well_formed_trees.specs.SoundStatements.{AcceptedProcedures};
 ghost use Rattle.well_formed_trees.specs.Structured.{AcceptedVariables};
-ghost use Rattle.well_formed_trees.specs.SoundVariables.{AcceptedEvaluations, AcceptedLeaves};
+ghost use Rattle.well_formed_trees.specs.SoundVariables.{AcceptedEvaluations, AcceptedLeaves, AcceptedChecks};
 ghost use Rattle.well_formed_trees.specs.Held.{BlocksKept, NestingKept, TableKept, EntriesKept, DepthsKept};
 ghost use Rattle.well_formed_trees.specs.Held.{MainKept, ResultsKept, ParametersKept};
 
@@ -125,4 +125,9 @@ pub fn accepted_evaluations()
 /// the variable's class lets it have.
 pub fn accepted_leaves()
     ensures { AcceptedLeaves }
+{}
+
+/// What is checked behind an evaluation of an accepted source is in range, or among the variable's evaluations.
+pub fn accepted_checks()
+    ensures { AcceptedChecks }
 {}
