@@ -210,11 +210,11 @@ entry_at (x ∷ es) [] i b h g = absurd h
 entry_at (x ∷ es) (y ∷ bs) zero b h g = (x, refl)
 entry_at (x ∷ es) (y ∷ bs) (suc i) b h g = entry_at es bs i b h.1 g
 
-inner_numbers : (ls : _) (w : List Around) → numbers_around (with_inner ls w) ≡ numbers_around w
+pub inner_numbers : (ls : _) (w : List Around) → numbers_around (with_inner ls w) ≡ numbers_around w
 inner_numbers ls [] = refl
 inner_numbers ls (a ∷ more) = refl
 
-outer_numbers : (w : List Around) → numbers_around (without_inner w) ≡ numbers_around w
+pub outer_numbers : (w : List Around) → numbers_around (without_inner w) ≡ numbers_around w
 outer_numbers [] = refl
 outer_numbers (a ∷ more) = refl
 

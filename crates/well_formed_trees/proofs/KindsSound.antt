@@ -97,7 +97,7 @@ area_written blocks b written all e =
 
 -- ---- areas
 
-few : (n : ℕ) → nat_lt 1 n ≡ false → n ≤ 1
+pub few : (n : ℕ) → nat_lt 1 n ≡ false → n ≤ 1
 few n e = grind (arith, nat_tests)
 
 -- where an area is written, and one kind at most, the kind is an area
@@ -114,7 +114,7 @@ area_type_by digits false three false true six true size bytes area p k e = absu
 area_type_by digits false three false false true true size bytes area p k e = absurd (omega (arith, k))
 area_type_by digits false three false false false true size bytes area p k e = refl
 
-few_kinds : (all : List T.Attribute) → attributes_clash all ≡ false → nat_lt 1 (kinds_in all) ≡ false
+pub few_kinds : (all : List T.Attribute) → attributes_clash all ≡ false → nat_lt 1 (kinds_in all) ≡ false
 few_kinds all e =
     second_false (repeats all) _ (first_false _ _ (first_false _ _ (first_false _ _ (first_false _ _ (first_false _ _
     e)))))

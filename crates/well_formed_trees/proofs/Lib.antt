@@ -30,6 +30,8 @@ pub mod PlacesEntered
 pub mod PlacesRise
 pub mod Letters
 pub mod DeclaredOnce
+pub mod DeclaredRanges
+pub mod EntryScopes
 pub mod HeldAlone
 pub mod Parameters
 pub mod ParameterVariables
@@ -61,6 +63,12 @@ pub mod Targets
 pub mod AcceptedSources
 pub mod SoundProcedures
 pub mod StructuredVariables
+pub mod EvaluationsSound
+pub mod ExtentsSound
+pub mod ExtentsPlaced
+pub mod MembersFine
+pub mod LeavesSound
+pub mod ChecksSound
 pub mod WellFormedRows
 mod IllFormedRows
 mod ElementRows

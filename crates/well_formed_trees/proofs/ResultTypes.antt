@@ -38,7 +38,7 @@ above_by : (a b : ℕ) (t : Bool) → nat_lt a b ≡ t → is_below (pos a) (pos
 above_by a b true f e = absurd (cc (f, e))
 above_by a b false f e = grind (arith, nat_tests)
 
-not_below : (a b : ℕ) → is_below (pos a) (pos b) ≡ false → b ≤ a
+pub not_below : (a b : ℕ) → is_below (pos a) (pos b) ≡ false → b ≤ a
 not_below a b e = above_by a b (nat_lt a b) refl e
 
 pub text_size : (z : ℤ) → is_outside (pos 0) longest_text (Some z) ≡ false → IsTextSize (Y.ConstantExtent z)

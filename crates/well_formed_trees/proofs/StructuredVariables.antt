@@ -204,9 +204,12 @@ all_structured blocks b [] s f = tt
 all_structured blocks b (all ∷ vs) s f =
     (variable_structured blocks b all s.0 f.0, all_structured blocks b vs s.1 f.1)
 
-block_structured : (blocks : List Block) (program : Y.Program) (table : Table) → Facts blocks program table → (n : ℕ)
-    (b : Block) → slice_get blocks n ≡ Some b → Every IsStructured (variables_of_block program n)
-block_structured blocks program table facts n b e =
+-- the variables of a block are structures that break no rule
+pub block_structures : (blocks : List Block) (program : Y.Program) (table : Table) → Facts blocks program table
+    → (n : ℕ) (b : Block) → slice_get blocks n ≡ Some b
+    → Every IsStructure (variables_in (declarations_at blocks n))
+    × Every (IsFineVariable (names_of (head_of_block (slice_get blocks n)))) (variables_in (declarations_at blocks n))
+block_structures blocks program table facts n b e =
     let same : declarations_at blocks n ≡ b.declarations = ap declarations_of e in
     let faults = every_at (λ b. block_faults b ≡ []) blocks n b facts.fine e in
     let own = second_empty (block_head_faults b b.head ++ twice_faults [] b.declarations)
@@ -215,14 +218,20 @@ block_structured blocks program table facts n b e =
     ap (λ o. names_of (head_of_block o)) e in
     let fine : declarations_faults (names_of (head_of_block (slice_get blocks n))) [] (declarations_at blocks n) ≡ [] =
     ap (λ ds. declarations_faults (names_of (head_of_block (slice_get blocks n))) [] ds) same
-    ∙ (ap (λ ps. declarations_faults ps [] b.declarations) names ∙ own) in
-    let chained = subst (λ ds. Every IsStructure (variables_in ds)) (sym same)
-    (structures [] b.declarations (every_at BlockChained blocks n b facts.chained e)) in
-    subst (Every IsStructured) (sym (facts.variables n b e))
-    (all_structured blocks n (variables_in (declarations_at blocks n)) chained
-    (variables_fine (names_of (head_of_block (slice_get blocks n))) [] (declarations_at blocks n) fine))
+    ∙ (ap (λ ps. declarations_faults ps [] b.declarations) names ∙ own) in (
+      subst (λ ds. Every IsStructure (variables_in ds)) (sym same)
+          (structures [] b.declarations (every_at BlockChained blocks n b facts.chained e)),
+      variables_fine (names_of (head_of_block (slice_get blocks n))) [] (declarations_at blocks n) fine,
+    )
 
-none_behind : {X Z : Type 0} (xs : List X) (zs : List Z) (n : ℕ) → length xs ≡ length zs → slice_get zs n ≡ None
+block_structured : (blocks : List Block) (program : Y.Program) (table : Table) → Facts blocks program table → (n : ℕ)
+    (b : Block) → slice_get blocks n ≡ Some b → Every IsStructured (variables_of_block program n)
+block_structured blocks program table facts n b e =
+    let s = block_structures blocks program table facts n b e in
+    subst (Every IsStructured) (sym (facts.variables n b e))
+    (all_structured blocks n (variables_in (declarations_at blocks n)) s.0 s.1)
+
+pub none_behind : {X Z : Type 0} (xs : List X) (zs : List Z) (n : ℕ) → length xs ≡ length zs → slice_get zs n ≡ None
     → slice_get xs n ≡ None
 none_behind [] zs n e f = refl
 none_behind (x ∷ xs) [] n e f = absurd (never (length xs) e) where

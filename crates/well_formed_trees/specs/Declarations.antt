@@ -22,6 +22,12 @@ IsExtent Y.AutomaticClass many (Y.EvaluatedExtent place) = place < many
 IsExtent Y.ControlledClass many (Y.EvaluatedExtent place) = place < many
 IsExtent _ many _ = ⊥
 
+-- what an extent comes to where its generation is made: a constant, or what was evaluated
+abbrev pub IsAmount : (evaluations : ℕ) → Y.Extent → Type 0
+IsAmount many (Y.ConstantExtent z) = IsInteger z
+IsAmount many (Y.EvaluatedExtent place) = place < many
+IsAmount many _ = ⊥
+
 abbrev pub IsRising : Y.Extent → Y.Extent → Type 0
 IsRising (Y.ConstantExtent low) (Y.ConstantExtent high) = int_le low high ≡ true
 IsRising _ _ = ⊤
@@ -154,7 +160,7 @@ pub record IsRefer (d : Y.DeclaredVariable) (r : Y.ReferMember) : Type 0 where
   pub last : Y.Leaf
   pub last_is : (k : ℕ) × ((suc k ≡ length d.leaves) × (slice_get d.leaves k ≡ Some last))
   pub keeps : ((last.bounds ≡ []) × RefersIn last.type) ⊎ ((b : Y.Bounds) × ((last.bounds ≡ b ∷ []) × IsReferBound b))
-  pub amount : IsExtent Y.ControlledClass (length d.evaluations) r.amount
+  pub amount : IsAmount (length d.evaluations) r.amount
 
 abbrev pub IsReferIf : Y.DeclaredVariable → Option Y.ReferMember → Type 0
 IsReferIf d None = ⊤
@@ -170,15 +176,16 @@ KeepsNoneIf d (Some r) = ⊤
 
 -- ---- evaluations
 
-abbrev pub IsCheck : (class : Y.StorageClass) → (evaluations : ℕ) → Y.Check → Type 0
-IsCheck class many (Y.BoundsCheck b) = IsExtent class many b.lower × IsExtent class many b.upper
-IsCheck class many _ = ⊤
+-- a BASED variable, too, has an evaluation: of what a member keeps by REFER
+abbrev pub IsCheck : (evaluations : ℕ) → Y.Check → Type 0
+IsCheck many (Y.BoundsCheck b) = IsAmount many b.lower × IsAmount many b.upper
+IsCheck many _ = ⊤
 
 -- a number without a function, and without an AUTOMATIC variable of the block from the variable's place on
-pub record IsEvaluation (w : Where) (index : ℕ) (class : Y.StorageClass) (many : ℕ) (e : Y.Evaluation) : Type 0 where
+pub record IsEvaluation (w : Where) (index many : ℕ) (e : Y.Evaluation) : Type 0 where
   pub value : SoundNumber w e.value
   pub early : IsEarly w index e.value
-  pub check : IsCheck class many e.check
+  pub check : IsCheck many e.check
 
 -- ---- a variable, in its block at a place among the block's variables
 
@@ -190,7 +197,7 @@ pub record SoundVariable (w : Where) (index : ℕ) (d : Y.DeclaredVariable) : Ty
   pub areas : AreasAlone d
   pub refer : IsReferIf d d.refer
   pub kept : KeepsNoneIf d d.refer
-  pub evaluations : Every (IsEvaluation w index d.class (length d.evaluations)) d.evaluations
+  pub evaluations : Every (IsEvaluation w index (length d.evaluations)) d.evaluations
 
 abbrev pub SoundVariables : Where → (index : ℕ) → List Y.DeclaredVariable → Type 0
 SoundVariables w index [] = ⊤

@@ -17,3 +17,4 @@ pub mod Placed
 pub mod Everywhere
 pub mod SoundStatements
 pub mod Structured
+pub mod SoundVariables

@@ -8,6 +8,7 @@ ghost use Rattle.well_formed_trees.specs.Framed.{AcceptedFramed};
 ghost use Rattle.well_formed_trees.specs.Everywhere.{AcceptedTargets};
 ghost use Rattle.well_formed_trees.specs.SoundStatements.{AcceptedProcedures};
 ghost use Rattle.well_formed_trees.specs.Structured.{AcceptedVariables};
+ghost use Rattle.well_formed_trees.specs.SoundVariables.{AcceptedEvaluations, AcceptedLeaves, AcceptedChecks};
 ghost use Rattle.well_formed_trees.specs.Held.{BlocksKept, NestingKept, TableKept, EntriesKept, DepthsKept};
 ghost use Rattle.well_formed_trees.specs.Held.{MainKept, ResultsKept, ParametersKept};
 
@@ -113,4 +114,20 @@ pub fn accepted_procedures()
 /// dimensions, and areas are variables by themselves.
 pub fn accepted_variables()
     ensures { AcceptedVariables }
+{}
+
+/// What is evaluated for the extents of each variable of an accepted source is a sound number in the variable's block.
+pub fn accepted_evaluations()
+    ensures { AcceptedEvaluations }
+{}
+
+/// Each leaf of a variable of an accepted source has an extent, bounds and values of INITIAL that are in range and that
+/// the variable's class lets it have.
+pub fn accepted_leaves()
+    ensures { AcceptedLeaves }
+{}
+
+/// What is checked behind an evaluation of an accepted source is in range, or among the variable's evaluations.
+pub fn accepted_checks()
+    ensures { AcceptedChecks }
 {}
