@@ -1,5 +1,5 @@
-// The code of locators: POINTER values, in the four words of the frame behind the temporaries in use or in a place of the frame, and
-// OFFSET values, in a0.
+// The code of locators: POINTER values, in the four words of the frame behind the temporaries in use or in a place of
+// the frame, and OFFSET values, in a0.
 
 ghost use Rattle.std.specs.Prelude.{◌≡◌, ◌++◌, OnOk};
 ghost use Rattle.pli_language.specs.View.{option_of};
@@ -8,7 +8,8 @@ ghost use Rattle.pli_coding.specs.Expressions as form;
 ghost use Rattle.rv_address.specs.Around.{environment_of, taken_of};
 ghost use Rattle.rv_address.specs.Places.{name_of};
 ghost use Rattle.rv_operation.specs.Standing.{place_of};
-ghost use Rattle.rv_expr.specs.Forms.{address_kept, names_told, null_told, offset_told, operand_kept, pointers_compared};
+ghost use Rattle.rv_expr.specs.Forms.{address_kept, names_told, null_told, offset_told, operand_kept};
+ghost use Rattle.rv_expr.specs.Forms.{pointers_compared};
 
 use crate::expression::{call_code, locator_code, reference_code};
 use pli_typing::typed::{Offset, Pointer, Reference, Variable};
@@ -40,7 +41,8 @@ pub(crate) fn pointers_compared(
     left: &Pointer,
     right: &Pointer,
 ) -> Result<(), AllocError>
-    ensures { OnOk result (code.new ≡ code.old ++ pointers_compared (environment_of environment.now) (taken_of taken) equal (pointer_of left.now) (pointer_of right.now)) }
+    ensures { OnOk result (code.new ≡ code.old ++ pointers_compared (environment_of environment.now)
+        (taken_of taken) equal (pointer_of left.now) (pointer_of right.now)) }
 {
     if is_null(right) {
         let place = own_standing(environment, left)?;
@@ -73,7 +75,8 @@ fn null_told(
     pointer: &Pointer,
     place: Option<Address>,
 ) -> Result<(), AllocError>
-    ensures { OnOk result (code.new ≡ code.old ++ null_told (environment_of environment.now) (taken_of taken) equal (pointer_of pointer.now) (option_of place_of place)) }
+    ensures { OnOk result (code.new ≡ code.old ++ null_told (environment_of environment.now) (taken_of taken) equal
+        (pointer_of pointer.now) (option_of place_of place)) }
 {
     operand_kept(alloc, code, environment, taken, pointer, place)?;
     let there = place_or_waiting(taken, place)?;
@@ -94,7 +97,8 @@ fn names_told(
     place: Option<Address>,
     other: Option<Address>,
 ) -> Result<(), AllocError>
-    ensures { OnOk result (code.new ≡ code.old ++ names_told (environment_of environment.now) (taken_of taken) equal (pointer_of left.now) (pointer_of right.now) (option_of place_of place) (option_of place_of other)) }
+    ensures { OnOk result (code.new ≡ code.old ++ names_told (environment_of environment.now) (taken_of taken) equal
+        (pointer_of left.now) (pointer_of right.now) (option_of place_of place) (option_of place_of other)) }
 {
     let behind = taken.with_words(4)?;
     operand_kept(alloc, code, environment, taken, left, place)?;
@@ -115,7 +119,8 @@ fn operand_kept(
     pointer: &Pointer,
     place: Option<Address>,
 ) -> Result<(), AllocError>
-    ensures { OnOk result (code.new ≡ code.old ++ operand_kept (environment_of environment.now) (taken_of taken) (pointer_of pointer.now) (option_of place_of place)) }
+    ensures { OnOk result (code.new ≡ code.old ++ operand_kept (environment_of environment.now) (taken_of taken)
+        (pointer_of pointer.now) (option_of place_of place)) }
 {
     match place {
         Some(_) => Ok(()),
@@ -132,7 +137,8 @@ pub fn pointer_code(
     taken: Taken,
     pointer: &Pointer,
 ) -> Result<(), AllocError>
-    ensures { OnOk result (code.new ≡ code.old ++ form.pointer_code (environment_of environment.now) (taken_of taken) (pointer_of pointer.now)) }
+    ensures { OnOk result (code.new ≡ code.old ++ form.pointer_code (environment_of environment.now)
+        (taken_of taken) (pointer_of pointer.now)) }
 {
     let to = waiting_address(taken)?;
     pointer_to(alloc, code, environment, taken, to, pointer)
@@ -149,7 +155,8 @@ pub fn pointer_to(
     to: Address,
     pointer: &Pointer,
 ) -> Result<(), AllocError>
-    ensures { OnOk result (code.new ≡ code.old ++ form.pointer_to (environment_of environment.now) (taken_of taken) to.displacement (pointer_of pointer.now)) }
+    ensures { OnOk result (code.new ≡ code.old ++ form.pointer_to (environment_of environment.now)
+        (taken_of taken) to.displacement (pointer_of pointer.now)) }
 {
     match pointer {
         Pointer::Null => null_kept(code, to),
@@ -184,7 +191,8 @@ fn address_kept(
     reference: &Reference,
     standing: Option<NamePlace>,
 ) -> Result<(), AllocError>
-    ensures { OnOk result (code.new ≡ code.old ++ address_kept (environment_of environment.now) (taken_of taken) to.displacement (reference_of reference.now) (option_of name_of standing)) }
+    ensures { OnOk result (code.new ≡ code.old ++ address_kept (environment_of environment.now)
+        (taken_of taken) to.displacement (reference_of reference.now) (option_of name_of standing)) }
 {
     match standing {
         Some(name) => standing_named(code, environment, name, to, reference),
@@ -205,7 +213,8 @@ pub fn offset_code(
     taken: Taken,
     offset: &Offset,
 ) -> Result<(), AllocError>
-    ensures { OnOk result (code.new ≡ code.old ++ form.offset_code (environment_of environment.now) (taken_of taken) (offset_of offset.now)) }
+    ensures { OnOk result (code.new ≡ code.old ++ form.offset_code (environment_of environment.now) (taken_of taken)
+        (offset_of offset.now)) }
 {
     match offset {
         Offset::Null => code.constant(a0(), -1),
@@ -235,7 +244,8 @@ fn offset_told(
     area: Variable,
     standing: Option<NamePlace>,
 ) -> Result<(), AllocError>
-    ensures { OnOk result (code.new ≡ code.old ++ offset_told (environment_of environment.now) (taken_of taken) (pointer_of pointer.now) (variable_of area) (option_of name_of standing)) }
+    ensures { OnOk result (code.new ≡ code.old ++ offset_told (environment_of environment.now) (taken_of taken)
+        (pointer_of pointer.now) (variable_of area) (option_of name_of standing)) }
 {
     match standing {
         Some(name) => name_to_offset(code, environment, taken, name, area),
