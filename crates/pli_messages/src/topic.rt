@@ -1,6 +1,7 @@
 // What is told of a refusal, an error of a run or a limit beyond its line: the usual cause, and what to do.
 
-ghost use Rattle.std.specs.Prelude.{◌≡◌, IfSome};
+ghost use Rattle.std.specs.Prelude.{◌≡◌, MatchOption};
+ghost use Rattle.pli_language.specs.declared.fault.SourceKind.TheVariants.{Memory};
 ghost use Rattle.pli_messages.specs.Numbers.{number_of};
 
 use pli_language::fault::SourceKind;
@@ -58,7 +59,7 @@ impl fmt::Display for Topic {
 
 /// What is told of a refusal; nothing of want of memory, which is none.
 pub fn refusal(kind: SourceKind) -> Option<Topic>
-    ensures { IfSome result (λ topic. topic.number ≡ number_of kind) }
+    ensures { MatchOption result (kind ≡ Memory) (λ topic. topic.number ≡ number_of kind) }
 {
     let number = usize::from(kind as u8);
     REFUSALS.get(number.checked_sub(1)?).copied()
