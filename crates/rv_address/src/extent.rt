@@ -8,6 +8,7 @@ ghost use Rattle.pli_coding.specs.Locating as locating;
 
 use pli_typing::typed::{Bounds, Extent, Leaf, LeafType};
 
+/// Whether the source tells the extent.
 pub fn is_constant(extent: Extent) -> bool
     ensures { result ≡ form.is_constant (extent_of extent) }
 {
@@ -99,6 +100,7 @@ pub fn takes_any(leaf: &Leaf) -> bool
     is_star(leaf.bounds[0].upper)
 }
 
+/// Whether the extent is the constant 1.
 pub fn is_one(extent: Extent) -> bool
     ensures { result ≡ locating.is_one (extent_of extent) }
 {

@@ -80,6 +80,7 @@ pub fn free_in(elements: Elements) -> Result<Taken, AllocError>
 
 // ---- what an aggregate names
 
+/// The variable that a reference names.
 #[tactic(auto, using(crate::proofs::Parts::parts))]
 pub fn variable_in(reference: &Reference) -> Variable
     ensures { variable_of result ≡ variable_in (reference_of reference.now) }
@@ -90,6 +91,7 @@ pub fn variable_in(reference: &Reference) -> Variable
     }
 }
 
+/// The part of its variable that a reference names.
 #[tactic(auto, using(crate::proofs::Parts::parts))]
 pub fn part_in(reference: &Reference) -> Part
     ensures { part_of result ≡ part_in (reference_of reference.now) }

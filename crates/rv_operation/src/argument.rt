@@ -86,6 +86,7 @@ fn argument_stored(
     code.store_word(frame(), register, place)
 }
 
+/// An argument goes by copy: says so in the list of arguments.
 pub fn is_copy(code: &mut Code, list: ArgumentList, n: u32) -> Result<(), AllocError>
     ensures { OnOk result (code.new ≡ code.old ++ form.is_copy (list_of list) n) }
 {
@@ -140,6 +141,7 @@ pub fn part_given(
     }
 }
 
+/// The name that waits becomes that of an argument in the list.
 pub fn name_to_argument(
     code: &mut Code,
     taken: Taken,

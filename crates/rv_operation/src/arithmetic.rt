@@ -374,6 +374,7 @@ pub fn extreme_kept(code: &mut Code, taken: Taken, extremum: Extremum) -> Result
 
 // ---- bits and comparisons
 
+/// The bit in a0 becomes the other one.
 pub fn negated_code(code: &mut Code) -> Result<(), AllocError>
     ensures { OnOk result (code.new ≡ code.old ++ form.negated_code ∷ []) }
 {
