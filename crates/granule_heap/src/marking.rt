@@ -23,6 +23,7 @@ pub struct Header {
 }
 
 impl Header {
+    /// Writes the three words, one behind the other.
     pub fn write(self, bytes: &mut [u8], at: usize)
         requires { at + 12 ≤ length bytes.old }
         ensures { bytes.new ≡ with_word (8 + at) self.extent (with_word (4 + at) self.signature (with_word at self.size bytes.old)) }

@@ -80,6 +80,7 @@ fn blocks(frames: &[Frame]) -> usize
     count
 }
 
+/// A rule that is broken at a place.
 pub fn fault_at(place: Place, kind: SourceKind) -> SourceFault
     ensures { result ≡ fault_at place kind }
 {

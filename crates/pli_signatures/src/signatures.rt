@@ -61,6 +61,7 @@ impl Signatures {
         self.list.len()
     }
 
+    /// Whether there are none.
     pub fn is_empty(&self) -> bool
         ensures { result ≡ (length self.now == 0) }
     {

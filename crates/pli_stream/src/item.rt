@@ -28,6 +28,7 @@ fn is_width(number: u32) -> bool
     1 <= number && number <= MOST_WIDTH
 }
 
+/// Whether a format item may be repeated so many times.
 pub fn is_times(number: u32) -> bool
     ensures { result ≡ is_times number }
 {

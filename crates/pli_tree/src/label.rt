@@ -1,8 +1,11 @@
 // GOTO.
 
 ghost use Rattle.std.specs.Prelude.{◌≡◌, false, slice_get, map};
+ghost use Rattle.pli_language.specs.declared.fault.SourceKind.TheVariants.{Ambiguous};
+ghost use Rattle.pli_typing.specs.Judging.{broken};
 ghost use Rattle.pli_typing.specs.SingleStatements as S;
 ghost use Rattle.pli_typing.specs.TypedStatementView.{stmt_of};
+ghost use Rattle.pli_typing.specs.TypedTree as Y;
 ghost use Rattle.pli_typing.specs.Variables.{declarations_at};
 ghost use Rattle.pli_language.specs.View.{name_of, option_of};
 ghost use Rattle.pli_operand.specs.Notes.{noted};
@@ -55,6 +58,16 @@ fn jump<'a>(
     Stmt::Null { line: place.line }
 }
 
+/// A GOTO to a name that means two things.
+#[tactic(auto, using(pli_operand::proofs::Noting::noting), unfolding(pli_typing::specs::TypedStatementView::stmt_of))]
+fn ambiguous<'a>(notes: &mut Notes, name: &Name, place: Place) -> Stmt<'a>
+    ensures noted { notes_of notes.new ≡ noted (notes_of notes.old) (broken name.now.place Ambiguous (Y.Null place.line)) }
+    ensures value { stmt_of result ≡ Y.Null place.line }
+{
+    notes.broken(name.place, SourceKind::Ambiguous);
+    Stmt::Null { line: place.line }
+}
+
 /// What the name means must be a label that can be named here.
 pub fn goto_statement<'a>(
     notes: &mut Notes,
@@ -74,6 +87,7 @@ pub fn goto_statement<'a>(
             };
             jump(notes, context, name, place, at.block, is_target)
         }
-        Found::None | Found::Ambiguous => jump(notes, context, name, place, 0, false),
+        Found::None => jump(notes, context, name, place, 0, false),
+        Found::Ambiguous => ambiguous(notes, name, place),
     }
 }

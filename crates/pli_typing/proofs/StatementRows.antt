@@ -93,7 +93,7 @@ labels =
     declared (Some 2) (unsubscripted (name (69 ∷ []) (at 3 19)) ∷ []) [] (Fixed None ∷ []) ∷ declared (Some 1)
     (unsubscripted (name (72 ∷ []) (at 3 30)) ∷ []) [] [] ∷ declared (Some 2) (unsubscripted (name (69 ∷ []) (at 3
     35)) ∷ []) [] (Fixed None ∷ []) ∷ []) (at 3 8) ∷ Statement [] (Goto (name (69 ∷ []) (at 3 49)) (at 3 44)) ∷ []))
-    (at 3 1)) ∷ []) (refused 49 K.BadLabel)
+    (at 3 1)) ∷ []) (refused 49 K.Ambiguous)
     ∷ []
 
 labels_hold : AsSaid controlled_by labels

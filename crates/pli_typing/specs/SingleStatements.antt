@@ -82,7 +82,7 @@ jump c name place block false = broken name.place BadLabel (Y.Null place.line)
 abbrev pub jump_found : Context → T.Name → Place → Found → Judged Y.Stmt
 jump_found c name place (F.One at) = jump c name place at.block (is_target_at c (label_declared (slice_get (declarations_at c.scope.blocks at.block) at.index)))
 jump_found c name place F.None = jump c name place 0 false
-jump_found c name place F.Ambiguous = jump c name place 0 false
+jump_found c name place F.Ambiguous = broken name.place Ambiguous (Y.Null place.line)
 
 abbrev pub goto_statement : Context → T.Name → Place → Judged Y.Stmt
 goto_statement c name place = jump_found c name place (name_means c.scope.blocks c.scope.block name)

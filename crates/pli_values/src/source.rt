@@ -13,6 +13,7 @@ pub struct Source<'a> {
 }
 
 impl<'a> Source<'a> {
+    /// Memory whose parts lie in it.
     pub fn new(layout: Layout, memory: &'a [u8]) -> Source<'a>
         requires { layout.end ≤ length memory.now }
         ensures layout { result.layout ≡ layout }
