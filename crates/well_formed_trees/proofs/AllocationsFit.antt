@@ -31,7 +31,7 @@ use Rattle.well_formed_trees.specs.References.{IsLocated}
 use Rattle.well_formed_trees.specs.Expressions.{SoundPointer, SoundReference, SoundLocator}
 use Rattle.well_formed_trees.specs.Statements.{SoundTarget, SoundAllocation, SoundFreeing}
 use Rattle.well_formed_trees.specs.Spelled.{RangedReference, RangedAllocation, RangedFreeing}
-use Rattle.well_formed_trees.proofs.Lists.{first_empty, second_empty}
+use Rattle.well_formed_trees.proofs.Lists.{first_empty, second_empty, HoldsIf}
 use Rattle.well_formed_trees.proofs.Places.{same_some}
 use Rattle.well_formed_trees.proofs.FineVariables.{no_clash, none_above}
 use Rattle.well_formed_trees.proofs.Facts.{Facts, InScope}
@@ -40,7 +40,7 @@ use Rattle.well_formed_trees.proofs.MeantVariables.{fine_declared}
 use Rattle.well_formed_trees.proofs.LocatorsFit.{BasedLocator, based_names, few, few_classes}
 use Rattle.well_formed_trees.proofs.ExpressionsFit.{FoundHere, found_here}
 use Rattle.well_formed_trees.proofs.FitValues.{IsPart, IsFit, scalar_is, area_operand_sound}
-use Rattle.well_formed_trees.proofs.StatementsFit.{HoldsIf, referred_fit, judged_holds, areas_if}
+use Rattle.well_formed_trees.proofs.StatementsFit.{referred_fit, judged_holds, areas_if}
 
 -- ---- IN and SET
 

@@ -23,7 +23,7 @@ use Rattle.well_formed_trees.specs.Surroundings.{variables_of_block}
 use Rattle.well_formed_trees.specs.Declarations.{IsAmount, IsCheck}
 use Rattle.well_formed_trees.specs.Held.{table_of}
 use Rattle.well_formed_trees.specs.SoundVariables.{HasSoundChecks, AcceptedChecks}
-use Rattle.well_formed_trees.proofs.Lists.{every_both}
+use Rattle.well_formed_trees.proofs.Lists.{every_both, every_pair}
 use Rattle.well_formed_trees.proofs.Places.{every_at}
 use Rattle.well_formed_trees.proofs.HeadsInRange.{ranges_kept}
 use Rattle.well_formed_trees.proofs.ProgramNumbers.{lists_kept}
@@ -38,7 +38,7 @@ use Rattle.well_formed_trees.proofs.AcceptedFacts.{facts_kept}
 
 -- ---- amounts
 
-amount_sound : (written : List WrittenExtent) (e : T.Extent) → RangedExtent e → IsPlaced written e.value
+pub amount_sound : (written : List WrittenExtent) (e : T.Extent) → RangedExtent e → IsPlaced written e.value
     → IsAmount (length written) (evaluated written e.value (constant e.value))
 amount_sound written e r p = by (constant e.value) (constant_ranged e.value r) p where
   by : (c : Option ℤ) → RangedIf IsInteger c
@@ -102,11 +102,6 @@ attributes_checked written (a ∷ all) =
     every_both (SoundWritten written) (open_in_attribute a) (flat_map open_in_attribute all)
     (attribute_checked written a) (attributes_checked written all)
 
-both_bounds : (written : List WrittenExtent) (bs : List T.Bound) → Every RangedBound bs
-    → Every (BoundPlaced written) bs → Every (Checkable written) bs
-both_bounds written [] r p = tt
-both_bounds written (b ∷ bs) r p = ((r.0, p.0), both_bounds written bs r.1 p.1)
-
 all_checked : (written : List WrittenExtent) (hs : List Held) → Every RangedHeld hs
     → Every (HeldPlaced written) hs → Every (SoundWritten written) (flat_map open_in hs)
 all_checked written [] r p = tt
@@ -115,7 +110,7 @@ all_checked written (h ∷ hs) r p =
     every_both (SoundWritten written) (open_in h) (flat_map open_in hs)
     (every_both (SoundWritten written) bounds (flat_map open_in_attribute (own_attributes h))
     (every_flat (Checkable written) (SoundWritten written) open_in_bound (bound_checked written)
-    (dimensions_of h.variable) (both_bounds written (dimensions_of h.variable) r.0.0 p.0.0))
+    (dimensions_of h.variable) (every_pair RangedBound (BoundPlaced written) (dimensions_of h.variable) r.0.0 p.0.0))
     (attributes_checked written (own_attributes h)))
     (all_checked written hs r.1 p.1)
 

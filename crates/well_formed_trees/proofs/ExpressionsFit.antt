@@ -384,7 +384,7 @@ mutual
       let more = second_empty (j ++ []) ((k ++ []) ++ v) f in
       infixed_fit w op a b
       (expression_fit scope w i l r.0 (first_empty j [] (first_empty (j ++ []) ((k ++ []) ++ v) f)))
-      (expression_fit scope w i e r.1 (first_empty k [] (first_empty (k ++ []) v more)))
+      (expression_fit scope w i e r.1.0 (first_empty k [] (first_empty (k ++ []) v more)))
       (second_empty (k ++ []) v more)
   expression_fit scope w i (T.Refers q) r f = reference_fit scope w i q r f
 

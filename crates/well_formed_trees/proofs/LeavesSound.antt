@@ -66,7 +66,7 @@ abbrev SoundDimensions : Y.StorageClass → List WrittenExtent → Variable → 
 SoundDimensions class written v = Every (SoundBound class written) (dimensions_of v)
 
 -- what is so of each variable that is held is so of those that hold it
-above_hold : (P : Variable → Type 0) (chain : List Variable) (ms : List Held) → Every P chain → AreHeld chain ms
+pub above_hold : (P : Variable → Type 0) (chain : List Variable) (ms : List Held) → Every P chain → AreHeld chain ms
     → Every (λ m. P m.variable) ms → Every (λ m. Every P m.above) ms
 above_hold P chain [] k h own = tt
 above_hold P chain (m ∷ ms) k h own =
@@ -76,7 +76,7 @@ above_hold P chain (m ∷ ms) k h own =
           h.1.1 own.1,
     )
 
-every_mapped : {X Z : Type 0} (P : Z → Type 0) (f : X → Z) (xs : List X) → Every (λ x. P (f x)) xs
+pub every_mapped : {X Z : Type 0} (P : Z → Type 0) (f : X → Z) (xs : List X) → Every (λ x. P (f x)) xs
     → Every P (map f xs)
 every_mapped P f [] h = tt
 every_mapped P f (x ∷ xs) h = (h.0, every_mapped P f xs h.1)
@@ -89,7 +89,7 @@ dimensions_from n (v ∷ vs) =
     let both = length-append (dimensions_of v) (flat_map dimensions_of vs) in
     more ∙ omega (arith, both)
 
-dimensions_length : (vs : List Variable)
+pub dimensions_length : (vs : List Variable)
     → length (flat_map dimensions_of vs) ≡ sum_by (λ v. length (dimensions_of v)) vs
 dimensions_length vs = let e = dimensions_from 0 vs in sym (e ∙ omega arith)
 
@@ -205,7 +205,7 @@ all_leaves blocks w facts b see ps class written (h ∷ hs) k a = (
   all_leaves blocks w facts b see ps class written hs k.1 a.1,
 )
 
-every_leaf : (P : Held → Type 0) (hs : List Held) → Every P hs → Every P (leaves_in hs)
+pub every_leaf : (P : Held → Type 0) (hs : List Held) → Every P hs → Every P (leaves_in hs)
 every_leaf P [] h = tt
 every_leaf P (a ∷ []) h = h
 every_leaf P (a ∷ b ∷ more) h = by (is_deeper a b) (every_leaf P (b ∷ more) h.1) where

@@ -30,6 +30,7 @@ pub mod PlacesEntered
 pub mod PlacesRise
 pub mod Letters
 pub mod DeclaredOnce
+pub mod DeclaredEach
 pub mod DeclaredRanges
 pub mod EntryScopes
 pub mod HeldAlone
@@ -68,7 +69,22 @@ pub mod ExtentsSound
 pub mod ExtentsPlaced
 pub mod MembersFine
 pub mod LeavesSound
+pub mod EarlyValues
+pub mod EarlyBuiltins
+pub mod EarlyExpressions
+pub mod EvaluationsEarly
+pub mod ReferRules
+pub mod NoneKept
+pub mod LastKept
+pub mod ReferSound
+pub mod WellFormedSources
+pub mod MarksSpent
+pub mod HeadsCounted
+pub mod ParenthesesBalanced
+pub mod HeadsShallow
 pub mod ChecksSound
 pub mod WellFormedRows
 mod IllFormedRows
 mod ElementRows
+mod DeclarationRows
+mod ReferenceRows

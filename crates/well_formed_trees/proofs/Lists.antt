@@ -1,5 +1,7 @@
 -- Empty lists in two parts, properties of all of a list, and tests that are false.
-use Rattle.std.proofs.Common.{◌≡◌, Bool, true, false, ◌&&◌, ◌||◌, List, [], ◌∷◌, ◌++◌, refl, ap, ◌∙◌}
+use Rattle.std.proofs.Common.{◌≡◌, Bool, true, false, ◌&&◌, ◌||◌, List, [], ◌∷◌, ◌++◌, Option, Some, None, refl, ap}
+use Rattle.std.proofs.Common.{◌∙◌}
+use Rattle.std.specs.Prelude.{⊤}
 use Rattle.std.specs.List.{flat_map}
 use Rattle.well_formed_trees.specs.Every.{Every}
 
@@ -31,6 +33,15 @@ all_empty f (x ∷ xs) e = (first_empty (f x) (flat_map f xs) e, all_empty f xs 
 pub every_map : {X : Type 0} (P Q : X → Type 0) → ((x : X) → P x → Q x) → (xs : List X) → Every P xs → Every Q xs
 every_map P Q f [] h = tt
 every_map P Q f (x ∷ xs) h = (f x h.0, every_map P Q f xs h.1)
+
+pub every_pair : {X : Type 0} (P Q : X → Type 0) (xs : List X) → Every P xs → Every Q xs → Every (λ x. P x × Q x) xs
+every_pair P Q [] h k = tt
+every_pair P Q (x ∷ xs) h k = ((h.0, k.0), every_pair P Q xs h.1 k.1)
+
+-- what is so of what an option has
+abbrev pub HoldsIf : {X : Type 0} → (X → Type 0) → Option X → Type 0
+HoldsIf P None = ⊤
+HoldsIf P (Some x) = P x
 
 -- ---- tests
 

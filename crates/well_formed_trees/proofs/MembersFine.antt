@@ -152,7 +152,7 @@ passed_none false c e = refl
 never_both : (b : Bool) → b ≡ true → b ≡ false → ⊥
 never_both b e f = cc (e, f)
 
-extent_passed : (e : T.Extent) → extent_is_bad Passed e ≡ false → is_some e.refer ≡ false
+pub extent_passed : (e : T.Extent) → extent_is_bad Passed e ≡ false → is_some e.refer ≡ false
 extent_passed e f = passed_none (is_some e.refer) _ f
 
 passed_bound : (class : Y.StorageClass) (b : T.Bound) → bound_faults Passed b ≡ [] → BoundRefers class b
@@ -281,20 +281,28 @@ skipped (Y.AreaLeaf size) = tt
 digits_among : (digits two four five six seven : Bool) → one digits ≤ kinds_by digits two four five six seven
 digits_among digits two four five six seven = omega arith
 
+-- a number is FIXED
+pub number_type : (blocks : List Block) (b : ℕ) (written : List WrittenExtent) (all : List T.Attribute)
+    → attributes_clash all ≡ false → ((has 0 all || has 1 all) || not (has_kind all)) ≡ true
+    → type_of blocks b written all ≡ Y.FixedLeaf (precision_of (precisions_in all))
+number_type blocks b written all c e =
+    let digits = has 0 all || has 1 all in
+    number_by digits (has 2 all) (has 3 all) (has 4 all) (has 5 all) (has 6 all) (has 7 all)
+    (size_of_text written all) (size_of_area written all) (area_named blocks b (area_name all))
+    (precision_of (precisions_in all))
+    (no_kinds digits (kinds_in all) (few (kinds_in all) (few_kinds all c)) e
+    (digits_among digits (has 2 all) (has 4 all) (has 5 all) (has 6 all) (has 7 all)))
+
 value_sound : (blocks : List Block) (b : ℕ) (written : List WrittenExtent) (all : List T.Attribute)
     → attributes_clash all ≡ false → (v : T.InitialValue) → RangedValue v → value_fits all v ≡ true
     → IsInitial (type_of blocks b written all) v
 value_sound blocks b written all c T.InitialSkip r f = skipped (type_of blocks b written all)
 value_sound blocks b written all c (T.InitialNumber z) r f =
-    let digits = has 0 all || has 1 all in
     let p = precision_of (precisions_in all) in
-    let none = no_kinds digits (kinds_in all) (few (kinds_in all) (few_kinds all c))
-    (first_true (digits || not (has_kind all)) (fits_digits p z) f)
-    (digits_among digits (has 2 all) (has 4 all) (has 5 all) (has 6 all) (has 7 all)) in
-    subst (λ t. IsInitial t (T.InitialNumber z)) (sym (number_by digits (has 2 all) (has 3 all) (has 4 all) (has 5 all)
-    (has 6 all) (has 7 all) (size_of_text written all) (size_of_area written all)
-    (area_named blocks b (area_name all)) p none))
-    (second_true (digits || not (has_kind all)) (fits_digits p z) f)
+    let digits = (has 0 all || has 1 all) || not (has_kind all) in
+    subst (λ t. IsInitial t (T.InitialNumber z))
+    (sym (number_type blocks b written all c (first_true digits (fits_digits p z) f)))
+    (second_true digits (fits_digits p z) f)
 value_sound blocks b written all c (T.InitialText text) r f =
     text_by (has 2 all) (has 3 all) (has 4 all) (has 5 all) (has 6 all) (has 7 all) (size_of_text written all)
     (size_of_area written all) (area_named blocks b (area_name all)) (precision_of (precisions_in all)) text f r

@@ -2,7 +2,7 @@
 use Rattle.std.proofs.Common.{◌≡◌, ℕ, ◌+◌, Bool, true, false, List, [], ◌∷◌}
 use Rattle.std.proofs.Common.{◌++◌, Option, Some, None, if◌then◌else◌, refl, sym, ap, ◌∙◌, subst, arith}
 use Rattle.std.proofs.Common.{inl, inr}
-use Rattle.std.specs.Prelude.{slice_get, is_some, ⊤}
+use Rattle.std.specs.Prelude.{slice_get, is_some}
 use Rattle.pli_language.specs.declared.expr.Place.{Place}
 use Rattle.pli_language.specs.declared.scope.Found.{Found}
 use Rattle.pli_language.specs.declared.scope.Found.TheVariants as F
@@ -37,7 +37,7 @@ use Rattle.well_formed_trees.specs.Spelled.{IsNamed}
 use Rattle.well_formed_trees.specs.Spelled.{RangedCounting, RangedPair}
 use Rattle.pli_language.specs.Formats.{Getting, Putting}
 use Rattle.well_formed_trees.specs.SoundStatements.{IsSoundAlone}
-use Rattle.well_formed_trees.proofs.Lists.{first_empty, second_empty}
+use Rattle.well_formed_trees.proofs.Lists.{first_empty, second_empty, HoldsIf}
 use Rattle.well_formed_trees.proofs.Places.{same_some, every_at}
 use Rattle.well_formed_trees.proofs.ResultTypes.{head_result}
 use Rattle.well_formed_trees.proofs.Facts.{Facts, IsSeen, IsVisible, InScope, Sees}
@@ -77,10 +77,6 @@ number_fit scope w i e r f =
     number_operand_sound w o.value (operand_fit scope w i e r (first_empty o.faults _ f)) (second_empty o.faults _ f)
 
 -- what is judged where it is written
-abbrev pub HoldsIf : {X : Type 0} → (X → Type 0) → Option X → Type 0
-HoldsIf P None = ⊤
-HoldsIf P (Some x) = P x
-
 pub judged_holds : {X Z : Type 0} (P : Z → Type 0) (Q : X → Type 0) (judge : X → Judged Z)
     → ((x : X) → Q x → (judge x).faults ≡ [] → P (judge x).value) → (o : Option X) → RangedIf Q o
     → (judged_if judge o).faults ≡ [] → HoldsIf P (judged_if judge o).value

@@ -18,3 +18,5 @@ pub mod Everywhere
 pub mod SoundStatements
 pub mod Structured
 pub mod SoundVariables
+pub mod Counted
+pub mod Shallow

@@ -1,6 +1,9 @@
--- What tokens and spelling say of each head of a tree: its line, its constants and texts, its format lists, and how
--- deep it stands.
-use Rattle.std.specs.Prelude.{◌≡◌, ℕ, suc, Bool, true, false, ◌<◌, pos, List, [], ◌∷◌, length, Option, Some, None, ⊤}
+-- What tokens and spelling say of each head of a tree: its line, its constants and texts, how its operators bind, its
+-- format lists, and how deep it stands.
+use Rattle.std.specs.Prelude.{◌≡◌, ℕ, suc, Bool, true, false, ◌<◌, max, pos, List, [], ◌∷◌, length, Option, Some}
+use Rattle.std.specs.Prelude.{None, ⊤}
+use Rattle.pli_language.specs.declared.expr.InfixOp.{InfixOp}
+use Rattle.pli_language.specs.declared.expr.InfixOp.TheVariants as I
 use Rattle.pli_language.specs.declared.token.Token.{Token}
 use Rattle.pli_language.specs.Tokens.{Tokens}
 use Rattle.pli_language.specs.Formats.{Direction, Getting, Putting}
@@ -12,6 +15,29 @@ use Rattle.well_formed_trees.specs.Ranges.{IsLine, IsConstant, IsInteger, IsLeng
 
 -- ---- expressions
 
+-- operators of a smaller reach bind closer
+abbrev pub reach_of : InfixOp → ℕ
+reach_of I.Multiply = 1
+reach_of I.Divide = 1
+reach_of I.Add = 2
+reach_of I.Subtract = 2
+reach_of I.Join = 3
+reach_of I.Equal = 4
+reach_of I.NotEqual = 4
+reach_of I.Less = 4
+reach_of I.Greater = 4
+reach_of I.LessOrEqual = 4
+reach_of I.GreaterOrEqual = 4
+reach_of I.And = 5
+reach_of I.Or = 6
+
+-- of the operator that binds least outside of parentheses
+abbrev pub reach : T.Expr → ℕ
+reach (T.Prefix op e place) = reach e
+reach (T.Infix op left right) = max (reach_of op) (reach left)
+reach _ = 0
+
+-- what stands right of an operator binds closer, all of it
 abbrev mutual
   pub RangedExpr : T.Expr → Type 0
   RangedExpr (T.Number n place) = IsConstant n
@@ -19,7 +45,7 @@ abbrev mutual
   RangedExpr (T.Bit b place) = ⊤
   RangedExpr (T.Parenthesized e place) = RangedExpr e
   RangedExpr (T.Prefix op e place) = RangedExpr e
-  RangedExpr (T.Infix op left right) = RangedExpr left × RangedExpr right
+  RangedExpr (T.Infix op left right) = RangedExpr left × (RangedExpr right × (reach right < reach_of op))
   RangedExpr (T.Refers r) = RangedReference r
 
   pub RangedReference : T.Reference → Type 0

@@ -1,7 +1,10 @@
 // Laws of typed trees, each of which a function carries.
 
 ghost use Rattle.well_formed_trees.specs.WellFormed.{ShapeKept, NumbersKept, ListsKept, OutermostKept, LabelsKept};
+ghost use Rattle.well_formed_trees.specs.WellFormed.{AcceptedWellFormed};
 ghost use Rattle.well_formed_trees.specs.Spelled.{RangesKept};
+ghost use Rattle.well_formed_trees.specs.Counted.{ArgumentsKept};
+ghost use Rattle.well_formed_trees.specs.Shallow.{ParenthesesKept};
 ghost use Rattle.well_formed_trees.specs.Placed.{PlacesKept};
 ghost use Rattle.well_formed_trees.specs.Written.{GroupsKept};
 ghost use Rattle.well_formed_trees.specs.Framed.{AcceptedFramed};
@@ -23,9 +26,20 @@ pub fn groups_kept()
     ensures { GroupsKept }
 {}
 
-/// Lines, constants, texts and format lists of what is spelled are in range, and nothing stands deeper than it may.
+/// Lines, constants, texts and format lists of what is spelled are in range, what stands right of an operator binds
+/// closer than it, and nothing stands deeper than it may.
 pub fn ranges_kept()
     ensures { RangesKept }
+{}
+
+/// No head of what is spelled has more arguments and subscripts than a head may, nor a procedure more parameters.
+pub fn arguments_kept()
+    ensures { ArgumentsKept }
+{}
+
+/// No expression in a head of what is spelled has more parentheses open at once than may be.
+pub fn parentheses_kept()
+    ensures { ParenthesesKept }
 {}
 
 /// Each block has a number of its own, from 1 on.
@@ -130,4 +144,9 @@ pub fn accepted_leaves()
 /// What is checked behind an evaluation of an accepted source is in range, or among the variable's evaluations.
 pub fn accepted_checks()
     ensures { AcceptedChecks }
+{}
+
+/// The typed tree of each accepted source is well formed: all that a proof about code wants to know of it.
+pub fn accepted_well_formed()
+    ensures { AcceptedWellFormed }
 {}

@@ -1,0 +1,4 @@
+mod PieceSizes
+mod ReachedSizes
+mod ExpressionSizes
+mod SizeRows

@@ -1,0 +1,14 @@
+mod WeightBounds
+mod ValuesWithin
+mod BuiltinsWithin
+mod ExpressionsWithin
+mod HeadsZipped
+mod HeadsLight
+mod LevelsShallow
+mod SingleWithin
+mod StorageWithin
+mod StatementsSmall
+mod DeclaredLight
+mod ExtentsSmall
+mod AcceptedSmall
+mod FrameRows

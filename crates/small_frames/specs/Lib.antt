@@ -1,0 +1,4 @@
+pub mod Weights
+pub mod Within
+pub mod Light
+pub mod Small
