@@ -1,0 +1,117 @@
+-- A program whose run is known at each number of acts keeps the headline.
+use Rattle.std.proofs.Common.{ℕ, suc, ◌+◌, ◌*◌, ◌^◌, ◌<◌, ◌≤◌, List, [], ◌∷◌, length, refl, arith}
+use Rattle.pli_typing.specs.TypedTree as Y
+use Rattle.pli_meaning.specs.Executing.{meaning, run}
+use Rattle.pli_meaning.specs.Pictures.{first_bytes}
+use Rattle.pli_meaning.specs.StorageState.{first_state}
+use Rattle.area_keeper.specs.KeeperLaws.{Keeps}
+use Rattle.granule_keeper.specs.Granules.{granules}
+use Rattle.pli_serving.specs.ServiceState.{first_services}
+use Rattle.pli_coding.specs.Assembly.{size_of}
+use Rattle.pli_coding.specs.Images.{code_of, picture_of}
+use Rattle.pli_coding.specs.Linking.{links_of}
+use Rattle.pli_coding.specs.SignatureTable.{table_of}
+use Rattle.run_steps.proofs.Linking.{linked_length}
+use Rattle.pli_headline.specs.Headline.{FitsMemory, Headline, parts}
+use Rattle.pli_headline.proofs.Promises.{Comes_at, Laws, Works, from_flow, promised}
+use Rattle.pli_headline.proofs.WholeSizes.{first_length}
+use Rattle.program_runs.specs.Rows.{main_entry, row_end, row_environment, row_inner, row_main, row_procedure}
+use Rattle.program_runs.specs.Rows.{row_program}
+use Rattle.program_runs.specs.VariableRows.{number_declared, number_entry, number_environment, number_main}
+use Rattle.program_runs.specs.VariableRows.{number_program}
+use Rattle.program_runs.specs.Variables.{newest_made}
+use Rattle.program_runs.proofs.Programs.{program_runs}
+use Rattle.program_runs.proofs.Rows.{main_each, row_is}
+use Rattle.program_runs.proofs.Starts.{first_step_of}
+use Rattle.program_runs.proofs.VariableRows.{number_each, number_end, number_is}
+use Rattle.block_headlines.specs.Headlines.{HeadlinesOfRows, Layout, Runs, whole_of}
+
+comes :
+    Laws → Keeps granules → (program : Y.Program) (x : Layout) → Runs program x → (input : List ℕ) (k : ℕ) →
+    k + 1 < 2 ^ 64 →
+    Comes_at (picture_of parts program) (table_of program) program input k
+unfolding meaning
+comes laws keeps program x is input k few =
+    from_flow laws (picture_of parts program) (table_of program) program input k
+    (run program (suc k) k (first_state input)) refl
+    (program_runs keeps (whole_of program x input k) (first_bytes (picture_of parts program)) (is.whole input k few)
+    (is.each input k few))
+
+works :
+    Laws → Keeps granules → (program : Y.Program) (x : Layout) → Runs program x →
+    Works (picture_of parts program) (table_of program) program
+works laws keeps program x is =
+    record {
+      comes = comes laws keeps program x is;
+      first = λ input b. first_step_of (first_bytes (picture_of parts program))
+          (first_services (table_of program) input) x.main.head.number (is.whole input 0 (omega arith)).start.linked b;
+    }
+
+pub kept :
+    Laws → Keeps granules → (program : Y.Program) (x : Layout) → Runs program x →
+    Headline program (picture_of parts program) (table_of program)
+kept laws keeps program x is =
+    promised laws (picture_of parts program) (table_of program) program (works laws keeps program x is)
+
+-- ---- the worked rows
+
+small_fits : (program : Y.Program) → size_of (code_of parts program) ≤ 2 ^ 20 →
+    length (picture_of parts program).statics ≤ 3 * 2 ^ 20 → FitsMemory (picture_of parts program)
+small_fits program small' few =
+    let n = linked_length (links_of (code_of parts program)) 0 (code_of parts program) in
+    record { code_fits = omega (arith, n, small'); statics_fit = few }
+
+row_fits : FitsMemory (picture_of parts row_program)
+row_fits = small_fits row_program (omega arith) (omega arith)
+
+number_fits : FitsMemory (picture_of parts number_program)
+number_fits = small_fits number_program (omega arith) (omega arith)
+
+abbrev row_layout : Layout
+row_layout =
+    record {
+      main = row_main;
+      others = row_procedure row_inner ∷ [];
+      environment = row_environment row_main;
+      entry = main_entry;
+      end = row_end main_entry row_main;
+      units = [];
+      made = λ q. q;
+    }
+
+abbrev number_layout : Layout
+number_layout =
+    record {
+      main = number_main;
+      others = [];
+      environment = number_environment;
+      entry = number_entry;
+      end = number_end;
+      units = [];
+      made = newest_made parts number_declared;
+    }
+
+row_runs : Runs row_program row_layout
+row_runs =
+    record {
+      whole = λ input acts few.
+          row_is input (first_bytes (picture_of parts row_program)) acts few
+          (first_length (picture_of parts row_program) row_fits);
+      each = λ input acts few b. main_each input acts few b;
+    }
+
+number_runs : Runs number_program number_layout
+number_runs =
+    record {
+      whole = λ input acts few.
+          number_is input (first_bytes (picture_of parts number_program)) acts few
+          (first_length (picture_of parts number_program) number_fits);
+      each = λ input acts few b. number_each input acts few;
+    }
+
+pub rows_kept : Laws → Keeps granules → HeadlinesOfRows
+rows_kept laws keeps =
+    record {
+      calling = kept laws keeps row_program row_layout row_runs;
+      number = kept laws keeps number_program number_layout number_runs;
+    }

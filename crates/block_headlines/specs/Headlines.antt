@@ -1,0 +1,76 @@
+-- The headline of programs whose run is known by the relation of activations.
+use Rattle.std.specs.Prelude.{ℕ, ◌+◌, ◌^◌, ◌<◌, List, map}
+use Rattle.pli_typing.specs.TypedTree as Y
+use Rattle.pli_meaning.specs.Pictures.{first_bytes}
+use Rattle.pli_serving.specs.Templates.{template_of}
+use Rattle.pli_coding.specs.Environments.{Environment}
+use Rattle.pli_coding.specs.Images.{code_of, linked_code, picture_of}
+use Rattle.pli_coding.specs.Linking.{links_of}
+use Rattle.pli_coding.specs.SignatureTable.{table_of}
+use Rattle.activation_relation.specs.Chains.{UnitPlaces}
+use Rattle.activation_relation.specs.Layers.{Point}
+use Rattle.pli_headline.specs.Headline.{Headline, parts}
+use Rattle.program_runs.specs.Calls.{block_at, body_index, left_over}
+use Rattle.program_runs.specs.Procedures.{Procedure}
+use Rattle.program_runs.specs.Programs.{IsWhole, Whole, main_of}
+use Rattle.program_runs.specs.Rows.{row_program}
+use Rattle.program_runs.specs.VariableRows.{number_program}
+use Rattle.program_runs.specs.Starts.{no_numbers, start_point, surroundings_of}
+use Rattle.program_runs.specs.Statements.{EachDoes, IsBegun}
+
+-- what is said of a program's image beside the program: its main procedure and the others, where its code and its end
+-- stand, where the code of its on-units stands, and what becomes of the point where its variables are made
+pub record Layout : Type 0 where
+  pub main : Procedure
+  pub others : List Y.Procedure
+  pub environment : Environment
+  pub entry : ℕ
+  pub end : ℕ
+  pub units : UnitPlaces
+  pub made : Point → Point
+
+-- the program with the image that pli_coding defines, on an input, with as many acts allowed
+abbrev pub whole_of : Y.Program → Layout → (input : List ℕ) → (acts : ℕ) → Whole
+whole_of program x input acts =
+    record {
+      image = record {
+        code = linked_code (code_of parts program);
+        links = links_of (code_of parts program);
+        units = x.units;
+        signatures = map template_of (table_of program);
+        input = input;
+        acts = acts;
+      };
+      program = program;
+      main = x.main;
+      others = x.others;
+      environment = x.environment;
+      entry = x.entry;
+      end = x.end;
+      made = x.made;
+    }
+
+-- whatever the input and the number of acts, it is a whole program, of which each statement does what it means
+pub record Runs (program : Y.Program) (x : Layout) : Type 0 where
+  pub whole :
+      (input : List ℕ) (acts : ℕ) → acts + 1 < 2 ^ 64 →
+      IsWhole (whole_of program x input acts) (first_bytes (picture_of parts program))
+  pub each :
+      (input : List ℕ) (acts : ℕ) → acts + 1 < 2 ^ 64 →
+      IsBegun
+      (block_at (surroundings_of (whole_of program x input acts).image) (linked_code (code_of parts program))
+      (main_of (whole_of program x input acts)) (start_point (whole_of program x input acts).image) no_numbers) →
+      EachDoes
+      (block_at (surroundings_of (whole_of program x input acts).image) (linked_code (code_of parts program))
+      (main_of (whole_of program x input acts)) (start_point (whole_of program x input acts).image) no_numbers)
+      x.main.body (body_index (main_of (whole_of program x input acts))) left_over
+
+-- such a program keeps the headline
+abbrev pub HeadlinesKept : Type 0
+HeadlinesKept =
+    (program : Y.Program) (x : Layout) → Runs program x → Headline program (picture_of parts program) (table_of program)
+
+-- and so do those of the worked rows
+pub record HeadlinesOfRows : Type 0 where
+  pub calling : Headline row_program (picture_of parts row_program) (table_of row_program)
+  pub number : Headline number_program (picture_of parts number_program) (table_of number_program)

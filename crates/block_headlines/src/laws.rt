@@ -1,0 +1,25 @@
+// Laws of the definitions: each function's contract is one law, and calling it does nothing.
+
+ghost use Rattle.block_headlines.specs.Headlines.{HeadlinesKept, HeadlinesOfRows};
+
+use granule_keeper::laws::granules_keep;
+use pli_meaning::laws::{storage_acts_allowed, storage_stays};
+
+/// A program keeps the headline with the image that pli_coding defines for it if each statement of its main procedure
+/// does what it means, whatever the input and the number of acts that are allowed.
+pub fn headlines_kept()
+    ensures { HeadlinesKept }
+{
+    storage_stays();
+    storage_acts_allowed();
+    granules_keep();
+}
+
+/// A main procedure that calls a procedure inside it keeps the headline, and so does one with a variable.
+pub fn headlines_of_rows()
+    ensures { HeadlinesOfRows }
+{
+    storage_stays();
+    storage_acts_allowed();
+    granules_keep();
+}

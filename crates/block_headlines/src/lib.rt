@@ -1,0 +1,4 @@
+// The headline by the relation of activations.
+#![tactic(auto)]
+
+pub mod laws;

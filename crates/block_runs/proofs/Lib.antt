@@ -1,0 +1,14 @@
+pub mod Places
+pub mod StoredGrounds
+pub mod FrameStores
+pub mod FrameBeginnings
+pub mod PointGrounds
+pub mod BlockEntries
+pub mod Endings
+pub mod PointCalls
+pub mod PointActs
+pub mod EmptyCalls
+pub mod EmptyMeaning
+pub mod CallStatements
+pub mod CallsReturn
+pub mod Rows

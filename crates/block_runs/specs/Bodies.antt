@@ -1,0 +1,123 @@
+-- A procedure or function with any body that comes to its end: what is asked of the body, and what follows of the call.
+use Rattle.std.specs.Prelude.{ℕ, List, ◌+◌, ◌≤◌, ◌≡◌, true, Option, None, Some}
+use Rattle.rv_meaning.specs.declared.instr.Instr.{Instr}
+use Rattle.pli_meaning.specs.BasicValues.{BasicValue, BasicNumber, BasicBit, BasicOffset}
+use Rattle.rv_meaning.specs.Machine.{value}
+use Rattle.rv_meaning.specs.Words.{word, flag}
+use Rattle.pli_serving.specs.Bytes.{offset_word}
+use Rattle.pli_coding.specs.Registers.{a0}
+use Rattle.pli_meaning.specs.Control.{Meaning, left}
+use Rattle.pli_meaning.specs.StorageState.{State, Activation, newest_ended}
+use Rattle.pli_serving.specs.ServiceState.{Services}
+use Rattle.pli_coding.specs.Assembly.{size_of}
+use Rattle.run_steps.specs.Engine.{Base}
+use Rattle.run_steps.specs.Items.{Linked}
+use Rattle.run_steps.specs.Reach.{Family, Reach, Aims, Comes}
+use Rattle.activation_relation.specs.Entering.{Later}
+use Rattle.activation_relation.specs.Landing.{Resumes}
+use Rattle.activation_relation.specs.Layers.{Point, services_of}
+use Rattle.activation_relation.specs.Points.{Surroundings, Stands}
+use Rattle.block_runs.specs.Beginnings.{Beginning, IsBeginning, IsCalling, CallStands, begun_point, beginning_code}
+use Rattle.block_runs.specs.Endings.{IsWord, HasGiven, ending_code}
+use Rattle.block_runs.specs.Machines.{IsImage, IsIn, AreIn}
+
+-- a call: what is around it, its point, what waits in registers, what is called, and where the call, the beginning and
+-- the end stand; a function leaves its word at a place of its frame
+pub record Called : Type 0 where
+  pub surroundings : Surroundings
+  pub code : List Instr
+  pub point : Point
+  pub numbers : ℕ → ℕ
+  pub beginning : Beginning
+  pub call : ℕ
+  pub entry : ℕ
+  pub end : ℕ
+  pub function : Option ℕ
+
+pub record IsCall (k : Called) : Type 0 where
+  pub stands : Stands k.surroundings k.point
+  pub image : IsImage k.surroundings k.code k.point
+  pub beginning : IsBeginning k.surroundings k.point k.numbers k.beginning
+  pub code : CallStands k.surroundings k.code k.beginning k.call k.entry
+  pub ending : Linked k.surroundings.links k.code k.end (ending_code k.beginning.layer k.function)
+  pub word : IsWord k.function
+
+-- a function's result as the word that it leaves: a number, a bit or an offset
+abbrev pub IsResult : (function : Option ℕ) → Option BasicValue → (given : ℕ) → Type 0
+IsResult None None given = given ≡ 0
+IsResult (Some place) (Some (BasicNumber z)) given = given ≡ word z
+IsResult (Some place) (Some (BasicBit b)) given = given ≡ flag b
+IsResult (Some place) (Some (BasicOffset o)) given = given ≡ offset_word o
+IsResult _ _ _ = ⊥
+
+-- ---- what is asked of a body
+
+-- it has come to its end: its block is the newest, over those that were there, and registers that it doesn't save hold
+-- what they held; so many credits are left
+pub record AtEnd (k : Called) (left' credits : ℕ) (f : Family) (v : Services) (r : Option BasicValue)
+    (s : State) : Type 0
+  where
+    pub point : Point
+    pub after : ℕ → ℕ
+    pub activation : Activation
+    pub resumes :
+        Resumes k.surroundings k.point.state.world.acts activation k.point.state.activations k.beginning.layer
+        k.point.control.layers point
+    pub image : IsImage k.surroundings k.code point
+    pub others : (n : ℕ) → k.beginning.layer.saved ≤ n → after n ≡ k.numbers n
+    pub state : s ≡ point.state
+    pub given : ℕ
+    pub result : IsResult k.function r given
+    pub reach :
+        Reach k.code credits f v left' (services_of point)
+        (λ b y. IsIn k.surroundings point after k.end b y × HasGiven k.beginning.layer k.function given y)
+
+abbrev pub body_aims : Called → (left' : ℕ) → Aims (Unit {0})
+body_aims k left' =
+    record {
+      done = λ c f v r s. AtEnd k left' c f v None s;
+      jumped = λ c f v height label s. ⊥;
+      returned = λ c f v r s. AtEnd k left' c f v r s;
+    }
+
+-- ---- what follows
+
+-- behind the call, at a later point, with the numbers in registers as they were, and a function's word in a0
+pub record IsBehind (k : Called) (wanted credits : ℕ) (f : Family) (v : Services) (r : Option BasicValue)
+    (s : State) : Type 0 where
+  pub point : Point
+  pub stands : Stands k.surroundings point
+  pub image : IsImage k.surroundings k.code point
+  pub later : Later k.point point
+  -- the stack of texts is that which stood below the call
+  pub entries : point.control.entries ≡ k.beginning.layer.entries
+  pub state : s ≡ point.state
+  pub given : ℕ
+  pub result : IsResult k.function r given
+  pub reach :
+      Reach k.code credits f v wanted (services_of point)
+      (λ b y. IsIn k.surroundings point k.numbers k.beginning.layer.back b y × (value y.machine a0 ≡ given))
+
+abbrev pub behind_aims : Called → (wanted : ℕ) → Aims (Option BasicValue)
+behind_aims k wanted =
+    record {
+      done = λ c f v r s. IsBehind k wanted c f v r s;
+      jumped = λ c f v height label s. ⊥;
+      returned = λ c f v r s. ⊥;
+    }
+
+-- with as many credits more as are left at the end and as the end costs, which is paid back there
+abbrev pub CallsReturn : Type 0
+CallsReturn =
+    (k : Called) (part : Meaning (Unit {0})) (credits left' wanted : ℕ) (f : Family) → IsCall k →
+    ((g : Family) →
+    AreIn k.surroundings (begun_point k.beginning k.point) k.numbers
+    (k.entry + size_of (beginning_code k.beginning)) g →
+    Comes k.code
+    (credits + (left' + size_of (ending_code k.beginning.layer k.function)) + 2 + size_of
+    (beginning_code k.beginning)) g
+    (services_of (begun_point k.beginning k.point)) (body_aims k left')
+    (part k.surroundings.acts (begun_point k.beginning k.point).state)) →
+    AreIn k.surroundings k.point k.numbers k.call f → ((b : Base) → IsCalling k.point k.beginning b (f b)) →
+    Comes k.code credits f (services_of k.point) (behind_aims k wanted)
+    (left true newest_ended (part k.surroundings.acts (begun_point k.beginning k.point).state))

@@ -1,0 +1,260 @@
+-- The statement CALL in the block that declares the procedure.
+use Rattle.std.proofs.Common.{◌≡◌, ℕ, suc, ◌+◌, ◌≤◌, List, [], ◌∷◌, ◌++◌, length, Option, Some, true}
+use Rattle.std.proofs.Common.{refl, sym, ap, ◌∙◌, subst, arith}
+use Rattle.std.proofs.lemmas.Bool.{eq-eqb}
+use Rattle.std.specs.Prelude.{cond, nat_lt, ◌==◌}
+use Rattle.pli_typing.specs.TypedTree as Y
+use Rattle.pli_meaning.specs.BasicValues.{BasicValue}
+use Rattle.pli_meaning.specs.Control.{Meaning, act, give, looked, ◌>>=◌, ◌>>◌}
+use Rattle.pli_meaning.specs.Evaluating as V
+use Rattle.pli_meaning.specs.Executing as M
+use Rattle.pli_meaning.specs.Executing.{begun}
+use Rattle.pli_meaning.specs.Raising.{Around, Entry, at_line}
+use Rattle.pli_meaning.specs.StorageState.{Activation, State, ancestor, ancestor_at, height_of, newest_height}
+use Rattle.pli_meaning.specs.StorageState.{most_activations}
+use Rattle.pli_meaning.specs.World.{counted}
+use Rattle.pli_coding.specs.Allocating.{act_code}
+use Rattle.pli_coding.specs.Assembly.{size_of}
+use Rattle.pli_coding.specs.Environments.{none_taken}
+use Rattle.pli_coding.specs.Frames.{fixed_size}
+use Rattle.activation_relation.specs.Chains.{AreActive, HasParent, frame_at}
+use Rattle.activation_relation.specs.Frames.{frame_under, lower_end}
+use Rattle.activation_relation.specs.Landing.{resumed, with_units}
+use Rattle.activation_relation.specs.Layers.{Layer, Point, services_of}
+use Rattle.activation_relation.proofs.Blocks.{same_length}
+use Rattle.activation_relation.proofs.Returning.{later_then}
+use Rattle.run_steps.specs.Items.{Linked}
+use Rattle.run_steps.proofs.Jumps.{front_of, back_of}
+use Rattle.run_steps.proofs.Linking.{size_append}
+use Rattle.run_steps.specs.Reach.{Family, Comes, before}
+use Rattle.run_steps.proofs.Reach.{before_closed, comes_on, onward, reach_map}
+use Rattle.block_runs.specs.Bodies.{IsBehind, behind_aims}
+use Rattle.block_runs.specs.CallStatements.{CallStatement}
+use Rattle.block_runs.specs.Machines.{IsIn, AreIn, acted}
+use Rattle.block_runs.proofs.CallStatements.{comes_map, arguments_given, own_code, given_code, call_code_of}
+use Rattle.block_runs.proofs.PointActs.{act_comes}
+use Rattle.program_runs.specs.Calls.{AreMade, Callee, IsCall, called_at, block_at, body_index, left_over, call_of}
+use Rattle.program_runs.specs.Procedures.{HasRoom, beginning_for, block_of, frame_for}
+use Rattle.program_runs.specs.Statements.{Block, IsAmong, IsBegun, GoesOn, Does, EachDoes, size_in, statement_aims}
+use Rattle.program_runs.proofs.Calls.{procedure_runs}
+use Rattle.program_runs.proofs.Statements.{acted_among, statement_closed}
+
+-- ---- the running block is the static parent
+
+newest_ancestor :
+    (a : Activation) (as' : List Activation) (level : ℕ) → a.level ≡ level →
+    height_of (ancestor (a ∷ as') a.height level) ≡ a.height
+newest_ancestor a as' level e =
+    ap (λ q. height_of (cond q (cond (a.level == level) (Some a) (ancestor as' a.parent level))
+    (ancestor as' a.height level))) (eq-eqb a.height a.height refl)
+    ∙ ap (λ q. height_of (cond q (Some a) (ancestor as' a.parent level))) (eq-eqb a.level level e)
+
+-- the newest activation, with the layers beside it
+pub record Newest (k : Block) (p : Point) : Type 0 where
+  pub activation : Activation
+  pub layer : Layer
+  pub active : p.state.activations ≡ activation ∷ k.call.point.state.activations
+  pub layers : p.control.layers ≡ layer ∷ k.call.point.control.layers
+  pub height : activation.height ≡ suc (length k.call.point.state.activations)
+  pub level : activation.level ≡ k.call.beginning.layer.level
+  pub many : length k.call.point.state.activations ≡ length k.call.point.control.layers
+
+newest_at : {k : Block} {numbers : ℕ → ℕ} {p : Point} → IsBegun k → IsAmong k numbers p → Newest k p
+newest_at {k} {p = p} b o =
+    let r = b.resumes in
+    let units = k.call.surroundings.units in
+    let as' = k.call.point.state.activations in
+    let φs = k.call.point.control.layers in
+    let layers = o.later.layers ∙ r.layers in
+    let activations = o.later.activations ∙ r.activations in
+    let active = subst (λ xs. AreActive units xs (resumed r.changed k.call.beginning.layer ∷ φs)) activations
+    (subst (λ ls. AreActive units p.state.activations ls) layers o.stands.active) in
+    record {
+      activation = with_units r.own b.activation;
+      layer = resumed r.changed k.call.beginning.layer;
+      active = activations;
+      layers = layers;
+      height = active.0.height;
+      level = active.0.level;
+      many = sym (same_length units as' φs active.1);
+    }
+
+parent_height :
+    {k : Block} {c : Callee} {line index more : ℕ} {p : Point} → IsCall k c line index more → Newest k p →
+    height_of (ancestor_at p.state k.environment.level) ≡ c.calling.parent
+parent_height {k} h n =
+    let height = n.height in
+    let parent = h.parent in
+    ap (λ xs. height_of (ancestor xs (newest_height xs) k.environment.level)) n.active
+    ∙ newest_ancestor n.activation k.call.point.state.activations k.environment.level (n.level ∙ sym h.level)
+    ∙ omega (arith, height, parent)
+
+newest_frame_at :
+    (φ : Layer) (φs : List Layer) (n : ℕ) → n ≡ suc (length φs) → frame_at (φ ∷ φs) n ≡ φ.at
+newest_frame_at φ φs n e = ap (λ q. cond q φ.at (frame_at φs n)) (eq-eqb n (suc (length φs)) e)
+
+parent_frame :
+    {k : Block} {c : Callee} {line index more : ℕ} {p : Point} → IsCall k c line index more → Newest k p →
+    frame_at p.control.layers c.calling.parent ≡ frame_under k.call.surroundings.parts p.control.layers
+parent_frame {k} {c} h n =
+    let parts = k.call.surroundings.parts in
+    let many = n.many in
+    let parent = h.parent in
+    subst (λ ls. frame_at ls c.calling.parent ≡ frame_under parts ls) (sym n.layers)
+    (newest_frame_at n.layer k.call.point.control.layers c.calling.parent (omega (arith, many, parent)))
+
+-- ---- at each of the block's points
+
+room_among :
+    {k : Block} {c : Callee} {line index more : ℕ} {numbers : ℕ → ℕ} {p : Point} → IsCall k c line index more →
+    IsAmong k numbers p → HasRoom k.call.surroundings p c.procedure c.calling
+room_among {k} {c} h o =
+    let parts = k.call.surroundings.parts in
+    let x = c.procedure in
+    record {
+      room = subst (λ ls. frame_for parts ls x + fixed_size x.head.level 0 ≤ lower_end parts ls) (sym o.later.layers)
+          h.room.room;
+      shallow = subst (λ xs. nat_lt (length xs) most_activations ≡ true) (sym o.later.activations) h.room.shallow;
+      parent = subst (λ xs. HasParent x.head.level c.calling.parent xs) (sym o.later.activations) h.room.parent;
+      idle = o.later.waiting ∙ h.room.idle;
+    }
+
+-- what the call means
+called_means :
+    {k : Block} {c : Callee} {line index more : ℕ} {p : Point} → IsCall k c line index more → Newest k p →
+    V.called (at_line k.around line) (Y.Calling c.procedure.head.number k.environment.level Y.NoArgument)
+    k.call.surroundings.acts p.state
+    ≡ M.block_run c.around (block_of c.procedure) (begun (block_of c.procedure) c.calling.parent)
+    k.call.surroundings.acts p.state
+unfolding V.called V.arguments V.all_passed_last V.procedure_entered M.entered looked give ◌>>=◌ ◌>>◌
+called_means {k} {c} {line} {more = more} {p = p} h n =
+    let s = p.state in
+    let acts = k.call.surroundings.acts in
+    let block = block_of c.procedure in
+    let height = height_of (ancestor_at s k.environment.level) in
+    ap (λ q. V.procedure_entered (at_line k.around line) q k.environment.level [] acts s) h.found
+    ∙ ap (λ (enters : Entry → Meaning (Option BasicValue)). enters (begun block height) acts s) h.enter
+    ∙ ap (λ (a : Around). M.block_run a block (begun block height) acts s) (sym h.around)
+    ∙ ap (λ m. M.block_run c.around block (begun block m) acts s) (parent_height h n)
+
+-- ---- the statement
+
+abbrev pub statement_at : Block → Callee → (line index : ℕ) → Point → (numbers : ℕ → ℕ) → CallStatement
+statement_at k c line index p numbers =
+    record {
+      surroundings = k.call.surroundings;
+      code = k.call.code;
+      environment = k.environment;
+      taken = none_taken;
+      around = k.around;
+      line = line;
+      index = index;
+      beginning = beginning_for k.call.surroundings p numbers c.procedure c.calling;
+      entry = c.calling.entry;
+    }
+
+abbrev behind_call : Option BasicValue → Meaning (Unit {0})
+behind_call r = give tt
+
+-- behind the call its block goes on
+behind_goes :
+    {k : Block} {c : Callee} {line index more wanted credits : ℕ} {numbers : ℕ → ℕ} {p : Point} {f : Family}
+    {r : Option BasicValue} {s : State} {v : _} (h : IsCall k c line index more) (o : IsAmong k numbers p) →
+    IsBehind (called_at k.call.surroundings k.call.code c p numbers) wanted credits f v r s →
+    GoesOn k (index + size_in k (call_of k c line)) wanted credits f v s
+behind_goes {k} {numbers = numbers} {p = p} h o q =
+    let w = k.call.surroundings in
+    record {
+      point = q.point;
+      numbers = numbers;
+      among = record {
+        stands = q.stands;
+        image = q.image;
+        later = later_then k.first p q.point o.later q.later;
+        entries = q.entries ∙ o.entries;
+        others = o.others;
+        words = o.words;
+      };
+      state = q.state;
+      reach = reach_map _ q.reach (λ b y is. subst (λ n. IsIn w q.point numbers n b y) h.call is.0);
+    }
+
+call_goes :
+    (k : Block) (c : Callee) (line index left' more : ℕ) (h : IsCall k c line index more) (p : Point)
+    (numbers : ℕ → ℕ) (wanted : ℕ) (f : Family) (o : IsAmong k numbers p) → IsBegun k →
+    AreMade k.call.surroundings k.call.code c p numbers →
+    (IsBegun (block_at k.call.surroundings k.call.code c p numbers) →
+    EachDoes (block_at k.call.surroundings k.call.code c p numbers) c.procedure.body (body_index c) left_over) →
+    Linked k.call.surroundings.links k.call.code (index + size_of (act_code line))
+    (given_code (statement_at k c line index p numbers) ++ call_code_of (statement_at k c line index p numbers)) →
+    size_in k (call_of k c line)
+    ≡ size_of (act_code line)
+    + size_of (given_code (statement_at k c line index p numbers)
+    ++ call_code_of (statement_at k c line index p numbers)) →
+    AreIn k.call.surroundings p numbers (index + size_of (act_code line)) f →
+    Comes k.call.code 0 f (services_of p)
+    (before k.call.code (statement_aims k (index + size_in k (call_of k c line)) wanted left') k.call.surroundings.acts
+    behind_call)
+    (M.block_run c.around (block_of c.procedure) (begun (block_of c.procedure) c.calling.parent)
+    k.call.surroundings.acts p.state)
+unfolding give
+call_goes k c line index left' more h p numbers wanted f o b made' each l size there =
+    let w = k.call.surroundings in
+    let z = statement_at k c line index p numbers in
+    let given' = given_code z in
+    let call = call_code_of z in
+    let n = size_append given' call in
+    let inside = l.inside in
+    let proc = h.callee.stands.inside in
+    let at_call = h.call in
+    let aims = statement_aims k (index + size_in k (call_of k c line)) wanted left' in
+    let flow = M.block_run c.around (block_of c.procedure) (begun (block_of c.procedure) c.calling.parent) w.acts
+    p.state in
+    let closed = statement_closed k (index + size_in k (call_of k c line)) wanted left' in
+    onward (before_closed w.acts behind_call closed)
+    (arguments_given z p numbers (index + size_of (act_code line)) 0 f o.stands o.image (omega arith, refl)
+    (parent_frame h (newest_at b o)) (front_of given' call l) there)
+    (λ g at.
+    comes_map (behind_aims (called_at w k.call.code c p numbers) wanted)
+    (before k.call.code aims w.acts behind_call) flow
+    (λ c' f' v' r s q. record { to = behind_goes h o q })
+    (λ c' f' v' height label s q. absurd q)
+    (λ c' f' v' r s q. absurd q)
+    (procedure_runs w k.call.code c p numbers (0 + size_of given') wanted g (o.stands, o.image)
+    (h.callee, room_among h o) made' o.words each (omega (arith, n, inside, proc))
+    (λ b. subst (λ j. IsIn w p numbers j b (g b)) (omega (arith, n, size, at_call)) (at b).0)
+    (λ b. (at b).1)))
+
+pub call_does :
+    (k : Block) (c : Callee) (line index left' more : ℕ) → IsCall k c line index more →
+    ((p : Point) (numbers : ℕ → ℕ) → IsAmong k numbers p →
+    AreMade k.call.surroundings k.call.code c p numbers) →
+    ((p : Point) (numbers : ℕ → ℕ) → IsAmong k numbers p →
+    IsBegun (block_at k.call.surroundings k.call.code c p numbers) →
+    EachDoes (block_at k.call.surroundings k.call.code c p numbers) c.procedure.body (body_index c) left_over) →
+    IsBegun k → Does k (call_of k c line) index left'
+unfolding M.statement ◌>>=◌ ◌>>◌
+call_does k c line index left' more h made' each b p numbers credits wanted f o paid there =
+    let w = k.call.surroundings in
+    let p' = acted line p in
+    let z = statement_at k c line index p' numbers in
+    let one = act_code line in
+    let given' = given_code z in
+    let call = call_code_of z in
+    let l = subst (Linked w.links k.call.code index) (own_code z) h.statement in
+    let n0 = size_append one (given' ++ call) in
+    let size = ap (λ u. size_of u) (own_code z) in
+    let tree = Y.Calling c.procedure.head.number k.environment.level Y.NoArgument in
+    let tail : Unit {0} → Meaning (Unit {0}) = λ u. V.called (at_line k.around line) tree >> give tt in
+    let closed = statement_closed k (index + size_in k (call_of k c line)) wanted left' in
+    comes_on w.acts (act counted w.acts p.state) tail
+    (act_comes (before_closed w.acts tail closed) line credits 0 f (o.stands, o.image)
+    (h.line_fits, h.callee.acts, omega (arith, paid, n0, size)) (front_of one (given' ++ call) l) there
+    (λ g less at.
+    let o' = acted_among line o less in
+    comes_on w.acts (V.called (at_line k.around line) tree w.acts p'.state) behind_call
+    (subst (Comes k.call.code 0 g (services_of p')
+    (before k.call.code (statement_aims k (index + size_in k (call_of k c line)) wanted left') w.acts behind_call))
+    (sym (called_means h (newest_at b o')))
+    (call_goes k c line index left' more h p' numbers wanted g o' b (made' p' numbers o') (each p' numbers o')
+    (back_of one (given' ++ call) l) (size ∙ n0) at))))

@@ -1,0 +1,12 @@
+pub mod Ends
+pub mod Starts
+pub mod Procedures
+pub mod Statements
+pub mod Calls
+pub mod CallStatements
+pub mod Programs
+pub mod VariableMemory
+pub mod Variables
+pub mod VariableProcedures
+pub mod Rows
+pub mod VariableRows

@@ -1,0 +1,5 @@
+use Rattle.program_runs.proofs.Statements.{list_does}
+use Rattle.program_runs.proofs.laws.lists_do.Goals as goal
+
+pub returns : goal.returns
+returns c = list_does

@@ -1,0 +1,80 @@
+// Laws of the definitions: each function's contract is one law, and calling it does nothing.
+
+ghost use Rattle.program_runs.specs.Calls.{CallsDo, NoneMade, ProceduresRun};
+ghost use Rattle.program_runs.specs.Procedures.{ProceduresBegin};
+ghost use Rattle.program_runs.specs.Programs.{ProgramsRun};
+ghost use Rattle.program_runs.specs.Rows.{ProgramRan};
+ghost use Rattle.program_runs.specs.Starts.{ImagesStart};
+ghost use Rattle.program_runs.specs.Statements.{ListsDo, StatementsDo};
+ghost use Rattle.program_runs.specs.VariableRows.{NumberRan};
+ghost use Rattle.program_runs.specs.Variables.{OneMade, VariablesMade};
+
+use granule_keeper::laws::granules_keep;
+
+/// The start of an image comes to the call of the main procedure, at the first point.
+pub fn images_start()
+    ensures { ImagesStart }
+{
+    granules_keep();
+}
+
+/// The layer of a procedure is what its call makes, and its code that of the program's procedure.
+pub fn procedures_begin()
+    ensures { ProceduresBegin }
+{}
+
+/// Null statements, RETURN and STOP do what they mean, at each point of their block.
+pub fn statements_do()
+    ensures { StatementsDo }
+{}
+
+/// A list does what it means if each of its statements does.
+pub fn lists_do()
+    ensures { ListsDo }
+{}
+
+/// A procedure comes behind its call if each of its statements does what it means.
+pub fn procedures_run()
+    ensures { ProceduresRun }
+{}
+
+/// So does the statement CALL of it, in the block that declares it.
+pub fn calls_do()
+    ensures { CallsDo }
+{}
+
+/// A procedure that has no variables makes none.
+pub fn none_made()
+    ensures { NoneMade }
+{}
+
+/// The run of a whole image does what its program does, if each statement of the main procedure does.
+pub fn programs_run()
+    ensures { ProgramsRun }
+{
+    granules_keep();
+}
+
+/// A worked row: such a program, with the image that pli_coding defines.
+pub fn program_ran()
+    ensures { ProgramRan }
+{
+    granules_keep();
+}
+
+/// A variable of constant size is made in the newest block, as its code and the storage machine do it.
+pub fn variables_made()
+    ensures { VariablesMade }
+{}
+
+/// A procedure with one variable makes it where its block begins.
+pub fn one_made()
+    ensures { OneMade }
+{}
+
+/// A worked row: a main procedure with one variable.
+pub fn number_ran()
+    ensures { NumberRan }
+{
+    granules_keep();
+}

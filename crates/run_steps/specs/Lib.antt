@@ -1,0 +1,17 @@
+pub mod Unlimited
+pub mod Engine
+pub mod Showing
+pub mod Growing
+pub mod Counting
+pub mod Reach
+pub mod Owing
+pub mod Linking
+pub mod DataNamed
+pub mod Items
+pub mod Numbers
+pub mod Bodies
+pub mod Temporaries
+pub mod Reaching
+pub mod SavedRegisters
+pub mod Calls
+pub mod Laws

@@ -1,0 +1,4 @@
+pub mod Invariants
+pub mod AreasInOrder
+pub mod Serials
+pub mod Fuel
