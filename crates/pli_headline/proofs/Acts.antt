@@ -16,15 +16,20 @@ use Rattle.pli_coding.specs.Assembly.{Plain, size_of}
 use Rattle.pli_coding.specs.Instructions.{small, number}
 use Rattle.pli_coding.specs.Allocating.{act_code}
 use Rattle.pli_coding.specs.Linking.{Links}
-use Rattle.pli_headline.proofs.Engine.{Base, address}
-use Rattle.pli_headline.proofs.Linking.{size_append}
-use Rattle.pli_headline.proofs.Items.{Linked, At, straight}
-use Rattle.pli_headline.proofs.Bodies.{Ground, Known, zero_is, constant_piece}
-use Rattle.pli_headline.proofs.Jumps.{front_of, back_of}
-use Rattle.pli_headline.proofs.Temporaries.{nothing}
-use Rattle.pli_headline.proofs.Calls.{Serving, comes_act, called, Calling, call_acts, call_pauses, acts}
+use Rattle.run_steps.specs.Engine.{Base, address}
+use Rattle.run_steps.proofs.Linking.{size_append}
+use Rattle.run_steps.specs.Items.{Linked, At}
+use Rattle.run_steps.proofs.Items.{straight}
+use Rattle.run_steps.specs.Bodies.{Ground, Known}
+use Rattle.run_steps.proofs.Bodies.{zero_is, constant_piece}
+use Rattle.run_steps.proofs.Jumps.{front_of, back_of}
+use Rattle.run_steps.specs.Temporaries.{nothing}
+use Rattle.run_steps.specs.Calls.{Calling}
+use Rattle.run_steps.proofs.Calls.{comes_act, called, call_acts, call_pauses, acts}
+use Rattle.pli_headline.proofs.Serving.{Serving}
 use Rattle.pli_headline.proofs.Raising.{small_is}
-use Rattle.pli_headline.proofs.Reach.{Family, Aims, Comes, Closed, cost, onward, reached, reached_holds}
+use Rattle.run_steps.specs.Reach.{Family, Aims, Comes, Closed, cost, reached}
+use Rattle.run_steps.proofs.Reach.{onward, reached_holds}
 
 -- the services behind the act of a statement
 abbrev pub acted : ℕ → Services → Services

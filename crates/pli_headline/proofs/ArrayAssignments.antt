@@ -21,13 +21,14 @@ use Rattle.pli_coding.specs.Expressions.{given_in, stored_code}
 use Rattle.pli_coding.specs.Storing.{word_stored, stored_into, assigned_code}
 use Rattle.pli_coding.specs.Linking.{Links}
 use Rattle.pli_headline.specs.ProvedSoFar.{Names}
-use Rattle.pli_headline.proofs.Engine.{Base, address}
-use Rattle.pli_headline.proofs.Linking.{size_append}
-use Rattle.pli_headline.proofs.Items.{Linked, At}
-use Rattle.pli_headline.proofs.Bodies.{Ground, Known, reserved_are}
-use Rattle.pli_headline.proofs.Jumps.{front_of, back_of}
-use Rattle.pli_headline.proofs.Temporaries.{Temporaries, Stays, stays_then, nothing}
-use Rattle.pli_headline.proofs.Calls.{Serving}
+use Rattle.run_steps.specs.Engine.{Base, address}
+use Rattle.run_steps.proofs.Linking.{size_append}
+use Rattle.run_steps.specs.Items.{Linked, At}
+use Rattle.run_steps.specs.Bodies.{Ground, Known, reserved_are}
+use Rattle.run_steps.proofs.Jumps.{front_of, back_of}
+use Rattle.run_steps.specs.Temporaries.{Temporaries, Stays, nothing}
+use Rattle.run_steps.proofs.Temporaries.{stays_then}
+use Rattle.pli_headline.proofs.Serving.{Serving}
 use Rattle.pli_headline.proofs.Raising.{Routines}
 use Rattle.pli_headline.proofs.Scalars.{Fits, store_kind}
 use Rattle.pli_headline.proofs.Variables.{data_place}
@@ -35,7 +36,8 @@ use Rattle.pli_headline.proofs.Assignments.{Stores}
 use Rattle.pli_headline.proofs.Subscripts.{EvaluatesAll}
 use Rattle.pli_headline.proofs.ArrayMeant.{element, element_state}
 use Rattle.pli_headline.proofs.ArrayElements.{ArrayScope, element_stored_piece}
-use Rattle.pli_headline.proofs.Reach.{Family, Aims, Comes, Closed, before_closed, comes_on}
+use Rattle.run_steps.specs.Reach.{Family, Aims, Comes, Closed}
+use Rattle.run_steps.proofs.Reach.{before_closed, comes_on}
 
 pub element_assigned_piece : {links : Links} {code : List Instr} {i : ℕ} {g : Ground} (g' : ℤ → ℕ → Ground) {v :
     Services} {h t : ℕ → ℕ} {s : State} {aims : Aims (Unit {0})} {e : Environment} {block : Names} {j : ℕ} {type :

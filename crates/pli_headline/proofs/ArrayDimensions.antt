@@ -31,20 +31,25 @@ use Rattle.pli_coding.specs.Locating as L
 use Rattle.pli_coding.specs.Temporaries.{number_words}
 use Rattle.pli_coding.specs.Linking.{Links}
 use Rattle.pli_headline.specs.ProvedSoFar.{Names, constant_bounds, IsBounds, AreBounds, array_variable, text_leaf}
-use Rattle.pli_headline.proofs.Engine.{address}
-use Rattle.pli_headline.proofs.Linking.{size_append}
-use Rattle.pli_headline.proofs.Items.{Linked, straight}
-use Rattle.pli_headline.proofs.Numbers.{IsWide, word_small}
-use Rattle.pli_headline.proofs.Bodies.{Ground, Known, Free, constant_piece}
-use Rattle.pli_headline.proofs.Jumps.{front_of, back_of}
-use Rattle.pli_headline.proofs.Temporaries.{stays_same, nothing}
+use Rattle.run_steps.specs.Engine.{address}
+use Rattle.run_steps.proofs.Linking.{size_append}
+use Rattle.run_steps.specs.Items.{Linked}
+use Rattle.run_steps.proofs.Items.{straight}
+use Rattle.run_steps.specs.Numbers.{IsWide}
+use Rattle.run_steps.proofs.Numbers.{word_small}
+use Rattle.run_steps.specs.Bodies.{Ground, Known, Free}
+use Rattle.run_steps.proofs.Bodies.{constant_piece}
+use Rattle.run_steps.proofs.Jumps.{front_of, back_of}
+use Rattle.run_steps.specs.Temporaries.{nothing}
+use Rattle.run_steps.proofs.Temporaries.{stays_same}
 use Rattle.pli_headline.proofs.Operators.{valued}
 use Rattle.pli_headline.proofs.Variables.{whole, own, whole_part, declared_in}
 use Rattle.pli_headline.proofs.Evaluations.{number_kind, Evaluates}
 use Rattle.pli_headline.proofs.ArrayPlaces.{suc-times, span_is, count_some}
 use Rattle.pli_headline.proofs.ArrayMeant.{array_shape, array_generation, same_array, designated_element, array_binding}
 use Rattle.pli_headline.proofs.ArrayElements.{IsDeclaredArray, ArrayScope, size_constant}
-use Rattle.pli_headline.proofs.Reach.{onward, Comes}
+use Rattle.run_steps.specs.Reach.{Comes}
+use Rattle.run_steps.proofs.Reach.{onward}
 use Rattle.pli_headline.proofs.TextArrayMeant.{same_text_array}
 use Rattle.pli_headline.proofs.TextElements.{TextArrayScope, text_size_constant}
 

@@ -34,18 +34,23 @@ use Rattle.pli_coding.specs.Locating as L
 use Rattle.pli_coding.specs.Storing.{is_near, word_stored}
 use Rattle.pli_coding.specs.Linking.{Links}
 use Rattle.pli_headline.specs.ProvedSoFar.{Names, constant_bounds, AreBounds, array_variable}
-use Rattle.pli_headline.proofs.Engine.{Base, address}
-use Rattle.pli_headline.proofs.Linking.{size_append}
-use Rattle.pli_headline.proofs.Items.{Linked, At, straight}
-use Rattle.pli_headline.proofs.Numbers.{word_small}
-use Rattle.pli_headline.proofs.Bodies.{Ground, Known, PlaceFrom, with', set_known, reserved_are, frame_is, load_piece}
-use Rattle.pli_headline.proofs.Bodies.{narrow_load_from, narrow_store_into}
-use Rattle.pli_headline.proofs.Jumps.{front_of, back_of}
-use Rattle.pli_headline.proofs.Temporaries.{Temporaries, Stays, stays_same, stays_then, stays_saved, stays_less}
-use Rattle.pli_headline.proofs.Temporaries.{waiting_saved, waiting_kept, held_with, words_with, nothing, save_piece}
-use Rattle.pli_headline.proofs.Temporaries.{fetch_piece}
-use Rattle.pli_headline.proofs.Reaching.{Reaches, reach_moved}
-use Rattle.pli_headline.proofs.Calls.{Serving}
+use Rattle.run_steps.specs.Engine.{Base, address}
+use Rattle.run_steps.proofs.Linking.{size_append}
+use Rattle.run_steps.specs.Items.{Linked, At}
+use Rattle.run_steps.proofs.Items.{straight}
+use Rattle.run_steps.proofs.Numbers.{word_small}
+use Rattle.run_steps.specs.Bodies.{Ground, Known, PlaceFrom, with', reserved_are}
+use Rattle.run_steps.proofs.Bodies.{set_known, frame_is, load_piece}
+use Rattle.run_steps.proofs.Bodies.{narrow_load_from, narrow_store_into}
+use Rattle.run_steps.proofs.Jumps.{front_of, back_of}
+use Rattle.run_steps.specs.Temporaries.{Temporaries, Stays}
+use Rattle.run_steps.proofs.Temporaries.{stays_same, stays_then, stays_saved, stays_less}
+use Rattle.run_steps.specs.Temporaries.{held_with, words_with, nothing}
+use Rattle.run_steps.proofs.Temporaries.{waiting_saved, waiting_kept, save_piece}
+use Rattle.run_steps.proofs.Temporaries.{fetch_piece}
+use Rattle.run_steps.specs.Reaching.{Reaches}
+use Rattle.run_steps.proofs.Reaching.{reach_moved}
+use Rattle.pli_headline.proofs.Serving.{Serving}
 use Rattle.pli_headline.proofs.Raising.{Routines}
 use Rattle.pli_headline.proofs.Operators.{valued}
 use Rattle.pli_headline.proofs.Scalars.{IsNumeric, by_type, value_as, Fits, fits_wide, load_kind, store_kind}
@@ -55,7 +60,8 @@ use Rattle.pli_headline.proofs.ArrayPlaces.{AllWide, place_inside}
 use Rattle.pli_headline.proofs.ArrayMeant.{HoldsArray, element, designated_element, element_meant, element_checked, element_seen, element_state, element_stored}
 use Rattle.pli_headline.proofs.Subscripts.{AllGive, EvaluatesAll}
 use Rattle.pli_headline.proofs.SubscriptTests.{Beside, nothing_beside, free_with, counted_all}
-use Rattle.pli_headline.proofs.Reach.{Family, Aims, Comes, Closed, before_closed, comes_on, onward, Reach, reach_then, reached, reached_holds}
+use Rattle.run_steps.specs.Reach.{Family, Aims, Comes, Closed, Reach, reached}
+use Rattle.run_steps.proofs.Reach.{before_closed, comes_on, onward, reach_then, reached_holds}
 
 -- ---- the code
 

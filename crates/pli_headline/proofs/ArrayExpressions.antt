@@ -18,8 +18,8 @@ use Rattle.pli_coding.specs.Expressions.{given_in, number_code, bit_code}
 use Rattle.pli_coding.specs.Temporaries.{number_words, bit_words, subscripts_words}
 use Rattle.pli_coding.specs.Linking.{Links}
 use Rattle.pli_headline.specs.ProvedSoFar.{Names}
-use Rattle.pli_headline.proofs.Bodies.{Ground}
-use Rattle.pli_headline.proofs.Calls.{Serving}
+use Rattle.run_steps.specs.Bodies.{Ground}
+use Rattle.pli_headline.proofs.Serving.{Serving}
 use Rattle.pli_headline.proofs.Raising.{Routines}
 use Rattle.pli_headline.proofs.Scalars.{bit_of, bit_word, fits_wide}
 use Rattle.pli_headline.proofs.Evaluations.{Kind, number_kind, bit_kind, Evaluates}

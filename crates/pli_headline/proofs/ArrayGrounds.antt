@@ -9,8 +9,8 @@ use Rattle.pli_typing.specs.Signatures.{Bounds, element_count}
 use Rattle.pli_typing.specs.TypedTree as Y
 use Rattle.pli_coding.specs.Environments.{Environment}
 use Rattle.pli_headline.specs.ProvedSoFar.{Names, AreBounds, Kind}
-use Rattle.pli_headline.proofs.Engine.{Base}
-use Rattle.pli_headline.proofs.Numbers.{above_sum, above_small}
+use Rattle.run_steps.specs.Engine.{Base}
+use Rattle.run_steps.proofs.Numbers.{above_sum, above_small}
 use Rattle.pli_headline.proofs.Scalars.{Values, load_kind, store_kind, IsNumeric}
 use Rattle.pli_headline.proofs.VariablePlaces.{Sizes, room_of, number_place, room_next, room_even}
 use Rattle.pli_headline.proofs.Variables.{data_place}

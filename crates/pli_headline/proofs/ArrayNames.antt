@@ -11,9 +11,9 @@ use Rattle.pli_coding.specs.Environments.{Environment}
 use Rattle.pli_coding.specs.Frames.{automatic_place}
 use Rattle.pli_coding.specs.SignatureTable.{table_of}
 use Rattle.pli_headline.specs.ProvedSoFar.{Names, Types, Kind}
-use Rattle.pli_headline.proofs.Engine.{Base}
+use Rattle.run_steps.specs.Engine.{Base}
 use Rattle.pli_headline.proofs.Scalars.{Values}
-use Rattle.pli_headline.proofs.Bodies.{Ground}
+use Rattle.run_steps.specs.Bodies.{Ground}
 use Rattle.pli_headline.proofs.Storages.{Serials}
 use Rattle.pli_headline.proofs.Variables.{data_place, level_of}
 use Rattle.pli_headline.proofs.PlainNumbers.{number_for}

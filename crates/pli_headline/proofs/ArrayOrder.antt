@@ -15,7 +15,7 @@ use Rattle.pli_meaning.specs.Contents.{element_place}
 use Rattle.pli_meaning.specs.StreamOrder.{numbers_from, subscripts_of, with_more}
 use Rattle.pli_serving.specs.Bytes.{with_bytes}
 use Rattle.pli_serving.specs.Values.{all_subscripts}
-use Rattle.pli_headline.proofs.Numbers.{word_small}
+use Rattle.run_steps.proofs.Numbers.{word_small}
 use Rattle.pli_headline.proofs.Scalars.{Fits, fits_wide, store_kind}
 use Rattle.pli_headline.proofs.WrittenBytes.{byte-with_inside}
 use Rattle.pli_headline.proofs.Cells.{Cell, kind_bytes, kind_length, cell_written, content_word}

@@ -9,7 +9,7 @@ use Rattle.rv_meaning.specs.Words.{word, sum}
 use Rattle.pli_typing.specs.Signatures.{Bounds, natural, span, element_count}
 use Rattle.pli_meaning.specs.Contents.{same_int, same_subscripts, is_within, element_place}
 use Rattle.pli_headline.specs.ProvedSoFar.{IsBounds, AreBounds}
-use Rattle.pli_headline.proofs.Numbers.{IsWide}
+use Rattle.run_steps.specs.Numbers.{IsWide}
 
 -- ---- bounds
 

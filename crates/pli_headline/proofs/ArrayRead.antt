@@ -19,10 +19,10 @@ use Rattle.pli_coding.specs.StaticForms.{item_bytes}
 use Rattle.pli_coding.specs.Images.{linked_code, picture_of_code}
 use Rattle.pli_headline.specs.Headline.{FitsMemory}
 use Rattle.pli_headline.specs.ProvedSoFar.{IsElementType}
-use Rattle.pli_headline.proofs.Engine.{call_at}
-use Rattle.pli_headline.proofs.Numbers.{word_small}
+use Rattle.run_steps.specs.Engine.{call_at}
+use Rattle.run_steps.proofs.Numbers.{word_small}
 use Rattle.pli_headline.proofs.Scalars.{constant_number, fewer_bits}
-use Rattle.pli_headline.proofs.DataNamed.{IsNamed, BytesStand}
+use Rattle.run_steps.specs.DataNamed.{IsNamed, BytesStand}
 use Rattle.pli_headline.proofs.FormatsRead.{WordsAt, AreWords, words_stand, is_data_there}
 use Rattle.pli_headline.proofs.ArrayMeant.{array_shape}
 use Rattle.pli_headline.proofs.InitialLists.{leaf_of_items, list_place, list_reads}

@@ -9,10 +9,10 @@ use Rattle.pli_typing.specs.TypedTree as Y
 use Rattle.pli_meaning.specs.StorageState.{State}
 use Rattle.pli_coding.specs.Environments.{Environment}
 use Rattle.pli_headline.specs.ProvedSoFar.{Names, Types, AreBounds}
-use Rattle.pli_headline.proofs.Engine.{Base}
+use Rattle.run_steps.specs.Engine.{Base}
 use Rattle.pli_headline.proofs.Scalars.{Values, Fits, load_kind, store_kind, IsNumeric}
-use Rattle.pli_headline.proofs.Bodies.{Ground, PlaceFrom}
-use Rattle.pli_headline.proofs.Reaching.{Reaches}
+use Rattle.run_steps.specs.Bodies.{Ground, PlaceFrom}
+use Rattle.run_steps.specs.Reaching.{Reaches}
 use Rattle.pli_headline.proofs.Variables.{data_place, level_of}
 use Rattle.pli_headline.proofs.ElementsStay.{with_element_at}
 use Rattle.pli_headline.proofs.ArrayMeant.{HoldsArray}

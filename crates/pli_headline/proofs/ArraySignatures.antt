@@ -16,7 +16,7 @@ use Rattle.pli_serving.specs.Templates as S
 use Rattle.pli_serving.specs.Templates.{template_of, shape_at, whole_bounds, put_before}
 use Rattle.pli_coding.specs.SignatureTable.{pair_of, signature_of}
 use Rattle.pli_headline.specs.ProvedSoFar.{constant_bounds, IsBounds, AreBounds, array_variable, IsScalar}
-use Rattle.pli_headline.proofs.Numbers.{IsWide}
+use Rattle.run_steps.specs.Numbers.{IsWide}
 use Rattle.pli_headline.proofs.WordProducts.{signed_word}
 use Rattle.pli_headline.proofs.ArrayMeant.{array_shape}
 

@@ -26,20 +26,22 @@ use Rattle.pli_coding.specs.Storing.{word_stored}
 use Rattle.pli_coding.specs.Temporaries.{number_words, bit_words}
 use Rattle.pli_coding.specs.Linking.{Links}
 use Rattle.pli_headline.specs.ProvedSoFar.{Names, Types, IsProvedNumber, IsProvedBit, alone}
-use Rattle.pli_headline.proofs.Engine.{Base, address}
-use Rattle.pli_headline.proofs.Linking.{size_append}
-use Rattle.pli_headline.proofs.Items.{Linked, At}
-use Rattle.pli_headline.proofs.Bodies.{Ground, Known, reserved_are}
-use Rattle.pli_headline.proofs.Jumps.{front_of, back_of}
-use Rattle.pli_headline.proofs.Temporaries.{Stays, stays_same, nothing}
-use Rattle.pli_headline.proofs.Reaching.{write_based}
+use Rattle.run_steps.specs.Engine.{Base, address}
+use Rattle.run_steps.proofs.Linking.{size_append}
+use Rattle.run_steps.specs.Items.{Linked, At}
+use Rattle.run_steps.specs.Bodies.{Ground, Known, reserved_are}
+use Rattle.run_steps.proofs.Jumps.{front_of, back_of}
+use Rattle.run_steps.specs.Temporaries.{Stays, nothing}
+use Rattle.run_steps.proofs.Temporaries.{stays_same}
+use Rattle.run_steps.proofs.Reaching.{write_based}
 use Rattle.pli_headline.proofs.Operators.{valued}
 use Rattle.pli_headline.proofs.Precisions.{fitted_piece}
 use Rattle.pli_headline.proofs.Scalars.{Values, value_as, Fits, fits_numeric, bit_back, bit_fits, bit_word, store_kind}
 use Rattle.pli_headline.proofs.Variables.{HoldsScalar, whole, own, level_of, data_place, designated_scalar}
 use Rattle.pli_headline.proofs.Variables.{designated_gives, base_found, scalar_stored, scalar_stored_is}
 use Rattle.pli_headline.proofs.Expressions.{Scope, Setting, number_does, bit_does}
-use Rattle.pli_headline.proofs.Reach.{Family, Aims, Comes, Closed, before_closed, comes_on, onward}
+use Rattle.run_steps.specs.Reach.{Family, Aims, Comes, Closed}
+use Rattle.run_steps.proofs.Reach.{before_closed, comes_on, onward}
 
 -- ---- the meaning
 

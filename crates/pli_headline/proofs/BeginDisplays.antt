@@ -20,16 +20,18 @@ use Rattle.pli_coding.specs.Environments.{Environment}
 use Rattle.pli_coding.specs.Linking.{Links}
 use Rattle.image_runs.specs.Runs.{Whole}
 use Rattle.pli_headline.specs.ProvedSoFar.{Names, Types}
-use Rattle.pli_headline.proofs.Engine.{Base, most_code, WordAt}
-use Rattle.pli_headline.proofs.Linking.{size_append}
-use Rattle.pli_headline.proofs.Items.{Linked, At, Items}
-use Rattle.pli_headline.proofs.Numbers.{above_sum, above_small}
-use Rattle.pli_headline.proofs.Bodies.{Ground, Known, with', Free, IsNear, PlaceFrom, nth, frame_is, load_from, store_piece}
-use Rattle.pli_headline.proofs.Jumps.{front_of, back_of}
-use Rattle.pli_headline.proofs.Reaching.{reach_moved}
+use Rattle.run_steps.specs.Engine.{Base, most_code, WordAt}
+use Rattle.run_steps.proofs.Linking.{size_append}
+use Rattle.run_steps.specs.Items.{Linked, At, Items}
+use Rattle.run_steps.proofs.Numbers.{above_sum, above_small}
+use Rattle.run_steps.specs.Bodies.{Ground, Known, with', Free, IsNear, PlaceFrom, nth}
+use Rattle.run_steps.proofs.Bodies.{frame_is, load_from, store_piece}
+use Rattle.run_steps.proofs.Jumps.{front_of, back_of}
+use Rattle.run_steps.proofs.Reaching.{reach_moved}
 use Rattle.pli_headline.proofs.Statements.{Block}
 use Rattle.pli_headline.proofs.InnerFrames.{Inner, Inside, inner_levels, inner_whole, inner_above}
-use Rattle.pli_headline.proofs.Reach.{Family, Reach, reach_then, reach_map, reached, reached_holds}
+use Rattle.run_steps.specs.Reach.{Family, Reach, reached}
+use Rattle.run_steps.proofs.Reach.{reach_then, reach_map, reached_holds}
 use Rattle.pli_headline.proofs.Scalars.{Values}
 
 -- ---- places

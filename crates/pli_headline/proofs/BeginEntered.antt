@@ -25,21 +25,26 @@ use Rattle.pli_coding.specs.Environments.{Environment}
 use Rattle.pli_coding.specs.Linking.{Links}
 use Rattle.image_runs.specs.Runs.{Whole}
 use Rattle.pli_headline.specs.ProvedSoFar.{Names, Types}
-use Rattle.pli_headline.proofs.Engine.{Base, call_at}
-use Rattle.pli_headline.proofs.Linking.{size_append}
-use Rattle.pli_headline.proofs.Items.{Linked, At, straight}
-use Rattle.pli_headline.proofs.Numbers.{below_sum, below_small}
-use Rattle.pli_headline.proofs.Bodies.{Known, nth, reserved, zero_is, frame_is, constant_piece, displaced_by}
-use Rattle.pli_headline.proofs.Jumps.{front_of, back_of}
-use Rattle.pli_headline.proofs.Temporaries.{nothing}
-use Rattle.pli_headline.proofs.Reaching.{reach_moved}
-use Rattle.pli_headline.proofs.Calls.{called, Calling, call_done, Serving, comes_finish, end_pauses, call_ends, acts}
+use Rattle.run_steps.specs.Engine.{Base, call_at}
+use Rattle.run_steps.proofs.Linking.{size_append}
+use Rattle.run_steps.specs.Items.{Linked, At}
+use Rattle.run_steps.proofs.Items.{straight}
+use Rattle.run_steps.proofs.Numbers.{below_sum, below_small}
+use Rattle.run_steps.specs.Bodies.{Known, nth, reserved}
+use Rattle.run_steps.proofs.Bodies.{zero_is, frame_is, constant_piece, displaced_by}
+use Rattle.run_steps.proofs.Jumps.{front_of, back_of}
+use Rattle.run_steps.specs.Temporaries.{nothing}
+use Rattle.run_steps.proofs.Reaching.{reach_moved}
+use Rattle.run_steps.specs.Calls.{Calling}
+use Rattle.run_steps.proofs.Calls.{called, call_done, comes_finish, end_pauses, call_ends, acts}
+use Rattle.pli_headline.proofs.Serving.{Serving}
 use Rattle.pli_headline.proofs.Raising.{small_is}
 use Rattle.pli_headline.proofs.Acts.{word_is, word_fits}
 use Rattle.pli_headline.proofs.Statements.{Block, lower_ground}
 use Rattle.pli_headline.proofs.InnerFrames.{Inner, inner_whole, inner_ground}
 use Rattle.pli_headline.proofs.BeginDisplays.{frame_word, moved_reserved, without_two}
-use Rattle.pli_headline.proofs.Reach.{Family, Reach, reach_then, reached, reached_holds, Aims, Comes, Closed, cost, onward}
+use Rattle.run_steps.specs.Reach.{Family, Reach, reached, Aims, Comes, Closed, cost}
+use Rattle.run_steps.proofs.Reach.{reach_then, reached_holds, onward}
 use Rattle.pli_headline.proofs.Scalars.{Values}
 
 -- ---- service 4

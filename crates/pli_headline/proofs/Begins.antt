@@ -28,14 +28,14 @@ use Rattle.pli_coding.specs.Linking.{Links}
 use Rattle.pli_headline.specs.ProvedSoFar.{Names, Types, OuterBlock}
 use Rattle.pli_headline.proofs.HeldPlaces.{places_entered, PlacesHeld, places_left}
 use Rattle.pli_headline.proofs.Storages.{storage}
-use Rattle.pli_headline.proofs.Engine.{Base, address}
-use Rattle.pli_headline.proofs.Linking.{size_append}
-use Rattle.pli_headline.proofs.Items.{Linked, At}
-use Rattle.pli_headline.proofs.Bodies.{Known}
-use Rattle.pli_headline.proofs.Jumps.{front_of, back_of}
-use Rattle.pli_headline.proofs.Temporaries.{nothing}
+use Rattle.run_steps.specs.Engine.{Base, address}
+use Rattle.run_steps.proofs.Linking.{size_append}
+use Rattle.run_steps.specs.Items.{Linked, At}
+use Rattle.run_steps.specs.Bodies.{Known}
+use Rattle.run_steps.proofs.Jumps.{front_of, back_of}
+use Rattle.run_steps.specs.Temporaries.{nothing}
 use Rattle.pli_headline.proofs.Activations.{same_length, newest_is, entered_length}
-use Rattle.pli_headline.proofs.Calls.{Serving}
+use Rattle.pli_headline.proofs.Serving.{Serving}
 use Rattle.pli_headline.proofs.Acts.{act_piece, acted}
 use Rattle.pli_headline.proofs.Entered.{atop, begin_way}
 use Rattle.pli_headline.proofs.Statements.{owner_level, Enclosures, Block, IsFilled, AllHold, listed_of, counted_all, IsMarkedOnce, OutletOf, Outlets, OwnExit, HomeOf, Homes, Enough, Does}
@@ -43,7 +43,8 @@ use Rattle.pli_headline.proofs.InnerFrames.{Inner, inner_levels, inner_ground, i
 use Rattle.pli_headline.proofs.BeginFrames.{inner_begun, inner_frame}
 use Rattle.pli_headline.proofs.BeginEntered.{entered_activation, entered_services, ended_services, inner_ended, inner_entered, inner_left, inner_limited}
 use Rattle.pli_headline.proofs.BeginMeant.{Entering, inner_around, begin_part, inner_part, begin_meant, entered_state, entered_nested, entered_all, ended_input, left_all, begin_limited, Outside}
-use Rattle.pli_headline.proofs.Reach.{Family, Aims, Comes, Closed, before_closed, comes_on, onward}
+use Rattle.run_steps.specs.Reach.{Family, Aims, Comes, Closed}
+use Rattle.run_steps.proofs.Reach.{before_closed, comes_on, onward}
 use Rattle.pli_headline.proofs.Scalars.{Values}
 
 -- ---- the end of the block

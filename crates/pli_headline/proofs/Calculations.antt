@@ -13,18 +13,18 @@ use Rattle.pli_coding.specs.Assembly.{size_of}
 use Rattle.pli_coding.specs.Environments.{Taken, is_register_left}
 use Rattle.pli_coding.specs.Arithmetic.{calculated_code}
 use Rattle.pli_coding.specs.Linking.{Links}
-use Rattle.pli_headline.proofs.Engine.{Base}
-use Rattle.pli_headline.proofs.Items.{Linked, At}
-use Rattle.pli_headline.proofs.Numbers.{IsWide}
-use Rattle.pli_headline.proofs.Bodies.{Ground, Known}
-use Rattle.pli_headline.proofs.Temporaries.{Temporaries}
-use Rattle.pli_headline.proofs.Calls.{Serving}
+use Rattle.run_steps.specs.Engine.{Base}
+use Rattle.run_steps.specs.Items.{Linked, At}
+use Rattle.run_steps.specs.Numbers.{IsWide}
+use Rattle.run_steps.specs.Bodies.{Ground, Known}
+use Rattle.run_steps.specs.Temporaries.{Temporaries}
+use Rattle.pli_headline.proofs.Serving.{Serving}
 use Rattle.pli_headline.proofs.Raising.{Routines}
 use Rattle.pli_headline.proofs.Operators.{Gone, paired, sum_piece, difference_piece}
 use Rattle.pli_headline.proofs.Products.{product_piece}
 use Rattle.pli_headline.proofs.Quotients.{quotient_piece}
 use Rattle.pli_headline.proofs.Evaluations.{number_kind, Operates}
-use Rattle.pli_headline.proofs.Reach.{Family, Aims, Comes, Closed}
+use Rattle.run_steps.specs.Reach.{Family, Aims, Comes, Closed}
 
 pub calculated_piece : {links : Links} {code : List Instr} {i : ℕ} {g : Ground} {v : Services} {h t : ℕ → ℕ} {s : State} {aims : Aims ℤ} (operator : Y.ArithmeticOperator) (closed : Closed code aims) (routines : Routines links code) (temps : Temporaries g) (f : Family) (around : Around) (taken : Taken) (x y : ℤ) (k : ℕ) → IsWide x → IsWide y → (is_register_left taken ≡ false → taken.words < g.words) → Linked links code i (calculated_code taken operator) → Serving k s v around.line → ((b : Base) → At b i (Known g v h t (paired (word x) (word y)) b) (f b)) → Gone code g h t v s (i + size_of (calculated_code taken operator)) aims → Comes code i f v aims (R.value_of around (calculated operator x y) k s)
 calculated_piece Y.Sum closed routines temps f around taken x y k = sum_piece closed routines temps f around taken x y k

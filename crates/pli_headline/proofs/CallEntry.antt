@@ -15,16 +15,20 @@ use Rattle.pli_coding.specs.Environments.{Environment}
 use Rattle.pli_coding.specs.Expressions.{frame_given}
 use Rattle.pli_coding.specs.Linking.{Links, place_of}
 use Rattle.pli_headline.specs.ProvedSoFar.{Names, Types}
-use Rattle.pli_headline.proofs.Engine.{Base, address, most_code}
-use Rattle.pli_headline.proofs.Linking.{size_append}
-use Rattle.pli_headline.proofs.Items.{Linked, At, straight}
-use Rattle.pli_headline.proofs.Bodies.{Ground, Known, with', frame_is, set_known, lose_known, displaced_by, constant_piece, load_piece}
-use Rattle.pli_headline.proofs.Jumps.{front_of, back_of, call_piece}
-use Rattle.pli_headline.proofs.Temporaries.{nothing}
-use Rattle.pli_headline.proofs.Reaching.{Reaches, reach_moved}
+use Rattle.run_steps.specs.Engine.{Base, address, most_code}
+use Rattle.run_steps.proofs.Linking.{size_append}
+use Rattle.run_steps.specs.Items.{Linked, At}
+use Rattle.run_steps.proofs.Items.{straight}
+use Rattle.run_steps.specs.Bodies.{Ground, Known, with'}
+use Rattle.run_steps.proofs.Bodies.{frame_is, set_known, lose_known, displaced_by, constant_piece, load_piece}
+use Rattle.run_steps.proofs.Jumps.{front_of, back_of, call_piece}
+use Rattle.run_steps.specs.Temporaries.{nothing}
+use Rattle.run_steps.specs.Reaching.{Reaches}
+use Rattle.run_steps.proofs.Reaching.{reach_moved}
 use Rattle.pli_headline.proofs.Statements.{Block}
 use Rattle.pli_headline.proofs.CalledBegun.{without_texts, entry_regs}
-use Rattle.pli_headline.proofs.Reach.{Family, Reach, reach_then, reach_map, reached, reached_holds}
+use Rattle.run_steps.specs.Reach.{Family, Reach, reached}
+use Rattle.run_steps.proofs.Reach.{reach_then, reach_map, reached_holds}
 use Rattle.pli_headline.proofs.Scalars.{Values}
 
 base_kept : (b : Base) (base x : ℕ) → base < memory_size → x ≡ b.at + base → sum x (word (pos 0)) ≡ b.at + base

@@ -34,14 +34,15 @@ use Rattle.pli_coding.specs.Linking.{Links, place_of}
 use Rattle.pli_headline.specs.ProvedSoFar.{Names, Types, ArePlain}
 use Rattle.pli_headline.proofs.HeldPlaces.{places_entered, PlacesHeld, places_left}
 use Rattle.pli_headline.proofs.Storages.{storage}
-use Rattle.pli_headline.proofs.Engine.{Base, address, most_code}
-use Rattle.pli_headline.proofs.Linking.{size_append}
-use Rattle.pli_headline.proofs.Items.{Linked, At}
-use Rattle.pli_headline.proofs.Bodies.{far_code, Known}
-use Rattle.pli_headline.proofs.Jumps.{front_of, back_of, rest_of, linked_at}
-use Rattle.pli_headline.proofs.Temporaries.{stays_same, nothing}
+use Rattle.run_steps.specs.Engine.{Base, address, most_code}
+use Rattle.run_steps.proofs.Linking.{size_append}
+use Rattle.run_steps.specs.Items.{Linked, At}
+use Rattle.run_steps.specs.Bodies.{far_code, Known}
+use Rattle.run_steps.proofs.Jumps.{front_of, back_of, rest_of, linked_at}
+use Rattle.run_steps.specs.Temporaries.{nothing}
+use Rattle.run_steps.proofs.Temporaries.{stays_same}
 use Rattle.pli_headline.proofs.Activations.{same_length, first_level, levels_of, entered_length, outermost_height}
-use Rattle.pli_headline.proofs.Calls.{Serving}
+use Rattle.pli_headline.proofs.Serving.{Serving}
 use Rattle.pli_headline.proofs.Acts.{act_to, act_piece}
 use Rattle.pli_headline.proofs.Entered.{atop, procedure_way}
 use Rattle.pli_headline.proofs.Declares.{Makes, made_block, declares_from, code_joined}
@@ -49,9 +50,10 @@ use Rattle.pli_headline.proofs.DeclaredBegins.{vars_of, no_words, ended_does}
 use Rattle.pli_headline.proofs.StandingBytes.{ConstantsStand}
 use Rattle.pli_headline.proofs.Statements.{owner_level, Block, IsKnown, AllHold, counted_all, Enough, Does, further}
 use Rattle.pli_headline.proofs.CalledJumps.{ending_closed, comes_called}
-use Rattle.pli_headline.proofs.Owing.{owing, owing_closed, comes_owing, done_owing}
+use Rattle.run_steps.specs.Owing.{owing}
+use Rattle.run_steps.proofs.Owing.{owing_closed, comes_owing, done_owing}
 use Rattle.pli_headline.proofs.MainOutlets.{procedure_owner, HasMain, main_of, main_enclosing, main_seen, main_outlet, owed_outlet}
-use Rattle.pli_headline.proofs.SavedRegisters.{held_again}
+use Rattle.run_steps.specs.SavedRegisters.{held_again}
 use Rattle.pli_headline.proofs.BeginEntered.{ended_services}
 use Rattle.pli_headline.proofs.BeginMeant.{Entering, inner_around, entered_nested, entered_all, ended_input, left_all, entered_at}
 use Rattle.pli_headline.proofs.CallMeant.{plain_procedure, call_part, called_part, call_meant, call_limited}
@@ -61,7 +63,8 @@ use Rattle.pli_headline.proofs.CalledBegun.{called_frame}
 use Rattle.pli_headline.proofs.CalledEntered.{called_activation, called_services, called_entry, called_entered, called_limited}
 use Rattle.pli_headline.proofs.Begins.{by_test}
 use Rattle.pli_headline.proofs.CalledLeft.{ending_ground, called_ended, called_left}
-use Rattle.pli_headline.proofs.Reach.{Family, Aims, Comes, Closed, before_closed, comes_on, onward}
+use Rattle.run_steps.specs.Reach.{Family, Aims, Comes, Closed}
+use Rattle.run_steps.proofs.Reach.{before_closed, comes_on, onward}
 use Rattle.pli_headline.proofs.Scalars.{Values}
 
 -- ---- the code of the procedure

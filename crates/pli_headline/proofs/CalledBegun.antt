@@ -19,19 +19,23 @@ use Rattle.pli_coding.specs.Environments.{Environment}
 use Rattle.pli_coding.specs.Linking.{Links}
 use Rattle.image_runs.specs.Runs.{Whole}
 use Rattle.pli_headline.specs.ProvedSoFar.{Names, Types}
-use Rattle.pli_headline.proofs.Engine.{Base, most_code}
-use Rattle.pli_headline.proofs.Linking.{size_append}
-use Rattle.pli_headline.proofs.Items.{Linked, At, Items, straight}
-use Rattle.pli_headline.proofs.Numbers.{above_sum, above_small}
-use Rattle.pli_headline.proofs.Bodies.{Ground, Known, nth, frame_is, displaced_by, plus_piece}
-use Rattle.pli_headline.proofs.Jumps.{front_of, back_of}
-use Rattle.pli_headline.proofs.Reaching.{reach_moved}
-use Rattle.pli_headline.proofs.SavedRegisters.{saved_ground, SavingAt, called_regs, saved_piece}
+use Rattle.run_steps.specs.Engine.{Base, most_code}
+use Rattle.run_steps.proofs.Linking.{size_append}
+use Rattle.run_steps.specs.Items.{Linked, At, Items}
+use Rattle.run_steps.proofs.Items.{straight}
+use Rattle.run_steps.proofs.Numbers.{above_sum, above_small}
+use Rattle.run_steps.specs.Bodies.{Ground, Known, nth}
+use Rattle.run_steps.proofs.Bodies.{frame_is, displaced_by, plus_piece}
+use Rattle.run_steps.proofs.Jumps.{front_of, back_of}
+use Rattle.run_steps.proofs.Reaching.{reach_moved}
+use Rattle.run_steps.specs.SavedRegisters.{saved_ground, SavingAt, called_regs}
+use Rattle.run_steps.proofs.SavedRegisters.{saved_piece}
 use Rattle.pli_headline.proofs.Statements.{Block}
 use Rattle.pli_headline.proofs.InnerFrames.{Inside, inner_whole, inner_above}
 use Rattle.pli_headline.proofs.BeginDisplays.{frame_word, own_is, unmoved, moved_reserved, without_two, unknown, begun_code}
 use Rattle.pli_headline.proofs.CalledFrames.{Callee, AroundCall, saved_beside, called_ground}
-use Rattle.pli_headline.proofs.Reach.{Family, Reach, reach_then, reached, reached_holds}
+use Rattle.run_steps.specs.Reach.{Family, Reach, reached}
+use Rattle.run_steps.proofs.Reach.{reach_then, reached_holds}
 use Rattle.pli_headline.proofs.Scalars.{Values}
 
 -- what the third register of arguments holds

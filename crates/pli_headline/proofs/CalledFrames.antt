@@ -10,12 +10,12 @@ use Rattle.pli_coding.specs.Frames.{fixed_size, temporary_bytes}
 use Rattle.pli_coding.specs.Environments.{Owner, BlockOwner, Environment, in_frame, owned_by, none_taken}
 use Rattle.pli_coding.specs.Procedures.{procedure_environment}
 use Rattle.pli_headline.specs.ProvedSoFar.{Names, Types, OuterBlock, alone, Kind}
-use Rattle.pli_headline.proofs.Engine.{Base}
+use Rattle.run_steps.specs.Engine.{Base}
 use Rattle.pli_headline.proofs.Scalars.{Values, Fits, store_kind}
-use Rattle.pli_headline.proofs.Bodies.{Ground}
-use Rattle.pli_headline.proofs.Reaching.{Reaches}
-use Rattle.pli_headline.proofs.SavedRegisters.{Saved}
-use Rattle.pli_headline.proofs.Temporaries.{Temporaries}
+use Rattle.run_steps.specs.Bodies.{Ground}
+use Rattle.run_steps.specs.Reaching.{Reaches}
+use Rattle.run_steps.specs.SavedRegisters.{Saved}
+use Rattle.run_steps.specs.Temporaries.{Temporaries}
 use Rattle.pli_headline.proofs.Variables.{data_place, level_of, AllOutermost}
 use Rattle.pli_headline.proofs.States.{with_number_at, with_text_at}
 use Rattle.pli_headline.proofs.MainGround.{width_few}

@@ -6,7 +6,7 @@ use Rattle.pli_meaning.specs.BasicValues.{BasicValue}
 use Rattle.pli_meaning.specs.StorageState.{State, with_world}
 use Rattle.pli_meaning.specs.Control as F
 use Rattle.pli_meaning.specs.Control.{Flow, Normal, Jump, Return, Paused, Stuck, left}
-use Rattle.pli_headline.proofs.Reach.{Family, Aims, Comes, Closed}
+use Rattle.run_steps.specs.Reach.{Family, Aims, Comes, Closed}
 
 -- its end and a return end its activation, and so does a jump
 abbrev pub ending_call : Aims (Option BasicValue) → (State → State) → Aims (Unit {0})

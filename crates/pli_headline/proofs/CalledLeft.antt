@@ -19,23 +19,28 @@ use Rattle.pli_coding.specs.Procedures.{frame_returned}
 use Rattle.pli_coding.specs.Linking.{Links}
 use Rattle.image_runs.specs.Runs.{Whole}
 use Rattle.pli_headline.specs.ProvedSoFar.{Names, Types}
-use Rattle.pli_headline.proofs.Engine.{Base, address, most_code}
-use Rattle.pli_headline.proofs.Linking.{size_append}
-use Rattle.pli_headline.proofs.Items.{Linked, At, straight}
-use Rattle.pli_headline.proofs.Numbers.{below_sum, below_small}
-use Rattle.pli_headline.proofs.Bodies.{Ground, Known, nth, reserved, with', zero_is, frame_is, displaced_by}
-use Rattle.pli_headline.proofs.Jumps.{front_of, back_of, hop, jump_register}
-use Rattle.pli_headline.proofs.Temporaries.{nothing}
-use Rattle.pli_headline.proofs.Reaching.{reach_moved}
-use Rattle.pli_headline.proofs.SavedRegisters.{SavedIn, held_again, restored_piece}
-use Rattle.pli_headline.proofs.Calls.{called, Calling, call_done}
+use Rattle.run_steps.specs.Engine.{Base, address, most_code}
+use Rattle.run_steps.proofs.Linking.{size_append}
+use Rattle.run_steps.specs.Items.{Linked, At}
+use Rattle.run_steps.proofs.Items.{straight}
+use Rattle.run_steps.proofs.Numbers.{below_sum, below_small}
+use Rattle.run_steps.specs.Bodies.{Ground, Known, nth, reserved, with'}
+use Rattle.run_steps.proofs.Bodies.{zero_is, frame_is, displaced_by}
+use Rattle.run_steps.proofs.Jumps.{front_of, back_of, hop, jump_register}
+use Rattle.run_steps.specs.Temporaries.{nothing}
+use Rattle.run_steps.proofs.Reaching.{reach_moved}
+use Rattle.run_steps.specs.SavedRegisters.{SavedIn, held_again}
+use Rattle.run_steps.proofs.SavedRegisters.{restored_piece}
+use Rattle.run_steps.specs.Calls.{Calling}
+use Rattle.run_steps.proofs.Calls.{called, call_done}
 use Rattle.pli_headline.proofs.Raising.{small_is}
 use Rattle.pli_headline.proofs.Statements.{lower_ground, Block}
 use Rattle.pli_headline.proofs.InnerFrames.{inner_whole, inner_above}
 use Rattle.pli_headline.proofs.BeginDisplays.{frame_word, moved_reserved, without_two}
 use Rattle.pli_headline.proofs.BeginEntered.{ended_services, leave_answer}
 use Rattle.pli_headline.proofs.CalledFrames.{Callee, called_ground}
-use Rattle.pli_headline.proofs.Reach.{Family, Reach, reach_then, reached, reached_holds}
+use Rattle.run_steps.specs.Reach.{Family, Reach, reached}
+use Rattle.run_steps.proofs.Reach.{reach_then, reached_holds}
 use Rattle.pli_headline.proofs.Scalars.{Values}
 
 -- the end of a procedure without a result, behind its mark

@@ -7,7 +7,7 @@ use Rattle.pli_coding.specs.Procedures.{procedure_environment}
 use Rattle.pli_typing.specs.TypedTree as Y
 use Rattle.pli_meaning.specs.Control.{Label}
 use Rattle.pli_headline.specs.ProvedSoFar.{Names, Types, ArePlain, bytes_of}
-use Rattle.pli_headline.proofs.Engine.{Base}
+use Rattle.run_steps.specs.Engine.{Base}
 use Rattle.pli_headline.proofs.Statements.{Block, IsFilled, IsKnown}
 use Rattle.pli_headline.proofs.MoreServed.{place_for}
 use Rattle.pli_headline.proofs.Declares.{bytes_before, bytes_all, made_block}

@@ -19,19 +19,20 @@ use Rattle.pli_coding.specs.Statements.{stmt_code, stmts_code, marked}
 use Rattle.pli_coding.specs.Linking.{Links, place_of}
 use Rattle.pli_headline.specs.ProvedSoFar.{Names, Types}
 use Rattle.pli_headline.proofs.Storages.{storage}
-use Rattle.pli_headline.proofs.Engine.{Base, address}
+use Rattle.run_steps.specs.Engine.{Base, address}
 use Rattle.pli_headline.proofs.DataOnce.{same_bytes-equal, same_bytes-same}
-use Rattle.pli_headline.proofs.Linking.{size_append}
-use Rattle.pli_headline.proofs.Items.{Linked, At}
-use Rattle.pli_headline.proofs.Bodies.{Known}
-use Rattle.pli_headline.proofs.Jumps.{front_of, back_of, rest_of, linked_at}
-use Rattle.pli_headline.proofs.Temporaries.{nothing, stays_then}
+use Rattle.run_steps.proofs.Linking.{size_append}
+use Rattle.run_steps.specs.Items.{Linked, At}
+use Rattle.run_steps.specs.Bodies.{Known}
+use Rattle.run_steps.proofs.Jumps.{front_of, back_of, rest_of, linked_at}
+use Rattle.run_steps.specs.Temporaries.{nothing}
+use Rattle.run_steps.proofs.Temporaries.{stays_then}
 use Rattle.pli_headline.proofs.Activations.{newest_is, entered_length}
 use Rattle.pli_headline.proofs.OuterBlocks.{risen_length}
-use Rattle.pli_headline.proofs.Calls.{Serving}
+use Rattle.pli_headline.proofs.Serving.{Serving}
 use Rattle.pli_headline.proofs.Statements.{Block, AllHold, Behind, IsMarkedOnce, Landing, outlets_by, Enough, Does, EachDoes, list_does}
 use Rattle.pli_headline.proofs.MainFlow.{catching, catching_closed, comes_caught}
-use Rattle.pli_headline.proofs.Reach.{Family, Aims, Comes, Closed}
+use Rattle.run_steps.specs.Reach.{Family, Aims, Comes, Closed}
 use Rattle.pli_headline.proofs.Scalars.{Values}
 
 -- the block while a list with these labels is carried out

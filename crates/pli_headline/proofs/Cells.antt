@@ -15,7 +15,8 @@ use Rattle.pli_typing.specs.TypedTree as Y
 use Rattle.pli_meaning.specs.Numbers.{is_of_precision}
 use Rattle.pli_meaning.specs.Texts.{bit_number}
 use Rattle.pli_serving.specs.Bytes.{with_bytes}
-use Rattle.pli_headline.proofs.Numbers.{IsWide, word_small}
+use Rattle.run_steps.specs.Numbers.{IsWide}
+use Rattle.run_steps.proofs.Numbers.{word_small}
 use Rattle.pli_headline.proofs.WrittenBytes.{byte-with_inside}
 use Rattle.pli_headline.proofs.Scalars.{Fits, bit_of, fewer_bits, fits_wide, load_kind, store_kind}
 

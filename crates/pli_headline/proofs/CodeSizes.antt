@@ -21,7 +21,7 @@ use Rattle.pli_coding.specs.Allocating.{act_code}
 use Rattle.pli_coding.specs.Statements.{stmt_code, stmts_code, marked}
 use Rattle.pli_headline.specs.ProvedSoFar.{main_names}
 use Rattle.pli_headline.specs.FirstForms.{plain_number, AreNumbers, IsFirstReference, IsFirstOperator, IsFirstNumber, IsFirstItem, AreFirstItems, AreFirstPairs, IsFirstStatement, AreFirstStatements}
-use Rattle.pli_headline.proofs.Linking.{size_append}
+use Rattle.run_steps.proofs.Linking.{size_append}
 use Rattle.pli_headline.proofs.FirstForms.{number_at}
 use Rattle.pli_headline.proofs.Variables.{outermost, data_place, number_loaded, scalar_stored_is}
 

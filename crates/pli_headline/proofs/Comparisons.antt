@@ -12,9 +12,10 @@ use Rattle.pli_meaning.specs.Control.{give}
 use Rattle.pli_serving.specs.ServiceState.{Services}
 use Rattle.pli_coding.specs.Arithmetic.{negated_code, combined_code, compared_code}
 use Rattle.pli_coding.specs.Linking.{Links}
-use Rattle.pli_headline.proofs.Numbers.{IsWide}
+use Rattle.run_steps.specs.Numbers.{IsWide}
 use Rattle.pli_headline.proofs.WordComparisons.{compared_word, negated_flag, and_flags, or_flags, numbers_compared, bits_compared}
-use Rattle.pli_headline.proofs.Bodies.{Ground, zero_is}
+use Rattle.run_steps.specs.Bodies.{Ground}
+use Rattle.run_steps.proofs.Bodies.{zero_is}
 use Rattle.pli_headline.proofs.Operators.{valued, paired}
 use Rattle.pli_headline.proofs.Evaluations.{bit_kind, Operates, straight_operates}
 

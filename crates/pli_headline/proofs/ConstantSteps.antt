@@ -15,7 +15,7 @@ use Rattle.pli_meaning.specs.Evaluating as V
 use Rattle.pli_coding.specs.Statements.{constant_step}
 use Rattle.pli_coding.specs.Temporaries.{number_words}
 use Rattle.pli_headline.specs.ProvedSoFar.{Names, Types, IsProvedNumber}
-use Rattle.pli_headline.proofs.Numbers.{IsWide}
+use Rattle.run_steps.specs.Numbers.{IsWide}
 
 pub record Constant (x : Y.Number) (z : ℤ) : Type 0 where
   pub wide : IsWide z

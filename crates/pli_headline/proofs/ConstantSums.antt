@@ -19,18 +19,22 @@ use Rattle.pli_coding.specs.Instructions.{move, plus, skip_where}
 use Rattle.pli_coding.specs.Environments.{Taken, is_register_left}
 use Rattle.pli_coding.specs.Arithmetic.{overflow_raised, order_of_sum, constant_added}
 use Rattle.pli_coding.specs.Linking.{Links}
-use Rattle.pli_headline.proofs.Engine.{Base, address}
-use Rattle.pli_headline.proofs.Linking.{size_append}
-use Rattle.pli_headline.proofs.Items.{Linked, At, straight}
-use Rattle.pli_headline.proofs.Numbers.{IsWide, word_small, sum-word, sum_test, sum_fits, sum_over}
+use Rattle.run_steps.specs.Engine.{Base, address}
+use Rattle.run_steps.proofs.Linking.{size_append}
+use Rattle.run_steps.specs.Items.{Linked, At}
+use Rattle.run_steps.proofs.Items.{straight}
+use Rattle.run_steps.specs.Numbers.{IsWide, sum_test}
+use Rattle.run_steps.proofs.Numbers.{word_small, sum-word, sum_fits, sum_over}
 use Rattle.pli_headline.proofs.WordProducts.{signed_word}
-use Rattle.pli_headline.proofs.Bodies.{Ground, Known, plus_piece}
-use Rattle.pli_headline.proofs.Jumps.{rest_of, front_of, back_of, skip_taken, skip_passed}
-use Rattle.pli_headline.proofs.Temporaries.{Temporaries}
-use Rattle.pli_headline.proofs.Calls.{Serving}
+use Rattle.run_steps.specs.Bodies.{Ground, Known}
+use Rattle.run_steps.proofs.Bodies.{plus_piece}
+use Rattle.run_steps.proofs.Jumps.{rest_of, front_of, back_of, skip_taken, skip_passed}
+use Rattle.run_steps.specs.Temporaries.{Temporaries}
+use Rattle.pli_headline.proofs.Serving.{Serving}
 use Rattle.pli_headline.proofs.Raising.{Routines}
 use Rattle.pli_headline.proofs.Operators.{valued, Gone, overflow_piece, after_raise, after_fit, sum_zero}
-use Rattle.pli_headline.proofs.Reach.{Family, Aims, Comes, Closed, before_closed, comes_on, onward}
+use Rattle.run_steps.specs.Reach.{Family, Aims, Comes, Closed}
+use Rattle.run_steps.proofs.Reach.{before_closed, comes_on, onward}
 
 -- ---- what the order of a sum and its left operand tells
 

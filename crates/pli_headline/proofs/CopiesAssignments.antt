@@ -27,10 +27,10 @@ use Rattle.pli_coding.specs.SignatureTable.{table_of}
 use Rattle.pli_coding.specs.Linking.{Links}
 use Rattle.pli_headline.specs.ProvedSoFar.{Names, Types, Kind, text_leaf, AreAlike}
 use Rattle.pli_headline.proofs.Storages.{storage, Storage, Serials, stored_changed}
-use Rattle.pli_headline.proofs.Engine.{address}
-use Rattle.pli_headline.proofs.Linking.{size_append}
-use Rattle.pli_headline.proofs.Items.{Linked}
-use Rattle.pli_headline.proofs.Jumps.{front_of, back_of}
+use Rattle.run_steps.specs.Engine.{address}
+use Rattle.run_steps.proofs.Linking.{size_append}
+use Rattle.run_steps.specs.Items.{Linked}
+use Rattle.run_steps.proofs.Jumps.{front_of, back_of}
 use Rattle.pli_headline.proofs.Acts.{acted, act_piece}
 use Rattle.pli_headline.proofs.Scalars.{IsNumeric, by_type, Values, value_as, Fits, load_kind, store_kind, element_numeric}
 use Rattle.pli_headline.proofs.Variables.{whole, own, level_of, data_place}
@@ -47,7 +47,8 @@ use Rattle.pli_headline.proofs.ElementsAssignments.{array_numbered, own_place}
 use Rattle.pli_headline.proofs.Asides.{asides_changed}
 use Rattle.pli_headline.proofs.Entered.{Frames}
 use Rattle.pli_headline.proofs.Statements.{Block, Standing, AllHold, Does, counted_all}
-use Rattle.pli_headline.proofs.Reach.{Comes, before_closed, comes_on}
+use Rattle.run_steps.specs.Reach.{Comes}
+use Rattle.run_steps.proofs.Reach.{before_closed, comes_on}
 use Rattle.pli_headline.proofs.TextArrayMeant.{HoldsTexts, texts_aside}
 use Rattle.pli_headline.proofs.TextArrayStates.{texts_apart}
 use Rattle.pli_headline.proofs.CopiesFilled.{copied, copied_numbers, copied_texts, copied_text_arrays, copied_other, copied_at, numbers_from, numbers_stand, copy_changed, copy_state, given_by_source, copy_meant, array_copied}

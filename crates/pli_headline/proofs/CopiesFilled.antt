@@ -19,8 +19,8 @@ use Rattle.pli_meaning.specs.Evaluating as V
 use Rattle.pli_meaning.specs.Placing as P
 use Rattle.pli_coding.specs.Environments.{Environment}
 use Rattle.pli_headline.specs.ProvedSoFar.{Names}
-use Rattle.pli_headline.proofs.Engine.{Base}
-use Rattle.pli_headline.proofs.Bodies.{Ground}
+use Rattle.run_steps.specs.Engine.{Base}
+use Rattle.run_steps.specs.Bodies.{Ground}
 use Rattle.pli_headline.proofs.Scalars.{IsNumeric, by_type, Values, value_as, Fits, store_kind}
 use Rattle.pli_headline.proofs.Variables.{whole, data_place}
 use Rattle.pli_headline.proofs.Changes.{changed_same}

@@ -17,21 +17,26 @@ use Rattle.pli_coding.specs.Assembly.{Plain, JumpTo, RaiseError, size_of}
 use Rattle.pli_coding.specs.Instructions.{number, small, service, status_tested, tested_service}
 use Rattle.pli_coding.specs.Environments.{Taken}
 use Rattle.pli_coding.specs.Linking.{Links}
-use Rattle.pli_headline.proofs.Engine.{Base, address, call_at}
-use Rattle.pli_headline.proofs.Linking.{size_append}
-use Rattle.pli_headline.proofs.Items.{Linked, At, straight}
-use Rattle.pli_headline.proofs.Jumps.{front_of, back_of, skip_taken}
+use Rattle.run_steps.specs.Engine.{Base, address, call_at}
+use Rattle.run_steps.proofs.Linking.{size_append}
+use Rattle.run_steps.specs.Items.{Linked, At}
+use Rattle.run_steps.proofs.Items.{straight}
+use Rattle.run_steps.proofs.Jumps.{front_of, back_of, skip_taken}
 use Rattle.pli_headline.proofs.Acts.{word_is, word_fits}
 use Rattle.pli_headline.proofs.Raising.{small_is}
-use Rattle.pli_headline.proofs.Bodies.{Ground, Known, PlaceFrom, zero_is, constant_piece, reserved_are}
-use Rattle.pli_headline.proofs.Temporaries.{Temporaries, Stays, stays_then, nothing}
-use Rattle.pli_headline.proofs.Calls.{Calling, called, call_done}
-use Rattle.pli_headline.proofs.Reaching.{Reaches}
+use Rattle.run_steps.specs.Bodies.{Ground, Known, PlaceFrom, reserved_are}
+use Rattle.run_steps.proofs.Bodies.{zero_is, constant_piece}
+use Rattle.run_steps.specs.Temporaries.{Temporaries, Stays, nothing}
+use Rattle.run_steps.proofs.Temporaries.{stays_then}
+use Rattle.run_steps.specs.Calls.{Calling}
+use Rattle.run_steps.proofs.Calls.{called, call_done}
+use Rattle.run_steps.specs.Reaching.{Reaches}
 use Rattle.pli_headline.proofs.TextCalls.{two}
 use Rattle.pli_headline.proofs.ElementsCode.{given_by}
 use Rattle.pli_headline.proofs.ElementsPieces.{recorded, record_stays, record_piece, given_piece}
 use Rattle.pli_headline.proofs.CopiesCode.{Place, record_at, asked_by, copying}
-use Rattle.pli_headline.proofs.Reach.{Family, Aims, Comes, Closed, onward}
+use Rattle.run_steps.specs.Reach.{Family, Aims, Comes, Closed}
+use Rattle.run_steps.proofs.Reach.{onward}
 
 -- an array is known by its frame, which has its own offset, and in which its name stands
 pub record IsReached (g : Ground) (base : ℕ) (p : Place) : Type 0 where

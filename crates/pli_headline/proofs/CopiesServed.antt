@@ -32,8 +32,9 @@ use Rattle.pli_serving.specs.Outcomes.{or_bad, bad_unless, pushed}
 use Rattle.pli_serving.specs.Aggregates as A
 use Rattle.pli_serving.specs.AggregateServices as W
 use Rattle.pli_headline.specs.ProvedSoFar.{AreBounds}
-use Rattle.pli_headline.proofs.Engine.{call_at}
-use Rattle.pli_headline.proofs.Numbers.{IsWide, word_small}
+use Rattle.run_steps.specs.Engine.{call_at}
+use Rattle.run_steps.specs.Numbers.{IsWide}
+use Rattle.run_steps.proofs.Numbers.{word_small}
 use Rattle.pli_headline.proofs.WordProducts.{signed_word}
 use Rattle.pli_headline.proofs.Cells.{Cell, kept_by, cell_found}
 use Rattle.pli_headline.proofs.Scalars.{IsNumeric, by_type, value_as, Fits, fits_wide, bit_of, bit_word, load_kind, store_kind}

@@ -28,14 +28,16 @@ use Rattle.pli_coding.specs.Statements.{before_turns, start_code, start_loaded, 
 use Rattle.pli_coding.specs.Linking.{Links}
 use Rattle.pli_headline.specs.ProvedSoFar.{Names, Types, IsProvedNumber, IsProvedNumberIf, IsProvedBitIf, IsPart, IsAssigned, AreSubscripts, AreProvedNumbers, IsProvedBit, IsProvedStart, IsProvedText}
 use Rattle.pli_headline.proofs.Storages.{storage}
-use Rattle.pli_headline.proofs.Engine.{Base, address}
-use Rattle.pli_headline.proofs.Linking.{size_append}
-use Rattle.pli_headline.proofs.Items.{Linked, At}
-use Rattle.pli_headline.proofs.Numbers.{IsWide, word_small}
-use Rattle.pli_headline.proofs.Bodies.{Known, Ground}
-use Rattle.pli_headline.proofs.Jumps.{front_of, back_of, linked_at}
-use Rattle.pli_headline.proofs.Temporaries.{Stays, stays_same, stays_then, nothing, put, put_same}
-use Rattle.pli_headline.proofs.Calls.{Serving}
+use Rattle.run_steps.specs.Engine.{Base, address}
+use Rattle.run_steps.proofs.Linking.{size_append}
+use Rattle.run_steps.specs.Items.{Linked, At}
+use Rattle.run_steps.specs.Numbers.{IsWide}
+use Rattle.run_steps.proofs.Numbers.{word_small}
+use Rattle.run_steps.specs.Bodies.{Known, Ground}
+use Rattle.run_steps.proofs.Jumps.{front_of, back_of, linked_at}
+use Rattle.run_steps.specs.Temporaries.{Stays, nothing, put}
+use Rattle.run_steps.proofs.Temporaries.{stays_same, stays_then, put_same}
+use Rattle.pli_headline.proofs.Serving.{Serving}
 use Rattle.pli_headline.proofs.Acts.{act_piece}
 use Rattle.pli_headline.proofs.Operators.{valued}
 use Rattle.pli_headline.proofs.Precisions.{fitted_piece}
@@ -44,7 +46,8 @@ use Rattle.pli_headline.proofs.Statements.{Standing, Block, AllHold, counted_all
 use Rattle.pli_headline.proofs.Waiting.{stays_fewer, read_piece, stays_kept}
 use Rattle.pli_headline.proofs.Limits.{StepWaits, step_stays}
 use Rattle.pli_headline.proofs.Turnings.{LimitWaits}
-use Rattle.pli_headline.proofs.Reach.{Family, Aims, Comes, Closed, before, before_closed, comes_on, onward}
+use Rattle.run_steps.specs.Reach.{Family, Aims, Comes, Closed, before}
+use Rattle.run_steps.proofs.Reach.{before_closed, comes_on, onward}
 use Rattle.pli_headline.proofs.Counts.{Counts, turning, standing_turning, turns_of, turn_rest, limit_stays, head_piece, limits_piece, word_kept}
 use Rattle.pli_headline.proofs.EditTexts.{at_other_texts}
 use Rattle.pli_headline.proofs.Expressions.{bit_does, number_does, text_does}

@@ -16,18 +16,23 @@ use Rattle.pli_coding.specs.Instructions.{small, number, service}
 use Rattle.pli_coding.specs.Environments.{Environment}
 use Rattle.pli_coding.specs.Linking.{Links}
 use Rattle.pli_headline.specs.ProvedSoFar.{Names, Types}
-use Rattle.pli_headline.proofs.Engine.{Base, address}
-use Rattle.pli_headline.proofs.Linking.{size_append}
-use Rattle.pli_headline.proofs.Items.{Linked, At, straight}
+use Rattle.run_steps.specs.Engine.{Base, address}
+use Rattle.run_steps.proofs.Linking.{size_append}
+use Rattle.run_steps.specs.Items.{Linked, At}
+use Rattle.run_steps.proofs.Items.{straight}
 use Rattle.pli_headline.proofs.Scalars.{Values}
-use Rattle.pli_headline.proofs.Bodies.{Known, zero_is, constant_piece}
-use Rattle.pli_headline.proofs.Jumps.{front_of, back_of}
-use Rattle.pli_headline.proofs.Temporaries.{nothing}
-use Rattle.pli_headline.proofs.Calls.{Serving, called, Calling, call_done}
+use Rattle.run_steps.specs.Bodies.{Known}
+use Rattle.run_steps.proofs.Bodies.{zero_is, constant_piece}
+use Rattle.run_steps.proofs.Jumps.{front_of, back_of}
+use Rattle.run_steps.specs.Temporaries.{nothing}
+use Rattle.run_steps.specs.Calls.{Calling}
+use Rattle.run_steps.proofs.Calls.{called, call_done}
+use Rattle.pli_headline.proofs.Serving.{Serving}
 use Rattle.pli_headline.proofs.Raising.{small_is}
 use Rattle.pli_headline.proofs.Acts.{word_is}
 use Rattle.pli_headline.proofs.Statements.{Block}
-use Rattle.pli_headline.proofs.Reach.{Family, Aims, Comes, Closed, onward}
+use Rattle.run_steps.specs.Reach.{Family, Aims, Comes, Closed}
+use Rattle.run_steps.proofs.Reach.{onward}
 
 -- the code that sets a line without an act
 abbrev pub line_code : ℕ → Code

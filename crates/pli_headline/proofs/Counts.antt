@@ -34,14 +34,17 @@ use Rattle.pli_coding.specs.Statements.{bit_if}
 use Rattle.pli_coding.specs.Linking.{Links}
 use Rattle.pli_headline.specs.ProvedSoFar.{Names, Types, IsProvedNumber, IsProvedNumberIf, IsProvedBitIf}
 use Rattle.pli_headline.proofs.Storages.{storage}
-use Rattle.pli_headline.proofs.Engine.{Base, address}
-use Rattle.pli_headline.proofs.Linking.{size_append}
-use Rattle.pli_headline.proofs.Items.{Linked, At, straight}
-use Rattle.pli_headline.proofs.Numbers.{IsWide, word_small}
-use Rattle.pli_headline.proofs.Bodies.{Known}
-use Rattle.pli_headline.proofs.Jumps.{front_of, back_of, linked_at}
-use Rattle.pli_headline.proofs.Temporaries.{Stays, stays_same, stays_then, put, put_other, put_same, nothing}
-use Rattle.pli_headline.proofs.Calls.{Serving}
+use Rattle.run_steps.specs.Engine.{Base, address}
+use Rattle.run_steps.proofs.Linking.{size_append}
+use Rattle.run_steps.specs.Items.{Linked, At}
+use Rattle.run_steps.proofs.Items.{straight}
+use Rattle.run_steps.specs.Numbers.{IsWide}
+use Rattle.run_steps.proofs.Numbers.{word_small}
+use Rattle.run_steps.specs.Bodies.{Known}
+use Rattle.run_steps.proofs.Jumps.{front_of, back_of, linked_at}
+use Rattle.run_steps.specs.Temporaries.{Stays, put, nothing}
+use Rattle.run_steps.proofs.Temporaries.{stays_same, stays_then, put_other, put_same}
+use Rattle.pli_headline.proofs.Serving.{Serving}
 use Rattle.pli_headline.proofs.Acts.{acted, act_from}
 use Rattle.pli_headline.proofs.Operators.{valued, Gone, sum_piece, sum_zero}
 use Rattle.pli_headline.proofs.ConstantSums.{constant_piece}
@@ -59,7 +62,8 @@ use Rattle.pli_headline.proofs.Limits.{StepWaits, step_stays}
 use Rattle.pli_headline.proofs.Turnings.{LimitWaits, limit_size, condition_size, within_piece, condition_piece}
 use Rattle.pli_headline.proofs.Loops.{back_piece}
 use Rattle.pli_headline.proofs.Since.{since_closed, comes_since}
-use Rattle.pli_headline.proofs.Reach.{Family, cost, Aims, Comes, Closed, before, before_closed, comes_on, onward, reached, reached_holds}
+use Rattle.run_steps.specs.Reach.{Family, cost, Aims, Comes, Closed, before, reached}
+use Rattle.run_steps.proofs.Reach.{before_closed, comes_on, onward, reached_holds}
 use Rattle.pli_headline.proofs.Evaluations.{Evaluates, Kind, number_kind}
 
 -- the block while limit and step wait

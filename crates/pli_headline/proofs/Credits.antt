@@ -13,7 +13,8 @@ use Rattle.pli_meaning.specs.Raising.{Around}
 use Rattle.pli_meaning.specs.Evaluating as V
 use Rattle.pli_meaning.specs.Placing as P
 use Rattle.pli_meaning.specs.Executing as M
-use Rattle.pli_headline.proofs.Reach.{Family, reach_later, reached_later, Aims, Comes, Closed}
+use Rattle.run_steps.specs.Reach.{Family, Aims, Comes, Closed}
+use Rattle.run_steps.proofs.Reach.{reach_later, reached_later}
 
 -- ---- what is aimed at, with so many more credits
 

@@ -7,7 +7,7 @@ use Rattle.std.proofs.lemmas.List.Folds.{list_any-append}
 use Rattle.pli_language.specs.Keywords.{same_bytes}
 use Rattle.pli_coding.specs.Assembly.{InitialLeaf, Datum, ConstantBytes, InitialValues, NumberWord, StaticStorage, same_initial, same_datum, Plain, BaseIn, OffsetOf, OffsetAhead, JumpTo, CallTo, JumpAhead, JumpBack, Mark, Code}
 use Rattle.pli_coding.specs.StaticData.{PlacedDatum, begins_at, datum_size, placed_from, data_of_symbol, data_named, once, is_initial, is_constant, is_word, is_storage, values_of, ordered, static_data}
-use Rattle.pli_headline.proofs.DataNamed.{IsNamed}
+use Rattle.run_steps.specs.DataNamed.{IsNamed}
 
 -- ---- equal data
 

@@ -27,15 +27,16 @@ use Rattle.pli_coding.specs.Linking.{Links}
 use Rattle.pli_headline.specs.Headline.{parts}
 use Rattle.pli_headline.specs.ProvedSoFar.{Names, Spot, Kind, Types, alone, types_of, IsScalar, bytes_for, bytes_of, AreConstants, ArePlain, IsPlain, plain_variable, array_variable, declared_kind, names_from, types_in, OuterBlock, AreBounds, IsHeld}
 use Rattle.pli_headline.proofs.Storages.{storage, in_use_same}
-use Rattle.pli_headline.proofs.Engine.{Base, address}
-use Rattle.pli_headline.proofs.Linking.{size_append}
-use Rattle.pli_headline.proofs.Items.{Linked, At}
-use Rattle.pli_headline.proofs.Bodies.{Known}
-use Rattle.pli_headline.proofs.Jumps.{front_of, back_of}
-use Rattle.pli_headline.proofs.Temporaries.{nothing}
+use Rattle.run_steps.specs.Engine.{Base, address}
+use Rattle.run_steps.proofs.Linking.{size_append}
+use Rattle.run_steps.specs.Items.{Linked, At}
+use Rattle.run_steps.specs.Bodies.{Known}
+use Rattle.run_steps.proofs.Jumps.{front_of, back_of}
+use Rattle.run_steps.specs.Temporaries.{nothing}
 use Rattle.pli_headline.proofs.Activations.{entered_length, same_length}
-use Rattle.pli_headline.proofs.Calls.{Serving}
-use Rattle.pli_headline.proofs.Reach.{Family, Aims, Comes, Closed, before_closed, comes_on, onward}
+use Rattle.pli_headline.proofs.Serving.{Serving}
+use Rattle.run_steps.specs.Reach.{Family, Aims, Comes, Closed}
+use Rattle.run_steps.proofs.Reach.{before_closed, comes_on, onward}
 use Rattle.pli_headline.proofs.Scalars.{Values, place_below, by_held, character, varying, by_shape}
 use Rattle.pli_headline.proofs.VariablePlaces.{frame_size, scalar_size, counted_size, text_print, size_for}
 use Rattle.pli_headline.proofs.MainProcedure.{frame_fixed, frame_many, plain_kind, typed_plain}

@@ -15,20 +15,23 @@ use Rattle.pli_coding.specs.Environments.{Environment}
 use Rattle.pli_coding.specs.Linking.{Links}
 use Rattle.pli_headline.specs.ProvedSoFar.{Names, Types}
 use Rattle.pli_headline.proofs.Storages.{storage}
-use Rattle.pli_headline.proofs.Engine.{Base, address}
-use Rattle.pli_headline.proofs.Linking.{size_append}
-use Rattle.pli_headline.proofs.Items.{Linked, At, straight}
-use Rattle.pli_headline.proofs.Bodies.{Known, zero_is}
-use Rattle.pli_headline.proofs.Jumps.{front_of, back_of, rest_of, skip_taken, skip_passed, ahead_piece}
-use Rattle.pli_headline.proofs.Temporaries.{nothing}
-use Rattle.pli_headline.proofs.Calls.{Serving}
+use Rattle.run_steps.specs.Engine.{Base, address}
+use Rattle.run_steps.proofs.Linking.{size_append}
+use Rattle.run_steps.specs.Items.{Linked, At}
+use Rattle.run_steps.proofs.Items.{straight}
+use Rattle.run_steps.specs.Bodies.{Known}
+use Rattle.run_steps.proofs.Bodies.{zero_is}
+use Rattle.run_steps.proofs.Jumps.{front_of, back_of, rest_of, skip_taken, skip_passed, ahead_piece}
+use Rattle.run_steps.specs.Temporaries.{nothing}
+use Rattle.pli_headline.proofs.Serving.{Serving}
 use Rattle.pli_headline.proofs.Raising.{small_is}
 use Rattle.pli_headline.proofs.Operators.{valued}
 use Rattle.pli_headline.proofs.Statements.{Block, AllHold}
 use Rattle.pli_headline.proofs.Ifs.{free_far}
 use Rattle.pli_headline.proofs.FormatData.{IsOf}
 use Rattle.pli_headline.proofs.EditItems.{putting}
-use Rattle.pli_headline.proofs.Reach.{Family, Aims, Comes, Closed, onward, reached, reached_holds}
+use Rattle.run_steps.specs.Reach.{Family, Aims, Comes, Closed, reached}
+use Rattle.run_steps.proofs.Reach.{onward, reached_holds}
 use Rattle.pli_headline.proofs.Scalars.{Values}
 
 -- behind a value, with what is left of the format list

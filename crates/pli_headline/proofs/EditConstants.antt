@@ -18,19 +18,23 @@ use Rattle.pli_coding.specs.Assembly.{ConstantBytes, DataPlace, OffsetOf, Plain,
 use Rattle.pli_coding.specs.Instructions.{small, number}
 use Rattle.pli_coding.specs.Expressions.{constant_pushed}
 use Rattle.pli_coding.specs.Linking.{Links, place_of}
-use Rattle.pli_headline.proofs.Engine.{Base, address, call_at}
-use Rattle.pli_headline.proofs.Linking.{size_append}
-use Rattle.pli_headline.proofs.Items.{Linked, At, straight}
-use Rattle.pli_headline.proofs.Bodies.{Ground, Known, zero_is, constant_piece}
-use Rattle.pli_headline.proofs.Jumps.{front_of, back_of}
-use Rattle.pli_headline.proofs.Temporaries.{nothing}
-use Rattle.pli_headline.proofs.Calls.{called, Calling, call_done}
+use Rattle.run_steps.specs.Engine.{Base, address, call_at}
+use Rattle.run_steps.proofs.Linking.{size_append}
+use Rattle.run_steps.specs.Items.{Linked, At}
+use Rattle.run_steps.proofs.Items.{straight}
+use Rattle.run_steps.specs.Bodies.{Ground, Known}
+use Rattle.run_steps.proofs.Bodies.{zero_is, constant_piece}
+use Rattle.run_steps.proofs.Jumps.{front_of, back_of}
+use Rattle.run_steps.specs.Temporaries.{nothing}
+use Rattle.run_steps.specs.Calls.{Calling}
+use Rattle.run_steps.proofs.Calls.{called, call_done}
 use Rattle.pli_headline.proofs.Raising.{small_is}
 use Rattle.pli_headline.proofs.Operators.{valued}
 use Rattle.pli_headline.proofs.Acts.{word_is, word_fits}
-use Rattle.pli_headline.proofs.DataNamed.{BytesStand}
+use Rattle.run_steps.specs.DataNamed.{BytesStand}
 use Rattle.pli_headline.proofs.FormatsRead.{is_data_there}
-use Rattle.pli_headline.proofs.Reach.{Family, Aims, Comes, Closed, onward}
+use Rattle.run_steps.specs.Reach.{Family, Aims, Comes, Closed}
+use Rattle.run_steps.proofs.Reach.{onward}
 
 -- ---- bytes of memory
 

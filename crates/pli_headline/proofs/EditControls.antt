@@ -19,19 +19,24 @@ use Rattle.pli_coding.specs.Streams.{controls_carried_out}
 use Rattle.pli_coding.specs.Linking.{Links}
 use Rattle.pli_headline.proofs.HeldPlaces.{places_next}
 use Rattle.pli_headline.proofs.Storages.{Storage, storage}
-use Rattle.pli_headline.proofs.Engine.{Base, address}
-use Rattle.pli_headline.proofs.Items.{Linked, At, straight}
-use Rattle.pli_headline.proofs.Bodies.{Ground, Known, Free, zero_is}
-use Rattle.pli_headline.proofs.Jumps.{front_of, back_of, rest_of, skip_taken, skip_passed}
-use Rattle.pli_headline.proofs.Temporaries.{nothing}
-use Rattle.pli_headline.proofs.Calls.{Serving, comes_act, called, Calling, call_acts, call_pauses}
+use Rattle.run_steps.specs.Engine.{Base, address}
+use Rattle.run_steps.specs.Items.{Linked, At}
+use Rattle.run_steps.proofs.Items.{straight}
+use Rattle.run_steps.specs.Bodies.{Ground, Known, Free}
+use Rattle.run_steps.proofs.Bodies.{zero_is}
+use Rattle.run_steps.proofs.Jumps.{front_of, back_of, rest_of, skip_taken, skip_passed}
+use Rattle.run_steps.specs.Temporaries.{nothing}
+use Rattle.run_steps.specs.Calls.{Calling}
+use Rattle.run_steps.proofs.Calls.{comes_act, called, call_acts, call_pauses}
+use Rattle.pli_headline.proofs.Serving.{Serving}
 use Rattle.pli_headline.proofs.Raising.{small_is, with_act}
 use Rattle.pli_headline.proofs.Operators.{valued}
 use Rattle.pli_headline.proofs.Loops.{back_piece}
 use Rattle.pli_headline.proofs.FormatData.{Suit, has_data, true_false}
 use Rattle.pli_headline.proofs.EditItems.{putting, Finds, FindsAt, finds_left, finds_again, finds_next, next_of, behind_next, number_of, carried, asked_answer, carried_answer}
 use Rattle.pli_headline.proofs.EditPieces.{quiet_piece, at_other_places}
-use Rattle.pli_headline.proofs.Reach.{Family, Aims, Comes, Closed, cost, before_closed, comes_on, onward, reached, reached_holds}
+use Rattle.run_steps.specs.Reach.{Family, Aims, Comes, Closed, cost, reached}
+use Rattle.run_steps.proofs.Reach.{before_closed, comes_on, onward, reached_holds}
 
 -- ---- what stays while control items are carried out
 

@@ -16,9 +16,9 @@ use Rattle.pli_serving.specs.Outcomes.{or_bad}
 use Rattle.pli_serving.specs.FormatLists.{formats_at}
 use Rattle.pli_serving.specs.Edits as E
 use Rattle.pli_serving.specs.Edits.{NextItem}
-use Rattle.pli_headline.proofs.Numbers.{IsWide}
-use Rattle.pli_headline.proofs.Calls.{acts}
-use Rattle.pli_headline.proofs.Engine.{call_at}
+use Rattle.run_steps.specs.Numbers.{IsWide}
+use Rattle.run_steps.proofs.Calls.{acts}
+use Rattle.run_steps.specs.Engine.{call_at}
 
 -- ---- places in format lists
 

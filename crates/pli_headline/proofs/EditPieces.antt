@@ -22,24 +22,29 @@ use Rattle.pli_serving.specs.Finding.{Call}
 use Rattle.pli_serving.specs.FormatLists.{formats_at}
 use Rattle.pli_serving.specs.Edits as E
 use Rattle.pli_headline.proofs.HeldPlaces.{PlacesHeld, places_next}
-use Rattle.pli_headline.proofs.Unlimited as V
+use Rattle.run_steps.specs.Unlimited as V
 use Rattle.pli_coding.specs.Registers.{zero_register, a0, a1, a7}
 use Rattle.pli_coding.specs.Assembly.{DataPlace, RaiseError, Plain, OffsetOf, JumpTo}
 use Rattle.pli_coding.specs.Instructions.{small, service, status_tested}
 use Rattle.pli_coding.specs.StaticForms.{formats_datum}
 use Rattle.pli_coding.specs.Streams.{number_written, edit_begun, edit_ended}
 use Rattle.pli_coding.specs.Linking.{Links, place_of}
-use Rattle.pli_headline.proofs.Engine.{Base, address, call_at}
-use Rattle.pli_headline.proofs.Items.{Linked, At, straight}
-use Rattle.pli_headline.proofs.Numbers.{IsWide}
-use Rattle.pli_headline.proofs.Bodies.{Ground, Known, zero_is}
-use Rattle.pli_headline.proofs.Jumps.{front_of, back_of, rest_of, skip_taken, skip_passed, jump_piece}
-use Rattle.pli_headline.proofs.Temporaries.{nothing}
-use Rattle.pli_headline.proofs.Calls.{Serving, comes_act, called, Calling, call_done, call_acts, call_pauses}
+use Rattle.run_steps.specs.Engine.{Base, address, call_at}
+use Rattle.run_steps.specs.Items.{Linked, At}
+use Rattle.run_steps.proofs.Items.{straight}
+use Rattle.run_steps.specs.Numbers.{IsWide}
+use Rattle.run_steps.specs.Bodies.{Ground, Known}
+use Rattle.run_steps.proofs.Bodies.{zero_is}
+use Rattle.run_steps.proofs.Jumps.{front_of, back_of, rest_of, skip_taken, skip_passed, jump_piece}
+use Rattle.run_steps.specs.Temporaries.{nothing}
+use Rattle.run_steps.specs.Calls.{Calling}
+use Rattle.run_steps.proofs.Calls.{comes_act, called, call_done, call_acts, call_pauses}
+use Rattle.pli_headline.proofs.Serving.{Serving}
 use Rattle.pli_headline.proofs.Raising.{Routines, small_is, with_act, error_piece}
 use Rattle.pli_headline.proofs.Operators.{valued}
 use Rattle.pli_headline.proofs.Acts.{word_is}
-use Rattle.pli_headline.proofs.Reach.{Family, Aims, Comes, Closed, cost, before_closed, comes_on, onward, reached, reached_holds}
+use Rattle.run_steps.specs.Reach.{Family, Aims, Comes, Closed, cost, reached}
+use Rattle.run_steps.proofs.Reach.{before_closed, comes_on, onward, reached_holds}
 use Rattle.pli_headline.proofs.EditItems.{putting, at_places, Finds, field_status, fielded, begin_answer, width_answer, field_answer, end_answer, signed-word}
 
 -- ---- a service that makes no act

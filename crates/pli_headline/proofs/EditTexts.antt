@@ -25,18 +25,23 @@ use Rattle.pli_coding.specs.Instructions.{small, service}
 use Rattle.pli_coding.specs.Streams as C
 use Rattle.pli_coding.specs.Linking.{Links}
 use Rattle.pli_headline.proofs.HeldPlaces.{places_next}
-use Rattle.pli_headline.proofs.Engine.{Base, address, call_at}
-use Rattle.pli_headline.proofs.Items.{Linked, At, straight}
-use Rattle.pli_headline.proofs.Numbers.{IsWide}
-use Rattle.pli_headline.proofs.Bodies.{Ground, Known, zero_is}
-use Rattle.pli_headline.proofs.Jumps.{front_of, back_of}
-use Rattle.pli_headline.proofs.Temporaries.{nothing}
-use Rattle.pli_headline.proofs.Calls.{Serving, comes_act, called, Calling, call_acts, call_pauses, acts}
+use Rattle.run_steps.specs.Engine.{Base, address, call_at}
+use Rattle.run_steps.specs.Items.{Linked, At}
+use Rattle.run_steps.proofs.Items.{straight}
+use Rattle.run_steps.specs.Numbers.{IsWide}
+use Rattle.run_steps.specs.Bodies.{Ground, Known}
+use Rattle.run_steps.proofs.Bodies.{zero_is}
+use Rattle.run_steps.proofs.Jumps.{front_of, back_of}
+use Rattle.run_steps.specs.Temporaries.{nothing}
+use Rattle.run_steps.specs.Calls.{Calling}
+use Rattle.run_steps.proofs.Calls.{comes_act, called, call_acts, call_pauses, acts}
+use Rattle.pli_headline.proofs.Serving.{Serving}
 use Rattle.pli_headline.proofs.Raising.{small_is, with_act}
 use Rattle.pli_headline.proofs.Operators.{valued}
 use Rattle.pli_headline.proofs.EditItems.{putting, at_places, Finds, signed-word}
 use Rattle.pli_headline.proofs.EditPieces.{argued, quiet_piece, at_other_places, shown_state}
-use Rattle.pli_headline.proofs.Reach.{Family, Aims, Comes, Closed, cost, onward, reached, reached_holds}
+use Rattle.run_steps.specs.Reach.{Family, Aims, Comes, Closed, cost, reached}
+use Rattle.run_steps.proofs.Reach.{onward, reached_holds}
 
 -- ---- the stack of texts
 

@@ -22,14 +22,16 @@ use Rattle.pli_coding.specs.Streams.{has_fixed, has_text, by_item, number_writte
 use Rattle.pli_coding.specs.Linking.{Links}
 use Rattle.pli_headline.specs.ProvedSoFar.{Names, Types, IsPrecision}
 use Rattle.pli_headline.proofs.Storages.{storage}
-use Rattle.pli_headline.proofs.Engine.{Base, address}
-use Rattle.pli_headline.proofs.Linking.{size_append}
-use Rattle.pli_headline.proofs.Items.{Linked, At}
-use Rattle.pli_headline.proofs.Numbers.{IsWide, word_small}
-use Rattle.pli_headline.proofs.Bodies.{Known}
-use Rattle.pli_headline.proofs.Jumps.{front_of, back_of}
-use Rattle.pli_headline.proofs.Temporaries.{nothing, waiting, fetch_piece}
-use Rattle.pli_headline.proofs.Calls.{Serving}
+use Rattle.run_steps.specs.Engine.{Base, address}
+use Rattle.run_steps.proofs.Linking.{size_append}
+use Rattle.run_steps.specs.Items.{Linked, At}
+use Rattle.run_steps.specs.Numbers.{IsWide}
+use Rattle.run_steps.proofs.Numbers.{word_small}
+use Rattle.run_steps.specs.Bodies.{Known}
+use Rattle.run_steps.proofs.Jumps.{front_of, back_of}
+use Rattle.run_steps.specs.Temporaries.{nothing, waiting}
+use Rattle.run_steps.proofs.Temporaries.{fetch_piece}
+use Rattle.pli_headline.proofs.Serving.{Serving}
 use Rattle.pli_headline.proofs.Raising.{Routines}
 use Rattle.pli_headline.proofs.Operators.{valued}
 use Rattle.pli_headline.proofs.Scalars.{bit_wide, Values}
@@ -39,7 +41,8 @@ use Rattle.pli_headline.proofs.EditItems.{putting, Finds, fielded}
 use Rattle.pli_headline.proofs.EditPieces.{field_piece, shown_state}
 use Rattle.pli_headline.proofs.EditTexts.{at_other_texts, number_text_is, bit_text_is, word_as_text, texted, text_piece}
 use Rattle.pli_headline.proofs.EditChoices.{ValueBehind, item_chosen}
-use Rattle.pli_headline.proofs.Reach.{Family, Aims, Comes, Closed, before_closed, comes_on, onward}
+use Rattle.run_steps.specs.Reach.{Family, Aims, Comes, Closed}
+use Rattle.run_steps.proofs.Reach.{before_closed, comes_on, onward}
 
 -- the code that shows it by F, and by A
 abbrev pub by_fixed : Taken → Code

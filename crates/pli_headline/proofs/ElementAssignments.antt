@@ -23,10 +23,10 @@ use Rattle.pli_coding.specs.Temporaries.{number_words, bit_words, reference_word
 use Rattle.pli_coding.specs.Linking.{Links}
 use Rattle.pli_headline.specs.ProvedSoFar.{Names, Types, text_leaf, IsPart, IsAssigned, AreSubscripts, IsProvedNumber, AreProvedNumbers, IsProvedBit}
 use Rattle.pli_headline.proofs.Storages.{storage, Storage, Serials, stored_changed}
-use Rattle.pli_headline.proofs.Engine.{address}
-use Rattle.pli_headline.proofs.Linking.{size_append}
-use Rattle.pli_headline.proofs.Jumps.{front_of, back_of}
-use Rattle.pli_headline.proofs.Calls.{Serving}
+use Rattle.run_steps.specs.Engine.{address}
+use Rattle.run_steps.proofs.Linking.{size_append}
+use Rattle.run_steps.proofs.Jumps.{front_of, back_of}
+use Rattle.pli_headline.proofs.Serving.{Serving}
 use Rattle.pli_headline.proofs.Acts.{acted, act_piece}
 use Rattle.pli_headline.proofs.Scalars.{Values, Fits, value_as}
 use Rattle.pli_headline.proofs.Expressions.{Setting, subscripts_do}
@@ -40,7 +40,7 @@ use Rattle.pli_headline.proofs.ArrayStates.{scalar_apart, scalar_beside, text_be
 use Rattle.pli_headline.proofs.Asides.{asides_changed}
 use Rattle.pli_headline.proofs.Entered.{Frames}
 use Rattle.pli_headline.proofs.Statements.{Block, Standing, AllHold, scope_of, Does, counted_all, assign_number_does, assign_bit_does}
-use Rattle.pli_headline.proofs.Reach.{before_closed, comes_on}
+use Rattle.run_steps.proofs.Reach.{before_closed, comes_on}
 use Rattle.pli_headline.proofs.TextArrayMeant.{texts_aside}
 use Rattle.pli_headline.proofs.TextArrayStates.{texts_apart}
 

@@ -27,23 +27,27 @@ use Rattle.pli_coding.specs.Linking.{Links}
 use Rattle.image_runs.specs.Runs.{Whole}
 use Rattle.pli_language.specs.Tree as T
 use Rattle.pli_headline.specs.ProvedSoFar.{Names, IsScalar, AreBounds, array_variable}
-use Rattle.pli_headline.proofs.Engine.{Base, address}
-use Rattle.pli_headline.proofs.Linking.{size_append}
-use Rattle.pli_headline.proofs.Items.{Linked, At, straight}
-use Rattle.pli_headline.proofs.Jumps.{front_of, back_of}
-use Rattle.pli_headline.proofs.Numbers.{above_small}
-use Rattle.pli_headline.proofs.Bodies.{Ground, Known, Free, PlaceFrom, PlaceOf, IsNear, with', frame_is, at_place, load_piece, store_piece}
-use Rattle.pli_headline.proofs.Increments.{plus_own}
+use Rattle.run_steps.specs.Engine.{Base, address}
+use Rattle.run_steps.proofs.Linking.{size_append}
+use Rattle.run_steps.specs.Items.{Linked, At}
+use Rattle.run_steps.proofs.Items.{straight}
+use Rattle.run_steps.proofs.Jumps.{front_of, back_of}
+use Rattle.run_steps.proofs.Numbers.{above_small}
+use Rattle.run_steps.specs.Bodies.{Ground, Known, Free, PlaceFrom, PlaceOf, IsNear, with'}
+use Rattle.run_steps.proofs.Bodies.{at_place, frame_is, load_piece, store_piece}
+use Rattle.run_steps.proofs.Increments.{plus_own}
 use Rattle.pli_headline.proofs.Operators.{valued}
-use Rattle.pli_headline.proofs.Temporaries.{Temporaries, nothing, put, word_place}
-use Rattle.pli_headline.proofs.Reaching.{Reaches}
+use Rattle.run_steps.specs.Temporaries.{Temporaries, nothing, put}
+use Rattle.run_steps.proofs.Temporaries.{word_place}
+use Rattle.run_steps.specs.Reaching.{Reaches}
 use Rattle.pli_headline.proofs.Scalars.{IsNumeric}
 use Rattle.pli_headline.proofs.Variables.{whole, whole_part, own, level_of, declared_in}
 use Rattle.pli_headline.proofs.PlainNumbers.{number_for}
 use Rattle.pli_headline.proofs.ArraySignatures.{array_signature, array_signed, pairs_of, known_by}
 use Rattle.pli_headline.proofs.ArrayElements.{IsDeclaredArray, size_constant}
 use Rattle.pli_headline.proofs.ArrayNames.{place_of_name}
-use Rattle.pli_headline.proofs.Reach.{Family, Aims, Comes, Closed, Reach, onward}
+use Rattle.run_steps.specs.Reach.{Family, Aims, Comes, Closed, Reach}
+use Rattle.run_steps.proofs.Reach.{onward}
 
 -- ---- the code, where the array's declaration is known
 

@@ -20,8 +20,8 @@ use Rattle.pli_meaning.specs.Placing as P
 use Rattle.pli_meaning.specs.Executing as M
 use Rattle.pli_coding.specs.Environments.{Environment}
 use Rattle.pli_headline.specs.ProvedSoFar.{Names}
-use Rattle.pli_headline.proofs.Engine.{Base}
-use Rattle.pli_headline.proofs.Bodies.{Ground}
+use Rattle.run_steps.specs.Engine.{Base}
+use Rattle.run_steps.specs.Bodies.{Ground}
 use Rattle.pli_headline.proofs.Scalars.{IsNumeric, by_type, Values, value_as, Fits, store_kind}
 use Rattle.pli_headline.proofs.Variables.{whole_part, own, whole, data_place}
 use Rattle.pli_headline.proofs.Changes.{changed_same}

@@ -9,7 +9,7 @@ use Rattle.pli_coding.specs.Frames.{display, own_offset}
 use Rattle.pli_coding.specs.Environments.{Environment, Taken, with_number, save, fetch}
 use Rattle.pli_coding.specs.Storing as K
 use Rattle.pli_headline.specs.ProvedSoFar.{Names, Types, IsWhole, array_variable}
-use Rattle.pli_headline.proofs.Linking.{size_append}
+use Rattle.run_steps.proofs.Linking.{size_append}
 use Rattle.pli_headline.proofs.Scalars.{IsNumeric}
 use Rattle.pli_headline.proofs.Variables.{HasTypes, level_of}
 use Rattle.pli_headline.proofs.SymbolsMarked.{Marks, behind, either, constant_none, load_none, store_none, plus_none, saved_none, fetched_none}

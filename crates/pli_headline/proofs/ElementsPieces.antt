@@ -18,22 +18,28 @@ use Rattle.pli_coding.specs.Frames.{own_offset}
 use Rattle.pli_coding.specs.Environments.{Taken, is_register_left, with_number, save, fetch}
 use Rattle.pli_coding.specs.Storing as K
 use Rattle.pli_coding.specs.Linking.{Links}
-use Rattle.pli_headline.proofs.Engine.{Base, address, call_at}
-use Rattle.pli_headline.proofs.Linking.{size_append}
-use Rattle.pli_headline.proofs.Items.{Linked, At, straight}
-use Rattle.pli_headline.proofs.Jumps.{front_of, back_of}
-use Rattle.pli_headline.proofs.Numbers.{below_small, below_sum}
+use Rattle.run_steps.specs.Engine.{Base, address, call_at}
+use Rattle.run_steps.proofs.Linking.{size_append}
+use Rattle.run_steps.specs.Items.{Linked, At}
+use Rattle.run_steps.proofs.Items.{straight}
+use Rattle.run_steps.proofs.Jumps.{front_of, back_of}
+use Rattle.run_steps.proofs.Numbers.{below_small, below_sum}
 use Rattle.pli_headline.proofs.Acts.{word_is, word_fits}
 use Rattle.pli_headline.proofs.Raising.{small_is}
-use Rattle.pli_headline.proofs.Bodies.{Ground, Known, PlaceFrom, zero_is, frame_is, constant_piece, reserved_are}
-use Rattle.pli_headline.proofs.Increments.{plus_own}
+use Rattle.run_steps.specs.Bodies.{Ground, Known, PlaceFrom, reserved_are}
+use Rattle.run_steps.proofs.Bodies.{zero_is, frame_is, constant_piece}
+use Rattle.run_steps.proofs.Increments.{plus_own}
 use Rattle.pli_headline.proofs.Operators.{valued}
-use Rattle.pli_headline.proofs.Temporaries.{Temporaries, Stays, stays_then, stays_saved, stays_less, nothing, put, put_same, put_other, waiting_kept, save_piece, fetch_piece, held_with, words_with, waiting_saved}
-use Rattle.pli_headline.proofs.Calls.{Calling, called, call_done}
-use Rattle.pli_headline.proofs.Reaching.{Reaches}
+use Rattle.run_steps.specs.Temporaries.{Temporaries, Stays, nothing, put, held_with, words_with}
+use Rattle.run_steps.proofs.Temporaries.{stays_then, stays_saved, stays_less, put_same, put_other, waiting_kept}
+use Rattle.run_steps.proofs.Temporaries.{save_piece, fetch_piece, waiting_saved}
+use Rattle.run_steps.specs.Calls.{Calling}
+use Rattle.run_steps.proofs.Calls.{called, call_done}
+use Rattle.run_steps.specs.Reaching.{Reaches}
 use Rattle.pli_headline.proofs.ElementsServed.{RecordThere}
 use Rattle.pli_headline.proofs.ElementsCode.{offset_by, record_by, given_by, filling, word_kept, record_word, free_in, far_in, far_none, own_piece, place_piece}
-use Rattle.pli_headline.proofs.Reach.{Family, Aims, Comes, Closed, onward}
+use Rattle.run_steps.specs.Reach.{Family, Aims, Comes, Closed}
+use Rattle.run_steps.proofs.Reach.{onward}
 
 -- ---- the record
 

@@ -32,8 +32,8 @@ use Rattle.pli_serving.specs.Outcomes.{or_bad, then_found}
 use Rattle.pli_serving.specs.Aggregates as A
 use Rattle.pli_serving.specs.AggregateServices as W
 use Rattle.pli_headline.specs.ProvedSoFar.{IsBounds, AreBounds}
-use Rattle.pli_headline.proofs.Engine.{call_at}
-use Rattle.pli_headline.proofs.Numbers.{IsWide}
+use Rattle.run_steps.specs.Engine.{call_at}
+use Rattle.run_steps.specs.Numbers.{IsWide}
 use Rattle.pli_headline.proofs.Scalars.{IsNumeric, by_type, value_as, Fits, fits_wide, fits_numeric, bit_of, bit_word, store_kind}
 use Rattle.pli_headline.proofs.FormatsRead.{is_data_there}
 use Rattle.pli_headline.proofs.EditItems.{signed-word}

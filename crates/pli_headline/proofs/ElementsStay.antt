@@ -10,7 +10,7 @@ use Rattle.rv_meaning.specs.Memory.{load, store}
 use Rattle.rv_meaning.specs.Machine.{load_width, extended, store_width}
 use Rattle.pli_typing.specs.TypedTree as Y
 use Rattle.pli_serving.specs.Bytes.{with_bytes}
-use Rattle.pli_headline.proofs.Numbers.{word_small}
+use Rattle.run_steps.proofs.Numbers.{word_small}
 use Rattle.pli_headline.proofs.Scalars.{Fits, fits_wide, load_kind, store_kind}
 use Rattle.pli_headline.proofs.Cells.{Cell, kept_by, content, content_word, cell_other, cell_stored, cell_found}
 use Rattle.pli_headline.proofs.WrittenBytes.{load-with_other}

@@ -21,7 +21,7 @@ use Rattle.pli_coding.specs.Streams.{as_text}
 use Rattle.pli_coding.specs.Storing.{word_stored, top_stored}
 use Rattle.pli_headline.specs.ProvedSoFar.{Names, Types, IsOwn, IsProvedNumber, AreProvedNumbers, IsProvedBit, IsProvedText, text_leaf, alone, IsPart, IsPartNumber, IsAssigned, AreSubscripts, Kind, IsDimension, IsPartText, IsAssignedText, constant_bounds}
 use Rattle.pli_headline.proofs.Scalars.{IsNumeric}
-use Rattle.pli_headline.proofs.Reaching.{found_by, register_by}
+use Rattle.run_steps.specs.Reaching.{found_by, register_by}
 use Rattle.pli_headline.proofs.TextPlaces.{text_mode, kind_asked, text_asked}
 use Rattle.pli_headline.proofs.TextVariables.{text_loaded, text_kept}
 use Rattle.pli_headline.proofs.Variables.{own, whole, data_place, base_found, scalar_loaded, scalar_stored}

@@ -26,13 +26,18 @@ use Rattle.pli_coding.specs.Expressions.{UpperAsked, ElementsAsked}
 use Rattle.pli_coding.specs.Temporaries.{number_words, numbers_words, bit_words, text_words, subscripts_words}
 use Rattle.pli_coding.specs.Linking.{Links}
 use Rattle.pli_headline.specs.ProvedSoFar.{Names, Types, IsOwn, IsProvedNumber, AreProvedNumbers, IsProvedBit, IsProvedText, IsPart, IsPartNumber, alone, IsDimension, IsPartText, text_leaf, IsScalar}
-use Rattle.pli_headline.proofs.Engine.{Base}
-use Rattle.pli_headline.proofs.Items.{Linked, At, straight}
-use Rattle.pli_headline.proofs.Numbers.{IsWide, word_small}
-use Rattle.pli_headline.proofs.Bodies.{Ground, Known, Free, PlaceFrom, zero_is, constant_piece}
-use Rattle.pli_headline.proofs.Temporaries.{Temporaries, stays_same, nothing}
-use Rattle.pli_headline.proofs.Reaching.{Reaches, read_based, brought_based}
-use Rattle.pli_headline.proofs.Calls.{Serving}
+use Rattle.run_steps.specs.Engine.{Base}
+use Rattle.run_steps.specs.Items.{Linked, At}
+use Rattle.run_steps.proofs.Items.{straight}
+use Rattle.run_steps.specs.Numbers.{IsWide}
+use Rattle.run_steps.proofs.Numbers.{word_small}
+use Rattle.run_steps.specs.Bodies.{Ground, Known, Free, PlaceFrom}
+use Rattle.run_steps.proofs.Bodies.{zero_is, constant_piece}
+use Rattle.run_steps.specs.Temporaries.{Temporaries, nothing}
+use Rattle.run_steps.proofs.Temporaries.{stays_same}
+use Rattle.run_steps.specs.Reaching.{Reaches}
+use Rattle.run_steps.proofs.Reaching.{read_based, brought_based}
+use Rattle.pli_headline.proofs.Serving.{Serving}
 use Rattle.pli_headline.proofs.Raising.{Routines, small_is}
 use Rattle.pli_headline.proofs.StandingBytes.{ConstantsStand}
 use Rattle.pli_headline.proofs.Operators.{valued}
@@ -52,7 +57,8 @@ use Rattle.pli_headline.proofs.Variables.{HoldsScalar, IsDeclared, whole, own, l
 use Rattle.pli_headline.proofs.Variables.{data_place, scalar_loaded, number_loaded, simple_loaded_is, bit_loaded}
 use Rattle.pli_headline.proofs.Variables.{subscripts_in}
 use Rattle.pli_headline.proofs.TextScopes.{TextsHeld, variable_evaluates}
-use Rattle.pli_headline.proofs.Reach.{Family, Aims, Comes, Closed, onward}
+use Rattle.run_steps.specs.Reach.{Family, Aims, Comes, Closed}
+use Rattle.run_steps.proofs.Reach.{onward}
 use Rattle.pli_headline.proofs.Subscripts.{Simple, none_evaluate, next_evaluate}
 use Rattle.pli_headline.proofs.ArrayScopes.{ArraysHeld}
 use Rattle.pli_headline.proofs.ArrayExpressions.{AllEvaluate, element_number_does, element_bit_does}

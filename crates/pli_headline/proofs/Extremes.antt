@@ -17,17 +17,22 @@ use Rattle.pli_coding.specs.Instructions.{move, skip_where}
 use Rattle.pli_coding.specs.Environments.{Taken, is_register_left, with_number, save, fetch}
 use Rattle.pli_coding.specs.Arithmetic.{extreme_code}
 use Rattle.pli_coding.specs.Linking.{Links}
-use Rattle.pli_headline.proofs.Engine.{Base, address}
-use Rattle.pli_headline.proofs.Linking.{size_append}
-use Rattle.pli_headline.proofs.Items.{Linked, At, straight}
-use Rattle.pli_headline.proofs.Numbers.{IsWide, word_small}
+use Rattle.run_steps.specs.Engine.{Base, address}
+use Rattle.run_steps.proofs.Linking.{size_append}
+use Rattle.run_steps.specs.Items.{Linked, At}
+use Rattle.run_steps.proofs.Items.{straight}
+use Rattle.run_steps.specs.Numbers.{IsWide}
+use Rattle.run_steps.proofs.Numbers.{word_small}
 use Rattle.pli_headline.proofs.WordProducts.{signed_word}
-use Rattle.pli_headline.proofs.Bodies.{Ground, Known}
-use Rattle.pli_headline.proofs.Jumps.{front_of, back_of, rest_of, skip_taken, skip_passed}
-use Rattle.pli_headline.proofs.Temporaries.{Temporaries, Stays, stays_same, stays_then, stays_saved, stays_less, waiting_saved, waiting_kept, held_with, words_with, save_piece, fetch_piece}
+use Rattle.run_steps.specs.Bodies.{Ground, Known}
+use Rattle.run_steps.proofs.Jumps.{front_of, back_of, rest_of, skip_taken, skip_passed}
+use Rattle.run_steps.specs.Temporaries.{Temporaries, Stays, held_with, words_with}
+use Rattle.run_steps.proofs.Temporaries.{stays_same, stays_then, stays_saved, stays_less, waiting_saved}
+use Rattle.run_steps.proofs.Temporaries.{waiting_kept, save_piece, fetch_piece}
 use Rattle.pli_headline.proofs.Operators.{valued, paired, sum_zero}
 use Rattle.pli_headline.proofs.Evaluations.{number_kind, Evaluates, with_words_most}
-use Rattle.pli_headline.proofs.Reach.{Family, Aims, Comes, Closed, before_closed, comes_on, onward}
+use Rattle.run_steps.specs.Reach.{Family, Aims, Comes, Closed}
+use Rattle.run_steps.proofs.Reach.{before_closed, comes_on, onward}
 
 -- ---- the further one of two
 

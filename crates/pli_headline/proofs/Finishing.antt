@@ -16,13 +16,16 @@ use Rattle.pli_coding.specs.Instructions.{small}
 use Rattle.pli_coding.specs.Procedures.{finish_code}
 use Rattle.pli_coding.specs.Linking.{Links}
 use Rattle.image_runs.specs.Runs.{Whole}
-use Rattle.pli_headline.proofs.Engine.{Base}
-use Rattle.pli_headline.proofs.Items.{Linked, At, straight}
-use Rattle.pli_headline.proofs.Bodies.{Regs}
-use Rattle.pli_headline.proofs.Jumps.{front_of, back_of}
-use Rattle.pli_headline.proofs.Calls.{comes_finish, called, Calling, end_pauses, call_ends, acts}
+use Rattle.run_steps.specs.Engine.{Base}
+use Rattle.run_steps.specs.Items.{Linked, At}
+use Rattle.run_steps.proofs.Items.{straight}
+use Rattle.run_steps.specs.Bodies.{Regs}
+use Rattle.run_steps.proofs.Jumps.{front_of, back_of}
+use Rattle.run_steps.specs.Calls.{Calling}
+use Rattle.run_steps.proofs.Calls.{comes_finish, called, end_pauses, call_ends, acts}
 use Rattle.pli_headline.proofs.Raising.{small_is}
-use Rattle.pli_headline.proofs.Reach.{Family, Aims, Comes, Closed, cost, onward}
+use Rattle.run_steps.specs.Reach.{Family, Aims, Comes, Closed, cost}
+use Rattle.run_steps.proofs.Reach.{onward}
 
 -- a machine of which its services and some registers alone are known
 pub record Bare (v : Services) (rs : List (ℕ × ℕ)) (w : Whole) : Type 0 where

@@ -17,14 +17,17 @@ use Rattle.pli_coding.specs.Linking.{Links, upper_part, lower_part, distance, pl
 use Rattle.pli_coding.specs.Procedures.{finish_code}
 use Rattle.pli_coding.specs.Images.{first_frame_bytes, first_frame, environment_of, main_called, start_code}
 use Rattle.image_runs.specs.Runs.{Whole, Runs}
-use Rattle.pli_headline.proofs.Unlimited.{next, run_on}
+use Rattle.run_steps.specs.Unlimited.{next, run_on}
 use Rattle.pli_headline.specs.Headline.{parts}
 use Rattle.pli_headline.specs.ProvedSoFar.{AllPlain}
-use Rattle.pli_headline.proofs.Engine.{Base, at_base, address, most_code, WordAt, passes}
-use Rattle.pli_headline.proofs.Items.{Linked, At, Items, straight}
-use Rattle.pli_headline.proofs.Bodies.{Ground, Known, with'}
-use Rattle.pli_headline.proofs.Jumps.{front_of, back_of, rest_of, first_of, call_piece}
-use Rattle.pli_headline.proofs.Reach.{Family, Reach, reach_then, reached, reached_holds}
+use Rattle.run_steps.specs.Engine.{Base, at_base, address, most_code, WordAt}
+use Rattle.run_steps.proofs.Engine.{passes}
+use Rattle.run_steps.specs.Items.{Linked, At, Items}
+use Rattle.run_steps.proofs.Items.{straight}
+use Rattle.run_steps.specs.Bodies.{Ground, Known, with'}
+use Rattle.run_steps.proofs.Jumps.{front_of, back_of, rest_of, first_of, call_piece}
+use Rattle.run_steps.specs.Reach.{Family, Reach, reached}
+use Rattle.run_steps.proofs.Reach.{reach_then, reached_holds}
 use Rattle.pli_headline.proofs.MainGround.{statics_end}
 use Rattle.pli_headline.proofs.MainProcedure.{IsAlone, no_statics}
 

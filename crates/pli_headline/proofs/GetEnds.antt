@@ -15,21 +15,22 @@ use Rattle.pli_coding.specs.Environments.{Environment}
 use Rattle.pli_coding.specs.Linking.{Links}
 use Rattle.pli_headline.specs.ProvedSoFar.{Names, Types}
 use Rattle.pli_headline.proofs.Storages.{storage}
-use Rattle.pli_headline.proofs.Engine.{Base, address}
-use Rattle.pli_headline.proofs.Items.{Linked, At}
-use Rattle.pli_headline.proofs.Bodies.{Known}
-use Rattle.pli_headline.proofs.Jumps.{front_of, back_of, ahead_piece, linked_at}
-use Rattle.pli_headline.proofs.Temporaries.{nothing, Stays}
+use Rattle.run_steps.specs.Engine.{Base, address}
+use Rattle.run_steps.specs.Items.{Linked, At}
+use Rattle.run_steps.specs.Bodies.{Known}
+use Rattle.run_steps.proofs.Jumps.{front_of, back_of, ahead_piece, linked_at}
+use Rattle.run_steps.specs.Temporaries.{nothing, Stays}
 use Rattle.pli_headline.proofs.Entered.{both_in_force}
-use Rattle.pli_headline.proofs.Calls.{Serving}
+use Rattle.pli_headline.proofs.Serving.{Serving}
 use Rattle.pli_headline.proofs.Raising.{Routines}
 use Rattle.pli_headline.proofs.Operators.{raised_alone}
 use Rattle.pli_headline.proofs.Ifs.{free_far}
 use Rattle.pli_headline.proofs.Statements.{Block, AllHold, Enough}
-use Rattle.pli_headline.proofs.Owing.{comes_owing}
+use Rattle.run_steps.proofs.Owing.{comes_owing}
 use Rattle.pli_headline.proofs.UnitRuns.{by_force, Raises}
 use Rattle.pli_headline.proofs.GetPieces.{endfile_code_raised}
-use Rattle.pli_headline.proofs.Reach.{Family, Aims, Comes, Closed, before_closed, comes_on, onward}
+use Rattle.run_steps.specs.Reach.{Family, Aims, Comes, Closed}
+use Rattle.run_steps.proofs.Reach.{before_closed, comes_on, onward}
 use Rattle.pli_headline.proofs.Scalars.{Values}
 
 -- at the exit, where a place in a format list is left of the statement

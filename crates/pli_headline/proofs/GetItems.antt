@@ -18,11 +18,13 @@ use Rattle.pli_serving.specs.FormatLists.{formats_at}
 use Rattle.pli_serving.specs.Edits as E
 use Rattle.pli_serving.specs.Edits.{NextItem}
 use Rattle.pli_headline.proofs.HeldPlaces.{PlacesHeld}
-use Rattle.pli_headline.proofs.Calls.{Serving, comes_act, acts}
+use Rattle.run_steps.proofs.Calls.{comes_act, acts}
+use Rattle.pli_headline.proofs.Serving.{Serving}
 use Rattle.pli_headline.proofs.Raising.{with_act}
-use Rattle.pli_headline.proofs.Engine.{call_at}
+use Rattle.run_steps.specs.Engine.{call_at}
 use Rattle.pli_headline.proofs.EditItems.{at_places, next_of, behind_next}
-use Rattle.pli_headline.proofs.Reach.{Family, Pausing, Aims, Comes, comes_on}
+use Rattle.run_steps.specs.Reach.{Family, Pausing, Aims, Comes}
+use Rattle.run_steps.proofs.Reach.{comes_on}
 
 -- ---- places in format lists
 

@@ -30,13 +30,15 @@ use Rattle.pli_coding.specs.Instructions.{small, skip_where, service, status_tes
 use Rattle.pli_coding.specs.Linking.{Links}
 use Rattle.pli_headline.proofs.HeldPlaces.{places_next}
 use Rattle.pli_headline.proofs.Storages.{Storage}
-use Rattle.pli_headline.proofs.Engine.{Base, address}
-use Rattle.pli_headline.proofs.Linking.{size_append}
-use Rattle.pli_headline.proofs.Items.{Linked, At, straight}
-use Rattle.pli_headline.proofs.Numbers as N
-use Rattle.pli_headline.proofs.Bodies.{Ground, Known, Free, zero_is}
-use Rattle.pli_headline.proofs.Jumps.{front_of, back_of, rest_of, skip_taken, skip_passed, ahead_piece}
-use Rattle.pli_headline.proofs.Temporaries.{nothing}
+use Rattle.run_steps.specs.Engine.{Base, address}
+use Rattle.run_steps.proofs.Linking.{size_append}
+use Rattle.run_steps.specs.Items.{Linked, At}
+use Rattle.run_steps.proofs.Items.{straight}
+use Rattle.run_steps.specs.Numbers as N
+use Rattle.run_steps.specs.Bodies.{Ground, Known, Free}
+use Rattle.run_steps.proofs.Bodies.{zero_is}
+use Rattle.run_steps.proofs.Jumps.{front_of, back_of, rest_of, skip_taken, skip_passed, ahead_piece}
+use Rattle.run_steps.specs.Temporaries.{nothing}
 use Rattle.pli_headline.proofs.Raising.{Routines, small_is}
 use Rattle.pli_headline.proofs.Operators.{valued}
 use Rattle.pli_headline.proofs.FormatData.{IsOf}
@@ -48,7 +50,8 @@ use Rattle.pli_headline.proofs.GetItems.{getting, Gets, read_state, read_serving
 use Rattle.pli_headline.proofs.GetControls.{Kept, Reading}
 use Rattle.pli_headline.proofs.GetWidths.{IsWide}
 use Rattle.pli_headline.proofs.GetPieces.{field_call, number_tested}
-use Rattle.pli_headline.proofs.Reach.{Family, Aims, Comes, Closed, before, before_closed, comes_on, onward}
+use Rattle.run_steps.specs.Reach.{Family, Aims, Comes, Closed, before}
+use Rattle.run_steps.proofs.Reach.{before_closed, comes_on, onward}
 
 -- ---- what comes behind a field
 

@@ -21,7 +21,7 @@ use Rattle.pli_serving.specs.Answers.{Answer, Done}
 use Rattle.pli_serving.specs.Finding.{Call}
 use Rattle.pli_serving.specs.FormatLists.{formats_at}
 use Rattle.pli_serving.specs.Edits as E
-use Rattle.pli_headline.proofs.Unlimited as V
+use Rattle.run_steps.specs.Unlimited as V
 use Rattle.pli_coding.specs.Registers.{zero_register, a0, a1, a7, u1}
 use Rattle.pli_coding.specs.Assembly.{DataPlace, RaiseError, Plain, OffsetOf, JumpTo, JumpAhead, Code}
 use Rattle.pli_coding.specs.Instructions.{small, service, skip_where, status_tested}
@@ -29,19 +29,24 @@ use Rattle.pli_coding.specs.Arithmetic.{raised}
 use Rattle.pli_coding.specs.StaticForms.{formats_datum}
 use Rattle.pli_coding.specs.Streams.{edit_begun}
 use Rattle.pli_coding.specs.Linking.{Links, place_of}
-use Rattle.pli_headline.proofs.Engine.{Base, address, call_at}
-use Rattle.pli_headline.proofs.Items.{Linked, At, straight}
-use Rattle.pli_headline.proofs.Bodies.{Ground, Known, zero_is}
-use Rattle.pli_headline.proofs.Jumps.{front_of, back_of, rest_of, skip_taken, skip_passed, jump_piece}
-use Rattle.pli_headline.proofs.Temporaries.{nothing}
-use Rattle.pli_headline.proofs.Calls.{Serving, comes_act, called, Calling, call_acts, call_pauses}
+use Rattle.run_steps.specs.Engine.{Base, address, call_at}
+use Rattle.run_steps.specs.Items.{Linked, At}
+use Rattle.run_steps.proofs.Items.{straight}
+use Rattle.run_steps.specs.Bodies.{Ground, Known}
+use Rattle.run_steps.proofs.Bodies.{zero_is}
+use Rattle.run_steps.proofs.Jumps.{front_of, back_of, rest_of, skip_taken, skip_passed, jump_piece}
+use Rattle.run_steps.specs.Temporaries.{nothing}
+use Rattle.run_steps.specs.Calls.{Calling}
+use Rattle.run_steps.proofs.Calls.{comes_act, called, call_acts, call_pauses}
+use Rattle.pli_headline.proofs.Serving.{Serving}
 use Rattle.pli_headline.proofs.Raising.{Routines, small_is, error_piece}
 use Rattle.pli_headline.proofs.Operators.{valued}
 use Rattle.pli_headline.proofs.EditItems.{at_places}
 use Rattle.pli_headline.proofs.EditPieces.{argued, quiet_piece}
 use Rattle.pli_headline.proofs.GetItems.{getting, number_in, read_state, begin_answer, field_number, number_status}
 use Rattle.pli_headline.proofs.GetWidths.{IsWide}
-use Rattle.pli_headline.proofs.Reach.{Family, Aims, Comes, Closed, cost, comes_on, onward, reached, reached_holds}
+use Rattle.run_steps.specs.Reach.{Family, Aims, Comes, Closed, cost, reached}
+use Rattle.run_steps.proofs.Reach.{comes_on, onward, reached_holds}
 
 -- ---- the place in the list
 

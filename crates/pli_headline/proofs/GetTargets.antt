@@ -40,15 +40,17 @@ use Rattle.pli_headline.proofs.HeldPlaces.{next_length}
 use Rattle.pli_headline.proofs.UnitRuns.{Raises}
 use Rattle.pli_headline.proofs.GetEnds.{AtExit, end_raised}
 use Rattle.pli_headline.proofs.Storages.{storage, Storage, Serials}
-use Rattle.pli_headline.proofs.Engine.{Base, address}
-use Rattle.pli_headline.proofs.Linking.{size_append}
-use Rattle.pli_headline.proofs.Items.{Linked, At, straight}
-use Rattle.pli_headline.proofs.Numbers as N
+use Rattle.run_steps.specs.Engine.{Base, address}
+use Rattle.run_steps.proofs.Linking.{size_append}
+use Rattle.run_steps.specs.Items.{Linked, At}
+use Rattle.run_steps.proofs.Items.{straight}
+use Rattle.run_steps.specs.Numbers as N
 use Rattle.pli_headline.proofs.Scalars.{value_as, Fits, bit_back, bit_fits, bit_word, Values}
-use Rattle.pli_headline.proofs.Bodies.{Known, zero_is}
-use Rattle.pli_headline.proofs.Jumps.{front_of, back_of}
-use Rattle.pli_headline.proofs.Temporaries.{nothing, Stays}
-use Rattle.pli_headline.proofs.Calls.{Serving}
+use Rattle.run_steps.specs.Bodies.{Known}
+use Rattle.run_steps.proofs.Bodies.{zero_is}
+use Rattle.run_steps.proofs.Jumps.{front_of, back_of}
+use Rattle.run_steps.specs.Temporaries.{nothing, Stays}
+use Rattle.pli_headline.proofs.Serving.{Serving}
 use Rattle.pli_headline.proofs.Raising.{Routines, small_is}
 use Rattle.pli_headline.proofs.Operators.{valued}
 use Rattle.pli_headline.proofs.Precisions.{fitted_piece}
@@ -68,7 +70,8 @@ use Rattle.pli_headline.proofs.GetWidths.{Suits, formats_suited}
 use Rattle.pli_headline.proofs.GetPieces.{endfile_tested, awaited_piece, ended_got}
 use Rattle.pli_headline.proofs.GetNumbers.{stored_value, rest_given, converting, converting_closed, got_and_stored, fixed_as_number, text_as_number, number_got, text_taken}
 use Rattle.pli_headline.proofs.GetTexts.{number_as_text, field_as_text}
-use Rattle.pli_headline.proofs.Reach.{Family, Aims, Comes, Closed, before, before_closed, comes_on, onward}
+use Rattle.run_steps.specs.Reach.{Family, Aims, Comes, Closed, before}
+use Rattle.run_steps.proofs.Reach.{before_closed, comes_on, onward}
 use Rattle.pli_headline.proofs.ArrayMeant.{HoldsArray, element}
 use Rattle.pli_headline.proofs.Targets.{Takes, scalar_takes, element_takes, own_type, element_type, element_target}
 use Rattle.pli_coding.specs.Temporaries.{reference_words, subscripts_words}

@@ -23,11 +23,11 @@ use Rattle.pli_coding.specs.Streams.{as_text}
 use Rattle.pli_coding.specs.Linking.{Links}
 use Rattle.pli_headline.specs.ProvedSoFar.{text_leaf}
 use Rattle.pli_headline.proofs.Storages.{Storage}
-use Rattle.pli_headline.proofs.Engine.{Base, address}
-use Rattle.pli_headline.proofs.Items.{Linked, At}
-use Rattle.pli_headline.proofs.Bodies.{Ground, Known}
-use Rattle.pli_headline.proofs.Jumps.{front_of, back_of}
-use Rattle.pli_headline.proofs.Temporaries.{nothing}
+use Rattle.run_steps.specs.Engine.{Base, address}
+use Rattle.run_steps.specs.Items.{Linked, At}
+use Rattle.run_steps.specs.Bodies.{Ground, Known}
+use Rattle.run_steps.proofs.Jumps.{front_of, back_of}
+use Rattle.run_steps.specs.Temporaries.{nothing}
 use Rattle.pli_headline.proofs.Raising.{Routines}
 use Rattle.pli_headline.proofs.Operators.{valued}
 use Rattle.pli_headline.proofs.FormatData.{IsOf}
@@ -37,7 +37,7 @@ use Rattle.pli_headline.proofs.GetItems.{getting, Gets, read_state, taken_by}
 use Rattle.pli_headline.proofs.GetControls.{Kept, Reading}
 use Rattle.pli_headline.proofs.GetWidths.{IsWide}
 use Rattle.pli_headline.proofs.GetNumbers.{converting, converting_closed, got_and_stored, GotBehind, chosen_piece, fixed_as_number, fixed_taken, text_taken}
-use Rattle.pli_headline.proofs.Reach.{Family, Aims, Comes, Closed}
+use Rattle.run_steps.specs.Reach.{Family, Aims, Comes, Closed}
 
 -- ---- what a field becomes
 

@@ -36,13 +36,18 @@ use Rattle.pli_headline.proofs.UnitRuns.{Raises}
 use Rattle.pli_headline.proofs.GetEnds.{AtExit}
 use Rattle.pli_headline.proofs.HeldPlaces.{places_grown, places_same, PlacesHeld}
 use Rattle.pli_headline.proofs.Storages.{storage}
-use Rattle.pli_headline.proofs.Engine.{Base, address, call_at}
-use Rattle.pli_headline.proofs.Linking.{size_append}
-use Rattle.pli_headline.proofs.Items.{Linked, At, straight}
-use Rattle.pli_headline.proofs.Bodies.{Ground, Known, zero_is, constant_piece}
-use Rattle.pli_headline.proofs.Jumps.{front_of, back_of, ahead_piece}
-use Rattle.pli_headline.proofs.Temporaries.{nothing, Stays, stays_same, stays_then}
-use Rattle.pli_headline.proofs.Calls.{Serving, called, Calling, call_acts, call_pauses, acts}
+use Rattle.run_steps.specs.Engine.{Base, address, call_at}
+use Rattle.run_steps.proofs.Linking.{size_append}
+use Rattle.run_steps.specs.Items.{Linked, At}
+use Rattle.run_steps.proofs.Items.{straight}
+use Rattle.run_steps.specs.Bodies.{Ground, Known}
+use Rattle.run_steps.proofs.Bodies.{zero_is, constant_piece}
+use Rattle.run_steps.proofs.Jumps.{front_of, back_of, ahead_piece}
+use Rattle.run_steps.specs.Temporaries.{nothing, Stays}
+use Rattle.run_steps.proofs.Temporaries.{stays_same, stays_then}
+use Rattle.run_steps.specs.Calls.{Calling}
+use Rattle.run_steps.proofs.Calls.{called, call_acts, call_pauses, acts}
+use Rattle.pli_headline.proofs.Serving.{Serving}
 use Rattle.pli_headline.proofs.Raising.{small_is}
 use Rattle.pli_headline.proofs.Acts.{word_is, act_piece}
 use Rattle.pli_headline.proofs.Ifs.{free_far}
@@ -55,7 +60,8 @@ use Rattle.pli_headline.proofs.GetItems.{getting, read_state, read_serving, come
 use Rattle.pli_headline.proofs.GetWidths.{Suits, formats_suited}
 use Rattle.pli_headline.proofs.GetPieces.{begin_piece}
 use Rattle.pli_headline.proofs.GetTargets.{item_piece, read_all}
-use Rattle.pli_headline.proofs.Reach.{Family, Aims, Comes, Closed, cost, before_closed, comes_on, onward, reached, reached_holds}
+use Rattle.run_steps.specs.Reach.{Family, Aims, Comes, Closed, cost, reached}
+use Rattle.run_steps.proofs.Reach.{before_closed, comes_on, onward, reached_holds}
 use Rattle.pli_headline.proofs.Scalars.{Values}
 
 -- ---- items one behind the other

@@ -19,13 +19,14 @@ use Rattle.pli_coding.specs.Linking.{Links}
 use Rattle.pli_headline.specs.ProvedSoFar.{Names, Types, times}
 use Rattle.pli_headline.proofs.InnerLevels.{IsAmong}
 use Rattle.pli_headline.proofs.Activations.{own_is}
-use Rattle.pli_headline.proofs.Linking.{size_append}
-use Rattle.pli_headline.proofs.Jumps.{front_of, back_of, jump_piece}
-use Rattle.pli_headline.proofs.Temporaries.{stays_same}
+use Rattle.run_steps.proofs.Linking.{size_append}
+use Rattle.run_steps.proofs.Jumps.{front_of, back_of, jump_piece}
+use Rattle.run_steps.proofs.Temporaries.{stays_same}
 use Rattle.pli_headline.proofs.Acts.{acted, act_to}
 use Rattle.pli_headline.proofs.Statements.{owner_level, IsOwned, Block, counted_all, IsMarkedOnce, IsEndMarkedOnce, Does}
 use Rattle.pli_headline.proofs.Ifs.{free_far}
-use Rattle.pli_headline.proofs.Reach.{Comes, before_closed, comes_on, onward}
+use Rattle.run_steps.specs.Reach.{Comes}
+use Rattle.run_steps.proofs.Reach.{before_closed, comes_on, onward}
 
 abbrev pub owner_number : Owner → ℕ
 owner_number (BlockOwner b) = b.number

@@ -19,8 +19,8 @@ use Rattle.pli_coding.specs.Statements.{unwound_to, returned_by, stmt_code}
 use Rattle.pli_coding.specs.Linking.{Links}
 use Rattle.pli_headline.specs.ProvedSoFar.{Types, OuterBlock, Names}
 use Rattle.pli_headline.proofs.HeldPlaces.{places_unwound}
-use Rattle.pli_headline.proofs.Linking.{size_append}
-use Rattle.pli_headline.proofs.Jumps.{front_of, back_of, jump_piece}
+use Rattle.run_steps.proofs.Linking.{size_append}
+use Rattle.run_steps.proofs.Jumps.{front_of, back_of, jump_piece}
 use Rattle.pli_headline.proofs.Acts.{acted, act_to}
 use Rattle.pli_headline.proofs.Ifs.{free_far}
 use Rattle.pli_headline.proofs.MoreStates.{restricts_all}
@@ -28,7 +28,8 @@ use Rattle.pli_headline.proofs.Statements.{Restricts, AllSeen, Enclosing, Enclos
 use Rattle.pli_headline.proofs.EndedBlocks.{all_ended}
 use Rattle.pli_headline.proofs.Returns.{unwound_services, own_end_does}
 use Rattle.pli_headline.proofs.JumpsOut.{unwound_size, unwound_piece}
-use Rattle.pli_headline.proofs.Reach.{Family, before_closed, comes_on, onward}
+use Rattle.run_steps.specs.Reach.{Family}
+use Rattle.run_steps.proofs.Reach.{before_closed, comes_on, onward}
 use Rattle.pli_headline.proofs.Storages.{storage}
 
 -- ---- to the end of a block around

@@ -23,18 +23,21 @@ use Rattle.pli_coding.specs.Temporaries.{bit_words}
 use Rattle.pli_coding.specs.Linking.{Links}
 use Rattle.pli_headline.specs.ProvedSoFar.{Names, Types, IsProvedBit}
 use Rattle.pli_headline.proofs.Storages.{storage}
-use Rattle.pli_headline.proofs.Engine.{Base, address}
-use Rattle.pli_headline.proofs.Linking.{size_append}
-use Rattle.pli_headline.proofs.Items.{Linked, At}
-use Rattle.pli_headline.proofs.Bodies.{Ground, Known, Free, zero_is}
-use Rattle.pli_headline.proofs.Jumps.{front_of, back_of, rest_of, linked_at, skip_taken, skip_passed, ahead_piece}
-use Rattle.pli_headline.proofs.Temporaries.{nothing, stays_then}
-use Rattle.pli_headline.proofs.Calls.{Serving}
+use Rattle.run_steps.specs.Engine.{Base, address}
+use Rattle.run_steps.proofs.Linking.{size_append}
+use Rattle.run_steps.specs.Items.{Linked, At}
+use Rattle.run_steps.specs.Bodies.{Ground, Known, Free}
+use Rattle.run_steps.proofs.Bodies.{zero_is}
+use Rattle.run_steps.proofs.Jumps.{front_of, back_of, rest_of, linked_at, skip_taken, skip_passed, ahead_piece}
+use Rattle.run_steps.specs.Temporaries.{nothing}
+use Rattle.run_steps.proofs.Temporaries.{stays_then}
+use Rattle.pli_headline.proofs.Serving.{Serving}
 use Rattle.pli_headline.proofs.Acts.{acted, act_piece}
 use Rattle.pli_headline.proofs.Operators.{valued}
 use Rattle.pli_headline.proofs.Expressions.{Setting, bit_does}
 use Rattle.pli_headline.proofs.Statements.{Standing, Block, AllHold, further, scope_of, counted_all, Does}
-use Rattle.pli_headline.proofs.Reach.{Family, Aims, Comes, Closed, before_closed, comes_on, onward, reached, reached_holds}
+use Rattle.run_steps.specs.Reach.{Family, Aims, Comes, Closed, reached}
+use Rattle.run_steps.proofs.Reach.{before_closed, comes_on, onward, reached_holds}
 use Rattle.pli_headline.proofs.Scalars.{Values}
 
 -- ---- what a test chooses

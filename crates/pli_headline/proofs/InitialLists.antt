@@ -19,8 +19,8 @@ use Rattle.pli_coding.specs.StaticForms.{item_bytes, items_bytes}
 use Rattle.pli_coding.specs.StaticData.{static_data}
 use Rattle.pli_coding.specs.Images.{linked_code, picture_of_code}
 use Rattle.pli_headline.specs.Headline.{FitsMemory}
-use Rattle.pli_headline.proofs.Engine.{call_at}
-use Rattle.pli_headline.proofs.DataNamed.{IsNamed, BytesStand}
+use Rattle.run_steps.specs.Engine.{call_at}
+use Rattle.run_steps.specs.DataNamed.{IsNamed, BytesStand}
 use Rattle.pli_headline.proofs.DataOnce.{Has, same_datum-same, values_has}
 use Rattle.pli_headline.proofs.FormatsRead.{WordsAt, AreWords, words_stand, is_data_there}
 use Rattle.pli_headline.proofs.Statics.{place_in, datum_stands, constant_there, values_behind}

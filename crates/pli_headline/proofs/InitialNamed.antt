@@ -16,7 +16,7 @@ use Rattle.pli_coding.specs.Linking.{links_of}
 use Rattle.pli_coding.specs.Images.{environment_of, start_code, raise_code, code_of, linked_code, picture_of}
 use Rattle.pli_headline.specs.Headline.{parts, FitsMemory}
 use Rattle.pli_headline.specs.ProvedSoFar.{AllPlain, types_of, IsHeld, AreConstants, Kind}
-use Rattle.pli_headline.proofs.DataNamed.{is_named_front, is_named_back}
+use Rattle.run_steps.proofs.DataNamed.{is_named_front, is_named_back}
 use Rattle.pli_headline.proofs.Scalars.{Declared, place_taken, kind_is}
 use Rattle.pli_headline.proofs.InitialRead.{start_datum, IsNamedIf, kind_reads}
 use Rattle.pli_headline.proofs.MainProcedure.{main_head, main_environment, IsAlone, main_plain}

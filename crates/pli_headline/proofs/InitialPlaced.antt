@@ -11,7 +11,7 @@ use Rattle.pli_coding.specs.StaticData.{data_of_symbol, data_named, once, is_ini
 use Rattle.pli_coding.specs.Linking.{links_of, data_start}
 use Rattle.pli_coding.specs.Images.{linked_code, picture_of_code}
 use Rattle.pli_headline.specs.Headline.{FitsMemory}
-use Rattle.pli_headline.proofs.DataNamed.{IsNamed}
+use Rattle.run_steps.specs.DataNamed.{IsNamed}
 use Rattle.pli_headline.proofs.DataOnce.{Has, same_datum-equal, placed_same, named_once}
 use Rattle.pli_headline.proofs.Statics.{constant_stands}
 use Rattle.pli_headline.proofs.InitialRead.{start_datum, IsNamedIf, kind_reads}

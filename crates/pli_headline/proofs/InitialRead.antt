@@ -16,8 +16,8 @@ use Rattle.pli_coding.specs.Images.{linked_code, picture_of_code}
 use Rattle.pli_meaning.specs.Pictures.{first_bytes}
 use Rattle.pli_headline.specs.Headline.{FitsMemory}
 use Rattle.pli_headline.specs.ProvedSoFar.{plain_variable, text_leaf, IsHeld, IsElementType, Kind, AreConstants, IsScalar}
-use Rattle.pli_headline.proofs.Engine.{call_at}
-use Rattle.pli_headline.proofs.DataNamed.{IsNamed}
+use Rattle.run_steps.specs.Engine.{call_at}
+use Rattle.run_steps.specs.DataNamed.{IsNamed}
 use Rattle.pli_headline.proofs.ArrayMeant.{array_shape}
 use Rattle.pli_headline.proofs.ArrayRead.{array_reads}
 use Rattle.pli_headline.proofs.ArrayInitial.{all_given}

@@ -22,9 +22,9 @@ use Rattle.pli_coding.specs.Procedures.{procedure_environment, procedure_in}
 use Rattle.pli_coding.specs.Statements.{stmt_code, stmts_code, stmts_words, held_with}
 use Rattle.pli_headline.specs.Headline.{parts}
 use Rattle.pli_headline.specs.ProvedSoFar.{Names, Types, types_of, main_labels, main_outer, AllJumpAround, is_number, number_times, AllOnce, IsCallable, IsInner, AreInner, main_names}
-use Rattle.pli_headline.proofs.Numbers.{below_small}
-use Rattle.pli_headline.proofs.Linking.{times_marked}
-use Rattle.pli_headline.proofs.Items.{Linked}
+use Rattle.run_steps.proofs.Numbers.{below_small}
+use Rattle.run_steps.specs.Linking.{times_marked}
+use Rattle.run_steps.specs.Items.{Linked}
 use Rattle.pli_headline.proofs.PieceSizes.{most}
 use Rattle.pli_headline.proofs.Statements.{Block, Standing, IsEndMarkedOnce, Does, known_in}
 use Rattle.pli_headline.proofs.InnerLevels.{IsAmong}

@@ -11,13 +11,13 @@ use Rattle.pli_typing.specs.TypedTree as Y
 use Rattle.pli_coding.specs.Frames.{display, fixed_size, temporary_bytes}
 use Rattle.pli_coding.specs.Environments.{Environment, none_taken, in_frame}
 use Rattle.pli_headline.specs.ProvedSoFar.{Names, Types, OuterBlock, alone, Kind}
-use Rattle.pli_headline.proofs.Engine.{Base}
-use Rattle.pli_headline.proofs.Numbers.{above_sum, above_small}
+use Rattle.run_steps.specs.Engine.{Base}
+use Rattle.run_steps.proofs.Numbers.{above_sum, above_small}
 use Rattle.pli_headline.proofs.Scalars.{Fits, store_kind, Values}
-use Rattle.pli_headline.proofs.Bodies.{Ground, PlaceOf}
+use Rattle.run_steps.specs.Bodies.{Ground, PlaceOf}
 use Rattle.pli_headline.proofs.Activations.{rest_more}
-use Rattle.pli_headline.proofs.Reaching.{Reaches}
-use Rattle.pli_headline.proofs.Temporaries.{Temporaries}
+use Rattle.run_steps.specs.Reaching.{Reaches}
+use Rattle.run_steps.specs.Temporaries.{Temporaries}
 use Rattle.pli_headline.proofs.Variables.{data_place, level_of}
 use Rattle.pli_headline.proofs.States.{with_number_at, with_text_at}
 use Rattle.pli_headline.proofs.MainGround.{apart_words, width_few}

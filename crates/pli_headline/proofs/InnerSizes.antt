@@ -14,7 +14,7 @@ use Rattle.pli_headline.specs.InnerWords.{inner_words, all_inner_words}
 use Rattle.pli_coding.specs.Temporaries.{number_words, bit_words, reference_words}
 use Rattle.pli_headline.specs.ProvedSoFar.{Names, Types, ArePlain, IsProvedStatement, AreProvedStatements, IsProvedBitIf, names_in, types_in}
 use Rattle.pli_coding.specs.Procedures.{procedure_begun, procedure_ended, procedure_in}
-use Rattle.pli_headline.proofs.Linking.{size_append}
+use Rattle.run_steps.proofs.Linking.{size_append}
 use Rattle.pli_coding.specs.Entries.{frame_begun, frame_ended, block_left, entered_without_texts, variables_code}
 use Rattle.pli_coding.specs.Statements.{begin_environment, begin_code, if_met, while_met, block_words, stmt_code}
 use Rattle.pli_coding.specs.Statements.{stmts_code, stmt_words, stmts_words, marked, once_code, bit_if, in_turns}

@@ -36,7 +36,7 @@ use Rattle.pli_headline.proofs.TextsAssignments.{elements_text_does}
 use Rattle.pli_headline.proofs.TextCopiesAssignments.{copies_does}
 use Rattle.pli_headline.proofs.Entered.{Frames, Way}
 use Rattle.pli_headline.proofs.Scalars.{Values}
-use Rattle.pli_headline.proofs.Engine.{Base}
+use Rattle.run_steps.specs.Engine.{Base}
 use Rattle.pli_headline.proofs.Variables.{AllOutermost}
 use Rattle.pli_headline.proofs.Statements.{IsOwned, IsMarkedOnce, Block, Standing, Does, null_does, known_in}
 use Rattle.pli_headline.proofs.Catching.{within, listed}

@@ -29,16 +29,19 @@ use Rattle.pli_coding.specs.Linking.{Links}
 use Rattle.pli_headline.proofs.HeldPlaces.{places_unwound}
 use Rattle.pli_headline.proofs.Storages.{storage}
 use Rattle.pli_headline.specs.ProvedSoFar.{Names, Types, OuterBlock, IsOutward, times}
-use Rattle.pli_headline.proofs.Engine.{Base, address}
-use Rattle.pli_headline.proofs.Linking.{size_append}
-use Rattle.pli_headline.proofs.Items.{Linked, At, straight}
-use Rattle.pli_headline.proofs.Numbers.{above_sum, above_small}
-use Rattle.pli_headline.proofs.Bodies.{Ground, Known, far_code, nth, zero_is, frame_is, displaced_by, at_place}
-use Rattle.pli_headline.proofs.Jumps.{front_of, back_of, jump_piece}
-use Rattle.pli_headline.proofs.Temporaries.{nothing}
-use Rattle.pli_headline.proofs.Reaching.{reach_moved}
+use Rattle.run_steps.specs.Engine.{Base, address}
+use Rattle.run_steps.proofs.Linking.{size_append}
+use Rattle.run_steps.specs.Items.{Linked, At}
+use Rattle.run_steps.proofs.Items.{straight}
+use Rattle.run_steps.proofs.Numbers.{above_sum, above_small}
+use Rattle.run_steps.specs.Bodies.{Ground, Known, far_code, nth}
+use Rattle.run_steps.proofs.Bodies.{at_place, zero_is, frame_is, displaced_by}
+use Rattle.run_steps.proofs.Jumps.{front_of, back_of, jump_piece}
+use Rattle.run_steps.specs.Temporaries.{nothing}
+use Rattle.run_steps.proofs.Reaching.{reach_moved}
 use Rattle.pli_headline.proofs.OuterBlocks.{risen_height}
-use Rattle.pli_headline.proofs.Calls.{called, Calling, call_done}
+use Rattle.run_steps.specs.Calls.{Calling}
+use Rattle.run_steps.proofs.Calls.{called, call_done}
 use Rattle.pli_headline.proofs.Raising.{small_is}
 use Rattle.pli_headline.proofs.Acts.{acted, act_to}
 use Rattle.pli_headline.proofs.Ifs.{free_far}
@@ -47,7 +50,8 @@ use Rattle.pli_headline.proofs.Statements.{IsSized, lower_ground, Restricts, All
 use Rattle.pli_headline.proofs.BeginDisplays.{frame_word, moved_reserved, without_two, outer_place}
 use Rattle.pli_headline.proofs.EndedBlocks.{all_ended}
 use Rattle.pli_headline.proofs.Returns.{unwound_services, unwind_answer}
-use Rattle.pli_headline.proofs.Reach.{Family, Reach, Comes, before_closed, comes_on, onward, reach_then, reached, reached_holds}
+use Rattle.run_steps.specs.Reach.{Family, Reach, Comes, reached}
+use Rattle.run_steps.proofs.Reach.{before_closed, comes_on, onward, reach_then, reached_holds}
 use Rattle.pli_headline.proofs.Scalars.{Values}
 
 -- ---- the frame of a block around runs again

@@ -24,7 +24,7 @@ use Rattle.pli_coding.specs.Images.{blocks_among, blocks_of_procedure, with_bloc
 use Rattle.pli_coding.specs.Linking.{links_of}
 use Rattle.pli_headline.specs.Headline.{parts}
 use Rattle.pli_headline.specs.ProvedSoFar.{plain_variable, ArePlain, AllPlain, types_of, AreProvedStatements, all_labels, array_variable, AllJumpAround, main_outer, number_times, AreInner, procedure_labels, times, is_number, AllCallAmong, main_names}
-use Rattle.pli_headline.proofs.Linking.{times_marked}
+use Rattle.run_steps.specs.Linking.{times_marked}
 use Rattle.pli_headline.proofs.FirstFrame.{start_of}
 use Rattle.pli_headline.proofs.Marks.{others_code, code_is}
 use Rattle.pli_headline.proofs.MainProcedure.{IsAlone, main_head, main_environment, main_plain, declared_at}

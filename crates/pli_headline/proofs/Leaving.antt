@@ -24,24 +24,28 @@ use Rattle.pli_coding.specs.Entries.{all_restored, frame_ended, registers_restor
 use Rattle.pli_coding.specs.Procedures.{finish_code, procedure_ended}
 use Rattle.pli_coding.specs.Linking.{Links}
 use Rattle.image_runs.specs.Runs.{Whole}
-use Rattle.pli_headline.proofs.Engine.{Base, address, most_code, call_at}
-use Rattle.pli_headline.proofs.Linking.{size_append}
-use Rattle.pli_headline.proofs.Items.{Linked, At, straight}
-use Rattle.pli_headline.proofs.Numbers.{below_small}
-use Rattle.pli_headline.proofs.Bodies.{Regs, at_place, displaced_by}
-use Rattle.pli_headline.proofs.Jumps.{front_of, back_of, first_of, hop, jump_register}
+use Rattle.run_steps.specs.Engine.{Base, address, most_code, call_at}
+use Rattle.run_steps.proofs.Linking.{size_append}
+use Rattle.run_steps.specs.Items.{Linked, At}
+use Rattle.run_steps.proofs.Items.{straight}
+use Rattle.run_steps.proofs.Numbers.{below_small}
+use Rattle.run_steps.specs.Bodies.{Regs}
+use Rattle.run_steps.proofs.Bodies.{at_place, displaced_by}
+use Rattle.run_steps.proofs.Jumps.{front_of, back_of, first_of, hop, jump_register}
 use Rattle.pli_headline.proofs.Statements.{Unwound}
-use Rattle.pli_headline.proofs.Calls.{called, Calling, call_done}
+use Rattle.run_steps.specs.Calls.{Calling}
+use Rattle.run_steps.proofs.Calls.{called, call_done}
 use Rattle.pli_headline.proofs.Raising.{small_is}
 use Rattle.pli_headline.proofs.Finishing.{Bare, finish_piece}
-use Rattle.pli_headline.proofs.Reach.{Family, Reach, Aims, Comes, Closed, onward, stay, reach_then, reached}
-use Rattle.pli_headline.proofs.Reach.{reached_holds}
+use Rattle.run_steps.specs.Reach.{Family, Reach, Aims, Comes, Closed, reached}
+use Rattle.run_steps.proofs.Reach.{onward, stay, reach_then}
+use Rattle.run_steps.proofs.Reach.{reached_holds}
 use Rattle.pli_headline.proofs.MainGround.{Frame, lowest_holds}
 use Rattle.pli_headline.proofs.MainProcedure.{main_head}
 use Rattle.pli_headline.proofs.Prologue.{over_word}
 use Rattle.rv_meaning.specs.Machine.{written}
-use Rattle.pli_headline.proofs.SavedRegisters.{frame_place}
-use Rattle.pli_headline.proofs.Reaching.{reach_moved}
+use Rattle.run_steps.proofs.SavedRegisters.{frame_place}
+use Rattle.run_steps.proofs.Reaching.{reach_moved}
 
 -- ---- service 5
 

@@ -1,19 +1,4 @@
-pub mod Engine
-pub mod Showing
-pub mod Unlimited
-pub mod Growing
-pub mod Reach
-pub mod Owing
 pub mod Promises
-pub mod Linking
-pub mod DataNamed
-pub mod Items
-pub mod Numbers
-pub mod Bodies
-pub mod Jumps
-pub mod Temporaries
-pub mod Reaching
-pub mod SavedRegisters
 pub mod HeldRegisters
 pub mod Activations
 pub mod OuterBlocks
@@ -21,7 +6,7 @@ pub mod Asides
 pub mod Entered
 pub mod HeldPlaces
 pub mod Storages
-pub mod Calls
+pub mod Serving
 pub mod Raising
 pub mod WordProducts
 pub mod WordQuotients
@@ -37,7 +22,6 @@ pub mod ElementsStay
 pub mod Operators
 pub mod Products
 pub mod Quotients
-pub mod Increments
 pub mod Variables
 pub mod DeclaredNames
 pub mod Evaluations

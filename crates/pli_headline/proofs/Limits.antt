@@ -19,18 +19,22 @@ use Rattle.pli_coding.specs.Instructions.{registers, load_word, skip_where}
 use Rattle.pli_coding.specs.Environments.{Taken}
 use Rattle.pli_coding.specs.Statements.{limit_place, step_place, passed, limit_tested}
 use Rattle.pli_coding.specs.Linking.{Links}
-use Rattle.pli_headline.proofs.Engine.{Base, address}
-use Rattle.pli_headline.proofs.Linking.{size_append}
-use Rattle.pli_headline.proofs.Items.{Linked, At, straight}
-use Rattle.pli_headline.proofs.Numbers.{IsWide, word_small}
+use Rattle.run_steps.specs.Engine.{Base, address}
+use Rattle.run_steps.proofs.Linking.{size_append}
+use Rattle.run_steps.specs.Items.{Linked, At}
+use Rattle.run_steps.proofs.Items.{straight}
+use Rattle.run_steps.specs.Numbers.{IsWide}
+use Rattle.run_steps.proofs.Numbers.{word_small}
 use Rattle.pli_headline.proofs.WordProducts.{signed_word}
-use Rattle.pli_headline.proofs.Bodies.{Ground, Known, zero_is}
-use Rattle.pli_headline.proofs.Jumps.{front_of, back_of, rest_of, skip_taken, skip_passed, ahead_piece}
-use Rattle.pli_headline.proofs.Temporaries.{Temporaries, nothing}
+use Rattle.run_steps.specs.Bodies.{Ground, Known}
+use Rattle.run_steps.proofs.Bodies.{zero_is}
+use Rattle.run_steps.proofs.Jumps.{front_of, back_of, rest_of, skip_taken, skip_passed, ahead_piece}
+use Rattle.run_steps.specs.Temporaries.{Temporaries, nothing}
 use Rattle.pli_headline.proofs.Operators.{valued}
 use Rattle.pli_headline.proofs.Ifs.{free_far}
 use Rattle.pli_headline.proofs.Waiting.{read_piece}
-use Rattle.pli_headline.proofs.Reach.{Family, Aims, Comes, Closed, onward}
+use Rattle.run_steps.specs.Reach.{Family, Aims, Comes, Closed}
+use Rattle.run_steps.proofs.Reach.{onward}
 
 -- the step that turns go by
 abbrev pub StepWaits : Option ℤ → (step : ℤ) → (t : ℕ → ℕ) → (j : ℕ) → Type 0

@@ -22,19 +22,22 @@ use Rattle.pli_coding.specs.Temporaries.{bit_words}
 use Rattle.pli_coding.specs.Linking.{Links, distance, jump_code}
 use Rattle.pli_headline.specs.ProvedSoFar.{Names, Types, IsProvedBit}
 use Rattle.pli_headline.proofs.Storages.{storage}
-use Rattle.pli_headline.proofs.Engine.{Base, HasAt, address}
-use Rattle.pli_headline.proofs.Linking.{size_append}
-use Rattle.pli_headline.proofs.Items.{Linked, At}
-use Rattle.pli_headline.proofs.Bodies.{Ground, Known, Free, lose_known}
-use Rattle.pli_headline.proofs.Jumps.{front_of, back_of, linked_at, jumped}
-use Rattle.pli_headline.proofs.Temporaries.{nothing, stays_same, stays_then}
-use Rattle.pli_headline.proofs.Calls.{Serving}
+use Rattle.run_steps.specs.Engine.{Base, HasAt, address}
+use Rattle.run_steps.proofs.Linking.{size_append}
+use Rattle.run_steps.specs.Items.{Linked, At}
+use Rattle.run_steps.specs.Bodies.{Ground, Known, Free}
+use Rattle.run_steps.proofs.Bodies.{lose_known}
+use Rattle.run_steps.proofs.Jumps.{front_of, back_of, linked_at, jumped}
+use Rattle.run_steps.specs.Temporaries.{nothing}
+use Rattle.run_steps.proofs.Temporaries.{stays_same, stays_then}
+use Rattle.pli_headline.proofs.Serving.{Serving}
 use Rattle.pli_headline.proofs.Acts.{acted, act_piece, act_from}
 use Rattle.pli_headline.proofs.Expressions.{bit_does}
 use Rattle.pli_headline.proofs.Statements.{Standing, Block, AllHold, counted_all, Behind, Enough, further, Does}
 use Rattle.pli_headline.proofs.Ifs.{met_size, free_far, chosen_piece, setting}
 use Rattle.pli_headline.proofs.Since.{since_closed, comes_since}
-use Rattle.pli_headline.proofs.Reach.{Family, Reach, cost, Aims, Comes, Closed, before_closed, comes_on, onward}
+use Rattle.run_steps.specs.Reach.{Family, Reach, cost, Aims, Comes, Closed}
+use Rattle.run_steps.proofs.Reach.{before_closed, comes_on, onward}
 use Rattle.pli_headline.proofs.Scalars.{Values}
 
 -- ---- the way back

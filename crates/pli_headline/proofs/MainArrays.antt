@@ -8,7 +8,7 @@ use Rattle.rv_meaning.specs.Memory.{load, store}
 use Rattle.rv_meaning.specs.Machine.{memory_size, load_width, extended, store_width}
 use Rattle.rv_meaning.proofs.MemoryLaws.{byte-store_below, load-store_other}
 use Rattle.pli_typing.specs.TypedTree as Y
-use Rattle.pli_headline.proofs.Engine.{Base}
+use Rattle.run_steps.specs.Engine.{Base}
 use Rattle.pli_headline.proofs.Scalars.{Fits, load_kind, store_kind}
 use Rattle.pli_headline.proofs.VariablePlaces.{Sizes, number_place, room_next}
 use Rattle.pli_headline.proofs.ElementsStay.{with_element_at, contents_of, elements_put, element_loads}

@@ -10,12 +10,12 @@ use Rattle.pli_meaning.specs.BasicValues.{BasicText}
 use Rattle.pli_serving.specs.Bytes.{with_bytes}
 use Rattle.pli_serving.specs.Stored.{kept_bytes}
 use Rattle.pli_coding.specs.Environments.{Environment, none_taken}
-use Rattle.pli_headline.proofs.Bodies.{Ground}
+use Rattle.run_steps.specs.Bodies.{Ground}
 use Rattle.pli_headline.proofs.Storages.{Serials}
 use Rattle.pli_headline.specs.ProvedSoFar.{Names, Types, text_leaf, IsScalar, alone, IsHeld, AreBounds, Kind}
 use Rattle.pli_headline.proofs.Scalars.{Values, load_kind, store_kind, kind_at, kind_is, place_below, place_taken}
 use Rattle.pli_headline.proofs.VariablePlaces.{frame_size, room_of, number_place, room_before, room_next, room_even, data_fits, scalar_data_size, data_some, word_each}
-use Rattle.pli_headline.proofs.Reaching.{Reaches}
+use Rattle.run_steps.specs.Reaching.{Reaches}
 use Rattle.pli_headline.proofs.Variables.{data_place, HasTypes, level_of}
 use Rattle.pli_headline.proofs.States.{with_number_at, with_text_at}
 use Rattle.pli_headline.proofs.TextPlaces.{text_kind_of, text_bytes, TextThere}

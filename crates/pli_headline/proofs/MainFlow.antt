@@ -7,7 +7,8 @@ use Rattle.pli_meaning.specs.BasicValues.{BasicValue}
 use Rattle.pli_meaning.specs.StorageState.{State, with_world}
 use Rattle.pli_meaning.specs.Control as F
 use Rattle.pli_meaning.specs.Control.{Flow, Normal, Jump, Return, Paused, Stuck, Label, Meaning, is_among, caught, left}
-use Rattle.pli_headline.proofs.Reach.{Family, Aims, Comes, Closed, comes_from}
+use Rattle.run_steps.specs.Reach.{Family, Aims, Comes, Closed}
+use Rattle.run_steps.proofs.Reach.{comes_from}
 
 -- ---- a list of statements
 

@@ -5,7 +5,7 @@ use Rattle.rv_meaning.specs.Memory.{load, store}
 use Rattle.rv_meaning.specs.Machine.{memory_size}
 use Rattle.rv_meaning.proofs.MemoryLaws.{length-store, byte-store_below, load-same, load-store_same, load-store_other}
 use Rattle.pli_coding.specs.Frames.{temporary_bytes}
-use Rattle.pli_headline.proofs.Engine.{Base, address, most_code}
+use Rattle.run_steps.specs.Engine.{Base, address, most_code}
 use Rattle.pli_headline.proofs.Holdings.{Counted}
 use Rattle.pli_headline.proofs.VariablePlaces.{Sizes, room_of}
 use Rattle.pli_headline.proofs.MainGround.{Frame, Stands, statics_end}

@@ -13,15 +13,15 @@ use Rattle.pli_typing.specs.TypedTree as Y
 use Rattle.pli_serving.specs.Bytes.{with_bytes}
 use Rattle.pli_headline.proofs.WrittenBytes.{load-with_other, byte-with_below}
 use Rattle.pli_headline.specs.ProvedSoFar.{Kind, alone}
-use Rattle.pli_headline.proofs.Engine.{Base, address}
-use Rattle.pli_headline.proofs.Numbers.{above_sum, above_small, word_small}
+use Rattle.run_steps.specs.Engine.{Base, address}
+use Rattle.run_steps.proofs.Numbers.{above_sum, above_small, word_small}
 use Rattle.pli_headline.proofs.Scalars.{Fits, fits_wide, load_kind, store_kind, Values}
 use Rattle.pli_headline.proofs.VariablePlaces.{Sizes, room_of, number_place, room_before, room_next, room_even, apart_places}
 use Rattle.pli_headline.proofs.NamesStand.{NameThere, name_other, name_beside, name_place, name_kept}
 use Rattle.pli_headline.proofs.Cells.{Cell, kept_by, content, content_word, cell_stored, cell_found}
 use Rattle.pli_headline.proofs.Holdings.{Content, Counted, There, size_in, there_other, content_numeric, content_for, sizes_same, there_below}
-use Rattle.pli_headline.proofs.Bodies.{Ground, PlaceFrom}
-use Rattle.pli_headline.proofs.Temporaries.{Temporaries}
+use Rattle.run_steps.specs.Bodies.{Ground, PlaceFrom}
+use Rattle.run_steps.specs.Temporaries.{Temporaries}
 use Rattle.pli_headline.proofs.States.{with_number_at}
 
 -- where the frame lies, its words for temporaries, how many variables stand in it and what they take, and the index at which its caller goes on

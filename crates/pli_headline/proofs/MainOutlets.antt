@@ -16,19 +16,20 @@ use Rattle.pli_coding.specs.Frames.{frame_end}
 use Rattle.pli_coding.specs.Environments.{Owner, BlockOwner, Environment, in_frame, owned_by}
 use Rattle.pli_coding.specs.Linking.{Links, place_of}
 use Rattle.pli_headline.specs.ProvedSoFar.{Types, OuterBlock, Names}
-use Rattle.pli_headline.proofs.Engine.{Base}
-use Rattle.pli_headline.proofs.Items.{At}
-use Rattle.pli_headline.proofs.Bodies.{Ground, Known}
+use Rattle.run_steps.specs.Engine.{Base}
+use Rattle.run_steps.specs.Items.{At}
+use Rattle.run_steps.specs.Bodies.{Ground, Known}
 use Rattle.pli_headline.proofs.Scalars.{Values}
-use Rattle.pli_headline.proofs.Temporaries.{nothing}
-use Rattle.pli_headline.proofs.Owing.{owing, jumped_owing}
+use Rattle.run_steps.specs.Temporaries.{nothing}
+use Rattle.run_steps.specs.Owing.{owing}
+use Rattle.run_steps.proofs.Owing.{jumped_owing}
 use Rattle.pli_headline.proofs.Entered.{Frames, atop, frames_left, Way}
 use Rattle.pli_headline.proofs.OuterBlocks.{Rises, risen_over}
 use Rattle.pli_headline.proofs.Statements.{Restricts, restricts_self, AllSeen, Enclosing, Enclosures, Block, AllHold, listed_of, IsMarkedOnce, ended_times, OutletOf, Outlets, Enough}
 use Rattle.pli_headline.proofs.InnerFrames.{level_first, inner_above}
 use Rattle.pli_headline.proofs.CalledFrames.{Callee, called_ground}
 use Rattle.pli_headline.proofs.Begins.{ended_jump}
-use Rattle.pli_headline.proofs.Reach.{Family, Aims, Closed}
+use Rattle.run_steps.specs.Reach.{Family, Aims, Closed}
 use Rattle.pli_headline.proofs.Storages.{storage}
 
 -- ---- the way there

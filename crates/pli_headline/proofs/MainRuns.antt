@@ -31,20 +31,22 @@ use Rattle.pli_coding.specs.Statements.{stmts_code}
 use Rattle.pli_coding.specs.Procedures.{finish_code, procedure_ended, procedure_in}
 use Rattle.pli_coding.specs.Linking.{Links, place_of}
 use Rattle.pli_headline.specs.ProvedSoFar.{AllPlain, Types, types_of, text_leaf, alone, AreConstants, Kind, main_names}
-use Rattle.pli_headline.proofs.Engine.{Base, address, most_code}
-use Rattle.pli_headline.proofs.Linking.{size_append}
-use Rattle.pli_headline.proofs.Items.{Linked, At}
-use Rattle.pli_headline.proofs.Bodies.{Known, with', zero_is, frame_is}
-use Rattle.pli_headline.proofs.Jumps.{front_of, back_of, rest_of, linked_at}
-use Rattle.pli_headline.proofs.Temporaries.{nothing}
+use Rattle.run_steps.specs.Engine.{Base, address, most_code}
+use Rattle.run_steps.proofs.Linking.{size_append}
+use Rattle.run_steps.specs.Items.{Linked, At}
+use Rattle.run_steps.specs.Bodies.{Known, with'}
+use Rattle.run_steps.proofs.Bodies.{zero_is, frame_is}
+use Rattle.run_steps.proofs.Jumps.{front_of, back_of, rest_of, linked_at}
+use Rattle.run_steps.specs.Temporaries.{nothing}
 use Rattle.pli_headline.proofs.Activations.{only_activation, entered_length}
-use Rattle.pli_headline.proofs.Calls.{Serving}
+use Rattle.pli_headline.proofs.Serving.{Serving}
 use Rattle.pli_headline.proofs.Acts.{act_piece}
 use Rattle.pli_headline.proofs.Entered.{lone}
 use Rattle.pli_headline.proofs.Statements.{Block, AllHold, IsEndMarkedOnce, Does, counted_all}
 use Rattle.pli_headline.proofs.Variables.{data_place}
 use Rattle.pli_headline.proofs.Gotos.{owner_number}
-use Rattle.pli_headline.proofs.Reach.{Family, Aims, Comes, Closed, before, before_closed, comes_on, onward, never, never_closed}
+use Rattle.run_steps.specs.Reach.{Family, Aims, Comes, Closed, before, never}
+use Rattle.run_steps.proofs.Reach.{before_closed, comes_on, onward, never_closed}
 use Rattle.pli_headline.proofs.MainGround.{ground_of, no_contents}
 use Rattle.pli_headline.proofs.MainBlock.{main_block, VariablesFit, text_few, types_fit, main_serials}
 use Rattle.pli_headline.proofs.MainProcedure.{main_head, main_procedure, IsAlone, main_environment, main_words}

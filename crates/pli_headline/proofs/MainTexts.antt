@@ -8,7 +8,7 @@ use Rattle.pli_meaning.specs.BasicValues.{BasicText}
 use Rattle.pli_serving.specs.Bytes.{with_bytes}
 use Rattle.pli_serving.specs.Stored.{kept_bytes}
 use Rattle.pli_headline.specs.ProvedSoFar.{text_leaf, Kind, alone}
-use Rattle.pli_headline.proofs.Engine.{Base}
+use Rattle.run_steps.specs.Engine.{Base}
 use Rattle.pli_headline.proofs.VariablePlaces.{Sizes, number_place, room_next}
 use Rattle.pli_headline.proofs.WrittenBytes.{byte-with_below, load-with_other}
 use Rattle.pli_headline.proofs.TextPlaces.{text_kind_of, text_bytes}

@@ -14,10 +14,10 @@ use Rattle.pli_coding.specs.Images.{environment_of, raise_code, code_of, linked_
 use Rattle.pli_headline.specs.ProvedSoFar.{ArePlain, AllPlain}
 use Rattle.pli_headline.specs.Headline.{parts}
 use Rattle.pli_headline.proofs.Scalars.{by_plain}
-use Rattle.pli_headline.proofs.Engine.{most_code}
-use Rattle.pli_headline.proofs.Linking.{linked_length, has_items}
-use Rattle.pli_headline.proofs.Items.{Linked}
-use Rattle.pli_headline.proofs.Jumps.{front_of, back_of}
+use Rattle.run_steps.specs.Engine.{most_code}
+use Rattle.run_steps.proofs.Linking.{linked_length, has_items}
+use Rattle.run_steps.specs.Items.{Linked}
+use Rattle.run_steps.proofs.Jumps.{front_of, back_of}
 use Rattle.pli_headline.proofs.DataOnce.{static_has, placed_same}
 use Rattle.pli_headline.proofs.Raising.{Routines}
 use Rattle.pli_headline.proofs.MainProcedure.{main_head, IsAlone, main_environment, main_words, main_plain, main_held}

@@ -13,12 +13,12 @@ use Rattle.pli_serving.specs.Bytes.{with_bytes}
 use Rattle.pli_serving.specs.Stored.{kept_bytes}
 use Rattle.pli_coding.specs.Environments.{Environment}
 use Rattle.pli_headline.specs.ProvedSoFar.{Names, Spot, Kind, Types, text_leaf, IsHeld, array_variable}
-use Rattle.pli_headline.proofs.Numbers.{above_sum, above_small}
+use Rattle.run_steps.proofs.Numbers.{above_sum, above_small}
 use Rattle.pli_headline.proofs.Scalars.{load_kind, store_kind, place_below, text_limit, IsNumeric, own_array}
 use Rattle.pli_headline.proofs.VariablePlaces.{frame_size, data_fits, many_fits, many_size, scalar_data_size, word_each, data_size}
 use Rattle.pli_headline.proofs.Holdings.{There, there_other, content_for, many_numeric, many_texts, Many, ManyTexts}
 use Rattle.pli_headline.proofs.MainTexts.{there_beside}
-use Rattle.pli_headline.proofs.Bodies.{PlaceFrom}
+use Rattle.run_steps.specs.Bodies.{PlaceFrom}
 use Rattle.pli_headline.proofs.Variables.{data_place, level_of}
 use Rattle.pli_headline.proofs.DeclaredNames.{by_last, chosen_before}
 use Rattle.pli_headline.proofs.TextPlaces.{TextThere, text_kind_of}

@@ -9,13 +9,13 @@ use Rattle.pli_meaning.specs.DeclaredShapes.{variables_of_block}
 use Rattle.pli_coding.specs.Environments.{Environment}
 use Rattle.pli_coding.specs.Frames.{last_place, automatic_place}
 use Rattle.pli_headline.specs.ProvedSoFar.{Names, Spot, Kind, Types, alone, IsHeld, array_variable}
-use Rattle.pli_headline.proofs.Engine.{most_code}
-use Rattle.pli_headline.proofs.Numbers.{above_sum, above_small}
+use Rattle.run_steps.specs.Engine.{most_code}
+use Rattle.run_steps.proofs.Numbers.{above_sum, above_small}
 use Rattle.pli_headline.proofs.Scalars.{Values}
 use Rattle.pli_headline.proofs.VariablePlaces.{frame_size, frame_wide}
 use Rattle.pli_headline.proofs.Holdings.{Content, There, size_in, content_fits, content_for}
-use Rattle.pli_headline.proofs.Bodies.{Ground, PlaceFrom}
-use Rattle.pli_headline.proofs.Reaching.{Reaches}
+use Rattle.run_steps.specs.Bodies.{Ground, PlaceFrom}
+use Rattle.run_steps.specs.Reaching.{Reaches}
 use Rattle.pli_headline.proofs.Variables.{IsDeclared, data_place, level_of}
 use Rattle.pli_headline.proofs.DeclaredNames.{by_last, chosen_before, chosen_here}
 use Rattle.pli_headline.proofs.Statements.{Block}

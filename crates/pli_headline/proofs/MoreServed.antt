@@ -33,15 +33,18 @@ use Rattle.pli_coding.specs.Frames.{last_place, automatic_place}
 use Rattle.pli_coding.specs.Linking.{Links}
 use Rattle.image_runs.specs.Runs.{Whole}
 use Rattle.pli_headline.specs.ProvedSoFar.{Names, Kind, Types, AreConstants, IsHeld}
-use Rattle.pli_headline.proofs.Unlimited as U
-use Rattle.pli_headline.proofs.Engine.{Base, address, call_at}
-use Rattle.pli_headline.proofs.Items.{Linked, At}
-use Rattle.pli_headline.proofs.Numbers.{above_sum}
-use Rattle.pli_headline.proofs.Bodies.{Known, PlaceOf}
-use Rattle.pli_headline.proofs.Jumps.{first_of}
-use Rattle.pli_headline.proofs.Temporaries.{nothing}
-use Rattle.pli_headline.proofs.Calls.{comes_finish, called, Calling, call_done, end_pauses, call_ends, acts, Serving}
-use Rattle.pli_headline.proofs.Reach.{Family, Reach, Aims, Comes, Closed, cost, onward, reach_then, reach_map, reached, reached_holds}
+use Rattle.run_steps.specs.Unlimited as U
+use Rattle.run_steps.specs.Engine.{Base, address, call_at}
+use Rattle.run_steps.specs.Items.{Linked, At}
+use Rattle.run_steps.proofs.Numbers.{above_sum}
+use Rattle.run_steps.specs.Bodies.{Known, PlaceOf}
+use Rattle.run_steps.proofs.Jumps.{first_of}
+use Rattle.run_steps.specs.Temporaries.{nothing}
+use Rattle.run_steps.specs.Calls.{Calling}
+use Rattle.run_steps.proofs.Calls.{comes_finish, called, call_done, end_pauses, call_ends, acts}
+use Rattle.pli_headline.proofs.Serving.{Serving}
+use Rattle.run_steps.specs.Reach.{Family, Reach, Aims, Comes, Closed, cost, reached}
+use Rattle.run_steps.proofs.Reach.{onward, reach_then, reach_map, reached_holds}
 use Rattle.pli_headline.proofs.Scalars.{Values, begin_of, begin_text, begin_texts}
 use Rattle.pli_headline.proofs.Holdings.{There, Content, content_for}
 use Rattle.pli_headline.proofs.WrittenBytes.{length-with_bytes}

@@ -21,18 +21,21 @@ use Rattle.pli_coding.specs.Linking.{Links, place_of}
 use Rattle.pli_headline.specs.Headline.{parts}
 use Rattle.pli_headline.specs.ProvedSoFar.{plain_variable, IsScalar, array_variable, IsHeld, AreBounds, alone}
 use Rattle.pli_headline.proofs.Scalars.{Declared, by_held, character, varying, by_shape}
-use Rattle.pli_headline.proofs.DataNamed.{is_named_back}
+use Rattle.run_steps.proofs.DataNamed.{is_named_back}
 use Rattle.pli_headline.proofs.InitialRead.{start_datum, start_of, IsNamedIf}
-use Rattle.pli_headline.proofs.Engine.{Base}
-use Rattle.pli_headline.proofs.Linking.{size_append}
-use Rattle.pli_headline.proofs.Items.{Linked, At, straight}
-use Rattle.pli_headline.proofs.Numbers.{above_sum, above_small}
-use Rattle.pli_headline.proofs.Bodies.{Ground, Known, PlaceOf, with', at_place, zero_is, frame_is, constant_piece, load_piece}
-use Rattle.pli_headline.proofs.Increments.{plus_own}
-use Rattle.pli_headline.proofs.Jumps.{front_of, back_of}
-use Rattle.pli_headline.proofs.Temporaries.{nothing}
+use Rattle.run_steps.specs.Engine.{Base}
+use Rattle.run_steps.proofs.Linking.{size_append}
+use Rattle.run_steps.specs.Items.{Linked, At}
+use Rattle.run_steps.proofs.Items.{straight}
+use Rattle.run_steps.proofs.Numbers.{above_sum, above_small}
+use Rattle.run_steps.specs.Bodies.{Ground, Known, PlaceOf, with'}
+use Rattle.run_steps.proofs.Bodies.{at_place, zero_is, frame_is, constant_piece, load_piece}
+use Rattle.run_steps.proofs.Increments.{plus_own}
+use Rattle.run_steps.proofs.Jumps.{front_of, back_of}
+use Rattle.run_steps.specs.Temporaries.{nothing}
 use Rattle.pli_headline.proofs.Raising.{small_is}
-use Rattle.pli_headline.proofs.Reach.{Family, Reach, reach_then, reached, reached_holds}
+use Rattle.run_steps.specs.Reach.{Family, Reach, reached}
+use Rattle.run_steps.proofs.Reach.{reach_then, reached_holds}
 use Rattle.pli_headline.proofs.VariablePlaces.{frame_size, text_print, scalar_size, size_for}
 use Rattle.pli_headline.proofs.Holdings.{Content}
 use Rattle.pli_headline.proofs.MainGround.{Frame, ground_of}

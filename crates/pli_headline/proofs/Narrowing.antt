@@ -16,10 +16,10 @@ use Rattle.pli_serving.specs.Stored.{kept_bytes}
 use Rattle.pli_coding.specs.Environments.{Environment}
 use Rattle.pli_coding.specs.Frames.{automatic_place, frame_end}
 use Rattle.pli_headline.specs.ProvedSoFar.{Names, Spot, Kind, Types, OuterBlock, alone, declared_kind, names_with, names_from, names_in, types_in}
-use Rattle.pli_headline.proofs.Engine.{Base}
+use Rattle.run_steps.specs.Engine.{Base}
 use Rattle.pli_headline.proofs.Scalars.{Values, Fits, load_kind, store_kind, place_below}
-use Rattle.pli_headline.proofs.Bodies.{Ground, PlaceFrom}
-use Rattle.pli_headline.proofs.Reaching.{Reaches}
+use Rattle.run_steps.specs.Bodies.{Ground, PlaceFrom}
+use Rattle.run_steps.specs.Reaching.{Reaches}
 use Rattle.pli_headline.proofs.Variables.{AllOutermost, data_place, level_of}
 use Rattle.pli_headline.proofs.DeclaredNames.{by_last, kind_around, chosen_before, chosen_here}
 use Rattle.pli_headline.proofs.States.{with_number_at, with_text_at}

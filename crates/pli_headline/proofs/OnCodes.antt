@@ -14,13 +14,13 @@ use Rattle.pli_serving.specs.Answers.{Done}
 use Rattle.pli_serving.specs.ActsAndEnds as W
 use Rattle.pli_coding.specs.Instructions.{service}
 use Rattle.pli_coding.specs.Linking.{Links}
-use Rattle.pli_headline.proofs.Engine.{Base}
-use Rattle.pli_headline.proofs.Numbers.{IsWide}
+use Rattle.run_steps.specs.Engine.{Base}
+use Rattle.run_steps.specs.Numbers.{IsWide}
 use Rattle.pli_headline.proofs.Acts.{word_is}
-use Rattle.pli_headline.proofs.Bodies.{Ground}
-use Rattle.pli_headline.proofs.Temporaries.{stays_same}
+use Rattle.run_steps.specs.Bodies.{Ground}
+use Rattle.run_steps.proofs.Temporaries.{stays_same}
 use Rattle.pli_headline.proofs.Activations.{small_oncode, same_oncode}
-use Rattle.pli_headline.proofs.Calls.{Serving}
+use Rattle.pli_headline.proofs.Serving.{Serving}
 use Rattle.pli_headline.proofs.TextCalls.{asking_piece}
 use Rattle.pli_headline.proofs.Evaluations.{number_kind, Evaluates}
 

@@ -33,20 +33,23 @@ use Rattle.pli_coding.specs.Statements.{condition_given, unit_variables, owner_o
 use Rattle.pli_coding.specs.Statements.{unit_left, stmts_words, stmt_code, stmts_code, unit_held}
 use Rattle.pli_coding.specs.Linking.{Links, upper_part, lower_part}
 use Rattle.pli_headline.specs.ProvedSoFar.{Types, Names}
-use Rattle.pli_headline.proofs.Engine.{Base, HasAt, address, call_at}
-use Rattle.pli_headline.proofs.Linking.{size_append}
-use Rattle.pli_headline.proofs.Items.{Linked, At, straight, parts_sum}
-use Rattle.pli_headline.proofs.Bodies.{Ground, Known, Free, with', zero_is, set_known, lose_known}
-use Rattle.pli_headline.proofs.Jumps.{front_of, back_of, ahead_piece}
-use Rattle.pli_headline.proofs.Temporaries.{stays_same}
+use Rattle.run_steps.specs.Engine.{Base, HasAt, address, call_at}
+use Rattle.run_steps.proofs.Linking.{size_append}
+use Rattle.run_steps.specs.Items.{Linked, At}
+use Rattle.run_steps.proofs.Items.{straight, parts_sum}
+use Rattle.run_steps.specs.Bodies.{Ground, Known, Free, with'}
+use Rattle.run_steps.proofs.Bodies.{zero_is, set_known, lose_known}
+use Rattle.run_steps.proofs.Jumps.{front_of, back_of, ahead_piece}
+use Rattle.run_steps.proofs.Temporaries.{stays_same}
 use Rattle.pli_headline.proofs.Activations.{may_have_unit, Nested, frames_of, entered_length}
-use Rattle.pli_headline.proofs.Calls.{Serving}
+use Rattle.pli_headline.proofs.Serving.{Serving}
 use Rattle.pli_headline.proofs.Raising.{small_is}
 use Rattle.pli_headline.proofs.Acts.{acted, act_piece}
 use Rattle.pli_headline.proofs.TextCalls.{three, asking_piece}
 use Rattle.pli_headline.proofs.Statements.{Block, AllHold, counted_all, Does}
 use Rattle.pli_headline.proofs.SystemUnits.{NewestKnown, changed_services, changed_serving, changed_all, newest_changed, established_is, number_small, condition_is, established_served, done_with, some_served}
-use Rattle.pli_headline.proofs.Reach.{Family, Reach, before_closed, comes_on, onward}
+use Rattle.run_steps.specs.Reach.{Family, Reach}
+use Rattle.run_steps.proofs.Reach.{before_closed, comes_on, onward}
 use Rattle.pli_headline.proofs.Storages.{storage}
 
 -- ---- the offset of a place ahead comes into a register

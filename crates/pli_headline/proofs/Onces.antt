@@ -18,14 +18,15 @@ use Rattle.pli_coding.specs.Storing.{assignment_code}
 use Rattle.pli_coding.specs.Statements.{once_code, stmt_code, stmts_code, bit_if}
 use Rattle.pli_coding.specs.Linking.{Links}
 use Rattle.pli_headline.specs.ProvedSoFar.{Names, Types, IsProvedBitIf}
-use Rattle.pli_headline.proofs.Engine.{address}
-use Rattle.pli_headline.proofs.Linking.{size_append}
-use Rattle.pli_headline.proofs.Jumps.{front_of, back_of}
+use Rattle.run_steps.specs.Engine.{address}
+use Rattle.run_steps.proofs.Linking.{size_append}
+use Rattle.run_steps.proofs.Jumps.{front_of, back_of}
 use Rattle.pli_headline.proofs.Statements.{Standing, Block, further, Does}
 use Rattle.pli_headline.proofs.Ifs.{tested_does}
 use Rattle.pli_headline.proofs.Since.{since_closed, comes_since}
-use Rattle.pli_headline.proofs.Temporaries.{stays_then}
-use Rattle.pli_headline.proofs.Reach.{Comes, before_closed, comes_on}
+use Rattle.run_steps.proofs.Temporaries.{stays_then}
+use Rattle.run_steps.specs.Reach.{Comes}
+use Rattle.run_steps.proofs.Reach.{before_closed, comes_on}
 
 -- ---- one part behind another
 

@@ -11,15 +11,15 @@ use Rattle.pli_serving.specs.Bytes.{with_bytes}
 use Rattle.pli_serving.specs.Stored.{kept_bytes}
 use Rattle.pli_coding.specs.Environments.{Environment}
 use Rattle.pli_headline.specs.ProvedSoFar.{OuterBlock, Names, Kind, Types, alone, text_leaf, IsHeld}
-use Rattle.pli_headline.proofs.Engine.{Base, most_code}
-use Rattle.pli_headline.proofs.Numbers.{word_small}
+use Rattle.run_steps.specs.Engine.{Base, most_code}
+use Rattle.run_steps.proofs.Numbers.{word_small}
 use Rattle.pli_headline.proofs.Scalars.{Values, Fits, fits_wide, load_kind, store_kind, place_below, text_limit, own_scalar}
 use Rattle.pli_headline.proofs.Cells.{Cell, kept_by, content, content_word, cell_stored, cell_found}
 use Rattle.pli_headline.proofs.VariablePlaces.{frame_size, frame_wide, frame_even}
 use Rattle.pli_headline.proofs.Holdings.{Counted, There, size_in, content_of, content_numeric, content_text, scalar_fits, there_other, there_below, content_for}
 use Rattle.pli_headline.proofs.MainTexts.{there_beside}
 use Rattle.pli_headline.proofs.TextGrounds.{TextsStand}
-use Rattle.pli_headline.proofs.Temporaries.{Temporaries}
+use Rattle.run_steps.specs.Temporaries.{Temporaries}
 use Rattle.pli_headline.proofs.Variables.{data_place, level_of}
 use Rattle.pli_headline.proofs.DeclaredNames.{kind_around, by_last, last_kind, chosen_before, chosen_here}
 use Rattle.pli_headline.proofs.States.{with_number_at, with_text_at}

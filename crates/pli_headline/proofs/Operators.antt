@@ -23,16 +23,22 @@ use Rattle.pli_coding.specs.Instructions.{small, add, subtract, move, immediate,
 use Rattle.pli_coding.specs.Environments.{Taken, is_register_left, save, fetch}
 use Rattle.pli_coding.specs.Arithmetic.{raised, overflow_raised, sum_code, difference_code, signed_code}
 use Rattle.pli_coding.specs.Linking.{Links}
-use Rattle.pli_headline.proofs.Engine.{Base, address}
-use Rattle.pli_headline.proofs.Items.{Linked, At, straight}
-use Rattle.pli_headline.proofs.Numbers.{IsWide, word_small, sum-word, difference-word, sum_fits, sum_over, difference_fits, difference_over, least_word, negated-word, negated_fits, negated_over}
-use Rattle.pli_headline.proofs.Bodies.{Ground, Known, zero_is}
-use Rattle.pli_headline.proofs.Jumps.{first_of, rest_of, front_of, back_of, skip_taken, skip_passed, call_piece}
-use Rattle.pli_headline.proofs.Temporaries.{Temporaries, save_piece}
+use Rattle.run_steps.specs.Engine.{Base, address}
+use Rattle.run_steps.specs.Items.{Linked, At}
+use Rattle.run_steps.proofs.Items.{straight}
+use Rattle.run_steps.specs.Numbers.{IsWide, least_word}
+use Rattle.run_steps.proofs.Numbers.{word_small, sum-word, difference-word, sum_fits, sum_over, difference_fits}
+use Rattle.run_steps.proofs.Numbers.{difference_over, negated-word, negated_fits, negated_over}
+use Rattle.run_steps.specs.Bodies.{Ground, Known}
+use Rattle.run_steps.proofs.Bodies.{zero_is}
+use Rattle.run_steps.proofs.Jumps.{first_of, rest_of, front_of, back_of, skip_taken, skip_passed, call_piece}
+use Rattle.run_steps.specs.Temporaries.{Temporaries}
+use Rattle.run_steps.proofs.Temporaries.{save_piece}
 use Rattle.pli_headline.proofs.Activations.{IsOther, OnlyIf, only_in_force, only_served}
-use Rattle.pli_headline.proofs.Calls.{Serving}
+use Rattle.pli_headline.proofs.Serving.{Serving}
 use Rattle.pli_headline.proofs.Raising.{Routines, small_is, conditioned, raise_piece}
-use Rattle.pli_headline.proofs.Reach.{Family, Aims, Comes, Closed, before_closed, comes_on, onward}
+use Rattle.run_steps.specs.Reach.{Family, Aims, Comes, Closed}
+use Rattle.run_steps.proofs.Reach.{before_closed, comes_on, onward}
 
 -- a number in a0
 abbrev pub valued : ℕ → Base → List (ℕ × ℕ)

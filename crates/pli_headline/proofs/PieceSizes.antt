@@ -11,7 +11,7 @@ use Rattle.pli_coding.specs.Frames.{words_place}
 use Rattle.pli_coding.specs.Environments.{Taken, is_register_left, save}
 use Rattle.pli_coding.specs.Temporaries.{reference_words}
 use Rattle.pli_headline.specs.ProvedSoFar.{Names, Types, IsOwn, IsDimension}
-use Rattle.pli_headline.proofs.Linking.{size_append}
+use Rattle.run_steps.proofs.Linking.{size_append}
 
 pub most : (a b n : ℕ) → a ≤ n → b ≤ n → max a b ≤ n
 most a b n h i = grind (arith, nat_tests)

@@ -22,21 +22,23 @@ use Rattle.pli_coding.specs.Instructions.{move, shift, registers, skip_where}
 use Rattle.pli_coding.specs.Environments.{Taken, is_register_left}
 use Rattle.pli_coding.specs.Arithmetic.{overflow_raised, zero_divide_raised, quotient_checked, narrowed_code, fitted_code, divided_code}
 use Rattle.pli_coding.specs.Linking.{Links}
-use Rattle.pli_headline.proofs.Engine.{Base, address}
-use Rattle.pli_headline.proofs.Linking.{size_append}
-use Rattle.pli_headline.proofs.Items.{Linked, At, straight}
-use Rattle.pli_headline.proofs.Numbers.{IsWide}
+use Rattle.run_steps.specs.Engine.{Base, address}
+use Rattle.run_steps.proofs.Linking.{size_append}
+use Rattle.run_steps.specs.Items.{Linked, At}
+use Rattle.run_steps.proofs.Items.{straight}
+use Rattle.run_steps.specs.Numbers.{IsWide}
 use Rattle.pli_headline.proofs.WordQuotients.{quotient-word}
 use Rattle.pli_headline.proofs.WordPrecisions.{narrowed, IsWord, wide_word, narrowed_tested, narrow_wide, quotient_is_word}
-use Rattle.pli_headline.proofs.Bodies.{Ground, Known}
-use Rattle.pli_headline.proofs.Jumps.{front_of, back_of, rest_of, skip_taken, skip_passed}
-use Rattle.pli_headline.proofs.Temporaries.{Temporaries}
-use Rattle.pli_headline.proofs.Calls.{Serving}
+use Rattle.run_steps.specs.Bodies.{Ground, Known}
+use Rattle.run_steps.proofs.Jumps.{front_of, back_of, rest_of, skip_taken, skip_passed}
+use Rattle.run_steps.specs.Temporaries.{Temporaries}
+use Rattle.pli_headline.proofs.Serving.{Serving}
 use Rattle.pli_headline.proofs.Raising.{Routines}
 use Rattle.pli_headline.proofs.Operators.{valued, paired, Gone, overflow_piece, sum_small}
 use Rattle.pli_headline.proofs.Quotients.{divisor_piece, whole_quotient}
 use Rattle.pli_headline.proofs.Evaluations.{number_kind, Operates}
-use Rattle.pli_headline.proofs.Reach.{Family, Aims, Comes, Closed, before_closed, comes_on, onward}
+use Rattle.run_steps.specs.Reach.{Family, Aims, Comes, Closed}
+use Rattle.run_steps.proofs.Reach.{before_closed, comes_on, onward}
 
 -- ---- fewer bits
 

@@ -19,7 +19,7 @@ use Rattle.pli_coding.specs.Procedures.{procedure_environment, procedure_begun, 
 use Rattle.pli_coding.specs.Images.{blocks_of}
 use Rattle.pli_coding.specs.Linking.{marks_from}
 use Rattle.pli_headline.specs.ProvedSoFar.{Names, Types, types_of, AreProvedStatements, main_outer, IsInner, AreInner, ArePlain, names_in, types_in, times, block_labels, procedure_labels, main_names, AllPlain}
-use Rattle.pli_headline.proofs.Linking.{times_marked}
+use Rattle.run_steps.specs.Linking.{times_marked}
 use Rattle.pli_headline.proofs.SymbolsMarked.{symbols_marked, Marks, both_mark, behind, constant_none, plus_none, act_none}
 use Rattle.pli_headline.proofs.Stands.{Stand, all_stands, labels_among, labels_are, EndsApart, ends_apart, no_units}
 use Rattle.pli_headline.proofs.DeclaredNames.{named_in, has_in}

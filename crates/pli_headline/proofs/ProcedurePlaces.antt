@@ -13,8 +13,8 @@ use Rattle.pli_coding.specs.Procedures.{procedure_environment, procedure_in, pro
 use Rattle.pli_coding.specs.Images.{blocks_of, blocks_of_procedure}
 use Rattle.pli_coding.specs.Linking.{Links}
 use Rattle.pli_headline.specs.ProvedSoFar.{IsInner, AreInner, is_number, number_times, AllOnce}
-use Rattle.pli_headline.proofs.Items.{Linked}
-use Rattle.pli_headline.proofs.Jumps.{front_of, back_of}
+use Rattle.run_steps.specs.Items.{Linked}
+use Rattle.run_steps.proofs.Jumps.{front_of, back_of}
 use Rattle.pli_headline.proofs.InnerLevels.{IsAmong, among_all, among_with}
 use Rattle.pli_headline.proofs.Stands.{Stand, all_stands, EndsApart}
 use Rattle.pli_headline.proofs.StatementMarks.{places_of}

@@ -17,17 +17,20 @@ use Rattle.pli_coding.specs.Instructions.{move, registers, shift, skip_where}
 use Rattle.pli_coding.specs.Environments.{Taken, is_register_left}
 use Rattle.pli_coding.specs.Arithmetic.{overflow_raised, product_code}
 use Rattle.pli_coding.specs.Linking.{Links}
-use Rattle.pli_headline.proofs.Engine.{Base, address}
-use Rattle.pli_headline.proofs.Items.{Linked, At, straight}
-use Rattle.pli_headline.proofs.Numbers.{IsWide, word_small}
+use Rattle.run_steps.specs.Engine.{Base, address}
+use Rattle.run_steps.specs.Items.{Linked, At}
+use Rattle.run_steps.proofs.Items.{straight}
+use Rattle.run_steps.specs.Numbers.{IsWide}
+use Rattle.run_steps.proofs.Numbers.{word_small}
 use Rattle.pli_headline.proofs.WordProducts.{product-lower, product-upper, product_size, residue_word, product_test, product_fits, product_over}
-use Rattle.pli_headline.proofs.Bodies.{Ground, Known}
-use Rattle.pli_headline.proofs.Jumps.{front_of, back_of}
-use Rattle.pli_headline.proofs.Temporaries.{Temporaries}
-use Rattle.pli_headline.proofs.Calls.{Serving}
+use Rattle.run_steps.specs.Bodies.{Ground, Known}
+use Rattle.run_steps.proofs.Jumps.{front_of, back_of}
+use Rattle.run_steps.specs.Temporaries.{Temporaries}
+use Rattle.pli_headline.proofs.Serving.{Serving}
 use Rattle.pli_headline.proofs.Raising.{Routines}
 use Rattle.pli_headline.proofs.Operators.{Gone, compared, paired, checked_by, sum_zero, sum_small}
-use Rattle.pli_headline.proofs.Reach.{Family, Aims, Comes, Closed, onward}
+use Rattle.run_steps.specs.Reach.{Family, Aims, Comes, Closed}
+use Rattle.run_steps.proofs.Reach.{onward}
 
 product_tested : (q : Bool) (x y : ℤ) → IsWide x → IsWide y → is_of_precision 31 (x *ℤ y) ≡ q → (operated Op.MultiplyHigh (word x) (word y) == shifted_right_signed (operated Op.Multiply (word x) (word y)) 31) ≡ q
 product_tested q x y h i e =

@@ -22,7 +22,7 @@ use Rattle.pli_coding.specs.Images.{raise_code, code_of, linked_code}
 use Rattle.pli_coding.specs.Linking.{links_of}
 use Rattle.pli_headline.specs.FirstForms.{plain_number, AreNumbers, AllNumbers, AreFirstStatements, IsFirstProgram}
 use Rattle.pli_headline.specs.Headline.{parts}
-use Rattle.pli_headline.proofs.Linking.{linked_length, size_append}
+use Rattle.run_steps.proofs.Linking.{linked_length, size_append}
 use Rattle.pli_headline.proofs.Marks.{code_is, only_main}
 use Rattle.pli_headline.proofs.FirstFrame.{start_of}
 use Rattle.pli_headline.proofs.FirstForms.{all_numbers_plain, block_numbers, program_wider}

@@ -15,20 +15,24 @@ use Rattle.pli_coding.specs.Frames.{frame_below, own_offset, lower_top, fixed_si
 use Rattle.pli_coding.specs.Entries.{all_saved, display_made, frame_begun}
 use Rattle.pli_coding.specs.Linking.{Links}
 use Rattle.image_runs.specs.Runs.{Whole}
-use Rattle.pli_headline.proofs.Engine.{Base, address, most_code, WordAt}
-use Rattle.pli_headline.proofs.Linking.{size_append}
-use Rattle.pli_headline.proofs.Items.{Linked, At, Items, straight}
-use Rattle.pli_headline.proofs.Numbers.{above_sum, above_small}
-use Rattle.pli_headline.proofs.Bodies.{Ground, Known, with', nth, frame_is, plus_piece}
-use Rattle.pli_headline.proofs.Jumps.{front_of, back_of}
-use Rattle.pli_headline.proofs.Reach.{Family, Reach, reach_then, reached, reached_holds}
+use Rattle.run_steps.specs.Engine.{Base, address, most_code, WordAt}
+use Rattle.run_steps.proofs.Linking.{size_append}
+use Rattle.run_steps.specs.Items.{Linked, At, Items}
+use Rattle.run_steps.proofs.Items.{straight}
+use Rattle.run_steps.proofs.Numbers.{above_sum, above_small}
+use Rattle.run_steps.specs.Bodies.{Ground, Known, with', nth}
+use Rattle.run_steps.proofs.Bodies.{frame_is, plus_piece}
+use Rattle.run_steps.proofs.Jumps.{front_of, back_of}
+use Rattle.run_steps.specs.Reach.{Family, Reach, reached}
+use Rattle.run_steps.proofs.Reach.{reach_then, reached_holds}
 use Rattle.pli_headline.proofs.Holdings.{Counted}
 use Rattle.pli_headline.proofs.VariablePlaces.{room_of}
 use Rattle.pli_headline.proofs.MainGround.{Frame, ground_of, statics_end}
 use Rattle.pli_headline.proofs.FirstFrame.{start_ground, start_memory, start_length, zeros, no_texts}
 use Rattle.pli_headline.proofs.MainFrame.{Kept, kept_same, kept_store, filled_keeps, first_words, frame_stands}
-use Rattle.pli_headline.proofs.SavedRegisters.{SavingAt, saved_ground, saved_piece}
-use Rattle.pli_headline.proofs.Reaching.{reach_moved}
+use Rattle.run_steps.specs.SavedRegisters.{SavingAt, saved_ground}
+use Rattle.run_steps.proofs.SavedRegisters.{saved_piece}
+use Rattle.run_steps.proofs.Reaching.{reach_moved}
 
 -- what is done once registers are saved
 abbrev frame_filled : Code

@@ -15,11 +15,14 @@ use Rattle.pli_meaning.specs.Laws.{StorageStays, StorageActsAllowed}
 use Rattle.rv_meaning.specs.Tables.{TableSignature}
 use Rattle.pli_meaning.specs.Pictures.{Picture, first_machine}
 use Rattle.image_runs.specs.Runs.{Whole, Run, Runs, Ended, Stopped, shown_by}
-use Rattle.pli_headline.proofs.Unlimited.{next, run_on, same_runs}
+use Rattle.run_steps.specs.Unlimited.{next, run_on}
+use Rattle.run_steps.proofs.Unlimited.{same_runs}
 use Rattle.pli_headline.specs.Headline.{Keeps, Headline}
-use Rattle.pli_headline.proofs.Engine.{Base, at_base, run_on-add, run_on-ended, run_on-stopped}
-use Rattle.pli_headline.proofs.Growing.{Grows, runs_grow}
-use Rattle.pli_headline.proofs.Reach.{Family, cost, acts_of, Pausing, Ending, Comes, never}
+use Rattle.run_steps.specs.Engine.{Base, at_base}
+use Rattle.run_steps.proofs.Engine.{run_on-add, run_on-ended, run_on-stopped}
+use Rattle.run_steps.specs.Growing.{Grows}
+use Rattle.run_steps.proofs.Growing.{runs_grow}
+use Rattle.run_steps.specs.Reach.{Family, cost, acts_of, Pausing, Ending, Comes, never}
 
 -- the machine with its services at the start, at each base
 abbrev pub first_family : Picture → List TableSignature → (input : List ℕ) → Family

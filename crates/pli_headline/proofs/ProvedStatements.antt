@@ -53,7 +53,7 @@ use Rattle.pli_headline.proofs.Entered.{Frames, NoUnit}
 use Rattle.pli_headline.proofs.Activations.{may_have_unit}
 use Rattle.pli_headline.proofs.UnitRuns.{Raises, none_raises, signal_unit_does}
 use Rattle.pli_headline.proofs.UnitStanding.{program_around, UnitStands, Tells, unit_is}
-use Rattle.pli_headline.proofs.Items.{Linked}
+use Rattle.run_steps.specs.Items.{Linked}
 use Rattle.pli_headline.proofs.Onces.{once_does}
 use Rattle.pli_headline.proofs.Counts.{turning, standing_turning}
 use Rattle.pli_headline.proofs.Putting.{put_does}

@@ -25,15 +25,16 @@ use Rattle.pli_coding.specs.Streams.{has_fixed, has_text, by_item, controls_carr
 use Rattle.pli_coding.specs.Linking.{Links}
 use Rattle.pli_headline.specs.ProvedSoFar.{Names, Types, IsProvedNumber, IsProvedBit, IsProvedText, IsPrecision, HasPrecision, AreProvedFormats, HasData, IsProvedItem}
 use Rattle.pli_headline.proofs.Storages.{storage, Serials}
-use Rattle.pli_headline.proofs.Engine.{Base, address}
-use Rattle.pli_headline.proofs.Linking.{size_append}
-use Rattle.pli_headline.proofs.Items.{Linked, At}
-use Rattle.pli_headline.proofs.Numbers.{word_small}
+use Rattle.run_steps.specs.Engine.{Base, address}
+use Rattle.run_steps.proofs.Linking.{size_append}
+use Rattle.run_steps.specs.Items.{Linked, At}
+use Rattle.run_steps.proofs.Numbers.{word_small}
 use Rattle.pli_headline.proofs.Scalars.{bit_word, Values}
-use Rattle.pli_headline.proofs.Bodies.{Known}
-use Rattle.pli_headline.proofs.Jumps.{front_of, back_of}
-use Rattle.pli_headline.proofs.Temporaries.{nothing, held_with, words_with, waiting_saved, save_piece, Stays, stays_then, stays_saved}
-use Rattle.pli_headline.proofs.Calls.{Serving}
+use Rattle.run_steps.specs.Bodies.{Known}
+use Rattle.run_steps.proofs.Jumps.{front_of, back_of}
+use Rattle.run_steps.specs.Temporaries.{nothing, held_with, words_with, Stays}
+use Rattle.run_steps.proofs.Temporaries.{waiting_saved, save_piece, stays_then, stays_saved}
+use Rattle.pli_headline.proofs.Serving.{Serving}
 use Rattle.pli_headline.proofs.Raising.{Routines}
 use Rattle.pli_headline.proofs.Expressions.{number_piece, bit_does, text_does}
 use Rattle.pli_headline.proofs.Ifs.{setting}
@@ -46,7 +47,8 @@ use Rattle.pli_headline.proofs.EditControls.{Kept, next_piece}
 use Rattle.pli_headline.proofs.EditValues.{by_fixed, by_text, ShownAs, number_as, bit_as, word_shown}
 use Rattle.pli_headline.proofs.EditTexts.{at_other_texts}
 use Rattle.pli_headline.proofs.EditConversions.{text_by_fixed, text_shown}
-use Rattle.pli_headline.proofs.Reach.{Family, Aims, Comes, Closed, before_closed, comes_on, onward}
+use Rattle.run_steps.specs.Reach.{Family, Aims, Comes, Closed}
+use Rattle.run_steps.proofs.Reach.{before_closed, comes_on, onward}
 
 abbrev pub number_item : (precision : ℕ) → Y.Number → Y.PutItem
 number_item p x = Y.PutValue (Y.NumberValue p x)

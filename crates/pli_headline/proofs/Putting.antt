@@ -22,19 +22,21 @@ use Rattle.pli_coding.specs.Linking.{Links}
 use Rattle.pli_headline.specs.ProvedSoFar.{Names, Types, HavePrecisions, AreProvedFormats, HasData, AreProvedItems, AreProvedPairs}
 use Rattle.pli_headline.proofs.HeldPlaces.{places_grown, places_same}
 use Rattle.pli_headline.proofs.Storages.{storage}
-use Rattle.pli_headline.proofs.Engine.{Base, address}
-use Rattle.pli_headline.proofs.Linking.{size_append}
-use Rattle.pli_headline.proofs.Items.{Linked, At}
-use Rattle.pli_headline.proofs.Bodies.{Known}
-use Rattle.pli_headline.proofs.Jumps.{front_of, back_of}
-use Rattle.pli_headline.proofs.Temporaries.{nothing, Stays, stays_same, stays_then}
-use Rattle.pli_headline.proofs.Calls.{Serving}
+use Rattle.run_steps.specs.Engine.{Base, address}
+use Rattle.run_steps.proofs.Linking.{size_append}
+use Rattle.run_steps.specs.Items.{Linked, At}
+use Rattle.run_steps.specs.Bodies.{Known}
+use Rattle.run_steps.proofs.Jumps.{front_of, back_of}
+use Rattle.run_steps.specs.Temporaries.{nothing, Stays}
+use Rattle.run_steps.proofs.Temporaries.{stays_same, stays_then}
+use Rattle.pli_headline.proofs.Serving.{Serving}
 use Rattle.pli_headline.proofs.Acts.{act_piece}
 use Rattle.pli_headline.proofs.Statements.{Standing, Block, AllHold, counted_all, Behind, Does}
 use Rattle.pli_headline.proofs.FormatData.{Suit, formats_suit}
 use Rattle.pli_headline.proofs.EditItems.{putting, at_places}
 use Rattle.pli_headline.proofs.EditPieces.{begin_piece, end_piece, at_other_places}
-use Rattle.pli_headline.proofs.Reach.{Family, Aims, Comes, Closed, before_closed, comes_on}
+use Rattle.run_steps.specs.Reach.{Family, Aims, Comes, Closed}
+use Rattle.run_steps.proofs.Reach.{before_closed, comes_on}
 use Rattle.rv_meaning.specs.Memory.{bytes_of_words}
 use Rattle.pli_coding.specs.StaticForms.{formats_length, formats_words}
 use Rattle.pli_headline.proofs.StandingFormats.{formats_found}

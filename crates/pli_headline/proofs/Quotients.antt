@@ -21,17 +21,20 @@ use Rattle.pli_coding.specs.Instructions.{small, move, immediate, registers, low
 use Rattle.pli_coding.specs.Environments.{Taken, is_register_left}
 use Rattle.pli_coding.specs.Arithmetic.{overflow_raised, zero_divide_raised, unless_zero, quotient_checked, quotient_code}
 use Rattle.pli_coding.specs.Linking.{Links}
-use Rattle.pli_headline.proofs.Engine.{Base, address}
-use Rattle.pli_headline.proofs.Items.{Linked, At, straight}
-use Rattle.pli_headline.proofs.Numbers.{IsWide}
+use Rattle.run_steps.specs.Engine.{Base, address}
+use Rattle.run_steps.specs.Items.{Linked, At}
+use Rattle.run_steps.proofs.Items.{straight}
+use Rattle.run_steps.specs.Numbers.{IsWide}
 use Rattle.pli_headline.proofs.WordQuotients.{zero_word, other_word, quotient-word, quotient_bits, is_set, quotient_tested, quotient_small}
-use Rattle.pli_headline.proofs.Bodies.{Ground, Known, zero_is}
-use Rattle.pli_headline.proofs.Jumps.{front_of, back_of, rest_of, skip_taken, skip_passed}
-use Rattle.pli_headline.proofs.Temporaries.{Temporaries}
-use Rattle.pli_headline.proofs.Calls.{Serving}
+use Rattle.run_steps.specs.Bodies.{Ground, Known}
+use Rattle.run_steps.proofs.Bodies.{zero_is}
+use Rattle.run_steps.proofs.Jumps.{front_of, back_of, rest_of, skip_taken, skip_passed}
+use Rattle.run_steps.specs.Temporaries.{Temporaries}
+use Rattle.pli_headline.proofs.Serving.{Serving}
 use Rattle.pli_headline.proofs.Raising.{Routines}
 use Rattle.pli_headline.proofs.Operators.{Gone, paired, raised_piece, overflow_piece, after_fit, after_raise, sum_zero}
-use Rattle.pli_headline.proofs.Reach.{Family, Aims, Comes, Closed, before_closed, comes_on, onward}
+use Rattle.run_steps.specs.Reach.{Family, Aims, Comes, Closed}
+use Rattle.run_steps.proofs.Reach.{before_closed, comes_on, onward}
 
 -- ---- divisors
 

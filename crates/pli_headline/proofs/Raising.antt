@@ -27,13 +27,18 @@ use Rattle.pli_coding.specs.Assembly.{RaiseCondition, RaiseError, ErrorEnd, Mark
 use Rattle.pli_coding.specs.Linking.{Links, place_of}
 use Rattle.pli_coding.specs.Instructions.{small, subtract}
 use Rattle.pli_coding.specs.Images.{raise_code, error_code, unit_begun, to_unit, error_end}
-use Rattle.pli_headline.proofs.Engine.{Base, address, call_at}
-use Rattle.pli_headline.proofs.Items.{Linked, At, straight}
-use Rattle.pli_headline.proofs.Bodies.{Ground, Known, zero_is}
-use Rattle.pli_headline.proofs.Jumps.{first_of, rest_of, front_of, back_of, skip_taken}
+use Rattle.run_steps.specs.Engine.{Base, address, call_at}
+use Rattle.run_steps.specs.Items.{Linked, At}
+use Rattle.run_steps.proofs.Items.{straight}
+use Rattle.run_steps.specs.Bodies.{Ground, Known}
+use Rattle.run_steps.proofs.Bodies.{zero_is}
+use Rattle.run_steps.proofs.Jumps.{first_of, rest_of, front_of, back_of, skip_taken}
 use Rattle.pli_headline.proofs.Activations.{OnlyIf, only_in_force, only_served}
-use Rattle.pli_headline.proofs.Calls.{Serving, comes_act, comes_finish, called, Calling, call_acts, call_pauses, end_pauses, call_ends, acts}
-use Rattle.pli_headline.proofs.Reach.{Family, cost, Aims, Comes, Closed, before_closed, comes_on, onward, reached, reached_holds}
+use Rattle.run_steps.specs.Calls.{Calling}
+use Rattle.run_steps.proofs.Calls.{comes_act, comes_finish, called, call_acts, call_pauses, end_pauses, call_ends, acts}
+use Rattle.pli_headline.proofs.Serving.{Serving}
+use Rattle.run_steps.specs.Reach.{Family, cost, Aims, Comes, Closed, reached}
+use Rattle.run_steps.proofs.Reach.{before_closed, comes_on, onward, reached_holds}
 
 -- ---- the routines
 

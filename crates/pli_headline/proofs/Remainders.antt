@@ -18,20 +18,24 @@ use Rattle.pli_coding.specs.Assembly.{Code}
 use Rattle.pli_coding.specs.Instructions.{registers, add, move, skip_where}
 use Rattle.pli_coding.specs.Arithmetic.{absolute_bits, remainder_code, modulo_code}
 use Rattle.pli_coding.specs.Linking.{Links}
-use Rattle.pli_headline.proofs.Engine.{Base, address}
-use Rattle.pli_headline.proofs.Items.{Linked, At, straight}
-use Rattle.pli_headline.proofs.Numbers.{IsWide, word_small}
+use Rattle.run_steps.specs.Engine.{Base, address}
+use Rattle.run_steps.specs.Items.{Linked, At}
+use Rattle.run_steps.proofs.Items.{straight}
+use Rattle.run_steps.specs.Numbers.{IsWide}
+use Rattle.run_steps.proofs.Numbers.{word_small}
 use Rattle.pli_headline.proofs.WordProducts.{signed_word}
 use Rattle.pli_headline.proofs.WordSigns.{absolute_bits_of, absolute-word}
 use Rattle.pli_headline.proofs.WordRemainders.{remainder-word, remainder_wide, RemainderIs, remainder_is, modulo_wide}
-use Rattle.pli_headline.proofs.Bodies.{Ground, Known, zero_is}
-use Rattle.pli_headline.proofs.Jumps.{front_of, back_of, rest_of, skip_taken, skip_passed}
-use Rattle.pli_headline.proofs.Calls.{Serving}
+use Rattle.run_steps.specs.Bodies.{Ground, Known}
+use Rattle.run_steps.proofs.Bodies.{zero_is}
+use Rattle.run_steps.proofs.Jumps.{front_of, back_of, rest_of, skip_taken, skip_passed}
+use Rattle.pli_headline.proofs.Serving.{Serving}
 use Rattle.pli_headline.proofs.Raising.{Routines}
 use Rattle.pli_headline.proofs.Operators.{valued, paired, sum_zero}
 use Rattle.pli_headline.proofs.Quotients.{divisor_piece}
 use Rattle.pli_headline.proofs.Evaluations.{number_kind, Operates, Resulting}
-use Rattle.pli_headline.proofs.Reach.{Family, Aims, Comes, Closed, onward}
+use Rattle.run_steps.specs.Reach.{Family, Aims, Comes, Closed}
+use Rattle.run_steps.proofs.Reach.{onward}
 
 -- a remainder in u2 beside the divisor
 abbrev pub remaindered : (r y : ℕ) → Base → List (ℕ × ℕ)

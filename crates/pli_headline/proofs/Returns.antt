@@ -27,21 +27,26 @@ use Rattle.pli_coding.specs.Statements.{unwound_to, returned_by, stmt_code}
 use Rattle.pli_coding.specs.Linking.{Links}
 use Rattle.image_runs.specs.Runs.{Whole}
 use Rattle.pli_headline.specs.ProvedSoFar.{Names, Types}
-use Rattle.pli_headline.proofs.Engine.{Base, call_at}
-use Rattle.pli_headline.proofs.Linking.{size_append}
-use Rattle.pli_headline.proofs.Items.{Linked, At, straight}
-use Rattle.pli_headline.proofs.Bodies.{Known, Regs, zero_is, frame_is}
-use Rattle.pli_headline.proofs.Jumps.{front_of, back_of, jump_with, jump_piece}
+use Rattle.run_steps.specs.Engine.{Base, call_at}
+use Rattle.run_steps.proofs.Linking.{size_append}
+use Rattle.run_steps.specs.Items.{Linked, At}
+use Rattle.run_steps.proofs.Items.{straight}
+use Rattle.run_steps.specs.Bodies.{Known, Regs}
+use Rattle.run_steps.proofs.Bodies.{zero_is, frame_is}
+use Rattle.run_steps.proofs.Jumps.{front_of, back_of, jump_with, jump_piece}
 use Rattle.pli_headline.proofs.Acts.{acted, act_to}
 use Rattle.pli_headline.proofs.Statements.{Block, Unwound, IsEndMarkedOnce, Does, counted_all}
 use Rattle.pli_headline.proofs.BeginDisplays.{frame_word}
 use Rattle.pli_headline.proofs.Ifs.{free_far}
-use Rattle.pli_headline.proofs.Temporaries.{nothing}
-use Rattle.pli_headline.proofs.Reaching.{Reaches, reach_moved}
+use Rattle.run_steps.specs.Temporaries.{nothing}
+use Rattle.run_steps.specs.Reaching.{Reaches}
+use Rattle.run_steps.proofs.Reaching.{reach_moved}
 use Rattle.pli_headline.proofs.Activations.{bottom_is, only_activation, entered_length}
-use Rattle.pli_headline.proofs.Calls.{called, Calling, call_done}
+use Rattle.run_steps.specs.Calls.{Calling}
+use Rattle.run_steps.proofs.Calls.{called, call_done}
 use Rattle.pli_headline.proofs.Raising.{small_is}
-use Rattle.pli_headline.proofs.Reach.{Family, Reach, before_closed, comes_on, onward, reach_then, reached, reached_holds}
+use Rattle.run_steps.specs.Reach.{Family, Reach, reached}
+use Rattle.run_steps.proofs.Reach.{before_closed, comes_on, onward, reach_then, reached_holds}
 use Rattle.pli_headline.proofs.Scalars.{Values}
 
 -- ---- service 6

@@ -17,7 +17,7 @@ use Rattle.pli_meaning.specs.Numbers.{is_of_precision}
 use Rattle.pli_meaning.specs.Contents.{initial_at}
 use Rattle.pli_meaning.specs.Texts.{bit_number, fitted}
 use Rattle.pli_headline.specs.ProvedSoFar.{plain_variable, array_variable, AreBounds, IsElementType, IsScalar, IsHeld, IsConstantOf, IsPlain, Kind, Types, alone, AreConstants, text_leaf}
-use Rattle.pli_headline.proofs.Numbers.{IsWide}
+use Rattle.run_steps.specs.Numbers.{IsWide}
 use Rattle.pli_headline.proofs.WordPrecisions.{below, below_is}
 
 -- ---- by the type

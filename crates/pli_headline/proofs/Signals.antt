@@ -19,18 +19,21 @@ use Rattle.pli_coding.specs.Environments.{Environment}
 use Rattle.pli_coding.specs.Statements.{signal_code, stmt_code}
 use Rattle.pli_coding.specs.Linking.{Links}
 use Rattle.pli_headline.specs.ProvedSoFar.{Names, Types}
-use Rattle.pli_headline.proofs.Engine.{Base}
-use Rattle.pli_headline.proofs.Items.{Linked, At, straight}
-use Rattle.pli_headline.proofs.Bodies.{Ground, Known, zero_is}
-use Rattle.pli_headline.proofs.Jumps.{front_of, back_of, jump_piece}
-use Rattle.pli_headline.proofs.Temporaries.{nothing}
+use Rattle.run_steps.specs.Engine.{Base}
+use Rattle.run_steps.specs.Items.{Linked, At}
+use Rattle.run_steps.proofs.Items.{straight}
+use Rattle.run_steps.specs.Bodies.{Ground, Known}
+use Rattle.run_steps.proofs.Bodies.{zero_is}
+use Rattle.run_steps.proofs.Jumps.{front_of, back_of, jump_piece}
+use Rattle.run_steps.specs.Temporaries.{nothing}
 use Rattle.pli_headline.proofs.Activations.{IsOther}
-use Rattle.pli_headline.proofs.Calls.{Serving}
+use Rattle.pli_headline.proofs.Serving.{Serving}
 use Rattle.pli_headline.proofs.Raising.{Routines, coded, small_is, error_piece}
 use Rattle.pli_headline.proofs.Acts.{act_piece}
 use Rattle.pli_headline.proofs.Operators.{raised_piece}
 use Rattle.pli_headline.proofs.Statements.{Block, Does}
-use Rattle.pli_headline.proofs.Reach.{Family, Aims, Comes, Closed, before_closed, comes_on, onward}
+use Rattle.run_steps.specs.Reach.{Family, Aims, Comes, Closed}
+use Rattle.run_steps.proofs.Reach.{before_closed, comes_on, onward}
 
 signal_piece : {links : Links} {code : List Instr} {i : ℕ} {g : Ground} {v : Services} {h t : ℕ → ℕ} {s : State} {aims : Aims (Unit {0})} (c : Condition) → IsOther c → (closed : Closed code aims) (routines : Routines links code) (f : Family) (around : Around) (k : ℕ) → Linked links code i (signal_code c) → Serving k s v around.line → ((b : Base) → At b i (Known g v h t nothing b) (f b)) → Comes code i f v aims (M.signalled around c k s)
 unfolding M.signalled

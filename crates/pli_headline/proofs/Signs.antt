@@ -18,18 +18,19 @@ use Rattle.pli_coding.specs.Registers.{a0, u1}
 use Rattle.pli_coding.specs.Instructions.{shift, registers, subtract, lowest_number, skip_where}
 use Rattle.pli_coding.specs.Arithmetic.{overflow_raised, signed_code, absolute_code, sign_code}
 use Rattle.pli_coding.specs.Linking.{Links}
-use Rattle.pli_headline.proofs.Engine.{address}
-use Rattle.pli_headline.proofs.Items.{straight}
-use Rattle.pli_headline.proofs.Numbers.{IsWide, least_word}
+use Rattle.run_steps.specs.Engine.{address}
+use Rattle.run_steps.proofs.Items.{straight}
+use Rattle.run_steps.specs.Numbers.{IsWide, least_word}
 use Rattle.pli_headline.proofs.WordSigns.{absolute_bits_of, absolute-word, absolute_most, absolute_tested, sign-word, sign_wide}
-use Rattle.pli_headline.proofs.Bodies.{Ground, Known, zero_is}
-use Rattle.pli_headline.proofs.Jumps.{front_of, back_of}
-use Rattle.pli_headline.proofs.Temporaries.{Temporaries}
-use Rattle.pli_headline.proofs.Calls.{Serving}
+use Rattle.run_steps.specs.Bodies.{Ground, Known}
+use Rattle.run_steps.proofs.Bodies.{zero_is}
+use Rattle.run_steps.proofs.Jumps.{front_of, back_of}
+use Rattle.run_steps.specs.Temporaries.{Temporaries}
+use Rattle.pli_headline.proofs.Serving.{Serving}
 use Rattle.pli_headline.proofs.Raising.{Routines}
 use Rattle.pli_headline.proofs.Operators.{valued, negated, lowest_by, signed_piece}
 use Rattle.pli_headline.proofs.Evaluations.{number_kind, Operates, straight_operates}
-use Rattle.pli_headline.proofs.Reach.{onward}
+use Rattle.run_steps.proofs.Reach.{onward}
 
 pub signed_operates : {links : Links} {code : List Instr} {g : Ground} {v : Services} {s : State} {k : ℕ} (routines : Routines links code) (temps : Temporaries g) (around : Around) → Serving k s v around.line → (sign : Y.Sign) (x : ℤ) → IsWide x → Operates number_kind links code g v s k 1 (valued (word x)) (λ taken. signed_code taken sign) (R.value_of around (sign_applied sign x))
 signed_operates {k = k} routines temps around serving sign x wx =

@@ -4,7 +4,7 @@ use Rattle.rv_meaning.specs.declared.instr.Instr.{Instr}
 use Rattle.pli_serving.specs.ServiceState.{Services}
 use Rattle.pli_meaning.specs.Control as F
 use Rattle.pli_meaning.specs.Control.{Flow, Normal, Jump, Return, Paused, Stuck}
-use Rattle.pli_headline.proofs.Reach.{Family, Aims, Comes, Closed}
+use Rattle.run_steps.specs.Reach.{Family, Aims, Comes, Closed}
 
 abbrev pub since : {R : Type 0} → ℕ → Aims R → Aims R
 since acts aims =

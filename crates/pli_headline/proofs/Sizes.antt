@@ -42,7 +42,7 @@ use Rattle.pli_headline.specs.ProvedSoFar.{AreProvedStatements, IsProvedBitIf, I
 use Rattle.pli_headline.specs.ProvedSoFar.{constant_bounds, IsElement, IsPart, IsAssigned, AreSubscripts}
 use Rattle.pli_headline.specs.ProvedSoFar.{array_variable, IsProvedStart, IsAssignedText, IsReadBy}
 use Rattle.pli_headline.proofs.Scalars.{IsNumeric}
-use Rattle.pli_headline.proofs.Linking.{size_append}
+use Rattle.run_steps.proofs.Linking.{size_append}
 use Rattle.pli_headline.proofs.ConstantSteps.{constant_means}
 use Rattle.pli_headline.proofs.ElementsMarks.{elements_size}
 use Rattle.pli_headline.proofs.TextsMarks.{texts_size}

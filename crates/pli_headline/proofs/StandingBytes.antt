@@ -10,9 +10,9 @@ use Rattle.pli_coding.specs.Assembly.{Datum, ConstantBytes, DataPlace}
 use Rattle.pli_coding.specs.StaticData.{PlacedDatum}
 use Rattle.pli_coding.specs.Linking.{Links, place_of}
 use Rattle.pli_headline.specs.ProvedSoFar.{Kind, AreConstants, IsHeld}
-use Rattle.pli_headline.proofs.Engine.{Base, call_at}
-use Rattle.pli_headline.proofs.Bodies.{Ground}
-use Rattle.pli_headline.proofs.DataNamed.{IsPlaced, BytesStand}
+use Rattle.run_steps.specs.Engine.{Base, call_at}
+use Rattle.run_steps.specs.Bodies.{Ground}
+use Rattle.run_steps.specs.DataNamed.{IsPlaced, BytesStand}
 use Rattle.pli_headline.proofs.ArrayMeant.{array_shape}
 use Rattle.pli_headline.proofs.InitialRead.{start_datum, start_of, Reads}
 

@@ -9,8 +9,8 @@ use Rattle.pli_serving.specs.ServiceState.{Services}
 use Rattle.pli_serving.specs.FormatLists.{formats_at}
 use Rattle.pli_coding.specs.StaticForms.{formats_length, formats_words}
 use Rattle.pli_headline.specs.ProvedSoFar.{AreProvedFormats, HasData}
-use Rattle.pli_headline.proofs.Engine.{call_at}
-use Rattle.pli_headline.proofs.DataNamed.{BytesStand}
+use Rattle.run_steps.specs.Engine.{call_at}
+use Rattle.run_steps.specs.DataNamed.{BytesStand}
 use Rattle.pli_headline.proofs.FormatsRead.{items_within, length_within, AreWords, words_stand, formats_are_words, words_length, formats_read}
 use Rattle.pli_headline.proofs.FormatData.{has_format}
 

@@ -34,19 +34,22 @@ use Rattle.pli_headline.proofs.PlainNumbers.{Numbered}
 use Rattle.pli_headline.specs.ProvedSoFar.{Names, Kind, Types, OuterBlock, IsOwn, IsProvedNumber, IsProvedBit, alone, types_of, text_leaf, AllPlain}
 use Rattle.image_runs.specs.Runs.{Whole}
 use Rattle.pli_headline.proofs.Storages.{storage, Storage, Serials, Stored, stored_changed}
-use Rattle.pli_headline.proofs.Engine.{Base, address, most_code}
-use Rattle.pli_headline.proofs.Linking.{times_marked, size_append}
-use Rattle.pli_headline.proofs.Items.{Linked, At, straight, Items}
+use Rattle.run_steps.specs.Engine.{Base, address, most_code}
+use Rattle.run_steps.specs.Linking.{times_marked}
+use Rattle.run_steps.proofs.Linking.{size_append}
+use Rattle.run_steps.specs.Items.{Linked, At, Items}
+use Rattle.run_steps.proofs.Items.{straight}
 use Rattle.pli_headline.proofs.Scalars.{Typed, Fits, load_kind, store_kind, IsNumeric, Values, fits_numeric, value_as}
-use Rattle.pli_headline.proofs.Bodies.{Ground, Known, PlaceFrom, Regs, reserved_are}
-use Rattle.pli_headline.proofs.Jumps.{front_of, back_of}
-use Rattle.pli_headline.proofs.Temporaries.{Temporaries, Stays, stays_same, stays_then, nothing}
-use Rattle.pli_headline.proofs.Reaching.{Reaches}
+use Rattle.run_steps.specs.Bodies.{Ground, Known, PlaceFrom, Regs, reserved_are}
+use Rattle.run_steps.proofs.Jumps.{front_of, back_of}
+use Rattle.run_steps.specs.Temporaries.{Temporaries, Stays, nothing}
+use Rattle.run_steps.proofs.Temporaries.{stays_same, stays_then}
+use Rattle.run_steps.specs.Reaching.{Reaches}
 use Rattle.pli_headline.proofs.Activations.{frames_of, RestOn, levels_of}
 use Rattle.pli_headline.proofs.OuterBlocks.{Rises}
 use Rattle.pli_headline.proofs.Asides.{StandAside, asides_changed}
 use Rattle.pli_headline.proofs.Entered.{Frames, frames_left, kinds_of, UnitsKnown}
-use Rattle.pli_headline.proofs.Calls.{Serving}
+use Rattle.pli_headline.proofs.Serving.{Serving}
 use Rattle.pli_headline.proofs.Raising.{Routines}
 use Rattle.pli_headline.proofs.StandingBytes.{ConstantsStand}
 use Rattle.pli_headline.proofs.Acts.{acted, act_piece}
@@ -58,7 +61,8 @@ use Rattle.pli_headline.proofs.TextScopes.{IsTextAt}
 use Rattle.pli_headline.proofs.TextStates.{KeepsText, holds_text, keeps_beside, text_apart}
 use Rattle.pli_headline.proofs.TextGrounds.{TextsStand}
 use Rattle.pli_headline.proofs.Since.{since_closed, comes_since}
-use Rattle.pli_headline.proofs.Reach.{Family, Aims, Comes, Closed, before_closed, comes_on, onward}
+use Rattle.run_steps.specs.Reach.{Family, Aims, Comes, Closed}
+use Rattle.run_steps.proofs.Reach.{before_closed, comes_on, onward}
 use Rattle.pli_typing.specs.Signatures.{Bounds}
 use Rattle.pli_headline.proofs.ArrayMeant.{HoldsArray}
 use Rattle.pli_headline.proofs.ArrayScopes.{IsArrayAt, ArraysOn, array_scope}

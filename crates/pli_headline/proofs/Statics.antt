@@ -15,9 +15,9 @@ use Rattle.pli_coding.specs.StaticData.{once, is_initial, is_constant, is_word, 
 use Rattle.pli_coding.specs.Linking.{place_of, data_start, links_of, data_bytes}
 use Rattle.pli_coding.specs.Images.{linked_code, picture_of_code}
 use Rattle.pli_headline.specs.Headline.{FitsMemory}
-use Rattle.pli_headline.proofs.Engine.{Base}
-use Rattle.pli_headline.proofs.Linking.{linked_length}
-use Rattle.pli_headline.proofs.DataNamed.{IsNamed, IsPlaced, BytesStand}
+use Rattle.run_steps.specs.Engine.{Base}
+use Rattle.run_steps.proofs.Linking.{linked_length}
+use Rattle.run_steps.specs.DataNamed.{IsNamed, IsPlaced, BytesStand}
 use Rattle.pli_headline.proofs.DataOnce.{Has, same_datum-equal, AreInitial, filtered_initial, named_once, initial_has, static_has, placed_same}
 
 -- ---- bytes within others, from an index on

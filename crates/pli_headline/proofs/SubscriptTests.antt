@@ -28,22 +28,26 @@ use Rattle.pli_coding.specs.Locating.{subscripts_counted}
 use Rattle.pli_coding.specs.Expressions.{given_in}
 use Rattle.pli_coding.specs.Linking.{Links}
 use Rattle.pli_headline.specs.ProvedSoFar.{constant_bounds, IsBounds, AreBounds}
-use Rattle.pli_headline.proofs.Engine.{Base, address}
-use Rattle.pli_headline.proofs.Linking.{size_append}
-use Rattle.pli_headline.proofs.Items.{Linked, At, straight}
-use Rattle.pli_headline.proofs.Numbers.{IsWide, word_small}
-use Rattle.pli_headline.proofs.Bodies.{Ground, Known, Free, with', set_known, zero_is, constant_piece}
-use Rattle.pli_headline.proofs.Increments.{plus_own}
-use Rattle.pli_headline.proofs.Jumps.{front_of, back_of, rest_of, skip_taken, skip_passed, jump_piece}
-use Rattle.pli_headline.proofs.Temporaries.{nothing}
-use Rattle.pli_headline.proofs.Calls.{Serving}
+use Rattle.run_steps.specs.Engine.{Base, address}
+use Rattle.run_steps.proofs.Linking.{size_append}
+use Rattle.run_steps.specs.Items.{Linked, At}
+use Rattle.run_steps.proofs.Items.{straight}
+use Rattle.run_steps.specs.Numbers.{IsWide}
+use Rattle.run_steps.proofs.Numbers.{word_small}
+use Rattle.run_steps.specs.Bodies.{Ground, Known, Free, with'}
+use Rattle.run_steps.proofs.Bodies.{set_known, zero_is, constant_piece}
+use Rattle.run_steps.proofs.Increments.{plus_own}
+use Rattle.run_steps.proofs.Jumps.{front_of, back_of, rest_of, skip_taken, skip_passed, jump_piece}
+use Rattle.run_steps.specs.Temporaries.{nothing}
+use Rattle.pli_headline.proofs.Serving.{Serving}
 use Rattle.pli_headline.proofs.Raising.{Routines, small_is, error_piece}
 use Rattle.pli_headline.proofs.Operators.{sum_zero}
 use Rattle.pli_headline.proofs.ArrayPlaces.{AllWide, is_between, distance_word, opposite_small, range_small}
 use Rattle.pli_headline.proofs.ArrayPlaces.{between_tested, distance_is, span_is, inside_span, count_some}
 use Rattle.pli_headline.proofs.ArrayPlaces.{within_next, and_true, suc-times, same_number, span_some}
 use Rattle.pli_headline.proofs.Subscripts.{Gives, AllGive}
-use Rattle.pli_headline.proofs.Reach.{Family, Aims, Comes, Closed, Reach, onward}
+use Rattle.run_steps.specs.Reach.{Family, Aims, Comes, Closed, Reach}
+use Rattle.run_steps.proofs.Reach.{onward}
 
 -- ---- what is known before and behind a dimension
 

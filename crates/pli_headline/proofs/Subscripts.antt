@@ -18,18 +18,22 @@ use Rattle.pli_coding.specs.Environments.{Environment, Taken, is_register_left, 
 use Rattle.pli_coding.specs.Locating.{is_simple, are_simple, simple_loaded, subscript_given}
 use Rattle.pli_coding.specs.Expressions.{given_in, number_code, subscripts_code}
 use Rattle.pli_coding.specs.Linking.{Links}
-use Rattle.pli_headline.proofs.Engine.{Base, address}
-use Rattle.pli_headline.proofs.Linking.{size_append}
-use Rattle.pli_headline.proofs.Items.{Linked, At}
-use Rattle.pli_headline.proofs.Numbers.{IsWide, word_small}
-use Rattle.pli_headline.proofs.Bodies.{Ground, Known, Free, with'}
-use Rattle.pli_headline.proofs.Jumps.{front_of, back_of}
-use Rattle.pli_headline.proofs.Temporaries.{Temporaries, Stays, stays_same, stays_then, stays_saved, stays_less}
-use Rattle.pli_headline.proofs.Temporaries.{waiting_saved, waiting_kept, held_with, words_with, nothing, save_piece}
-use Rattle.pli_headline.proofs.Temporaries.{fetch_piece}
+use Rattle.run_steps.specs.Engine.{Base, address}
+use Rattle.run_steps.proofs.Linking.{size_append}
+use Rattle.run_steps.specs.Items.{Linked, At}
+use Rattle.run_steps.specs.Numbers.{IsWide}
+use Rattle.run_steps.proofs.Numbers.{word_small}
+use Rattle.run_steps.specs.Bodies.{Ground, Known, Free, with'}
+use Rattle.run_steps.proofs.Jumps.{front_of, back_of}
+use Rattle.run_steps.specs.Temporaries.{Temporaries, Stays}
+use Rattle.run_steps.proofs.Temporaries.{stays_same, stays_then, stays_saved, stays_less}
+use Rattle.run_steps.specs.Temporaries.{held_with, words_with, nothing}
+use Rattle.run_steps.proofs.Temporaries.{waiting_saved, waiting_kept, save_piece}
+use Rattle.run_steps.proofs.Temporaries.{fetch_piece}
 use Rattle.pli_headline.proofs.Evaluations.{number_kind, Evaluates, with_words_most}
 use Rattle.pli_headline.proofs.ArrayPlaces.{AllWide, lower_first, upper_second}
-use Rattle.pli_headline.proofs.Reach.{Family, Reach, Aims, Comes, Closed, before_closed, comes_on, onward}
+use Rattle.run_steps.specs.Reach.{Family, Reach, Aims, Comes, Closed}
+use Rattle.run_steps.proofs.Reach.{before_closed, comes_on, onward}
 
 -- ---- how a subscript comes into its register
 

@@ -26,21 +26,22 @@ use Rattle.pli_coding.specs.Linking.{Links}
 use Rattle.pli_headline.specs.ProvedSoFar.{Names, Types}
 use Rattle.pli_headline.proofs.HeldPlaces.{PlacesHeld}
 use Rattle.pli_headline.proofs.Storages.{storage, Storage, Serials}
-use Rattle.pli_headline.proofs.Engine.{Base, address, call_at}
-use Rattle.pli_headline.proofs.Linking.{size_append}
-use Rattle.pli_headline.proofs.Items.{straight}
-use Rattle.pli_headline.proofs.Bodies.{Known, zero_is}
-use Rattle.pli_headline.proofs.Jumps.{front_of, back_of}
-use Rattle.pli_headline.proofs.Temporaries.{stays_same}
+use Rattle.run_steps.specs.Engine.{Base, address, call_at}
+use Rattle.run_steps.proofs.Linking.{size_append}
+use Rattle.run_steps.proofs.Items.{straight}
+use Rattle.run_steps.specs.Bodies.{Known}
+use Rattle.run_steps.proofs.Bodies.{zero_is}
+use Rattle.run_steps.proofs.Jumps.{front_of, back_of}
+use Rattle.run_steps.proofs.Temporaries.{stays_same}
 use Rattle.pli_headline.proofs.Activations.{may_have_unit, AllUnits, Nested, frames_of, levels_of}
 use Rattle.pli_headline.proofs.Asides.{Aside, StandAside, asides_seen}
 use Rattle.pli_headline.proofs.Entered.{Frames, kinds_of, IsKnown, AreKnown, UnitsKnown, less_known}
-use Rattle.pli_headline.proofs.Calls.{Serving}
+use Rattle.pli_headline.proofs.Serving.{Serving}
 use Rattle.pli_headline.proofs.Raising.{small_is}
 use Rattle.pli_headline.proofs.Acts.{acted, act_piece}
 use Rattle.pli_headline.proofs.TextCalls.{three, asking_piece}
 use Rattle.pli_headline.proofs.Statements.{Block, AllHold, counted_all, Does}
-use Rattle.pli_headline.proofs.Reach.{before_closed, comes_on, onward}
+use Rattle.run_steps.proofs.Reach.{before_closed, comes_on, onward}
 use Rattle.pli_headline.proofs.Scalars.{Values}
 
 -- ---- units that change: with true the condition gets this one, and with false none

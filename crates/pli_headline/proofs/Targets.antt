@@ -21,11 +21,11 @@ use Rattle.pli_coding.specs.Temporaries.{subscripts_words}
 use Rattle.pli_coding.specs.Linking.{Links}
 use Rattle.pli_headline.specs.ProvedSoFar.{Names, Types, Kind, alone, IsAssigned, IsProvedNumber, AreProvedNumbers, IsPart}
 use Rattle.pli_headline.proofs.Storages.{storage, Storage}
-use Rattle.pli_headline.proofs.Engine.{Base}
-use Rattle.pli_headline.proofs.Items.{Linked, At}
-use Rattle.pli_headline.proofs.Bodies.{Known}
-use Rattle.pli_headline.proofs.Temporaries.{Stays, nothing}
-use Rattle.pli_headline.proofs.Calls.{Serving}
+use Rattle.run_steps.specs.Engine.{Base}
+use Rattle.run_steps.specs.Items.{Linked, At}
+use Rattle.run_steps.specs.Bodies.{Known}
+use Rattle.run_steps.specs.Temporaries.{Stays, nothing}
+use Rattle.pli_headline.proofs.Serving.{Serving}
 use Rattle.pli_headline.proofs.Operators.{valued}
 use Rattle.pli_headline.proofs.Scalars.{IsNumeric, Values, Fits, fits_numeric, value_as}
 use Rattle.pli_headline.proofs.Variables.{HasTypes, IsDeclared, whole, own, whole_part, type_by}
@@ -38,7 +38,7 @@ use Rattle.pli_headline.proofs.ArrayElements.{IsDeclaredArray, element_stored_pi
 use Rattle.pli_headline.proofs.ArrayScopes.{IsArrayAt, with_element_of, array_scope}
 use Rattle.pli_headline.proofs.Statements.{Block, Standing, AllHold, scope_of, assigned_all}
 use Rattle.pli_headline.proofs.ElementAssignments.{element_all, setting_at}
-use Rattle.pli_headline.proofs.Reach.{Family, Aims, Comes, Closed}
+use Rattle.run_steps.specs.Reach.{Family, Aims, Comes, Closed}
 
 -- ---- its type
 

@@ -10,7 +10,7 @@ use Rattle.pli_serving.specs.Bytes.{with_bytes}
 use Rattle.pli_serving.specs.Stored.{kept_bytes}
 use Rattle.pli_coding.specs.Environments.{Environment}
 use Rattle.pli_headline.specs.ProvedSoFar.{Names, AreBounds, Kind, text_leaf}
-use Rattle.pli_headline.proofs.Engine.{Base}
+use Rattle.run_steps.specs.Engine.{Base}
 use Rattle.pli_headline.proofs.Scalars.{Values}
 use Rattle.pli_headline.proofs.WrittenBytes.{byte-with_below, load-with_other}
 use Rattle.pli_headline.proofs.VariablePlaces.{Sizes, room_of, number_place, room_next}

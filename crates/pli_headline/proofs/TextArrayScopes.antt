@@ -9,10 +9,10 @@ use Rattle.pli_serving.specs.Bytes.{with_bytes}
 use Rattle.pli_serving.specs.Stored.{kept_bytes}
 use Rattle.pli_coding.specs.Environments.{Environment}
 use Rattle.pli_headline.specs.ProvedSoFar.{Names, Types, AreBounds, text_leaf}
-use Rattle.pli_headline.proofs.Engine.{Base, most_code}
+use Rattle.run_steps.specs.Engine.{Base, most_code}
 use Rattle.pli_headline.proofs.Scalars.{Values}
-use Rattle.pli_headline.proofs.Bodies.{Ground}
-use Rattle.pli_headline.proofs.Reaching.{Reaches}
+use Rattle.run_steps.specs.Bodies.{Ground}
+use Rattle.run_steps.specs.Reaching.{Reaches}
 use Rattle.pli_headline.proofs.Variables.{data_place, level_of}
 use Rattle.pli_headline.proofs.ArrayElements.{IsDeclaredArray}
 use Rattle.pli_headline.proofs.TextPlaces.{text_kind_of, TextThere}

@@ -12,18 +12,23 @@ use Rattle.pli_serving.specs.ServiceState.{Services}
 use Rattle.pli_serving.specs.Answers.{Answer, Done}
 use Rattle.pli_serving.specs.Finding.{Call}
 use Rattle.pli_serving.specs.Outcomes.{or_status}
-use Rattle.pli_headline.proofs.Unlimited as V
+use Rattle.run_steps.specs.Unlimited as V
 use Rattle.pli_coding.specs.Registers.{zero_register, a1, a7}
 use Rattle.pli_coding.specs.Assembly.{Plain, JumpTo, RaiseError}
 use Rattle.pli_coding.specs.Instructions.{small, service, status_tested, tested_service}
 use Rattle.pli_coding.specs.Linking.{Links}
-use Rattle.pli_headline.proofs.Engine.{Base, address, call_at}
-use Rattle.pli_headline.proofs.Items.{Linked, At, straight}
-use Rattle.pli_headline.proofs.Bodies.{Ground, Known, zero_is}
-use Rattle.pli_headline.proofs.Jumps.{front_of, back_of, rest_of, skip_taken, skip_passed, jump_piece}
-use Rattle.pli_headline.proofs.Calls.{Serving, called, Calling, call_done}
+use Rattle.run_steps.specs.Engine.{Base, address, call_at}
+use Rattle.run_steps.specs.Items.{Linked, At}
+use Rattle.run_steps.proofs.Items.{straight}
+use Rattle.run_steps.specs.Bodies.{Ground, Known}
+use Rattle.run_steps.proofs.Bodies.{zero_is}
+use Rattle.run_steps.proofs.Jumps.{front_of, back_of, rest_of, skip_taken, skip_passed, jump_piece}
+use Rattle.run_steps.specs.Calls.{Calling}
+use Rattle.run_steps.proofs.Calls.{called, call_done}
+use Rattle.pli_headline.proofs.Serving.{Serving}
 use Rattle.pli_headline.proofs.Raising.{Routines, small_is, error_piece}
-use Rattle.pli_headline.proofs.Reach.{Family, Aims, Comes, Closed, onward}
+use Rattle.run_steps.specs.Reach.{Family, Aims, Comes, Closed}
+use Rattle.run_steps.proofs.Reach.{onward}
 
 -- a0, a1 and a2
 abbrev pub three : (x y z : Base → ℕ) → Base → List (ℕ × ℕ)

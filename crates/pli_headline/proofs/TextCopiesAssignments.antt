@@ -22,10 +22,10 @@ use Rattle.pli_coding.specs.SignatureTable.{table_of}
 use Rattle.pli_coding.specs.Linking.{Links}
 use Rattle.pli_headline.specs.ProvedSoFar.{Names, Types, Kind, text_leaf, AreAlikeTexts, AreCopied}
 use Rattle.pli_headline.proofs.Storages.{storage}
-use Rattle.pli_headline.proofs.Engine.{address}
-use Rattle.pli_headline.proofs.Linking.{size_append}
-use Rattle.pli_headline.proofs.Items.{Linked}
-use Rattle.pli_headline.proofs.Jumps.{front_of, back_of}
+use Rattle.run_steps.specs.Engine.{address}
+use Rattle.run_steps.proofs.Linking.{size_append}
+use Rattle.run_steps.specs.Items.{Linked}
+use Rattle.run_steps.proofs.Jumps.{front_of, back_of}
 use Rattle.pli_headline.proofs.Acts.{acted, act_piece}
 use Rattle.pli_headline.proofs.Variables.{whole, own, level_of, data_place}
 use Rattle.pli_headline.proofs.PlainNumbers.{number_for, numbered_shape}
@@ -35,7 +35,8 @@ use Rattle.pli_headline.proofs.ArrayStates.{kind_with}
 use Rattle.pli_headline.proofs.ElementsPieces.{record_there}
 use Rattle.pli_headline.proofs.ElementsAssignments.{array_numbered}
 use Rattle.pli_headline.proofs.Statements.{Block, Standing, AllHold, Does, counted_all}
-use Rattle.pli_headline.proofs.Reach.{Comes, before_closed, comes_on}
+use Rattle.run_steps.specs.Reach.{Comes}
+use Rattle.run_steps.proofs.Reach.{before_closed, comes_on}
 use Rattle.pli_headline.proofs.TextArrayMeant.{same_text_array}
 use Rattle.pli_headline.proofs.CopiesFilled.{given_by_source, copy_meant}
 use Rattle.pli_headline.proofs.TextCopiesServed.{texts_taken, take_texts, put_texts}

@@ -20,7 +20,7 @@ use Rattle.pli_serving.specs.Outcomes.{or_bad, pushed}
 use Rattle.pli_serving.specs.Aggregates as A
 use Rattle.pli_serving.specs.AggregateServices as W
 use Rattle.pli_headline.specs.ProvedSoFar.{AreBounds, text_leaf}
-use Rattle.pli_headline.proofs.Engine.{call_at}
+use Rattle.run_steps.specs.Engine.{call_at}
 use Rattle.pli_headline.proofs.NamesStand.{NameThere}
 use Rattle.pli_headline.proofs.ArrayPlaces.{place_inside}
 use Rattle.pli_headline.proofs.ArrayMeant.{array_shape, bounds_itself}

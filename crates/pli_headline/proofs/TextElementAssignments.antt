@@ -25,15 +25,16 @@ use Rattle.pli_coding.specs.Temporaries.{text_words, subscripts_words, reference
 use Rattle.pli_coding.specs.Linking.{Links}
 use Rattle.pli_headline.specs.ProvedSoFar.{Names, Types, IsPart, IsProvedText, AreProvedNumbers, AreSubscripts, IsAssignedText, text_leaf}
 use Rattle.pli_headline.proofs.Storages.{storage, Storage, Serials, stored_changed}
-use Rattle.pli_headline.proofs.Engine.{Base, address}
-use Rattle.pli_headline.proofs.Linking.{size_append}
+use Rattle.run_steps.specs.Engine.{Base, address}
+use Rattle.run_steps.proofs.Linking.{size_append}
 use Rattle.pli_headline.proofs.Scalars.{Values}
-use Rattle.pli_headline.proofs.Items.{Linked, At}
-use Rattle.pli_headline.proofs.Bodies.{Known}
-use Rattle.pli_headline.proofs.Temporaries.{Stays, stays_then, nothing}
-use Rattle.pli_headline.proofs.Jumps.{front_of, back_of}
+use Rattle.run_steps.specs.Items.{Linked, At}
+use Rattle.run_steps.specs.Bodies.{Known}
+use Rattle.run_steps.specs.Temporaries.{Stays, nothing}
+use Rattle.run_steps.proofs.Temporaries.{stays_then}
+use Rattle.run_steps.proofs.Jumps.{front_of, back_of}
 use Rattle.pli_headline.proofs.WrittenBytes.{length-with_bytes}
-use Rattle.pli_headline.proofs.Calls.{Serving}
+use Rattle.pli_headline.proofs.Serving.{Serving}
 use Rattle.pli_headline.proofs.Acts.{acted, act_piece}
 use Rattle.pli_headline.proofs.Variables.{data_place}
 use Rattle.pli_headline.proofs.Expressions.{text_does, subscripts_do, above_texts}
@@ -53,7 +54,8 @@ use Rattle.pli_headline.proofs.TextAssignments.{assign_text_does}
 use Rattle.pli_headline.proofs.Asides.{asides_changed}
 use Rattle.pli_headline.proofs.Entered.{Frames}
 use Rattle.pli_headline.proofs.Statements.{Block, Standing, AllHold, Does, counted_all}
-use Rattle.pli_headline.proofs.Reach.{Family, Aims, Comes, Closed, before_closed, comes_on}
+use Rattle.run_steps.specs.Reach.{Family, Aims, Comes, Closed}
+use Rattle.run_steps.proofs.Reach.{before_closed, comes_on}
 
 -- what variables hold after a text is assigned to an element
 pub text_element_all : {frames : Frames} {serials : Serials} {xs : Storage} {levels : List ℕ} {s : State} {block : Names} {types : Types} {n : Values} (j : ℕ) (varying : Bool) (most : ℕ) (b : Bounds) (bs : List Bounds) (is : List ℤ) (text : List ℕ) (below : IsTextArrayAt types j varying most b bs) → is_within (b ∷ bs) is ≡ true → most ≤ 1024 → (all : AllHold frames serials xs levels s block types n) → AllHold frames serials xs levels (text_element_state s varying most (b ∷ bs) (serials.of j) (all.text_arrays j varying most b bs below).values is text) block types (with_text_of n j (element_place (b ∷ bs) is) (text_kept_as varying most text))

@@ -38,14 +38,17 @@ use Rattle.pli_coding.specs.Storing.{top_stored}
 use Rattle.pli_coding.specs.Locating as L
 use Rattle.pli_coding.specs.Linking.{Links}
 use Rattle.pli_headline.specs.ProvedSoFar.{Names, constant_bounds, AreBounds, array_variable, text_leaf}
-use Rattle.pli_headline.proofs.Engine.{Base, address, most_code}
-use Rattle.pli_headline.proofs.Linking.{size_append}
-use Rattle.pli_headline.proofs.Items.{Linked, At, straight}
-use Rattle.pli_headline.proofs.Bodies.{Ground, Known, Free, reserved_are, frame_is, set_known, with', constant_piece, load_piece}
-use Rattle.pli_headline.proofs.Jumps.{front_of, back_of}
-use Rattle.pli_headline.proofs.Temporaries.{Stays, nothing}
-use Rattle.pli_headline.proofs.Reaching.{Reaches, reach_moved}
-use Rattle.pli_headline.proofs.Calls.{Serving}
+use Rattle.run_steps.specs.Engine.{Base, address, most_code}
+use Rattle.run_steps.proofs.Linking.{size_append}
+use Rattle.run_steps.specs.Items.{Linked, At}
+use Rattle.run_steps.proofs.Items.{straight}
+use Rattle.run_steps.specs.Bodies.{Ground, Known, Free, reserved_are, with'}
+use Rattle.run_steps.proofs.Bodies.{frame_is, set_known, constant_piece, load_piece}
+use Rattle.run_steps.proofs.Jumps.{front_of, back_of}
+use Rattle.run_steps.specs.Temporaries.{Stays, nothing}
+use Rattle.run_steps.specs.Reaching.{Reaches}
+use Rattle.run_steps.proofs.Reaching.{reach_moved}
+use Rattle.pli_headline.proofs.Serving.{Serving}
 use Rattle.pli_headline.proofs.Raising.{Routines}
 use Rattle.pli_headline.proofs.Acts.{word_is, word_fits}
 use Rattle.pli_headline.proofs.Operators.{valued}
@@ -59,7 +62,8 @@ use Rattle.pli_headline.proofs.Texts.{EvaluatesText}
 use Rattle.pli_headline.proofs.TextPlaces.{text_kind_of, text_bytes, TextThere, kind_asked, read_answer, kept_answer, behind_piece, kind_piece, offset_is}
 use Rattle.pli_headline.proofs.TextArraysStay.{text_stride, text_within}
 use Rattle.pli_headline.proofs.TextArrayMeant.{HoldsTexts, same_text_array, designated_text, text_element_seen, text_element_state, text_element_stored}
-use Rattle.pli_headline.proofs.Reach.{Family, Aims, Comes, Closed, before_closed, comes_on, onward, Reach, reach_then, reached, reached_holds}
+use Rattle.run_steps.specs.Reach.{Family, Aims, Comes, Closed, Reach, reached}
+use Rattle.run_steps.proofs.Reach.{before_closed, comes_on, onward, reach_then, reached_holds}
 
 -- ---- the code
 

@@ -6,9 +6,9 @@ use Rattle.pli_serving.specs.Bytes.{with_bytes}
 use Rattle.pli_serving.specs.Stored.{kept_bytes}
 use Rattle.pli_coding.specs.Environments.{Environment}
 use Rattle.pli_headline.specs.ProvedSoFar.{Names, Types}
-use Rattle.pli_headline.proofs.Engine.{Base}
+use Rattle.run_steps.specs.Engine.{Base}
 use Rattle.pli_headline.proofs.Scalars.{Values}
-use Rattle.pli_headline.proofs.Bodies.{Ground}
+use Rattle.run_steps.specs.Bodies.{Ground}
 use Rattle.pli_headline.proofs.Variables.{data_place}
 use Rattle.pli_headline.proofs.States.{with_text_at}
 use Rattle.pli_headline.proofs.TextPlaces.{text_kind_of, text_bytes, TextThere}

@@ -15,8 +15,8 @@ use Rattle.pli_serving.specs.ServiceState.{Services}
 use Rattle.pli_serving.specs.Templates.{put_before}
 use Rattle.pli_coding.specs.StaticForms.{item_bytes}
 use Rattle.pli_headline.specs.ProvedSoFar.{AreConstants, text_leaf}
-use Rattle.pli_headline.proofs.Engine.{call_at}
-use Rattle.pli_headline.proofs.DataNamed.{BytesStand}
+use Rattle.run_steps.specs.Engine.{call_at}
+use Rattle.run_steps.specs.DataNamed.{BytesStand}
 use Rattle.pli_headline.proofs.FormatsRead.{is_data_there}
 use Rattle.pli_headline.proofs.InitialLists.{front_stands, back_stands, words_there}
 use Rattle.pli_headline.proofs.EditConstants.{bytes_there}

@@ -6,7 +6,7 @@ use Rattle.std.proofs.lemmas.Bool.Decides.{nat_tests}
 use Rattle.std.proofs.lemmas.List.{length-drop, length-replicate}
 use Rattle.pli_meaning.specs.Stream.{blanks, digits_before, decimal_digits, decimal_text}
 use Rattle.pli_meaning.specs.Texts.{number_places, behind_blanks, number_text, bit_text, joined, substring_from, first_bytes, first_of, substring, begins, found_from, index_of, strange_from, verify_of}
-use Rattle.pli_headline.proofs.Numbers.{IsWide}
+use Rattle.run_steps.specs.Numbers.{IsWide}
 
 abbrev pub IsShort : List ℕ → Type 0
 IsShort text = length text ≤ 1024

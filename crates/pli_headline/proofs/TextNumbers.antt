@@ -12,8 +12,8 @@ use Rattle.pli_serving.specs.Answers.{Done}
 use Rattle.pli_serving.specs.Finding.{Call}
 use Rattle.pli_serving.specs.Outcomes.{with_entries, on_text, or_status, becoming}
 use Rattle.pli_serving.specs.TextServices as X
-use Rattle.pli_headline.proofs.Engine.{call_at}
-use Rattle.pli_headline.proofs.Numbers.{IsWide}
+use Rattle.run_steps.specs.Engine.{call_at}
+use Rattle.run_steps.specs.Numbers.{IsWide}
 use Rattle.pli_headline.proofs.TextCalls.{told}
 
 -- ---- numbers in texts

@@ -15,7 +15,7 @@ use Rattle.pli_meaning.specs.Control.{Flow}
 use Rattle.pli_serving.specs.Bytes.{bytes_at, with_bytes}
 use Rattle.pli_serving.specs.Stored.{kept_bytes}
 use Rattle.pli_serving.specs.Finding.{Call}
-use Rattle.pli_headline.proofs.Unlimited as S
+use Rattle.run_steps.specs.Unlimited as S
 use Rattle.pli_serving.specs.ServiceState.{Services, TextEntry}
 use Rattle.pli_serving.specs.Answers.{Answer, Done}
 use Rattle.pli_serving.specs.Outcomes.{or_bad, bad_unless, pushed}
@@ -26,19 +26,24 @@ use Rattle.pli_coding.specs.Instructions.{is_immediate, small, subtract, plus, n
 use Rattle.pli_coding.specs.Frames.{display}
 use Rattle.pli_coding.specs.Locating.{address_offset}
 use Rattle.pli_coding.specs.Linking.{Links}
-use Rattle.pli_headline.proofs.Engine.{Base, address, call_at}
-use Rattle.pli_headline.proofs.Linking.{size_append}
-use Rattle.pli_headline.proofs.Items.{Linked, At, straight}
-use Rattle.pli_headline.proofs.Bodies.{Ground, Known, Free, reserved_are, zero_is, frame_is, set_known, lose_known, displaced_by, constant_piece, load_piece}
-use Rattle.pli_headline.proofs.Jumps.{front_of, back_of}
-use Rattle.pli_headline.proofs.Temporaries.{nothing}
-use Rattle.pli_headline.proofs.Reaching.{Reaches, found_by, register_by, reach_moved}
-use Rattle.pli_headline.proofs.Calls.{called, Calling, call_done}
+use Rattle.run_steps.specs.Engine.{Base, address, call_at}
+use Rattle.run_steps.proofs.Linking.{size_append}
+use Rattle.run_steps.specs.Items.{Linked, At}
+use Rattle.run_steps.proofs.Items.{straight}
+use Rattle.run_steps.specs.Bodies.{Ground, Known, Free, reserved_are}
+use Rattle.run_steps.proofs.Bodies.{zero_is, frame_is, set_known, lose_known, displaced_by, constant_piece, load_piece}
+use Rattle.run_steps.proofs.Jumps.{front_of, back_of}
+use Rattle.run_steps.specs.Temporaries.{nothing}
+use Rattle.run_steps.specs.Reaching.{Reaches, found_by, register_by}
+use Rattle.run_steps.proofs.Reaching.{reach_moved}
+use Rattle.run_steps.specs.Calls.{Calling}
+use Rattle.run_steps.proofs.Calls.{called, call_done}
 use Rattle.pli_headline.proofs.Raising.{small_is}
 use Rattle.pli_headline.proofs.Acts.{word_is, word_fits}
 use Rattle.pli_headline.proofs.Operators.{valued}
 use Rattle.pli_headline.proofs.FormatsRead.{is_data_there}
-use Rattle.pli_headline.proofs.Reach.{Family, Reach, reach_then, reached, reached_holds, Aims, Comes, Closed, onward}
+use Rattle.run_steps.specs.Reach.{Family, Reach, reached, Aims, Comes, Closed}
+use Rattle.run_steps.proofs.Reach.{reach_then, reached_holds, onward}
 
 abbrev pub text_mode : (varying : Bool) → ℕ
 text_mode false = 0

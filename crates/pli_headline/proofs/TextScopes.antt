@@ -12,10 +12,10 @@ use Rattle.pli_coding.specs.Environments.{Environment}
 use Rattle.pli_coding.specs.Expressions.{text_code}
 use Rattle.pli_coding.specs.Linking.{Links}
 use Rattle.pli_headline.specs.ProvedSoFar.{Names, Types, text_leaf, alone}
-use Rattle.pli_headline.proofs.Engine.{Base, most_code}
+use Rattle.run_steps.specs.Engine.{Base, most_code}
 use Rattle.pli_headline.proofs.Scalars.{Values}
-use Rattle.pli_headline.proofs.Bodies.{Ground}
-use Rattle.pli_headline.proofs.Reaching.{Reaches}
+use Rattle.run_steps.specs.Bodies.{Ground}
+use Rattle.run_steps.specs.Reaching.{Reaches}
 use Rattle.pli_headline.proofs.Texts.{EvaluatesText}
 use Rattle.pli_headline.proofs.TextPlaces.{text_bytes, TextThere}
 use Rattle.pli_headline.proofs.TextVariables.{HoldsText, text_evaluates}

@@ -18,12 +18,13 @@ use Rattle.pli_coding.specs.Temporaries.{subscripts_words}
 use Rattle.pli_coding.specs.Linking.{Links}
 use Rattle.pli_headline.specs.ProvedSoFar.{Names, Types, AreProvedNumbers, text_leaf}
 use Rattle.pli_headline.proofs.Storages.{storage}
-use Rattle.pli_headline.proofs.Engine.{Base}
+use Rattle.run_steps.specs.Engine.{Base}
 use Rattle.pli_headline.proofs.Scalars.{Values}
-use Rattle.pli_headline.proofs.Items.{Linked, At}
-use Rattle.pli_headline.proofs.Bodies.{Known}
-use Rattle.pli_headline.proofs.Temporaries.{Stays, stays_same, nothing}
-use Rattle.pli_headline.proofs.Calls.{Serving}
+use Rattle.run_steps.specs.Items.{Linked, At}
+use Rattle.run_steps.specs.Bodies.{Known}
+use Rattle.run_steps.specs.Temporaries.{Stays, nothing}
+use Rattle.run_steps.proofs.Temporaries.{stays_same}
+use Rattle.pli_headline.proofs.Serving.{Serving}
 use Rattle.pli_headline.proofs.Variables.{whole, own}
 use Rattle.pli_headline.proofs.States.{with_text_at}
 use Rattle.pli_headline.proofs.ArrayMeant.{element}
@@ -34,7 +35,7 @@ use Rattle.pli_headline.proofs.TextAssignments.{assigned_piece, text_assigned_al
 use Rattle.pli_headline.proofs.TextArrayScopes.{IsTextArrayAt}
 use Rattle.pli_headline.proofs.TextElementAssignments.{element_assigned_piece}
 use Rattle.pli_headline.proofs.Statements.{Block, Standing, AllHold}
-use Rattle.pli_headline.proofs.Reach.{Family, Aims, Comes, Closed}
+use Rattle.run_steps.specs.Reach.{Family, Aims, Comes, Closed}
 
 pub record TakesText {e : Environment} {block : Names} {types : Types} (bl : Block e block types) (links : Links) (code : List Instr) (r : Y.Reference) : Type 1 where
   pub does : {i : ℕ} {v : Services} {h t : ℕ → ℕ} {s : State} {aims : Aims (Unit {0})} (closed : Closed code aims) (f : Family) (around : Around) (text : List ℕ) (n : Values) (k : ℕ) → Linked links code i (top_stored e bl.taken r) → Serving k s v around.line → AllHold bl.frames bl.serials (storage v) (e.level ∷ bl.depths) s block types n → ((b : Base) → At b i (Known (bl.ground n) (pushed (TextEntry text) v) h t nothing b) (f b)) → ((s' : State) (n' : Values) (h' t' : ℕ → ℕ) (f' : Family) → Serving k s' v around.line → AllHold bl.frames bl.serials (storage v) (e.level ∷ bl.depths) s' block types n' → Stays bl.taken h t h' t' → ((b : Base) → At b (i + size_of (top_stored e bl.taken r)) (Known (bl.ground n') v h' t' nothing b) (f' b)) → aims.done (i + size_of (top_stored e bl.taken r)) f' v tt s') → Comes code i f (pushed (TextEntry text) v) aims (M.assigned around r (BasicText text) k s)

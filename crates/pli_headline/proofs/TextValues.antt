@@ -24,14 +24,18 @@ use Rattle.pli_coding.specs.Instructions.{small, move, service, tested_service}
 use Rattle.pli_coding.specs.Environments.{Taken}
 use Rattle.pli_coding.specs.Arithmetic.{compared_code}
 use Rattle.pli_coding.specs.Linking.{Links}
-use Rattle.pli_headline.proofs.Engine.{Base, address, call_at}
-use Rattle.pli_headline.proofs.Linking.{size_append}
-use Rattle.pli_headline.proofs.Items.{Linked, At, straight}
-use Rattle.pli_headline.proofs.Numbers.{IsWide, word_small}
-use Rattle.pli_headline.proofs.Bodies.{Ground, Known, zero_is}
-use Rattle.pli_headline.proofs.Jumps.{front_of, back_of}
-use Rattle.pli_headline.proofs.Temporaries.{nothing, stays_then}
-use Rattle.pli_headline.proofs.Calls.{Serving}
+use Rattle.run_steps.specs.Engine.{Base, address, call_at}
+use Rattle.run_steps.proofs.Linking.{size_append}
+use Rattle.run_steps.specs.Items.{Linked, At}
+use Rattle.run_steps.proofs.Items.{straight}
+use Rattle.run_steps.specs.Numbers.{IsWide}
+use Rattle.run_steps.proofs.Numbers.{word_small}
+use Rattle.run_steps.specs.Bodies.{Ground, Known}
+use Rattle.run_steps.proofs.Bodies.{zero_is}
+use Rattle.run_steps.proofs.Jumps.{front_of, back_of}
+use Rattle.run_steps.specs.Temporaries.{nothing}
+use Rattle.run_steps.proofs.Temporaries.{stays_then}
+use Rattle.pli_headline.proofs.Serving.{Serving}
 use Rattle.pli_headline.proofs.Raising.{Routines, small_is}
 use Rattle.pli_headline.proofs.Acts.{word_is}
 use Rattle.pli_headline.proofs.Operators.{paired}
@@ -42,7 +46,8 @@ use Rattle.pli_headline.proofs.TextCalls.{three, asking_piece, tested_call}
 use Rattle.pli_headline.proofs.TextLengths.{IsShort, index_most, verify_most, small_wide}
 use Rattle.pli_headline.proofs.TextNumbers.{number_wide, number_answer, bit_answer}
 use Rattle.pli_headline.proofs.Texts.{EvaluatesText}
-use Rattle.pli_headline.proofs.Reach.{Family, Aims, Comes, Closed, before_closed, comes_on, onward}
+use Rattle.run_steps.specs.Reach.{Family, Aims, Comes, Closed}
+use Rattle.run_steps.proofs.Reach.{before_closed, comes_on, onward}
 
 -- ---- behind texts
 

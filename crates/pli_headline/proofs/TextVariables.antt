@@ -24,16 +24,17 @@ use Rattle.pli_coding.specs.Locating.{text_pushed, text_stored}
 use Rattle.pli_coding.specs.Expressions.{text_code}
 use Rattle.pli_coding.specs.Linking.{Links}
 use Rattle.pli_headline.specs.ProvedSoFar.{Names, text_leaf}
-use Rattle.pli_headline.proofs.Engine.{Base, address, most_code}
-use Rattle.pli_headline.proofs.Items.{Linked, At}
-use Rattle.pli_headline.proofs.Bodies.{Ground, Known, reserved_are}
-use Rattle.pli_headline.proofs.Temporaries.{nothing, stays_same}
-use Rattle.pli_headline.proofs.Reaching.{Reaches}
+use Rattle.run_steps.specs.Engine.{Base, address, most_code}
+use Rattle.run_steps.specs.Items.{Linked, At}
+use Rattle.run_steps.specs.Bodies.{Ground, Known, reserved_are}
+use Rattle.run_steps.specs.Temporaries.{nothing}
+use Rattle.run_steps.proofs.Temporaries.{stays_same}
+use Rattle.run_steps.specs.Reaching.{Reaches}
 use Rattle.pli_headline.proofs.Texts.{EvaluatesText}
 use Rattle.pli_headline.proofs.TextLengths.{IsShort}
 use Rattle.pli_headline.proofs.TextPlaces.{text_kind_of, text_asked, text_bytes, TextThere, read_answer, kept_answer, asked_piece}
 use Rattle.pli_headline.proofs.Variables.{designated_scalar, scalar_shape, whole, own, level_of, scalar_binding, scalar_generation, designated_by, data_place, type_by, address_from, reached_from, IsDeclared}
-use Rattle.pli_headline.proofs.Reach.{Family, Aims, Comes, Closed}
+use Rattle.run_steps.specs.Reach.{Family, Aims, Comes, Closed}
 
 -- ---- in the meaning
 

@@ -23,14 +23,19 @@ use Rattle.pli_coding.specs.Expressions.{constant_pushed}
 use Rattle.pli_coding.specs.Streams as C
 use Rattle.pli_coding.specs.Linking.{Links}
 use Rattle.pli_headline.specs.ProvedSoFar.{IsPrecision}
-use Rattle.pli_headline.proofs.Engine.{Base, address, call_at}
-use Rattle.pli_headline.proofs.Linking.{size_append}
-use Rattle.pli_headline.proofs.Items.{Linked, At, straight}
-use Rattle.pli_headline.proofs.Numbers.{IsWide, word_small}
-use Rattle.pli_headline.proofs.Bodies.{Ground, Known, zero_is}
-use Rattle.pli_headline.proofs.Jumps.{front_of, back_of}
-use Rattle.pli_headline.proofs.Temporaries.{Temporaries, nothing, held_with, words_with, waiting_kept, waiting_saved, save_piece, fetch_piece, Stays, stays_same, stays_then, stays_saved, stays_less}
-use Rattle.pli_headline.proofs.Calls.{Serving}
+use Rattle.run_steps.specs.Engine.{Base, address, call_at}
+use Rattle.run_steps.proofs.Linking.{size_append}
+use Rattle.run_steps.specs.Items.{Linked, At}
+use Rattle.run_steps.proofs.Items.{straight}
+use Rattle.run_steps.specs.Numbers.{IsWide}
+use Rattle.run_steps.proofs.Numbers.{word_small}
+use Rattle.run_steps.specs.Bodies.{Ground, Known}
+use Rattle.run_steps.proofs.Bodies.{zero_is}
+use Rattle.run_steps.proofs.Jumps.{front_of, back_of}
+use Rattle.run_steps.specs.Temporaries.{Temporaries, nothing, held_with, words_with, Stays}
+use Rattle.run_steps.proofs.Temporaries.{waiting_kept, waiting_saved, save_piece, fetch_piece, stays_same}
+use Rattle.run_steps.proofs.Temporaries.{stays_then, stays_saved, stays_less}
+use Rattle.pli_headline.proofs.Serving.{Serving}
 use Rattle.pli_headline.proofs.Raising.{Routines, small_is}
 use Rattle.pli_headline.proofs.Evaluations.{number_kind, bit_kind, Evaluates, with_words_most}
 use Rattle.pli_headline.proofs.StandingBytes.{ConstantsStand}
@@ -40,7 +45,8 @@ use Rattle.pli_headline.proofs.EditConstants.{constant_text}
 use Rattle.pli_headline.proofs.TextCalls.{told, status_told, tested_call}
 use Rattle.pli_headline.proofs.TextLengths.{IsShort, number_short, bit_short, joined_short, from_short, part_short}
 use Rattle.pli_headline.proofs.Scalars.{bit_word}
-use Rattle.pli_headline.proofs.Reach.{Family, Aims, Comes, Closed, before_closed, comes_on, onward}
+use Rattle.run_steps.specs.Reach.{Family, Aims, Comes, Closed}
+use Rattle.run_steps.proofs.Reach.{before_closed, comes_on, onward}
 
 -- ---- what its code does
 

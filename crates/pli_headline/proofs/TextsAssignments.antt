@@ -27,12 +27,12 @@ use Rattle.pli_coding.specs.SignatureTable.{table_of}
 use Rattle.pli_coding.specs.Linking.{Links}
 use Rattle.pli_headline.specs.ProvedSoFar.{Names, Types, Kind, text_leaf, IsWholeText, IsProvedText}
 use Rattle.pli_headline.proofs.Storages.{storage, Storage, Serials, stored_changed}
-use Rattle.pli_headline.proofs.Engine.{address}
-use Rattle.pli_headline.proofs.Linking.{size_append}
-use Rattle.pli_headline.proofs.Items.{Linked}
-use Rattle.pli_headline.proofs.Jumps.{front_of, back_of}
+use Rattle.run_steps.specs.Engine.{address}
+use Rattle.run_steps.proofs.Linking.{size_append}
+use Rattle.run_steps.specs.Items.{Linked}
+use Rattle.run_steps.proofs.Jumps.{front_of, back_of}
 use Rattle.pli_headline.proofs.Acts.{acted, act_piece}
-use Rattle.pli_headline.proofs.Temporaries.{stays_then}
+use Rattle.run_steps.proofs.Temporaries.{stays_then}
 use Rattle.pli_headline.proofs.Scalars.{Values}
 use Rattle.pli_headline.proofs.Variables.{whole, own, level_of, data_place}
 use Rattle.pli_headline.proofs.States.{Holds, one_type}
@@ -48,7 +48,8 @@ use Rattle.pli_headline.proofs.Expressions.{text_does}
 use Rattle.pli_headline.proofs.Asides.{asides_changed}
 use Rattle.pli_headline.proofs.Entered.{Frames}
 use Rattle.pli_headline.proofs.Statements.{Block, Standing, AllHold, Does, counted_all}
-use Rattle.pli_headline.proofs.Reach.{Comes, before_closed, comes_on}
+use Rattle.run_steps.specs.Reach.{Comes}
+use Rattle.run_steps.proofs.Reach.{before_closed, comes_on}
 use Rattle.pli_headline.proofs.TextArrayMeant.{HoldsTexts, texts_aside}
 use Rattle.pli_headline.proofs.TextArrayScopes.{IsTextArrayAt}
 use Rattle.pli_headline.proofs.TextArrayStates.{numbers_apart}

@@ -16,8 +16,8 @@ use Rattle.pli_serving.specs.Bytes.{with_bytes}
 use Rattle.pli_serving.specs.Stored.{kept_bytes}
 use Rattle.pli_coding.specs.Environments.{Environment}
 use Rattle.pli_headline.specs.ProvedSoFar.{Names, text_leaf}
-use Rattle.pli_headline.proofs.Engine.{Base}
-use Rattle.pli_headline.proofs.Bodies.{Ground}
+use Rattle.run_steps.specs.Engine.{Base}
+use Rattle.run_steps.specs.Bodies.{Ground}
 use Rattle.pli_headline.proofs.Scalars.{Values}
 use Rattle.pli_headline.proofs.Variables.{own, whole, data_place}
 use Rattle.pli_headline.proofs.Changes.{changed_same}

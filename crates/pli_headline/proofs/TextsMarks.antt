@@ -9,7 +9,7 @@ use Rattle.pli_coding.specs.Frames.{own_offset}
 use Rattle.pli_coding.specs.Environments.{Environment, Taken}
 use Rattle.pli_coding.specs.Storing as K
 use Rattle.pli_headline.specs.ProvedSoFar.{Names, Types, IsWholeText, array_variable, text_leaf}
-use Rattle.pli_headline.proofs.Linking.{size_append}
+use Rattle.run_steps.proofs.Linking.{size_append}
 use Rattle.pli_headline.proofs.Variables.{HasTypes, level_of}
 use Rattle.pli_headline.proofs.SymbolsMarked.{Marks, behind, constant_none, load_none, plus_none}
 use Rattle.pli_headline.proofs.ArrayNames.{place_of_name}

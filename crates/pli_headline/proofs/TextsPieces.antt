@@ -16,20 +16,24 @@ use Rattle.pli_coding.specs.Assembly.{Plain, size_of}
 use Rattle.pli_coding.specs.Instructions.{number, small, service}
 use Rattle.pli_coding.specs.Environments.{Taken}
 use Rattle.pli_coding.specs.Linking.{Links}
-use Rattle.pli_headline.proofs.Engine.{Base, address, call_at}
-use Rattle.pli_headline.proofs.Linking.{size_append}
-use Rattle.pli_headline.proofs.Items.{Linked, At, straight}
-use Rattle.pli_headline.proofs.Jumps.{front_of, back_of}
+use Rattle.run_steps.specs.Engine.{Base, address, call_at}
+use Rattle.run_steps.proofs.Linking.{size_append}
+use Rattle.run_steps.specs.Items.{Linked, At}
+use Rattle.run_steps.proofs.Items.{straight}
+use Rattle.run_steps.proofs.Jumps.{front_of, back_of}
 use Rattle.pli_headline.proofs.Acts.{word_is, word_fits}
 use Rattle.pli_headline.proofs.Raising.{small_is}
-use Rattle.pli_headline.proofs.Bodies.{Ground, Known, PlaceFrom, zero_is, constant_piece, reserved_are}
-use Rattle.pli_headline.proofs.Temporaries.{Temporaries, Stays, nothing}
-use Rattle.pli_headline.proofs.Calls.{Calling, called, call_done}
-use Rattle.pli_headline.proofs.Reaching.{Reaches}
+use Rattle.run_steps.specs.Bodies.{Ground, Known, PlaceFrom, reserved_are}
+use Rattle.run_steps.proofs.Bodies.{zero_is, constant_piece}
+use Rattle.run_steps.specs.Temporaries.{Temporaries, Stays, nothing}
+use Rattle.run_steps.specs.Calls.{Calling}
+use Rattle.run_steps.proofs.Calls.{called, call_done}
+use Rattle.run_steps.specs.Reaching.{Reaches}
 use Rattle.pli_headline.proofs.ElementsCode.{record_by, given_by}
 use Rattle.pli_headline.proofs.ElementsPieces.{recorded, record_stays, record_piece, given_piece}
 use Rattle.pli_headline.proofs.TextsCode.{text_filling}
-use Rattle.pli_headline.proofs.Reach.{Family, Aims, Comes, Closed, onward}
+use Rattle.run_steps.specs.Reach.{Family, Aims, Comes, Closed}
+use Rattle.run_steps.proofs.Reach.{onward}
 
 pub text_filling_piece : {R : Type 0} {links : Links} {code : List Instr} {i : ℕ} {g : Ground} (g' : Ground) {v : Services} {h t : ℕ → ℕ} {aims : Aims R} {flow : Flow R} (closed : Closed code aims) (temps : Temporaries g) (f : Family) (taken : Taken) (text : List ℕ) (q : Bool) (level base place n : ℕ) (change : List ℕ → List ℕ) → taken.words + 4 ≤ g.words → n < 2 ^ 24 → Reaches q level g base → PlaceFrom base (pos 36) (base + 36) → base + place < 2 ^ 24 → PlaceFrom g.frame (pos 36) (g.frame + 36) → ((t' : ℕ → ℕ) (b : Base) (m : List ℕ) → g.memory t' b m → load 4 m (base + 36) ≡ base) → ((t' : ℕ → ℕ) (b : Base) (m : List ℕ) → g.memory t' b m → load 4 m (g.frame + 36) ≡ g.frame) → ((b : Base) (h' : ℕ → ℕ) → reserved_are b g h' ≡ reserved_are b g' h') → ((b : Base) (m : List ℕ) (x : ℕ) → length m ≡ memory_size → g.memory (recorded t taken.words (base + place) n) b m → W.scalar_served (call_at code (pushed (TextEntry text) v) m) (g.frame - 4 * (taken.words + 4)) 0 x ≡ Done v (change m) (g.frame - 4 * (taken.words + 4)) 0) → ((b : Base) (m : List ℕ) → length m ≡ memory_size → g.memory (recorded t taken.words (base + place) n) b m → (length (change m) ≡ memory_size) × g'.memory (recorded t taken.words (base + place) n) b (change m)) → Linked links code i (text_filling taken q level place n) → ((b : Base) → At b i (Known g (pushed (TextEntry text) v) h t nothing b) (f b)) → ((f' : Family) → Stays taken h t h (recorded t taken.words (base + place) n) → ((b : Base) → At b (i + size_of (text_filling taken q level place n)) (Known g' v h (recorded t taken.words (base + place) n) nothing b) (f' b)) → Comes code (i + size_of (text_filling taken q level place n)) f' v aims flow) → Comes code i f (pushed (TextEntry text) v) aims flow
 text_filling_piece {code = code} {i = i} {g = g} g' {v = v} {h = h} {t = t} {aims = aims} {flow = flow} closed temps f taken text q level base place n change room few reaches at36 near own36 own mine same answers changed l at next' =

@@ -28,15 +28,15 @@ use Rattle.pli_headline.proofs.TextStates.{KeepsText}
 use Rattle.pli_headline.proofs.ArrayMeant.{HoldsArray}
 use Rattle.pli_headline.proofs.TextArrayMeant.{HoldsTexts}
 use Rattle.pli_headline.proofs.DeclaredNames.{chosen_before}
-use Rattle.pli_headline.proofs.Reach.{Family}
+use Rattle.run_steps.specs.Reach.{Family}
 use Rattle.pli_headline.proofs.MoreStates.{holds_moved, keeps_moved, array_moved, texts_moved, restricts_all, all_same}
 use Rattle.pli_headline.proofs.Statements.{Block, Standing, AllHold, Restricts, Enclosures, Outlets, OutletOf, Homes, Enough, Does, IsMarkedOnce, ended_times}
 use Rattle.pli_headline.proofs.MainOutlets.{MainAround, HasMain}
 use Rattle.pli_headline.proofs.UnitRuns.{Raises}
-use Rattle.pli_headline.proofs.Engine.{Base}
-use Rattle.pli_headline.proofs.Items.{At}
-use Rattle.pli_headline.proofs.Bodies.{Known}
-use Rattle.pli_headline.proofs.Temporaries.{nothing}
+use Rattle.run_steps.specs.Engine.{Base}
+use Rattle.run_steps.specs.Items.{At}
+use Rattle.run_steps.specs.Bodies.{Known}
+use Rattle.run_steps.specs.Temporaries.{nothing}
 use Rattle.pli_headline.proofs.Narrowing.{Narrows, beside, beside_self, chosen_behind, narrowed_main, narrowed}
 
 -- ---- what is put aside

@@ -24,20 +24,23 @@ use Rattle.pli_coding.specs.Temporaries.{reference_words}
 use Rattle.pli_coding.specs.Linking.{Links}
 use Rattle.pli_headline.specs.ProvedSoFar.{Names, Types, IsProvedBitIf, IsProvedNumber}
 use Rattle.pli_headline.proofs.Storages.{storage}
-use Rattle.pli_headline.proofs.Engine.{Base, address}
-use Rattle.pli_headline.proofs.Linking.{size_append}
-use Rattle.pli_headline.proofs.Items.{Linked, At}
-use Rattle.pli_headline.proofs.Numbers.{IsWide}
-use Rattle.pli_headline.proofs.Bodies.{Ground, Known, zero_is}
-use Rattle.pli_headline.proofs.Jumps.{front_of, back_of, rest_of, skip_taken, skip_passed, ahead_piece}
-use Rattle.pli_headline.proofs.Temporaries.{Stays, stays_same, nothing}
-use Rattle.pli_headline.proofs.Calls.{Serving}
+use Rattle.run_steps.specs.Engine.{Base, address}
+use Rattle.run_steps.proofs.Linking.{size_append}
+use Rattle.run_steps.specs.Items.{Linked, At}
+use Rattle.run_steps.specs.Numbers.{IsWide}
+use Rattle.run_steps.specs.Bodies.{Ground, Known}
+use Rattle.run_steps.proofs.Bodies.{zero_is}
+use Rattle.run_steps.proofs.Jumps.{front_of, back_of, rest_of, skip_taken, skip_passed, ahead_piece}
+use Rattle.run_steps.specs.Temporaries.{Stays, nothing}
+use Rattle.run_steps.proofs.Temporaries.{stays_same}
+use Rattle.pli_headline.proofs.Serving.{Serving}
 use Rattle.pli_headline.proofs.Operators.{valued}
 use Rattle.pli_headline.proofs.Expressions.{number_does, bit_does}
 use Rattle.pli_headline.proofs.Statements.{Standing, Block, AllHold}
 use Rattle.pli_headline.proofs.Ifs.{free_far, setting}
 use Rattle.pli_headline.proofs.Limits.{StepWaits, step_stays, limit_piece}
-use Rattle.pli_headline.proofs.Reach.{Family, Aims, Comes, Closed, before_closed, comes_on, reached, reached_holds}
+use Rattle.run_steps.specs.Reach.{Family, Aims, Comes, Closed, reached}
+use Rattle.run_steps.proofs.Reach.{before_closed, comes_on, reached_holds}
 use Rattle.pli_headline.proofs.Scalars.{Values}
 
 -- what a test comes to: it is met behind its code, or the turns are over at a place

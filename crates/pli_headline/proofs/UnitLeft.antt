@@ -21,16 +21,21 @@ use Rattle.pli_coding.specs.Statements.{unit_left}
 use Rattle.pli_coding.specs.Linking.{Links}
 use Rattle.image_runs.specs.Runs.{Whole}
 use Rattle.pli_headline.specs.ProvedSoFar.{Types, Names}
-use Rattle.pli_headline.proofs.Engine.{Base, address, most_code, call_at}
-use Rattle.pli_headline.proofs.Linking.{size_append}
-use Rattle.pli_headline.proofs.Items.{Linked, At, straight}
-use Rattle.pli_headline.proofs.Numbers.{below_sum, below_small}
-use Rattle.pli_headline.proofs.Bodies.{Ground, Known, nth, reserved, with', zero_is, frame_is, at_place, lose_known, displaced_by}
-use Rattle.pli_headline.proofs.Jumps.{front_of, back_of, hop, jump_register}
-use Rattle.pli_headline.proofs.Temporaries.{nothing, put, held_put}
-use Rattle.pli_headline.proofs.Reaching.{reach_moved}
-use Rattle.pli_headline.proofs.SavedRegisters.{SavedIn, frame_place, held_again}
-use Rattle.pli_headline.proofs.Calls.{called, Calling, call_done}
+use Rattle.run_steps.specs.Engine.{Base, address, most_code, call_at}
+use Rattle.run_steps.proofs.Linking.{size_append}
+use Rattle.run_steps.specs.Items.{Linked, At}
+use Rattle.run_steps.proofs.Items.{straight}
+use Rattle.run_steps.proofs.Numbers.{below_sum, below_small}
+use Rattle.run_steps.specs.Bodies.{Ground, Known, nth, reserved, with'}
+use Rattle.run_steps.proofs.Bodies.{at_place, zero_is, frame_is, lose_known, displaced_by}
+use Rattle.run_steps.proofs.Jumps.{front_of, back_of, hop, jump_register}
+use Rattle.run_steps.specs.Temporaries.{nothing, put}
+use Rattle.run_steps.proofs.Temporaries.{held_put}
+use Rattle.run_steps.proofs.Reaching.{reach_moved}
+use Rattle.run_steps.specs.SavedRegisters.{SavedIn, held_again}
+use Rattle.run_steps.proofs.SavedRegisters.{frame_place}
+use Rattle.run_steps.specs.Calls.{Calling}
+use Rattle.run_steps.proofs.Calls.{called, call_done}
 use Rattle.pli_headline.proofs.Raising.{small_is}
 use Rattle.pli_headline.proofs.Statements.{Block}
 use Rattle.pli_headline.proofs.InnerFrames.{inner_whole}
@@ -38,7 +43,8 @@ use Rattle.pli_headline.proofs.BeginDisplays.{frame_word, moved_reserved, withou
 use Rattle.pli_headline.proofs.BeginEntered.{ended_services}
 use Rattle.pli_headline.proofs.CalledFrames.{Callee}
 use Rattle.pli_headline.proofs.CalledLeft.{ending_ground, ending_saved}
-use Rattle.pli_headline.proofs.Reach.{Family, Reach, stay, reach_then, reached, reached_holds}
+use Rattle.run_steps.specs.Reach.{Family, Reach, reached}
+use Rattle.run_steps.proofs.Reach.{stay, reach_then, reached_holds}
 use Rattle.pli_headline.proofs.Scalars.{Values}
 
 return_answer : (code : List Instr) (v : Services) (m : List ℕ) (a : S.Activation) (rest : List S.Activation) (n resume : ℕ) → v.activations ≡ a ∷ rest → a.kind ≡ S.OnUnitBlock n resume → K.return_served (call_at code v m) ≡ Done (ended_services v a rest) m resume n

@@ -25,14 +25,20 @@ use Rattle.pli_coding.specs.Arithmetic.{condition_number, raised}
 use Rattle.pli_coding.specs.Linking.{Links}
 use Rattle.pli_coding.specs.Instructions.{add, small, subtract}
 use Rattle.pli_coding.specs.Images.{error_code, unit_begun, to_unit}
-use Rattle.pli_headline.proofs.Engine.{Base, address, call_at, most_code}
-use Rattle.pli_headline.proofs.Items.{Linked, At, straight}
-use Rattle.pli_headline.proofs.Bodies.{Ground, Known, zero_is}
-use Rattle.pli_headline.proofs.Jumps.{first_of, rest_of, front_of, back_of, skip_passed, ahead_piece, call_piece, hop, jump_register}
-use Rattle.pli_headline.proofs.Temporaries.{nothing}
-use Rattle.pli_headline.proofs.Calls.{called, Calling, call_acts, call_pauses, acts, comes_act, Serving}
+use Rattle.run_steps.specs.Engine.{Base, address, call_at, most_code}
+use Rattle.run_steps.specs.Items.{Linked, At}
+use Rattle.run_steps.proofs.Items.{straight}
+use Rattle.run_steps.specs.Bodies.{Ground, Known}
+use Rattle.run_steps.proofs.Bodies.{zero_is}
+use Rattle.run_steps.proofs.Jumps.{first_of, rest_of, front_of, back_of, skip_passed, ahead_piece, call_piece, hop}
+use Rattle.run_steps.proofs.Jumps.{jump_register}
+use Rattle.run_steps.specs.Temporaries.{nothing}
+use Rattle.run_steps.specs.Calls.{Calling}
+use Rattle.run_steps.proofs.Calls.{called, call_acts, call_pauses, acts, comes_act}
+use Rattle.pli_headline.proofs.Serving.{Serving}
 use Rattle.pli_headline.proofs.Raising.{Routines, small_is, raised_by, conditioned}
-use Rattle.pli_headline.proofs.Reach.{Family, Reach, cost, Aims, Comes, Closed, reach_then, reached, reached_holds, onward}
+use Rattle.run_steps.specs.Reach.{Family, Reach, cost, Aims, Comes, Closed, reached}
+use Rattle.run_steps.proofs.Reach.{reach_then, reached_holds, onward}
 use Rattle.pli_headline.proofs.CalledBegun.{entry_with}
 use Rattle.pli_headline.proofs.SystemUnits.{number_small, condition_is}
 

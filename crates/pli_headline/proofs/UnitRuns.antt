@@ -32,23 +32,24 @@ use Rattle.pli_coding.specs.Statements.{owner_of_unit, unit_environment, unit_ma
 use Rattle.pli_coding.specs.Linking.{Links, place_of}
 use Rattle.pli_headline.specs.ProvedSoFar.{Types, Names, unit_declares}
 use Rattle.pli_headline.proofs.HeldPlaces.{places_entered, PlacesHeld, places_left, places_behind}
-use Rattle.pli_headline.proofs.Engine.{Base, address, most_code}
-use Rattle.pli_headline.proofs.Linking.{size_append}
-use Rattle.pli_headline.proofs.Items.{Linked, At}
-use Rattle.pli_headline.proofs.Bodies.{Known}
-use Rattle.pli_headline.proofs.Jumps.{front_of, back_of, linked_at}
-use Rattle.pli_headline.proofs.Temporaries.{nothing}
+use Rattle.run_steps.specs.Engine.{Base, address, most_code}
+use Rattle.run_steps.proofs.Linking.{size_append}
+use Rattle.run_steps.specs.Items.{Linked, At}
+use Rattle.run_steps.specs.Bodies.{Known}
+use Rattle.run_steps.proofs.Jumps.{front_of, back_of, linked_at}
+use Rattle.run_steps.specs.Temporaries.{nothing}
 use Rattle.pli_headline.proofs.Activations.{may_have_unit, IsOrdinary, OnlyIf, same_length, entered_length, first_level, levels_of}
 use Rattle.pli_headline.proofs.Entered.{atop, AreBoth, both_in_force, NoUnit, Way}
-use Rattle.pli_headline.proofs.Calls.{Serving}
+use Rattle.pli_headline.proofs.Serving.{Serving}
 use Rattle.pli_headline.proofs.Raising.{Routines, with_act}
 use Rattle.pli_headline.proofs.Operators.{raised_alone}
 use Rattle.pli_headline.proofs.Acts.{act_to, act_piece}
 use Rattle.pli_headline.proofs.Statements.{owner_level, Block, IsKnown, AllHold, counted_all, IsEndMarkedOnce, Enough, Does}
 use Rattle.pli_headline.proofs.CalledJumps.{ending_closed, comes_called}
-use Rattle.pli_headline.proofs.Owing.{owing, owing_closed, comes_owing, done_owing}
+use Rattle.run_steps.specs.Owing.{owing}
+use Rattle.run_steps.proofs.Owing.{owing_closed, comes_owing, done_owing}
 use Rattle.pli_headline.proofs.MainOutlets.{HasMain, main_of, main_enclosing, main_seen, main_outlet, owed_outlet}
-use Rattle.pli_headline.proofs.SavedRegisters.{held_again}
+use Rattle.run_steps.specs.SavedRegisters.{held_again}
 use Rattle.pli_headline.proofs.BeginEntered.{ended_services}
 use Rattle.pli_headline.proofs.BeginMeant.{Entering, inner_around, entered_by, raised_nested, raised_all, ended_input, left_all, newest_kind}
 use Rattle.pli_headline.proofs.CallMeant.{called_part}
@@ -65,7 +66,8 @@ use Rattle.pli_headline.proofs.UnitRaised.{waiting_services, unit_begins}
 use Rattle.pli_headline.proofs.UnitEntered.{unit_activation, unit_services, unit_entered, line_given, entry_limited}
 use Rattle.pli_headline.proofs.UnitLeft.{jump_on, unit_left_piece}
 use Rattle.pli_headline.proofs.SystemUnits.{condition_is}
-use Rattle.pli_headline.proofs.Reach.{Family, cost, Aims, Comes, Closed, before_closed, comes_on, onward, reach_with}
+use Rattle.run_steps.specs.Reach.{Family, cost, Aims, Comes, Closed}
+use Rattle.run_steps.proofs.Reach.{before_closed, comes_on, onward, reach_with}
 use Rattle.pli_headline.proofs.Scalars.{Values}
 use Rattle.pli_headline.proofs.Storages.{storage}
 

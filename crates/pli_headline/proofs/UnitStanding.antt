@@ -18,7 +18,7 @@ use Rattle.pli_coding.specs.Linking.{Links}
 use Rattle.pli_headline.specs.ProvedSoFar.{Types, main_outer, times, IsLine, IsUnitBody, AreProvedStatements, AllJumpAround, AllCallAmong, ArePlain, Names, names_in, types_in, unit_declares, inner_bytes, bytes_of}
 use Rattle.pli_headline.specs.EndUnits.{HasUnitFor}
 use Rattle.pli_headline.specs.InnerWords.{all_inner_words}
-use Rattle.pli_headline.proofs.Items.{Linked}
+use Rattle.run_steps.specs.Items.{Linked}
 use Rattle.pli_headline.proofs.InnerLevels.{IsAmong}
 use Rattle.pli_headline.proofs.Statements.{IsMarkedOnce}
 use Rattle.pli_headline.proofs.Gotos.{LabelsStand}

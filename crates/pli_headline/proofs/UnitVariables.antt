@@ -10,7 +10,7 @@ use Rattle.pli_coding.specs.Statements.{owner_of_unit, unit_environment}
 use Rattle.pli_headline.specs.Headline.{parts}
 use Rattle.pli_headline.specs.ProvedSoFar.{Names, Types, ArePlain, IsUnitBody, bytes_of, unit_declares}
 use Rattle.pli_headline.proofs.Entered.{Way}
-use Rattle.pli_headline.proofs.Engine.{Base}
+use Rattle.run_steps.specs.Engine.{Base}
 use Rattle.pli_headline.proofs.Statements.{Block, IsOwned, IsFilled, IsKnown, owned_of}
 use Rattle.pli_headline.proofs.MoreServed.{place_for}
 use Rattle.pli_headline.proofs.Declares.{Makes, bytes_before, bytes_all, made_block}

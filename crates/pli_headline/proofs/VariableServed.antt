@@ -34,15 +34,15 @@ use Rattle.pli_serving.specs.Finding.{Call}
 use Rattle.pli_serving.specs.Arguments.{capacity_of, data_bytes}
 use Rattle.pli_serving.specs.InitialValues.{initial_values}
 use Rattle.pli_serving.specs.Making as G
-use Rattle.pli_headline.proofs.Unlimited as U
-use Rattle.pli_headline.proofs.Engine.{Base, most_code, call_at}
-use Rattle.pli_headline.proofs.Calls.{acts}
+use Rattle.run_steps.specs.Unlimited as U
+use Rattle.run_steps.specs.Engine.{Base, most_code, call_at}
+use Rattle.run_steps.proofs.Calls.{acts}
 use Rattle.pli_headline.proofs.VariablePlaces.{Sizes, room_of, number_place, room_next, room_before, room_counts, data_size, data_fits, element_alone, sizes_of, scalar_data_size, data_size_for}
 use Rattle.pli_headline.proofs.NamesStand.{NameThere, name_place, name_beside, name_written}
 use Rattle.pli_headline.proofs.MainGround.{Stands}
 use Rattle.pli_headline.proofs.MainFrame.{main_frame}
 use Rattle.pli_headline.proofs.Scalars.{Declared, by_type, is_numeric, by_held, value_as, bit_of, bit_word, Fits, fits_wide, constant_text, begin_text, begin_of, begin_fits, store_kind, IsLimited, by_shape, begin_texts}
-use Rattle.pli_headline.proofs.Numbers.{word_small}
+use Rattle.run_steps.proofs.Numbers.{word_small}
 use Rattle.pli_headline.proofs.InitialRead.{start_datum, start_of, Reads}
 use Rattle.pli_headline.proofs.Cells.{Cell, kept_by, kind_bytes, kind_length, cell_written, content, content_word}
 use Rattle.pli_headline.proofs.TextsKept.{fitted_length, taken_most, padded_there, cut_there}

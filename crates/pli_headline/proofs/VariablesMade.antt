@@ -19,7 +19,7 @@ use Rattle.pli_meaning.specs.Raising.{Around}
 use Rattle.pli_meaning.specs.Making as K
 use Rattle.pli_serving.specs.ServiceState.{Services}
 use Rattle.pli_serving.specs.Answers.{Done, Ends}
-use Rattle.pli_headline.proofs.Unlimited as U
+use Rattle.run_steps.specs.Unlimited as U
 use Rattle.pli_coding.specs.Registers.{stack_register, frame_register}
 use Rattle.pli_coding.specs.Assembly.{Plain, size_of}
 use Rattle.pli_coding.specs.Instructions.{plus, is_immediate}
@@ -32,15 +32,18 @@ use Rattle.pli_headline.specs.Headline.{parts}
 use Rattle.pli_headline.specs.ProvedSoFar.{array_variable, IsHeld}
 use Rattle.pli_headline.proofs.Scalars.{Declared}
 use Rattle.pli_headline.proofs.InitialRead.{start_datum}
-use Rattle.pli_headline.proofs.Engine.{Base, address, most_code, call_at}
-use Rattle.pli_headline.proofs.Linking.{size_append}
-use Rattle.pli_headline.proofs.Items.{Linked, At}
-use Rattle.pli_headline.proofs.Numbers.{above_sum, above_small}
-use Rattle.pli_headline.proofs.Bodies.{Ground, Known, reserved_are, frame_is, lose_known, displaced_by}
-use Rattle.pli_headline.proofs.Jumps.{front_of, back_of, first_of}
-use Rattle.pli_headline.proofs.Temporaries.{nothing}
-use Rattle.pli_headline.proofs.Calls.{comes_finish, called, Calling, call_done, end_pauses, call_ends}
-use Rattle.pli_headline.proofs.Reach.{Family, Reach, Aims, Comes, Closed, cost, before_closed, comes_on, onward, reach_then, reach_map, reached, reached_holds}
+use Rattle.run_steps.specs.Engine.{Base, address, most_code, call_at}
+use Rattle.run_steps.proofs.Linking.{size_append}
+use Rattle.run_steps.specs.Items.{Linked, At}
+use Rattle.run_steps.proofs.Numbers.{above_sum, above_small}
+use Rattle.run_steps.specs.Bodies.{Ground, Known, reserved_are}
+use Rattle.run_steps.proofs.Bodies.{frame_is, lose_known, displaced_by}
+use Rattle.run_steps.proofs.Jumps.{front_of, back_of, first_of}
+use Rattle.run_steps.specs.Temporaries.{nothing}
+use Rattle.run_steps.specs.Calls.{Calling}
+use Rattle.run_steps.proofs.Calls.{comes_finish, called, call_done, end_pauses, call_ends}
+use Rattle.run_steps.specs.Reach.{Family, Reach, Aims, Comes, Closed, cost, reached}
+use Rattle.run_steps.proofs.Reach.{before_closed, comes_on, onward, reach_then, reach_map, reached_holds}
 use Rattle.pli_headline.proofs.VariablePlaces.{room_of, frame_size, data_fits, sizes_of}
 use Rattle.pli_headline.proofs.Holdings.{Content}
 use Rattle.pli_headline.proofs.MainGround.{Frame, ground_of}

@@ -9,12 +9,15 @@ use Rattle.pli_coding.specs.Instructions.{load_word, store_word}
 use Rattle.pli_coding.specs.Frames.{words_place}
 use Rattle.pli_coding.specs.Environments.{Taken, with_words}
 use Rattle.pli_coding.specs.Linking.{Links}
-use Rattle.pli_headline.proofs.Engine.{Base}
-use Rattle.pli_headline.proofs.Items.{Linked, At}
-use Rattle.pli_headline.proofs.Bodies.{Ground, Known, Free, with', load_piece, store_piece}
-use Rattle.pli_headline.proofs.Temporaries.{Temporaries, Stays, put, put_other, nothing, word_place}
+use Rattle.run_steps.specs.Engine.{Base}
+use Rattle.run_steps.specs.Items.{Linked, At}
+use Rattle.run_steps.specs.Bodies.{Ground, Known, Free, with'}
+use Rattle.run_steps.proofs.Bodies.{load_piece, store_piece}
+use Rattle.run_steps.specs.Temporaries.{Temporaries, Stays, put, nothing}
+use Rattle.run_steps.proofs.Temporaries.{put_other, word_place}
 use Rattle.pli_headline.proofs.Operators.{valued}
-use Rattle.pli_headline.proofs.Reach.{Family, Reach, reach_map}
+use Rattle.run_steps.specs.Reach.{Family, Reach}
+use Rattle.run_steps.proofs.Reach.{reach_map}
 
 -- the value in a0 is kept in the word at a place
 pub kept_piece : {links : Links} {code : List Instr} {i : ℕ} {g : Ground} {v : Services} {h t : ℕ → ℕ} (temps : Temporaries g) (c : ℕ) (f : Family) (j x : ℕ) → j < g.words → x < 2 ^ 32 → Linked links code i (store_word frame_register a0 (words_place j 1)) → ((b : Base) → At b i (Known g v h t (valued x) b) (f b)) → Reach code c f v (c + size_of (store_word frame_register a0 (words_place j 1))) v (λ b w. At b (i + size_of (store_word frame_register a0 (words_place j 1))) (Known g v h (put t j x) nothing b) w)

@@ -18,8 +18,8 @@ use Rattle.pli_coding.specs.Linking.{links_of}
 use Rattle.pli_coding.specs.Images.{code_of, linked_code, picture_of}
 use Rattle.pli_headline.specs.ProvedSoFar.{all_labels, procedure_labels, IsProvedSoFar, main_names}
 use Rattle.pli_headline.specs.Headline.{parts, FitsMemory, HeadlineSoFar}
-use Rattle.pli_headline.proofs.Engine.{most_code}
-use Rattle.pli_headline.proofs.Items.{Linked}
+use Rattle.run_steps.specs.Engine.{most_code}
+use Rattle.run_steps.specs.Items.{Linked}
 use Rattle.pli_headline.proofs.Promises.{Laws, Comes_at, from_flow, Works, promised}
 use Rattle.pli_headline.proofs.InitialPlaced.{data_stand}
 use Rattle.pli_headline.proofs.Marks.{others_code, others_of, Placed, placed}

@@ -20,7 +20,7 @@ use Rattle.pli_coding.specs.Entries.{variables_words}
 use Rattle.pli_coding.specs.Procedures.{procedure_begun, procedure_ended, procedure_in}
 use Rattle.pli_headline.specs.Headline.{FitsMemory}
 use Rattle.pli_headline.proofs.Scalars.{by_plain}
-use Rattle.pli_headline.proofs.Linking.{size_append}
+use Rattle.run_steps.proofs.Linking.{size_append}
 use Rattle.pli_headline.proofs.Variables.{HasTypes}
 use Rattle.pli_coding.specs.Extents.{extents_words}
 use Rattle.pli_headline.proofs.ArrayFrames.{held_constant}

@@ -9,7 +9,7 @@ use Rattle.rv_meaning.specs.declared.instr.RegisterOp.TheVariants as Op
 use Rattle.rv_meaning.specs.Words.{word, signed, flag, operated}
 use Rattle.pli_typing.specs.TypedTree as Y
 use Rattle.pli_meaning.specs.Texts.{holds, bit_order}
-use Rattle.pli_headline.proofs.Numbers.{IsWide}
+use Rattle.run_steps.specs.Numbers.{IsWide}
 use Rattle.pli_headline.proofs.WordProducts.{signed_word}
 use Rattle.pli_headline.proofs.WordQuotients.{xor_positive}
 

@@ -8,7 +8,7 @@ use Rattle.std.proofs.lemmas.Bool.{eq-eqb}
 use Rattle.std.proofs.lemmas.Bool.Decides.{nat_tests}
 use Rattle.rv_meaning.specs.Words.{word, signed, shifted_left, shifted_down, shifted_right_signed}
 use Rattle.pli_meaning.specs.Numbers.{is_of_precision}
-use Rattle.pli_headline.proofs.Numbers.{IsWide}
+use Rattle.run_steps.specs.Numbers.{IsWide}
 
 -- the lowest 32 - k bits
 abbrev pub narrowed : (k w : ℕ) → ℕ

@@ -8,7 +8,8 @@ use Rattle.std.proofs.lemmas.Bool.Decides.{nat_tests}
 use Rattle.rv_meaning.specs.Words.{word, signed, upper_half, shifted_right_signed, operated}
 use Rattle.rv_meaning.specs.declared.instr.RegisterOp.TheVariants as Op
 use Rattle.pli_meaning.specs.Numbers.{is_of_precision, residue}
-use Rattle.pli_headline.proofs.Numbers.{IsWide, word_small}
+use Rattle.run_steps.specs.Numbers.{IsWide}
+use Rattle.run_steps.proofs.Numbers.{word_small}
 
 pub signed_word : (z : ℤ) → IsWide z → signed (word z) ≡ z
 signed_word z h = grind (arith, ints, nat_tests)

@@ -9,7 +9,7 @@ use Rattle.rv_meaning.specs.Words.{word, signed, sum, operated}
 use Rattle.rv_meaning.specs.declared.instr.RegisterOp.TheVariants as Op
 use Rattle.pli_meaning.specs.Numbers.{is_of_precision}
 use Rattle.pli_meaning.specs.Contents.{same_int}
-use Rattle.pli_headline.proofs.Numbers.{IsWide, least_word}
+use Rattle.run_steps.specs.Numbers.{IsWide, least_word}
 use Rattle.pli_headline.proofs.WordProducts.{signed_word}
 
 -- ---- divisors

@@ -11,7 +11,7 @@ use Rattle.rv_meaning.specs.Words.{word, signed, flag, operated, shifted_right_s
 use Rattle.rv_meaning.specs.declared.instr.RegisterOp.TheVariants as Op
 use Rattle.pli_meaning.specs.Numbers.{is_of_precision}
 use Rattle.pli_meaning.specs.Operations.{sign_of}
-use Rattle.pli_headline.proofs.Numbers.{IsWide, least_word}
+use Rattle.run_steps.specs.Numbers.{IsWide, least_word}
 use Rattle.pli_headline.proofs.WordProducts.{signed_word}
 
 -- ---- absolute values

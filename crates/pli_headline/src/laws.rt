@@ -1,4 +1,4 @@
-// The promise as a law: the function's contract is the law, and calling it does nothing.
+// Promises as laws: a function's contract is the law, and calling it does nothing.
 
 ghost use Rattle.pli_headline.specs.Headline.{HeadlineSoFar};
 
