@@ -1,6 +1,8 @@
 // The words of the command line.
 
+use crate::completions::SHELLS;
 use clap::builder::ValueParser;
+use clap::error::ErrorKind;
 use clap::{Arg, ArgAction, Command, value_parser};
 use pli_messages::message::STYLES;
 use std::alloc::{AllocError, Global};
@@ -19,11 +21,30 @@ pub const BASE: &str = "base";
 
 pub const MESSAGES: &str = "messages";
 
+pub const MARGINS: &str = "margins";
+
 pub const NOTES: &str = "notes";
 
 pub const LINES: &str = "source";
 
+pub const XREF: &str = "xref";
+
 pub const WORD: &str = "WORD";
+
+pub const SHELL: &str = "SHELL";
+
+/// How the value of an argument is called.
+pub fn value_name(id: &str) -> &str {
+    match id {
+        OUTPUT => IMAGE,
+        INPUT => "F",
+        BOUND => "N",
+        BASE => "B",
+        MESSAGES => "STYLE",
+        MARGINS => "M,N",
+        _ => id,
+    }
+}
 
 fn source<'a>(alloc: Global) -> Arg<'a> {
     Arg::new(alloc, SOURCE)
@@ -35,30 +56,48 @@ fn source<'a>(alloc: Global) -> Arg<'a> {
 fn messages<'a>(alloc: Global) -> Arg<'a> {
     Arg::new(alloc, MESSAGES)
         .long(MESSAGES)
-        .value_name("STYLE")
+        .value_name(value_name(MESSAGES))
         .action(ArgAction::Set)
         .value_parser(ValueParser::Names(&STYLES))
         .default_value("short")
-        .help("How a refusal is told")
+        .help("How a refusal, or the end of a run, is told")
+}
+
+fn margins<'a>(alloc: Global) -> Arg<'a> {
+    Arg::new(alloc, MARGINS)
+        .long(MARGINS)
+        .value_name(value_name(MARGINS))
+        .action(ArgAction::Set)
+        .value_delimiter(',')
+        .value_parser(ValueParser::unsigned(1, 4_294_967_295))
+        .help("The first and the last column that count; the others are blank")
+}
+
+// A command that compiles a source, which is told in this way.
+fn with_source<'a>(command: Command<'a>, alloc: Global) -> Result<Command<'a>, AllocError> {
+    command
+        .arg(source(alloc))?
+        .arg(messages(alloc))?
+        .arg(margins(alloc))
 }
 
 // What a run is told beside what it runs.
 fn with_run<'a>(command: Command<'a>, alloc: Global) -> Result<Command<'a>, AllocError> {
     let input = Arg::new(alloc, INPUT)
         .long(INPUT)
-        .value_name("F")
+        .value_name(value_name(INPUT))
         .action(ArgAction::Set)
         .help("The file that the program reads; standard input without it");
     let bound = Arg::new(alloc, BOUND)
         .long(BOUND)
-        .value_name("N")
+        .value_name(value_name(BOUND))
         .action(ArgAction::Set)
         .value_parser(value_parser!(u64))
         .default_value("1000000000")
         .help("The most instructions");
     let base = Arg::new(alloc, BASE)
         .long(BASE)
-        .value_name("B")
+        .value_name(value_name(BASE))
         .action(ArgAction::Set)
         .value_parser(value_parser!(u32))
         .default_value("65536")
@@ -69,23 +108,17 @@ fn with_run<'a>(command: Command<'a>, alloc: Global) -> Result<Command<'a>, Allo
 fn compile<'a>(alloc: Global) -> Result<Command<'a>, AllocError> {
     let output = Arg::new(alloc, OUTPUT)
         .short('o')
-        .value_name(IMAGE)
+        .value_name(value_name(OUTPUT))
         .required(true)
         .action(ArgAction::Set)
         .help("The file that the image is written to");
-    Command::new(alloc, "compile")
-        .about("Compiles a source to an image")
-        .arg(source(alloc))?
-        .arg(messages(alloc))?
-        .arg(output)
+    let command = Command::new(alloc, "compile").about("Compiles a source to an image");
+    with_source(command, alloc)?.arg(output)
 }
 
 fn run<'a>(alloc: Global) -> Result<Command<'a>, AllocError> {
-    let command = Command::new(alloc, "run")
-        .about("Compiles a source and runs it")
-        .arg(source(alloc))?
-        .arg(messages(alloc))?;
-    with_run(command, alloc)
+    let command = Command::new(alloc, "run").about("Compiles a source and runs it");
+    with_run(with_source(command, alloc)?, alloc)
 }
 
 fn exec<'a>(alloc: Global) -> Result<Command<'a>, AllocError> {
@@ -95,7 +128,8 @@ fn exec<'a>(alloc: Global) -> Result<Command<'a>, AllocError> {
         .help("The image");
     let command = Command::new(alloc, "exec")
         .about("Runs an image")
-        .arg(image)?;
+        .arg(image)?
+        .arg(messages(alloc))?;
     with_run(command, alloc)
 }
 
@@ -108,12 +142,15 @@ fn list<'a>(alloc: Global) -> Result<Command<'a>, AllocError> {
         .long(LINES)
         .action(ArgAction::SetTrue)
         .help("The source's lines before their words");
-    Command::new(alloc, "list")
-        .about("Compiles a source and lists its code words")
-        .arg(source(alloc))?
-        .arg(messages(alloc))?
+    let names = Arg::new(alloc, XREF)
+        .long(XREF)
+        .action(ArgAction::SetTrue)
+        .help("Each declared name, with its place, kind and block, and where it is used");
+    let command = Command::new(alloc, "list").about("Compiles a source and lists its code words");
+    with_source(command, alloc)?
         .arg(notes)?
-        .arg(lines)
+        .arg(lines)?
+        .arg(names)
 }
 
 fn check<'a>(alloc: Global) -> Result<Command<'a>, AllocError> {
@@ -125,7 +162,8 @@ fn check<'a>(alloc: Global) -> Result<Command<'a>, AllocError> {
     Command::new(alloc, "check")
         .about("Tells of each source whether it is accepted")
         .arg(sources)?
-        .arg(messages(alloc))
+        .arg(messages(alloc))?
+        .arg(margins(alloc))
 }
 
 fn explain<'a>(alloc: Global) -> Result<Command<'a>, AllocError> {
@@ -136,6 +174,17 @@ fn explain<'a>(alloc: Global) -> Result<Command<'a>, AllocError> {
     Command::new(alloc, "explain")
         .about("Tells what a refusal, an error or a limit means, and what to do")
         .arg(word)
+}
+
+fn completions<'a>(alloc: Global) -> Result<Command<'a>, AllocError> {
+    let shell = Arg::new(alloc, SHELL)
+        .required(true)
+        .action(ArgAction::Set)
+        .value_parser(ValueParser::Names(&SHELLS))
+        .help("The shell");
+    Command::new(alloc, "completions")
+        .about("Prints what a shell completes words by")
+        .arg(shell)
 }
 
 /// `pli` with its subcommands.
@@ -149,5 +198,15 @@ pub fn command<'a>(alloc: Global) -> Result<Command<'a>, AllocError> {
         .subcommand(exec(alloc)?)?
         .subcommand(list(alloc)?)?
         .subcommand(check(alloc)?)?
-        .subcommand(explain(alloc)?)
+        .subcommand(explain(alloc)?)?
+        .subcommand(Command::new(alloc, "man").about("Prints the page of the manual"))?
+        .subcommand(completions(alloc)?)
+}
+
+/// What is said of columns that are no margins.
+pub fn no_margins(alloc: Global) -> Result<clap::Error, AllocError> {
+    command(alloc)?.error(
+        ErrorKind::ValueValidation,
+        "invalid value for '--margins <M,N>': two columns, the first not behind the last",
+    )
 }

@@ -2,13 +2,13 @@
 
 use crate::command;
 use crate::files::{input_of, source_of};
-use crate::image_file::{compiled_bytes, run_bytes};
-use crate::source_run::compile_and_run;
-use crate::tell::{message_of, tell, tell_refusal, unread_for};
+use crate::tell::{message_of, tell, tell_refusal, tell_run, unread_for};
 use clap::ArgMatches;
 use pli_meaning::outcome::Outcome;
+use pli_run::image_file::{compiled_bytes, run_bytes};
 use pli_run::report::{refused_image, report, unwritten};
 use pli_run::run::RunFault;
+use pli_run::source_run::compile_and_run;
 use std::fs;
 
 fn output_of(ran: &Result<Outcome, RunFault>) -> &[u8] {
@@ -20,19 +20,24 @@ fn output_of(ran: &Result<Outcome, RunFault>) -> &[u8] {
 }
 
 // Writes what a run has shown and tells how it ended; what is told of the run comes first.
-fn shown(rt: &HostRuntime, ran: &Result<Outcome, RunFault>) -> u8 {
+fn shown(
+    rt: &HostRuntime,
+    matches: &ArgMatches<'_>,
+    ran: &Result<Outcome, RunFault>,
+    source: &[u8],
+) -> u8 {
     let written = rt.write_all(output_of(ran));
     let notice = report(ran);
     if written.is_err() && notice.line.is_none() {
         return tell(rt, unwritten("stdout"));
     }
-    tell(rt, notice)
+    tell_run(rt, matches, notice, source)
 }
 
 /// `pli run`.
 pub fn run(rt: &HostRuntime, matches: &ArgMatches<'_>) -> u8 {
     let name = matches.get_str(command::SOURCE).unwrap_or("");
-    let source = match source_of(rt, name) {
+    let source = match source_of(rt, matches, name) {
         Ok(source) => source,
         Err(error) => return tell(rt, unread_for(name, &error)),
     };
@@ -43,24 +48,24 @@ pub fn run(rt: &HostRuntime, matches: &ArgMatches<'_>) -> u8 {
     };
     let bound = matches.get_one::<u64>(command::BOUND).unwrap_or(0);
     let base = matches.get_one::<u32>(command::BASE).unwrap_or(0);
-    match compile_and_run(rt.alloc(), &source, &input, base, bound) {
+    match compile_and_run(rt.alloc(), &source, base, &input, bound) {
         Err(RunFault::Source(fault)) => {
-            tell_refusal(rt, message_of(matches, name, &source, fault))
+            tell_refusal(rt, message_of(rt, matches, name, &source, fault))
         }
-        ran => shown(rt, &ran),
+        ran => shown(rt, matches, &ran, &source),
     }
 }
 
 /// `pli compile`.
 pub fn write_image(rt: &HostRuntime, matches: &ArgMatches<'_>) -> u8 {
     let name = matches.get_str(command::SOURCE).unwrap_or("");
-    let source = match source_of(rt, name) {
+    let source = match source_of(rt, matches, name) {
         Ok(source) => source,
         Err(error) => return tell(rt, unread_for(name, &error)),
     };
     let bytes = match compiled_bytes(rt.alloc(), &source) {
         Ok(bytes) => bytes,
-        Err(fault) => return tell_refusal(rt, message_of(matches, name, &source, fault)),
+        Err(fault) => return tell_refusal(rt, message_of(rt, matches, name, &source, fault)),
     };
     let file = matches.get_str(command::OUTPUT).unwrap_or("");
     match fs::write(rt, file, bytes.as_slice()) {
@@ -83,8 +88,8 @@ pub fn exec(rt: &HostRuntime, matches: &ArgMatches<'_>) -> u8 {
     };
     let bound = matches.get_one::<u64>(command::BOUND).unwrap_or(0);
     let base = matches.get_one::<u32>(command::BASE).unwrap_or(0);
-    match run_bytes(rt.alloc(), &image, &input, base, bound) {
-        Ok(ran) => shown(rt, &ran),
+    match run_bytes(rt.alloc(), &image, base, &input, bound) {
+        Ok(ran) => shown(rt, matches, &ran, &[]),
         Err(fault) => tell(rt, refused_image(fault)),
     }
 }

@@ -1,20 +1,36 @@
-// `pli list`, `pli check` and `pli explain`.
+// `pli list`, `pli check` and `pli explain`, the page of the manual and completions.
 
 use crate::command;
+use crate::completions::completions;
 use crate::files::source_of;
+use crate::man::man_page;
 use crate::tell::{NO_MEMORY, message_of, tell, tell_refusal, unread_for};
 use clap::ArgMatches;
 use pli_compile::compile::compile;
 use pli_compile::named::named_code;
+use pli_declaring::declare;
 use pli_language::fault::{SourceFault, SourceKind};
+use pli_language::stmt::Tree;
+use pli_lex::tokens;
 use pli_listing::listing::{Beside, listing};
+use pli_listing::names::names_text;
 use pli_messages::explain::explanation;
 use pli_messages::message::{Message, Style};
+use pli_parse::parse;
 use pli_run::report::{refused_source, unwritten};
+use std::alloc::Global;
 use std::io;
 
 /// The status where the words ask for nothing that the program does.
 pub const USAGE: u8 = 64;
+
+// The status of a text that is written to standard output.
+fn printed(rt: &HostRuntime, text: &str) -> u8 {
+    match rt.write_all(text.as_bytes()) {
+        Ok(()) => 0,
+        Err(_) => tell(rt, unwritten("stdout")),
+    }
+}
 
 // The listing of a source.
 fn listing_of(
@@ -35,27 +51,61 @@ fn listing_of(
     }
 }
 
+fn parsed(alloc: Global, source: &[u8]) -> Result<Tree, SourceFault> {
+    let tokens = tokens(alloc, source)?;
+    parse(alloc, source, &tokens)
+}
+
+// The table of the names that a source declares, with where it uses them.
+fn names_of(rt: &HostRuntime, source: &[u8]) -> io::Result<Result<String, SourceFault>> {
+    let tree = match parsed(rt.alloc(), source) {
+        Ok(tree) => tree,
+        Err(fault) => return Ok(Err(fault)),
+    };
+    match declare(rt.alloc(), &tree) {
+        Ok(scopes) => Ok(Ok(names_text(rt.alloc(), &tree, &scopes)?)),
+        Err(fault) => Ok(Err(fault)),
+    }
+}
+
+// What `pli list` prints of a source: its listing, and the table of its names where the words ask for that.
+fn listed(
+    rt: &HostRuntime,
+    matches: &ArgMatches<'_>,
+    source: &[u8],
+) -> io::Result<Result<String, SourceFault>> {
+    let beside = Beside {
+        notes: matches.get_flag(command::NOTES),
+        source: matches.get_flag(command::LINES).then_some(source),
+    };
+    let mut text = match listing_of(rt, source, beside)? {
+        Ok(text) => text,
+        Err(fault) => return Ok(Err(fault)),
+    };
+    if !matches.get_flag(command::XREF) {
+        return Ok(Ok(text));
+    }
+    match names_of(rt, source)? {
+        Ok(names) => {
+            text.push_str(&names)?;
+            Ok(Ok(text))
+        }
+        Err(fault) => Ok(Err(fault)),
+    }
+}
+
 /// `pli list`.
 pub fn list(rt: &HostRuntime, matches: &ArgMatches<'_>) -> io::Result<u8> {
     let name = matches.get_str(command::SOURCE).unwrap_or("");
-    let source = match source_of(rt, name) {
+    let source = match source_of(rt, matches, name) {
         Ok(source) => source,
         Err(error) => return Ok(tell(rt, unread_for(name, &error))),
     };
-    let beside = Beside {
-        notes: matches.get_flag(command::NOTES),
-        source: matches
-            .get_flag(command::LINES)
-            .then_some(source.as_slice()),
-    };
-    let text = match listing_of(rt, &source, beside)? {
+    let text = match listed(rt, matches, &source)? {
         Ok(text) => text,
-        Err(fault) => return Ok(tell_refusal(rt, message_of(matches, name, &source, fault))),
+        Err(fault) => return Ok(tell_refusal(rt, message_of(rt, matches, name, &source, fault))),
     };
-    match rt.write_all(text.as_bytes()) {
-        Ok(()) => Ok(0),
-        Err(_) => Ok(tell(rt, unwritten("stdout"))),
-    }
+    Ok(printed(rt, &text))
 }
 
 // What is told of a source that is checked, and its status.
@@ -70,7 +120,7 @@ fn judged(rt: &HostRuntime, message: Message<'_>) -> io::Result<u8> {
 
 // Whether a source is accepted, by its file's name; its status.
 fn check_source(rt: &HostRuntime, matches: &ArgMatches<'_>, name: &str) -> io::Result<u8> {
-    let source = match source_of(rt, name) {
+    let source = match source_of(rt, matches, name) {
         Ok(source) => source,
         Err(error) => return Ok(tell(rt, unread_for(name, &error))),
     };
@@ -85,7 +135,7 @@ fn check_source(rt: &HostRuntime, matches: &ArgMatches<'_>, name: &str) -> io::R
                 ..
             },
         ) => Ok(tell(rt, NO_MEMORY)),
-        Err(fault) => judged(rt, message_of(matches, name, &source, fault)),
+        Err(fault) => judged(rt, message_of(rt, matches, name, &source, fault)),
     }
 }
 
@@ -109,8 +159,18 @@ pub fn explain(rt: &HostRuntime, matches: &ArgMatches<'_>) -> io::Result<u8> {
         let _ = eprintln!(rt; "error: no number or name of a refusal, an error or a limit: {word}");
         return Ok(USAGE);
     }
-    match rt.write_all(text.as_bytes()) {
-        Ok(()) => Ok(0),
-        Err(_) => Ok(tell(rt, unwritten("stdout"))),
-    }
+    Ok(printed(rt, &text))
+}
+
+/// `pli man`.
+pub fn print_man(rt: &HostRuntime) -> io::Result<u8> {
+    let command = command::command(rt.alloc())?;
+    Ok(printed(rt, &man_page(rt.alloc(), &command)?))
+}
+
+/// `pli completions`.
+pub fn print_completions(rt: &HostRuntime, matches: &ArgMatches<'_>) -> io::Result<u8> {
+    let command = command::command(rt.alloc())?;
+    let shell = matches.get_str(command::SHELL).unwrap_or("");
+    Ok(printed(rt, &completions(rt.alloc(), &command, shell)?))
 }

@@ -1,10 +1,10 @@
 // What a run of a source comes to beyond what `pli run` shows of it.
 
-use crate::source_run::compile_and_run;
 use pli_compile::compile::compile;
 use pli_language::condition::Condition;
 use pli_meaning::outcome::{End, Outcome};
 use pli_run::run::RunFault;
+use pli_run::source_run::compile_and_run;
 use std::test::Fail;
 
 const PUT_SUM: &str = "T: PROCEDURE OPTIONS(MAIN); PUT EDIT (1+2) (F(5)); END T;";
@@ -17,7 +17,7 @@ const ASSIGNED: &str =
     "T: PROC OPTIONS(MAIN); DCL (A, B) FIXED BIN(31); A = 1; B = A + 2;\nPUT EDIT (B - -4) (F(5)); END;";
 
 fn ran(rt: &HostRuntime, source: &str, base: u32, bound: u64) -> Result<Outcome, RunFault> {
-    compile_and_run(rt.alloc(), source.as_bytes(), &[], base, bound)
+    compile_and_run(rt.alloc(), source.as_bytes(), base, &[], bound)
 }
 
 #[test]

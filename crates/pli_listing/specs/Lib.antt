@@ -1,1 +1,4 @@
 pub mod Listed
+pub mod Mentions
+pub mod Names
+pub mod Uses

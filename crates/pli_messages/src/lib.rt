@@ -2,6 +2,7 @@
 #![tactic(auto)]
 
 pub mod explain;
+pub mod farthest;
 pub mod message;
 pub mod ordinary;
 pub mod place;

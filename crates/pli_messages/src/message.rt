@@ -1,8 +1,9 @@
 // A refusal of a source, in the words that are asked for.
 
-use crate::ordinary::advice;
+use crate::ordinary::{advice, advice_further};
 use crate::place::{Excerpt, at_column, first_line, from_line};
 use crate::topic::refusal;
+use pli_language::expr::Place;
 use pli_language::fault::{SourceFault, SourceKind};
 use std::fmt;
 
@@ -31,26 +32,66 @@ impl Style {
     }
 }
 
-/// A refusal of a source that stands in a file. Want of memory has no place.
+/// A refusal of a source that stands in a file, and where a statement that isn't spelled can be read no further. Want of
+/// memory has no place.
 #[derive(Clone, Copy, Debug)]
 pub struct Message<'a> {
     pub style: Style,
     pub file: &'a str,
     pub source: &'a [u8],
     pub fault: SourceFault,
+    pub unread: Option<Place>,
 }
 
 impl Message<'_> {
+    // Where the statement can be read no further, where that is behind its first token.
+    fn further(&self) -> Option<Place> {
+        let SourceFault { line, column, .. } = self.fault;
+        match self.unread {
+            Some(place) if place != (Place { line, column }) => Some(place),
+            _ => None,
+        }
+    }
+
+    fn show_further<W: fmt::Write>(&self, f: &mut fmt::Formatter<W>) -> fmt::Result {
+        let Some(Place { line, column }) = self.further() else {
+            return Ok(());
+        };
+        let excerpt = Excerpt {
+            line: first_line(from_line(self.source, line)),
+            column,
+        };
+        write!(
+            f,
+            "\nIt can be read up to {line}:{column}, and not on:\n{excerpt}"
+        )
+    }
+
+    // What to write instead of a form that begins where the source is refused, or where the statement can be read no
+    // further.
+    fn instead(&self) -> Option<&'static str> {
+        let SourceFault { line, column, kind } = self.fault;
+        let rest = from_line(self.source, line);
+        let found = advice(kind, column, at_column(rest, column).1);
+        if found.is_some() {
+            return found;
+        }
+        let Place { line, column } = self.further()?;
+        let rest = from_line(self.source, line);
+        advice_further(first_line(rest), column, at_column(rest, column).1)
+    }
+
     fn explain<W: fmt::Write>(&self, f: &mut fmt::Formatter<W>) -> fmt::Result {
-        let rest = from_line(self.source, self.fault.line);
-        let line = first_line(rest);
-        let column = self.fault.column;
-        let excerpt = Excerpt { line, column };
+        let excerpt = Excerpt {
+            line: first_line(from_line(self.source, self.fault.line)),
+            column: self.fault.column,
+        };
         write!(f, "\n{excerpt}")?;
+        self.show_further(f)?;
         if let Some(topic) = refusal(self.fault.kind) {
             write!(f, "\n{topic}")?;
         }
-        match advice(self.fault.kind, column, at_column(rest, column).1) {
+        match self.instead() {
             Some(instead) => write!(f, "\nInstead: {instead}."),
             None => Ok(()),
         }

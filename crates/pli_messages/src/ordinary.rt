@@ -1,5 +1,6 @@
 // Ordinary PL/I that this language leaves out, and what to write instead.
 
+use crate::place::at_column;
 use pli_language::fault::SourceKind;
 
 /// A form by the word that a refusal of it stands at, a word that the statement has behind it, or none, and what to
@@ -10,7 +11,7 @@ struct Form {
     instead: &'static str,
 }
 
-const FORMS: [Form; 57] = [
+const FORMS: [Form; 69] = [
     Form {
         at: "PUT",
         has: "PAGE",
@@ -287,6 +288,66 @@ const FORMS: [Form; 57] = [
         instead: "STOP",
     },
     Form {
+        at: "LIKE",
+        has: "",
+        instead: "the members written out, as in the other structure",
+    },
+    Form {
+        at: "UNION",
+        has: "",
+        instead: "a structure, or a BASED variable and ADDR",
+    },
+    Form {
+        at: "VALUE",
+        has: "",
+        instead: "a variable with INITIAL",
+    },
+    Form {
+        at: "SQRT",
+        has: "",
+        instead: "a loop of whole numbers",
+    },
+    Form {
+        at: "DATE",
+        has: "",
+        instead: "a line of the input that has it",
+    },
+    Form {
+        at: "TIME",
+        has: "",
+        instead: "a line of the input that has it",
+    },
+    Form {
+        at: "TRIM",
+        has: "",
+        instead: "SUBSTR with VERIFY or LENGTH, or a VARYING variable",
+    },
+    Form {
+        at: "REPEAT",
+        has: "",
+        instead: "a DO loop with ||",
+    },
+    Form {
+        at: "TRANSLATE",
+        has: "",
+        instead: "a DO loop with INDEX and SUBSTR",
+    },
+    Form {
+        at: "DIMENSION",
+        has: "",
+        instead: "DIM",
+    },
+    Form {
+        at: "LINENO",
+        has: "",
+        instead: "a counter of your own",
+    },
+    Form {
+        at: "UNSPEC",
+        has: "",
+        instead: "variables of their own",
+    },
+    Form {
         at: "*",
         has: "PROCESS",
         instead: "nothing: take the line out, there are no options of the compiler",
@@ -378,19 +439,41 @@ fn instead_of_byte(byte: u8) -> Option<&'static str> {
     }
 }
 
+const NO_NUMBERS: &str =
+    "columns 73 to 80 count like all others: --margins 2,72 makes blanks of column 1 and sequence numbers";
+
 /// What to write instead of what was refused at a column, where the rest of the source from there on begins with a
 /// form of ordinary PL/I.
 pub fn advice(kind: SourceKind, column: u32, rest: &[u8]) -> Option<&'static str> {
     match kind {
         SourceKind::BadByte => instead_of_byte(*rest.first()?),
-        SourceKind::Syntax | SourceKind::LeftOut | SourceKind::Undeclared => match instead_of(
-            rest,
-        ) {
-            None if column >= 73 => Some(
-                "columns 73 to 80 are read like all others: take sequence numbers out",
-            ),
-            found => found,
-        },
+        SourceKind::Syntax | SourceKind::LeftOut | SourceKind::Undeclared => {
+            match instead_of(rest) {
+                None if column >= 73 => Some(NO_NUMBERS),
+                found => found,
+            }
+        }
         _ => None,
+    }
+}
+
+/// What to write instead where a statement can be read no further than to the rest of the source from a column of a line
+/// on.
+pub fn advice_further(line: &[u8], column: u32, rest: &[u8]) -> Option<&'static str> {
+    if column >= 73 {
+        return Some(NO_NUMBERS);
+    }
+    let mut words = Words { rest };
+    match (words.take()?, words.take()) {
+        ([b'*'], Some([b')'])) => return Some("the array's name alone, as in A = 0, or a loop"),
+        ([b'.'], _) => return Some("whole numbers, counted in the smallest unit"),
+        _ => {}
+    }
+    let (before, _) = at_column(line, column);
+    match instead_of(rest) {
+        None if before.trim_ascii_start().is_empty() => {
+            Some("a semicolon at the end of the line before")
+        }
+        found => found,
     }
 }

@@ -64,6 +64,17 @@ fn show<W: fmt::Write>(f: &mut fmt::Formatter<W>, bytes: &[u8]) -> fmt::Result {
     Ok(())
 }
 
+/// A line of a source by itself, as an excerpt shows one.
+#[derive(Clone, Copy, Debug)]
+pub struct Shown<'a>(pub &'a [u8]);
+
+impl fmt::Display for Shown<'_> {
+    fn fmt<W: fmt::Write>(&self, f: &mut fmt::Formatter<W>) -> fmt::Result {
+        let line = self.0;
+        show(f, line.split_at(line.len().min(2 * MOST_SHOWN)).0)
+    }
+}
+
 impl fmt::Display for Excerpt<'_> {
     fn fmt<W: fmt::Write>(&self, f: &mut fmt::Formatter<W>) -> fmt::Result {
         let (front, rest) = at_column(self.line, self.column);

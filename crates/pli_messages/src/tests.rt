@@ -2,8 +2,10 @@
 
 use crate::explain::explanation;
 use crate::message::{Message, STYLES, Style};
-use crate::ordinary::advice;
+use crate::ordinary::{advice, advice_further};
+use crate::place::at_column;
 use crate::topic::{ERRORS, REFUSALS};
+use pli_language::expr::Place;
 use pli_language::fault::{SourceFault, SourceKind};
 use std::test::Fail;
 
@@ -19,6 +21,7 @@ fn told(rt: &HostRuntime, style: Style, kind: SourceKind) -> Result<String, Fail
             column: 6,
             kind,
         },
+        unread: None,
     };
     Ok(message.to_string(rt.alloc())?)
 }
@@ -112,6 +115,72 @@ fn words_are_explained(rt: HostRuntime) -> Result<(), Fail> {
     assert!(rt; explanation(rt.alloc(), "NOTHING")?.is_empty());
     for (style, word) in [Style::Short, Style::Long, Style::Gcc].iter().zip(&STYLES) {
         assert!(rt; Style::named(word) == *style);
+    }
+    Ok(())
+}
+
+const UNFINISHED: &str = "T: PROC OPTIONS(MAIN);\nDCL X FIXED\nX = 1;\nEND;\n";
+
+#[test]
+fn it_is_told_how_far_a_statement_can_be_read(rt: HostRuntime) -> Result<(), Fail> {
+    let mut message = Message {
+        style: Style::Long,
+        file: "t.pli",
+        source: UNFINISHED.as_bytes(),
+        fault: SourceFault {
+            line: 2,
+            column: 1,
+            kind: SourceKind::Syntax,
+        },
+        unread: Some(Place { line: 3, column: 1 }),
+    };
+    let told = message.to_string(rt.alloc())?;
+    assert!(rt;
+        told.as_str().starts_with(
+            "2:1: 5 Syntax\nDCL X FIXED\n^\nIt can be read up to 3:1, and not on:\nX = 1;\n^\nUsual cause"
+        )
+    );
+    assert!(rt;
+        told.as_str()
+            .ends_with("\nInstead: a semicolon at the end of the line before.")
+    );
+    message.unread = Some(Place { line: 2, column: 1 });
+    let told = message.to_string(rt.alloc())?;
+    assert!(rt; !told.as_str().contains("It can be read") && !told.as_str().contains("Instead"));
+    Ok(())
+}
+
+#[test]
+fn what_stands_further_on_has_other_words(rt: HostRuntime) -> Result<(), Fail> {
+    for (line, column, wanted) in [
+        (
+            "A(*) = 0;",
+            3,
+            Some("the array's name alone, as in A = 0, or a loop"),
+        ),
+        (
+            "X = 1.5;",
+            6,
+            Some("whole numbers, counted in the smallest unit"),
+        ),
+        (
+            "  Y = 2;",
+            3,
+            Some("a semicolon at the end of the line before"),
+        ),
+        ("X = 1 Y = 2;", 7, None),
+        (
+            "PUT SKIP LIST (X);",
+            10,
+            Some("EDIT with a format: EDIT (X) (F(6))"),
+        ),
+    ] {
+        let (_, rest) = at_column(line.as_bytes(), column);
+        assert_eq!(rt;
+            advice_further(line.as_bytes(), column, rest),
+            wanted,
+            "{line}"
+        );
     }
     Ok(())
 }

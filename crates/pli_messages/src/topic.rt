@@ -1,6 +1,6 @@
 // What is told of a refusal, an error of a run or a limit beyond its line: the usual cause, and what to do.
 
-ghost use Rattle.std.specs.Prelude.{◌≡◌, MatchOption};
+ghost use Rattle.std.specs.Prelude.{◌≡◌, IfSome, MatchOption};
 ghost use Rattle.pli_language.specs.declared.fault.SourceKind.TheVariants.{Memory};
 ghost use Rattle.pli_messages.specs.Numbers.{number_of};
 
@@ -63,6 +63,18 @@ pub fn refusal(kind: SourceKind) -> Option<Topic>
 {
     let number = usize::from(kind as u8);
     REFUSALS.get(number.checked_sub(1)?).copied()
+}
+
+/// What is told of an error of a run by its code; nothing of a code that no error has.
+pub fn error(code: u16) -> Option<Topic>
+    ensures { IfSome result (λ topic. topic.number ≡ code) }
+{
+    ERRORS.iter().find(|topic| topic.number == code).copied()
+}
+
+/// What is told of a limit by its name.
+pub fn limit(name: &str) -> Option<Topic> {
+    LIMITS.iter().find(|topic| topic.name == name).copied()
 }
 
 /// Why a source is refused, by number.
@@ -147,7 +159,7 @@ pub const REFUSALS: [Topic; 20] = [
     Topic {
         number: 12,
         name: "TypeMismatch",
-        cause: "a value that doesn't convert to what its place wants",
+        cause: "a value that doesn't convert to what its place wants; RETURN with a value from a procedure without RETURNS",
         example: "B = 1; for a BIT",
         remedy: "convert it by hand: B = X > 0",
     },
@@ -163,7 +175,7 @@ pub const REFUSALS: [Topic; 20] = [
         name: "BadLabel",
         cause: "GOTO to no label, into a group, or out of an on-unit into a group",
         example: "GOTO L; with L in a DO",
-        remedy: "put the label in a list around",
+        remedy: "put the label in front of the group, behind it, or around it: a GOTO goes on in its own list or in one around",
     },
     Topic {
         number: 15,

@@ -1,2 +1,4 @@
 pub mod Pictures
 pub mod Stepping
+pub mod Answered
+pub mod Filing

@@ -1,2 +1,4 @@
 pub mod Running
 pub mod Reporting
+pub mod Answering
+pub mod Filing

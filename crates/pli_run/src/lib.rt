@@ -1,5 +1,7 @@
-// Runs of images: what a run comes to, and how that is told.
+// Runs of images and of sources: what they come to, and how that is told.
 #![tactic(auto)]
 
+pub mod image_file;
 pub mod report;
 pub mod run;
+pub mod source_run;

@@ -1,0 +1,35 @@
+-- Images in files: what bytes a source is compiled to, and what a run of bytes is promised to show.
+use Rattle.std.specs.Prelude.{ℕ, List, Result, IsErrOf, ◌↔◌}
+use Rattle.pli_meaning.specs.declared.outcome.Outcome.{Outcome}
+use Rattle.rv_meaning.specs.Machine.{IsValidBase}
+use Rattle.rv_meaning.specs.Images.{Image, HasBytes}
+use Rattle.rv_meaning.specs.Tables.{TableSignature}
+use Rattle.pli_meaning.specs.Pictures.{Picture}
+use Rattle.image_runs.specs.Runs.{run_of}
+use Rattle.pli_run.specs.Running.{IsPicture, IsTabled, Tells}
+use Rattle.pli_run.specs.declared.run.RunFault.{RunFault}
+use Rattle.pli_run.specs.declared.run.RunFault.TheVariants as R
+use Rattle.pli_compile.specs.Compiling.{IsImageFor}
+use Rattle.pli_run.specs.Answering.{Answers}
+
+-- the bytes of a source's image
+pub record IsCompiledTo (s : List ℕ) (bytes : List ℕ) : Type 0 where
+  pub image : Image
+  pub compiled : IsImageFor s image
+  pub spelled : HasBytes image bytes
+
+-- what is answered for a run of bytes that are an image's, whatever its code: just what the machine and its services,
+-- which are the definitions', come to
+pub record IsRunOf (bytes input : List ℕ) (base bound : ℕ) (ran : Result Outcome RunFault) : Type 0 where
+  pub image : Image
+  pub spelled : HasBytes image bytes
+  pub picture : Picture
+  pub pictured : IsPicture picture image
+  pub signatures : List TableSignature
+  pub tabled : IsTabled signatures image
+  pub bad_base : IsErrOf ran R.BadBase ↔ ¬ IsValidBase base
+  pub told : IsValidBase base → Tells (run_of picture signatures base input) bound ran
+
+-- and where they are those of a source's image, what is answered for the source
+abbrev pub IsRunFor : (bytes input : List ℕ) → (base bound : ℕ) → Result Outcome RunFault → Type 0
+IsRunFor bytes input base bound ran = (s : List ℕ) → IsCompiledTo s bytes → IsValidBase base → Answers s input base bound ran
