@@ -35,6 +35,12 @@ def changes_of(edit):
     return changes
 
 
+def refusers_of(edit):
+    """The rows and clauses by which a must-fail edit says that it is refused, as names of `prover.names_refused`."""
+    lines = [it.partition(":") for it in read(edit).decode().split("\n")]
+    return {text.strip() for word, _, text in lines if word == "refused-by"}
+
+
 def text_of(folder, file):
     """The text of a file that an edit names."""
     path = os.path.join(folder, file)
@@ -99,6 +105,9 @@ def refused(crate, share, folder, edit):
     why = prover.told(status, said)
     if not why:
         raise Failed(f"BAD EDIT: no contract was tried{prover.reasons(said)}")
+    refusers, names = refusers_of(edit), prover.names_refused(said)
+    if not refusers <= names:
+        raise Failed(f"REFUSED OTHERWISE: by {', '.join(sorted(names))}, not by {', '.join(sorted(refusers - names))}")
     return why[0][:160]
 
 
@@ -126,8 +135,15 @@ def refused_together(crate, share, folder, names):
         status, said = check_edited(crate, share, folder, texts)
     except (Failed, Late):
         return []
-    failed = prover.functions_not_proved(said) if prover.told(status, said) else set()
-    return [name for function, name in functions.items() if function in failed]
+    is_told = prover.told(status, said)
+    return [name for function, name in functions.items() if is_told and refused_as_said(crate, function, name, said)]
+
+
+def refused_as_said(crate, function, name, said):
+    """Whether rt said that the function isn't proved, with each clause by which the edit of it says so."""
+    own = function.removeprefix(f"{crate.name}::") + "::"
+    names = {it for it in prover.names_refused(said) if it.startswith(own)}
+    return function in prover.functions_not_proved(said) and refusers_of(path_of(crate, name)) <= names
 
 
 @contextlib.contextmanager

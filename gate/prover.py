@@ -10,6 +10,7 @@ from gate.report import Late
 STATUS_OF_TIMEOUT = 124
 A_PLACE = r"(note: )?\S+:\d+:\d+:"
 UNREAD = r"is not in scope|has no field|is no name|operand is missing|expected the end|cannot continue"
+NAMELESS = r"is not in scope|has no field|that can be named"
 NO_CALL = r"^(warning: no call of `(?![^`]*::fn::)|note: the search for empty contracts did not end)"
 
 
@@ -53,6 +54,27 @@ def told(status, said):
 def functions_not_proved(said):
     """The functions that rt says aren't proved."""
     return {*re.findall(r"^fn (\S+): (?:not proved|no proof: expected answers)", said, re.M)}
+
+
+def names_refused(said):
+    """What rt says it looked at and didn't prove: rows and lemmas as FILE::NAME, by their file of proofs/, and clauses
+    as FUNCTION::GOAL, by what rt calls the function in its crate and the goal. What only names something that is gone
+    isn't among them."""
+    place = r"^(?:\./)?proofs/(\S+?)(?:/Answers)?\.antt:\d+:\d+: error:"
+    declared = re.findall(place + rf" `([^`]+)`:(?!.*(?:{NAMELESS}))", said, re.M)
+    return {f"{path.replace('/', '::')}::{name}" for path, name in declared} | goals_not_proved(said)
+
+
+def goals_not_proved(said):
+    """The goals that rt's search didn't prove, each noted before what rt says of its function."""
+    goals, names = [], set()
+    for line in said.split("\n"):
+        goals += re.findall(r"^note: src/\S+ it is not proved .*\(`([^`]+)`\)", line)
+        function = re.match(r"fn \w+::(\S+): ", line)
+        if function:
+            names.update(f"{function[1]}::{goal}" for goal in goals)
+            goals = []
+    return names
 
 
 def meets_calls(status, said):

@@ -119,6 +119,13 @@ def prover(folder):
     error, unread = "src/lib.rt:3:5: error: it isn't so", "src/lib.rt:3:5: error: `x` is not in scope"
     of_proof, no = f"proofs{unread[3:]}", "logic=not-proved"
     functions = "fn a::b: not proved\nfn c: proved\nfn d: no proof: expected answers 1"
+    clauses = "\n".join([
+        "./proofs/Rows.antt:1:2: error: `row`: it isn't so", "./proofs/b/c/Answers.antt:1:2: error: `returns`: no",
+        "./proofs/d/Answers.antt:1:2: error: `returns-else`: module `a` has no `b` that can be named from here",
+        "./proofs/Rows.antt:3:1: error: 1 declaration that depends on `row`, which was rejected, was not checked: last",
+        *(f"note: src/c.rt:1:2: it is not proved that it holds (`{it}`); `search` gave up" for it in "xy"),
+        "fn a::c: no proof: expected answers in ./proofs/c/Answers.antt; `search` did not prove `x`, `y`",
+        "fn a::d: no proof: it calls `a::c`, which is not proved"])
     for name, came, wanted in [
             ("a contract that was tried", said.told(1, f"{error}\n{no}"), [error]),
             ("a contract that was tried, with no line", said.told(1, no), [""]),
@@ -126,6 +133,7 @@ def prover(folder):
             ("a proof that wasn't read", said.told(1, f"{of_proof}\n{no}"), [of_proof]),
             ("a check that was killed", said.told(1, error) + said.told(-9, f"{error}\n{no}"), []),
             ("functions", said.functions_not_proved(functions), {"a::b", "d"}),
+            ("clauses", said.names_refused(clauses), {"Rows::row", "b::c::returns", "c::x", "c::y"}),
             ("reasons", said.reasons(f"first\n{error}\nlast\n"), f"\n    {error}"),
             ("reasons with no place", said.reasons("\n".join("abcdefgh")), "".join(f"\n    {it}" for it in "cdefgh")),
             ("contracts that calls can meet", said.meets_calls(0, "warning: no call of `a::fn::b` can"), True),

@@ -70,9 +70,9 @@ def with_limits(*limits):
     return ["python3", "-B", "-c", LOADED, *limits]
 
 
-def edit(old, new, file="src/lib.rt"):
-    """A must-fail edit."""
-    return f"file: {file}\nold: {old}\nnew: {new}\n"
+def edit(old, new, file="src/lib.rt", refuser=None):
+    """A must-fail edit, with what must refuse it where that is said."""
+    return f"file: {file}\nold: {old}\nnew: {new}\n" + (f"refused-by: {refuser}\n" if refuser else "")
 
 
 FILES = {
@@ -83,10 +83,10 @@ FILES = {
     "crates/middle/src/lib.rt": FUNCTIONS,
     "crates/beside/src/lib.rt": f"{FUNCTIONS}\n#[test]\nfn holds() {{}}\n",
     "crates/beside/specs/meaning.antt": "MEANING\n",
-    "crates/beside/must-fail/first.edit": edit("FIRST", "REFUSED"),
+    "crates/beside/must-fail/first.edit": edit("FIRST", "REFUSED", refuser="one::returns"),
     "crates/beside/must-fail/second.edit": edit("SECOND", "REFUSED"),
     "crates/beside/must-fail/third.edit": edit("THIRD", "REFUSED"),
-    "crates/beside/must-fail/meaning.edit": edit("MEANING", "REFUSED", "specs/meaning.antt"),
+    "crates/beside/must-fail/meaning.edit": edit("MEANING", "REFUSED", "specs/meaning.antt", "Rows::row"),
     "crates/pli/src/main.rt": PLI,
     "crates/pli/status": "64\n",
     "crates/pli/stdout": "usage\n",
