@@ -8,3 +8,4 @@ mod Programs
 mod Numbered
 mod LabelTimes
 mod Once
+pub mod DataOnce

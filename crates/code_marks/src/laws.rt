@@ -1,6 +1,7 @@
 // Laws of the symbols that code marks, each of which a function carries.
 
 ghost use Rattle.code_marks.specs.CodeMarks.{ExpressionsMarkNone, StatementsMark, ProgramsMark, MarkedOnce};
+ghost use Rattle.code_marks.specs.CodeData.{DataStand};
 
 /// The code of an expression marks no symbol, whatever is declared around it.
 pub fn expressions_mark_none()
@@ -21,4 +22,9 @@ pub fn programs_mark()
 /// The code of a well-formed tree marks each symbol once at most, so that a jump's place is the one that it means.
 pub fn marked_once()
     ensures { MarkedOnce }
+{}
+
+/// Each datum that code names, whatever the code, has a place behind it.
+pub fn data_stand()
+    ensures { DataStand }
 {}
