@@ -1,4 +1,8 @@
 mod PieceSizes
 mod ReachedSizes
 mod ExpressionSizes
+mod StoringSizes
+mod StreamSizes
+mod EntrySizes
+mod StatementSizes
 mod SizeRows

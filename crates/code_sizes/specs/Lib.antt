@@ -1,1 +1,4 @@
 pub mod ExpressionSizes
+pub mod StoringSizes
+pub mod StreamSizes
+pub mod StatementSizes
