@@ -50,6 +50,9 @@ saved_most : (o : Option ℕ) → size_of (N.saved_if o) ≤ held_of o
 saved_most None = none
 saved_most (Some n) = let m = registers_saved_most u0 0 n in omega (arith, m)
 
+pub few_held : (n : ℕ) → min 7 n ≤ 7
+few_held n = omega arith
+
 copied_most : (n left : ℕ) → size_of (N.display_copied n left) ≤ 3 + 6 * left
 copied_most n zero = store_most frame_register a0 (display n)
 copied_most n (suc left) =

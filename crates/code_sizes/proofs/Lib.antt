@@ -5,4 +5,5 @@ mod StoringSizes
 mod StreamSizes
 mod EntrySizes
 mod StatementSizes
+mod StartSizes
 mod SizeRows

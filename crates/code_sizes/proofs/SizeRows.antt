@@ -1,11 +1,12 @@
 -- Worked sizes of expressions by their nodes.
-use Rattle.std.proofs.Common.{◌≡◌, ℕ, [], ◌∷◌, map, Some, None, true, refl}
+use Rattle.std.proofs.Common.{◌≡◌, ℕ, List, [], ◌∷◌, map, Some, None, true, refl}
 use Rattle.pli_language.specs.Tree as T
 use Rattle.pli_typing.specs.TypedTree as Y
 use Rattle.code_sizes.specs.ExpressionSizes.{number_size, pointer_size, call_size}
 use Rattle.code_sizes.specs.StoringSizes.{allocation_size, freeing_size}
 use Rattle.code_sizes.specs.StreamSizes.{put_size, get_size}
 use Rattle.code_sizes.specs.StatementSizes.{stmt_size}
+use Rattle.code_sizes.specs.StartSizes.{start_size, routine_size}
 
 abbrev constant : Y.Number
 constant = Y.NumberConstant 5
@@ -97,3 +98,23 @@ streams :
     ∷ [])
     ≡ (143 ∷ 206 ∷ 131 ∷ [])
 streams = refl
+
+-- ---- beside procedures
+
+abbrev declared : Y.StorageClass → List Y.Evaluation → Y.DeclaredVariable
+declared class xs = record { class = class; members = []; leaves = []; refer = None; evaluations = xs }
+
+abbrev extent : Y.Evaluation
+extent = record { value = constant; check = Y.LengthCheck }
+
+-- the start with a STATIC and an AUTOMATIC variable, and routines of BASED variables with one extent and with none
+starts :
+    (start_size (record {
+      variables = (declared Y.StaticClass [] ∷ declared Y.AutomaticClass [] ∷ []) ∷ [];
+      procedures = [];
+    })
+    ∷ routine_size 1 (declared Y.BasedClass (extent ∷ [])) (extent ∷ [])
+    ∷ routine_size 1 (declared Y.BasedClass []) []
+    ∷ [])
+    ≡ (29 ∷ 126 ∷ 0 ∷ [])
+starts = refl

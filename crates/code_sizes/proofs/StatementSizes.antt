@@ -1,7 +1,7 @@
 -- The code of a statement has no more words than its nodes take.
 use Rattle.std.proofs.Common.{ℕ, suc, ◌+◌, ◌*◌, ◌≤◌, ◌==◌, List, [], ◌∷◌, ◌++◌, Bool, true, false, arith, ℤ, pos}
 use Rattle.std.proofs.Common.{Option, Some, None, if◌then◌else◌}
-use Rattle.std.specs.Prelude.{min, int_lt}
+use Rattle.std.specs.Prelude.{int_lt}
 use Rattle.pli_language.specs.declared.condition.Condition.{Condition}
 use Rattle.pli_language.specs.declared.condition.Condition.TheVariants as C
 use Rattle.pli_typing.specs.TypedTree as Y
@@ -34,7 +34,7 @@ use Rattle.code_sizes.proofs.StoringSizes.{word_most, top_most, act_most, assign
 use Rattle.code_sizes.proofs.StoringSizes.{aggregate_most, areas_most, allocations_most, freeings_most}
 use Rattle.code_sizes.proofs.StreamSizes.{puts_sized, gets_sized}
 use Rattle.code_sizes.proofs.EntrySizes.{begun_most, ended_most, entered_most, variables_most}
-use Rattle.code_sizes.proofs.EntrySizes.{registers_restored_most}
+use Rattle.code_sizes.proofs.EntrySizes.{few_held, registers_restored_most}
 
 -- ---- an act first
 
@@ -338,9 +338,6 @@ unit_left_most words held few =
     both (service 31) (N.registers_restored 0 held ++ (N.frame_ended words ++ back)) {m = 2} (omega arith)
     (both (N.registers_restored 0 held) _ {m = 21} (omega (arith, more, few))
     (both (N.frame_ended words) back (ended_most words) {n = 4} (omega arith)))
-
-few_held : (n : ℕ) → min 7 n ≤ 7
-few_held n = omega arith
 
 unit_most : (e : Environment) (head : Y.BlockHead) (words held : ℕ) (body : Code) (n : ℕ) → held ≤ 7
     → size_of body ≤ n

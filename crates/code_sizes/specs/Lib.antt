@@ -2,3 +2,4 @@ pub mod ExpressionSizes
 pub mod StoringSizes
 pub mod StreamSizes
 pub mod StatementSizes
+pub mod StartSizes
