@@ -29,7 +29,7 @@ use Rattle.code_sizes.proofs.ReachedSizes.{reached_most, based_most, copied_reac
 
 -- ---- one behind the other, with what waits between
 
-two_most : (a b c : Code) (x y n : ℕ) → size_of a ≤ x → size_of b ≤ y → size_of c ≤ n
+pub two_most : (a b c : Code) (x y n : ℕ) → size_of a ≤ x → size_of b ≤ y → size_of c ≤ n
     → size_of (a ++ (b ++ c)) ≤ x + (y + n)
 two_most a b c x y n h k l = both a (b ++ c) h (both b c k l)
 
@@ -65,7 +65,7 @@ to_offset_most e t n area =
     (both (L.name_offset e a1 (L.located e t area).name) _ (name_most e a1 (L.located e t area).name) {n = 6}
     (omega arith))
 
-standing_most : (o : Option L.NamePlace) (at : L.NamePlace → Code) (otherwise : Code) (n : ℕ)
+pub standing_most : (o : Option L.NamePlace) (at : L.NamePlace → Code) (otherwise : Code) (n : ℕ)
     → ((name : L.NamePlace) → size_of (at name) ≤ n) → size_of otherwise ≤ n
     → size_of (L.where_standing o at otherwise) ≤ n
 standing_most None at otherwise n h k = k
@@ -148,13 +148,13 @@ dimension_most e t v part asked dimension =
 
 -- ---- texts
 
-length_most : (r : Register) (x : Y.Extent) → size_of (L.length_loaded r x) ≤ 3
+pub length_most : (r : Register) (x : Y.Extent) → size_of (L.length_loaded r x) ≤ 3
 length_most r (Y.ConstantExtent z) = let m = constant_most r z in omega (arith, m)
 length_most r Y.StarExtent = load_most r frame_register buffer_size
 length_most r Y.ReferExtent = load_most r frame_register buffer_size
 length_most r (Y.EvaluatedExtent n) = load_most r frame_register buffer_size
 
-kind_most : (type : Y.LeafType) → size_of (L.text_kind type) ≤ 4
+pub kind_most : (type : Y.LeafType) → size_of (L.text_kind type) ≤ 4
 kind_most (Y.CharacterLeaf x) = both (L.length_loaded a1 x) _ (length_most a1 x) {n = 1} (omega arith)
 kind_most (Y.VaryingLeaf x) = both (L.length_loaded a1 x) _ (length_most a1 x) {n = 1} (omega arith)
 kind_most (Y.FixedLeaf p) = none
@@ -163,10 +163,10 @@ kind_most Y.PointerLeaf = none
 kind_most (Y.OffsetLeaf area) = none
 kind_most (Y.AreaLeaf n) = none
 
-address_most : (a : L.Address) → size_of (L.address_offset a) ≤ 6
+pub address_most : (a : L.Address) → size_of (L.address_offset a) ≤ 6
 address_most a = let m = plus_most a0 a0 a.displacement in omega (arith, m)
 
-pushed_most : (type : Y.LeafType) (a : L.Address) → size_of (L.text_pushed type a) ≤ 12
+pub pushed_most : (type : Y.LeafType) (a : L.Address) → size_of (L.text_pushed type a) ≤ 12
 pushed_most type a =
     both (L.address_offset a) _ (address_most a)
     (both (L.text_kind type) (service 20) (kind_most type) {n = 2} (omega arith))
@@ -268,11 +268,11 @@ entered_most e l procedure level texts =
 -- ---- subscripts
 
 -- those that wait
-abbrev given_size : Y.Numbers → ℕ
+abbrev pub given_size : Y.Numbers → ℕ
 given_size Y.NoNumber = 0
 given_size (Y.NumberThen first rest) = (number_size first + 3) + given_size rest
 
-subscripts_split : (xs : Y.Numbers) → given_size xs + (counted_size xs + element_size xs) ≤ subscripts_size xs
+pub subscripts_split : (xs : Y.Numbers) → given_size xs + (counted_size xs + element_size xs) ≤ subscripts_size xs
 subscripts_split Y.NoNumber = omega arith
 subscripts_split (Y.NumberThen first rest) = let more = without rest in omega (arith, more) where
   without : (xs : Y.Numbers) → given_size xs + counted_size xs ≤ subscripts_size xs
@@ -298,7 +298,7 @@ standing_reference_most e name v part xs t h =
 
 -- ---- names in POINTER variables
 
-three_most : (a b c : Code) (x y : ℕ) → size_of a ≤ x → size_of (b ++ c) ≤ y → size_of ((a ++ b) ++ c) ≤ x + y
+pub three_most : (a b c : Code) (x y : ℕ) → size_of a ≤ x → size_of (b ++ c) ≤ y → size_of ((a ++ b) ++ c) ≤ x + y
 three_most a b c x y h k =
     let one = size_append (a ++ b) c in
     let two = size_append a b in
@@ -376,7 +376,7 @@ pointers_most e t equal left right h k =
 -- ---- expressions
 
 mutual
-  number_sized : (e : Environment) (t : Taken) (x : Y.Number) → size_of (X.number_code e t x) ≤ number_size x
+  pub number_sized : (e : Environment) (t : Taken) (x : Y.Number) → size_of (X.number_code e t x) ≤ number_size x
   number_sized e t (Y.NumberConstant n) = number_most a0 n
   number_sized e t (Y.NumberIn r) =
       both (X.reference_code e t r) _ (reference_sized e t r) (loaded_most (X.type_in e r) a0 (X.address_in e r))
@@ -424,7 +424,7 @@ mutual
       (both (A.extreme_code extremum) _ (extreme_most extremum) (extremes_sized e t extremum rest)))) in
       omega (arith, all)
 
-  text_sized : (e : Environment) (t : Taken) (x : Y.Text) → size_of (X.text_code e t x) ≤ text_size x
+  pub text_sized : (e : Environment) (t : Taken) (x : Y.Text) → size_of (X.text_code e t x) ≤ text_size x
   text_sized e t (Y.TextConstant bytes) = constant_pushed_most bytes
   text_sized e t (Y.TextIn r) =
       both (X.reference_code e t r) _ (reference_sized e t r) (pushed_most (X.type_in e r) (X.address_in e r))
@@ -447,7 +447,7 @@ mutual
       (let g = both (fetch a0 t) (small a2 1 ∷ tested_service 23) f {n = 6} (omega arith) in omega (arith, g))))) in
       omega (arith, all)
 
-  bit_sized : (e : Environment) (t : Taken) (x : Y.Bit) → size_of (X.bit_code e t x) ≤ bit_size x
+  pub bit_sized : (e : Environment) (t : Taken) (x : Y.Bit) → size_of (X.bit_code e t x) ≤ bit_size x
   bit_sized e t (Y.BitConstant true) = omega arith
   bit_sized e t (Y.BitConstant false) = omega arith
   bit_sized e t (Y.BitIn r) =
@@ -479,7 +479,7 @@ mutual
       (offset_size left) (offset_size right) 2 (offset_sized e t left) (offset_sized e (with_number t) right)
       (equal_most equal)
 
-  pointer_sized : (e : Environment) (t : Taken) (place : ℤ) (x : Y.Pointer)
+  pub pointer_sized : (e : Environment) (t : Taken) (place : ℤ) (x : Y.Pointer)
       → size_of (X.pointer_to e t place x) ≤ pointer_size x
   pointer_sized e t place Y.NullPointer = null_most place
   pointer_sized e t place (Y.PointerIn (Y.Referring v Y.NotLocated part xs)) =
@@ -505,7 +505,7 @@ mutual
       (both (L.name_offset e a1 (L.located e t area).name) _ (name_most e a1 (L.located e t area).name)
       (both (L.own_place e a2 place) _ (own_most e a2 place) {n = 3} (omega arith)))
 
-  offset_sized : (e : Environment) (t : Taken) (x : Y.Offset) → size_of (X.offset_code e t x) ≤ offset_size x
+  pub offset_sized : (e : Environment) (t : Taken) (x : Y.Offset) → size_of (X.offset_code e t x) ≤ offset_size x
   offset_sized e t Y.NullOffset = omega arith
   offset_sized e t (Y.OffsetIn r) =
       both (X.reference_code e t r) _ (reference_sized e t r) (loaded_most (X.type_in e r) a0 (X.address_in e r))
@@ -518,7 +518,7 @@ mutual
       (both (X.pointer_to e t (L.waiting_name t) x) _ (pointer_sized e t (L.waiting_name t) x)
       (to_offset_most e t (L.FrameName e.level (L.waiting_name t)) area))
 
-  reference_sized : (e : Environment) (t : Taken) (x : Y.Reference)
+  pub reference_sized : (e : Environment) (t : Taken) (x : Y.Reference)
       → size_of (X.reference_code e t x) ≤ reference_size x
   reference_sized e t (Y.Referring v Y.NotLocated part xs) =
       let m = reference_most e v part xs t (L.behind_locator v t) (subscripts_sized e (L.behind_locator v t) xs) in
@@ -532,11 +532,11 @@ mutual
       (both (X.pointer_to e t (L.waiting_name t) p) _ (pointer_sized e t (L.waiting_name t) p)
       (reference_most e v part xs t (L.behind_locator v t) (subscripts_sized e (L.behind_locator v t) xs)))
 
-  locator_sized : (e : Environment) (t : Taken) (l : Y.Locator) → size_of (X.locator_code e t l) ≤ locator_size l
+  pub locator_sized : (e : Environment) (t : Taken) (l : Y.Locator) → size_of (X.locator_code e t l) ≤ locator_size l
   locator_sized e t Y.NotLocated = none
   locator_sized e t (Y.LocatedBy p) = pointer_sized e t (L.waiting_name t) p
 
-  subscripts_sized : (e : Environment) (t : Taken) (xs : Y.Numbers)
+  pub subscripts_sized : (e : Environment) (t : Taken) (xs : Y.Numbers)
       → size_of (X.subscripts_code e t xs) ≤ given_size xs
   subscripts_sized e t Y.NoNumber = none
   subscripts_sized e t (Y.NumberThen first rest) =
@@ -549,7 +549,7 @@ mutual
   asked_sized e t (Y.Referring v locator part subscripts) asked dimension =
       both (X.locator_code e t locator) _ (locator_sized e t locator) (dimension_most e t v part asked dimension)
 
-  call_sized : (e : Environment) (t : Taken) (c : Y.Call) → size_of (X.call_code e t c) ≤ call_size c
+  pub call_sized : (e : Environment) (t : Taken) (c : Y.Call) → size_of (X.call_code e t c) ≤ call_size c
   call_sized e t (Y.Calling procedure level as') =
       let l = X.list_at t as' in
       let split = arguments_split as' in
@@ -582,7 +582,7 @@ mutual
       (both (X.name_to_argument t l n) (X.is_copy l n)
       (copied_most (L.in_own_frame (L.waiting_name t)) (L.in_own_frame (X.argument_place l n 0))) (copy_most l n))
 
-  stored_sized : (e : Environment) (t : Taken) (v : Y.Stored) → size_of (X.stored_code e t v) ≤ stored_size v
+  pub stored_sized : (e : Environment) (t : Taken) (v : Y.Stored) → size_of (X.stored_code e t v) ≤ stored_size v
   stored_sized e t (Y.StoredNumber precision x) =
       both (X.number_code e t x) _ (number_sized e t x) (fitted_most t precision)
   stored_sized e t (Y.StoredText x) = text_sized e t x

@@ -1,4 +1,9 @@
 mod PieceSizes
 mod ReachedSizes
 mod ExpressionSizes
+mod StoringSizes
+mod StreamSizes
+mod EntrySizes
+mod StatementSizes
+mod StartSizes
 mod SizeRows

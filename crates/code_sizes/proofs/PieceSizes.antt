@@ -72,7 +72,7 @@ loaded_most (Y.AreaLeaf n) r a = load_most r a.register a.displacement
 
 -- ---- arithmetic
 
-overflow_most : (t : Taken) → size_of (overflow_raised t) ≤ 10
+pub overflow_most : (t : Taken) → size_of (overflow_raised t) ≤ 10
 overflow_most t =
     both (save a0 t) _ (save_most a0 t)
     (both (raised C.FixedOverflow fixed_overflow_code) (fetch a0 t) {m = 4} (omega arith) (fetch_most a0 t))

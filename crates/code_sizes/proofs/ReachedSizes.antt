@@ -63,7 +63,7 @@ leaf_most e l leaf b r = both (L.leaf_resolved e l leaf b) _ (resolved_most e l 
 
 -- ---- simple numbers
 
-base_most : (e : Environment) (r : Register) (v : Y.Variable) (class : Y.StorageClass)
+pub base_most : (e : Environment) (r : Register) (v : Y.Variable) (class : Y.StorageClass)
     → size_of (L.direct_base e r v class) ≤ 5
 base_most e r v Y.StaticClass = omega arith
 base_most e r v Y.AutomaticClass = let m = frame_found_most e v.level r in omega (arith, m)

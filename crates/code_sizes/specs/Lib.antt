@@ -1,1 +1,5 @@
 pub mod ExpressionSizes
+pub mod StoringSizes
+pub mod StreamSizes
+pub mod StatementSizes
+pub mod StartSizes

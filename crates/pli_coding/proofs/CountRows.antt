@@ -1,5 +1,5 @@
 -- The code of DO with a variable that counts by a constant step, computed.
-use Rattle.std.proofs.Common.{◌≡◌, ℕ, pos, negsuc, [], ◌∷◌, map, Some, None, refl}
+use Rattle.std.proofs.Common.{◌≡◌, ℕ, pos, negsuc, List, [], ◌∷◌, map, Some, None, refl}
 use Rattle.std.specs.Prelude.{ℤ}
 use Rattle.rv_meaning.specs.declared.instr.Instr.TheVariants as I
 use Rattle.rv_meaning.specs.declared.instr.RegisterOp.TheVariants as Op
@@ -14,9 +14,9 @@ use Rattle.pli_coding.specs.Registers as R
 use Rattle.pli_coding.specs.Assembly.{Plain, CallTo, JumpAhead, RaiseCondition, Code, size_of}
 use Rattle.pli_coding.specs.Frames.{MemoryParts}
 use Rattle.pli_coding.specs.Environments.{Environment, none_taken}
-use Rattle.pli_coding.specs.Statements.{constant_step, step_code, step_added, limit_tested}
+use Rattle.pli_coding.specs.Statements.{constant_step, step_code, step_added, limit_tested, turn_of, turns_code}
 use Rattle.pli_coding.specs.Images.{environment_of}
-use Rattle.pli_coding.proofs.RowPieces.{head, procedure, program}
+use Rattle.pli_coding.proofs.RowPieces.{head, procedure, program, automatic, whole}
 
 abbrev number : ℕ → Y.Number
 number n = Y.NumberConstant n
@@ -94,3 +94,19 @@ wide_step_takes_two_words_more :
     ∷ Plain (I.Immediate Imm.Add R.a0 R.far_register (pos 904))
     ∷ raised_unless Test.GreaterOrEqual)
 wide_step_takes_two_words_more = refl
+
+-- ---- a turn
+
+-- the number of each service that code asks for, in order
+abbrev services_in : Code → List ℕ
+services_in [] = []
+services_in (Plain (I.Immediate op rd rs (pos n)) ∷ Plain I.Ecall ∷ is) = n ∷ services_in is
+services_in (i ∷ is) = services_in is
+
+abbrev counter : Y.Counter
+counter = Y.NumberCounter 31 (whole (automatic 1 0 0))
+
+-- DO I = 1 BY 0; END; has an act before each test; the second call of service 1 sets its line alone
+turns_make_acts :
+    services_in (turns_code (turn_of anywhere none_taken counter None (Some (pos 0)) None 7 [])) ≡ (1 ∷ 1 ∷ [])
+turns_make_acts = refl

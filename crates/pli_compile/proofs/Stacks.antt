@@ -1,40 +1,28 @@
 -- Small frames of as many blocks as may be active fit the stacks, with all automatic data.
-use Rattle.std.proofs.Common.{◌≡◌, ℕ, ◌+◌, ◌*◌, ◌≤◌, Bool, true, false, List, [], ◌∷◌, length, refl, sym, subst, arith}
-use Rattle.std.specs.Prelude.{◌&&◌, nat_le, Some, None, Option}
-use Rattle.std.specs.List.{list_all, sum}
+use Rattle.std.proofs.Common.{◌≡◌, ℕ, ◌+◌, ◌*◌, ◌≤◌, List, [], ◌∷◌, length, refl, sym, subst, arith}
+use Rattle.std.specs.Prelude.{Some, None, Option}
+use Rattle.std.specs.List.{sum}
 use Rattle.std.proofs.lemmas.List.Sums.{sum_by-cons}
-use Rattle.std.proofs.lemmas.Bool.Decides.{nat_tests}
 use Rattle.granule_keeper.specs.Granules.{bytes_for, granules}
 use Rattle.pli_typing.specs.Signatures.{footprint, data_size, rounded_up, leaf_bytes, leaves_size, element_count, LeafKind, Fixed, Character, Varying, Bit, Pointer, Offset, Area, Bounds, Leaf}
 use Rattle.pli_meaning.specs.Contents.{Shape}
 use Rattle.pli_frames.specs.Plans.{BlockFrame}
 use Rattle.pli_serving.specs.Arguments.{bytes_taken as data_taken_by, capacity_of_kind, capacity_of_leaves}
-use Rattle.pli_compile.specs.Stacks.{fixed_bytes, most_fixed_bytes, is_small, most_routine_bytes, are_at_most, all_fixed_bytes, IsOneArea, HasOneArea, HaveOneArea, bytes_taken, all_taken, all_counted, StacksFit}
+use Rattle.well_formed_trees.specs.Every.{Every}
+use Rattle.pli_compile.specs.Stacks.{most_fixed_bytes, most_routine_bytes, IsSmall, IsRoutineSmall, all_fixed_bytes, IsOneArea, HasOneArea, HaveOneArea, bytes_taken, all_taken, all_counted, StacksFit}
 
-both : (a b : Bool) → (a && b) ≡ true → (a ≡ true) × (b ≡ true)
-both true b e = (refl, e)
-both false b e = absurd (cc e)
-
-small_is : (n : ℕ) → nat_le n most_fixed_bytes ≡ true → n ≤ 7800
-small_is n e = grind (arith, nat_tests, e)
-
-routine_is : (n : ℕ) → nat_le n most_routine_bytes ≡ true → n ≤ 2600
-routine_is n e = grind (arith, nat_tests, e)
-
-fixed_few : (frames : List BlockFrame) → list_all is_small frames ≡ true → all_fixed_bytes frames ≤ 7800 * length frames
+fixed_few : (frames : List BlockFrame) → Every IsSmall frames → all_fixed_bytes frames ≤ most_fixed_bytes * length frames
 fixed_few [] small = omega arith
 fixed_few (f ∷ fs) small =
-    let s = both (is_small f) (list_all is_small fs) small in
-    let here = small_is (fixed_bytes f) s.0 in
-    let rest = fixed_few fs s.1 in
+    let here = small.0 in
+    let rest = fixed_few fs small.1 in
     omega (arith, here, rest)
 
-routines_few : (ns : List ℕ) → are_at_most most_routine_bytes ns ≡ true → sum ns ≤ 2600 * length ns
+routines_few : (ns : List ℕ) → Every IsRoutineSmall ns → sum ns ≤ most_routine_bytes * length ns
 routines_few [] small = omega arith
 routines_few (n ∷ ns) small =
-    let s = both (nat_le n most_routine_bytes) (are_at_most most_routine_bytes ns) small in
-    let here = routine_is n s.0 in
-    let rest = routines_few ns s.1 in
+    let here = small.0 in
+    let rest = routines_few ns small.1 in
     let all = sum_by-cons (λ x. x) n ns in
     omega (arith, here, rest, all)
 

@@ -42,10 +42,10 @@ pub record IsParsed (s : List ℕ) (count : ℕ) (tree : T.Tree) : Type 0 where
 
 -- ---- images
 
--- the image of a tree's program: just its code, for small frames, which a machine loads
+-- the image of a tree's program: just its code, which a machine loads
 abbrev pub IsTreeCoded : T.Tree → Images.Image → Type 0
 IsTreeCoded tree image =
-    (program : Y.Program) × Resolves tree program × IsCodeOf program image × HasSmallFrames program × Images.IsLoadable image
+    (program : Y.Program) × Resolves tree program × IsCodeOf program image × Images.IsLoadable image
 
 -- the most words of code that so many tokens are compiled to, and so the most that an act costs
 abbrev pub most_words : ℕ → ℕ

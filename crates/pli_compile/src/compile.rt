@@ -10,9 +10,7 @@ ghost use Rattle.pli_typing.specs.TypedStatementView.{program_of};
 ghost use Rattle.pli_declare.specs.ShownBlocks.{block_of};
 ghost use Rattle.rv_program.specs.Generated.{IsCodeOf};
 ghost use Rattle.pli_compile.specs.Compiling.{most_words, IsImageFor, IsRefused, IsTreeCoded};
-ghost use Rattle.pli_compile.specs.Stacks.{HasSmallFrames};
 
-use crate::frames::has_small_frames;
 use crate::parsed::parse_source;
 use pli_declare::Scopes;
 use pli_declaring::declare;
@@ -24,6 +22,7 @@ use pli_tree::resolve;
 use pli_typing::statement::Typed;
 use rv_image::image::Image;
 use rv_program::generate::generate;
+use small_frames::laws::accepted_small;
 use std::alloc::Global;
 
 pub(crate) const OUT_OF_MEMORY: SourceFault = SourceFault {
@@ -58,16 +57,6 @@ fn short(image: Image, tokens: usize) -> Result<Image, SourceFault>
     }
 }
 
-/// That the frames of a program are small. No program is known that has larger ones: that is want of memory.
-fn small(alloc: Global, typed: &Typed) -> Result<(), SourceFault>
-    ensures { MatchResult result (λ _. HasSmallFrames (program_of typed.now)) (λ f. f ≡ want_of_memory) }
-{
-    match has_small_frames(alloc, typed) {
-        Ok(true) => Ok(()),
-        _ => Err(OUT_OF_MEMORY),
-    }
-}
-
 /// The image of the code of a typed program.
 fn coded(alloc: Global, typed: &Typed) -> Result<Image, SourceFault>
     ensures { MatchResult result (λ image. IsCodeOf (program_of typed.now) image) (λ f. f ≡ want_of_memory) }
@@ -84,7 +73,6 @@ fn tree_coded<'a>(alloc: Global, tree: &'a Tree, scopes: &Scopes<'a>) -> Result<
     ensures { MatchResult result (λ image. IsTreeCoded (tree_of tree.now) image) (λ f. (f ≡ want_of_memory) ⊎ IsMistyped (tree_of tree.now) f) }
 {
     let typed = resolve(alloc, tree, scopes)?;
-    small(alloc, &typed)?;
     let image = coded(alloc, &typed)?;
     loads(&image);
     Ok(image)
@@ -101,6 +89,7 @@ pub fn compile(alloc: Global, source: &[u8]) -> Result<Image, SourceFault>
 {
     headline_so_far();
     first_path_proved();
+    accepted_small();
     let parsed = parse_source(alloc, source)?;
     let scopes = declare(alloc, &parsed.tree)?;
     let coded = tree_coded(alloc, &parsed.tree, &scopes)?;

@@ -2,7 +2,6 @@
 #![tactic(auto)]
 
 pub mod compile;
-mod frames;
 pub mod laws;
 pub mod named;
 mod parsed;
