@@ -10,7 +10,7 @@ use Rattle.pli_coding.specs.SignatureTable.{table_of}
 use Rattle.activation_relation.specs.Chains.{UnitPlaces}
 use Rattle.activation_relation.specs.Layers.{Point}
 use Rattle.pli_headline.specs.Headline.{Headline, parts}
-use Rattle.program_runs.specs.Calls.{block_at, body_index, left_over}
+use Rattle.program_runs.specs.Calls.{block_at, body_index, labels_of, left_over}
 use Rattle.program_runs.specs.Procedures.{Procedure}
 use Rattle.program_runs.specs.Programs.{IsWhole, Whole, main_of}
 use Rattle.program_runs.specs.Rows.{row_program}
@@ -63,7 +63,7 @@ pub record Runs (program : Y.Program) (x : Layout) : Type 0 where
       EachDoes
       (block_at (surroundings_of (whole_of program x input acts).image) (linked_code (code_of parts program))
       (main_of (whole_of program x input acts)) (start_point (whole_of program x input acts).image) no_numbers)
-      x.main.body (body_index (main_of (whole_of program x input acts))) left_over
+      (labels_of (main_of (whole_of program x input acts))) x.main.body (body_index (main_of (whole_of program x input acts))) left_over
 
 -- such a program keeps the headline
 abbrev pub HeadlinesKept : Type 0
