@@ -2,7 +2,8 @@
 use Rattle.std.proofs.Common.{◌≡◌, ℕ, zero, suc, ◌+◌, ◌*◌, ◌<◌, ◌≤◌, List, [], ◌∷◌, ◌++◌, Bool, true, false}
 use Rattle.std.proofs.Common.{None, Option, Some, refl, sym, ap, ◌∙◌, subst, arith}
 use Rattle.std.proofs.lemmas.Bool.{eq-eqb}
-use Rattle.std.specs.Prelude.{cond, ◌&&◌, ◌==◌}
+use Rattle.std.specs.Prelude.{cond, ◌&&◌, ◌||◌, ◌==◌}
+use Rattle.pli_language.specs.Keywords.{same_bytes}
 use Rattle.pli_typing.specs.TypedTree as Y
 use Rattle.pli_meaning.specs.Control as F
 use Rattle.pli_meaning.specs.Control.{Flow, Normal, Jump, Return, Paused, Stuck, Label, Meaning, caught, choose}
@@ -54,7 +55,7 @@ none_left k acts index c wanted p numbers f since o few there =
 
 -- ---- since fewer acts
 
-goes_since :
+pub goes_since :
     {k : Block} {acts more index wanted c : ℕ} {f : Family} {v : Services} {s : State} → acts ≤ more →
     GoesOn k more index wanted c f v s → GoesOn k acts index wanted c f v s
 goes_since few o =
@@ -68,7 +69,7 @@ goes_since few o =
       reach = o.reach;
     }
 
-lands_since :
+pub lands_since :
     {k : Block} {labels : List Label} {acts more c : ℕ} {f : Family} {v : Services} {height : ℕ} {label : Label}
     {s : State} → acts ≤ more → LandsAt k labels more c f v height label s → LandsAt k labels acts c f v height label s
 lands_since few o =
@@ -149,10 +150,10 @@ statements_do k labels (Y.StmtThen own first rest) acts index left' c wanted p n
 or_else : (label : Label) (xs ys : List Label) → is_among label (xs ++ ys) ≡ true → is_among label xs ≡ false →
     is_among label ys ≡ true
 or_else label [] ys e f = e
-or_else label (x ∷ xs) ys e f = by (F.is_among label (x ∷ [])) e f (λ a b. or_else label xs ys a b)
+or_else label (x ∷ xs) ys e f = by (same_bytes label x) e f (λ a b. or_else label xs ys a b)
   where
     by :
-        (q : Bool) → cond q true (is_among label (xs ++ ys)) ≡ true → cond q true (is_among label xs) ≡ false →
+        (q : Bool) → q || is_among label (xs ++ ys) ≡ true → q || is_among label xs ≡ false →
         (is_among label (xs ++ ys) ≡ true → is_among label xs ≡ false → is_among label ys ≡ true) →
         is_among label ys ≡ true
     by true e f rest = absurd (cc f)

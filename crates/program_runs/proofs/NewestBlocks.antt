@@ -27,6 +27,7 @@ pub record Newest (k : Block) (p : Point) : Type 0 where
   pub layers : p.control.layers ≡ layer ∷ k.call.point.control.layers
   pub height : activation.height ≡ suc (length k.call.point.state.activations)
   pub level : activation.level ≡ k.call.beginning.layer.level
+  pub own : layer.level ≡ k.call.beginning.layer.level
   pub many : length k.call.point.state.activations ≡ length k.call.point.control.layers
 
 pub newest_at : {k : Block} {numbers : ℕ → ℕ} {p : Point} → IsBegun k → IsAmong k numbers p → Newest k p
@@ -46,6 +47,7 @@ newest_at {k} {p = p} b o =
       layers = layers;
       height = active.0.height;
       level = active.0.level;
+      own = refl;
       many = sym (same_length units as' φs active.1);
     }
 

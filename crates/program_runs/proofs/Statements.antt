@@ -36,8 +36,8 @@ use Rattle.block_runs.specs.Machines.{IsIn, AreIn, acted}
 use Rattle.block_runs.proofs.CallStatements.{comes_map}
 use Rattle.block_runs.proofs.PointActs.{act_comes, stands_acted}
 use Rattle.block_runs.proofs.PointGrounds.{known_in, in_known, point_frame}
-use Rattle.program_runs.specs.Statements.{Block, IsAmong, IsBegun, GoesOn, Does, EachDoes, HasAct, IsOwn, size_in}
-use Rattle.program_runs.specs.Statements.{statement_aims}
+use Rattle.program_runs.specs.Statements.{Block, IsAmong, IsBegun, GoesOn, Does, EachDoes, HasAct, IsOwn, LandsAt}
+use Rattle.program_runs.specs.Statements.{size_in, statement_aims}
 use Rattle.program_runs.proofs.Ends.{end_comes, ended_code, stopped_kind}
 
 -- ---- what is aimed at may be reached later

@@ -1,0 +1,4 @@
+pub mod Values
+pub mod Variables
+pub mod Raises
+pub mod Laws

@@ -1,0 +1,13 @@
+// Laws of the definitions: each function's contract is one law, and calling it does nothing.
+
+ghost use Rattle.expression_runs.specs.Laws.{NumbersDo, OverflowEnds};
+
+/// Constants, variables, sums and differences of numbers leave what they mean in a register, at each point of a block.
+pub fn numbers_do()
+    ensures { NumbersDo }
+{}
+
+/// FIXEDOVERFLOW without a unit in force ends the run.
+pub fn overflow_ends()
+    ensures { OverflowEnds }
+{}
