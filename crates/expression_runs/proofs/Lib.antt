@@ -7,3 +7,5 @@ pub mod Saving
 pub mod Operands
 pub mod Sums
 pub mod Raises
+pub mod AssignedPoints
+pub mod Assignments

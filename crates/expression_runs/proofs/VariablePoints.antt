@@ -64,7 +64,7 @@ outer_load parts units base level m (x ∷ xs) (ψ ∷ ψs) a as' φ φs active 
     let level' = ap (λ (y : Layer). y.level) same in
     outer_found units parts base m x xs ψ ψs level active frames (omega (arith, less, level'))
 
-reaches_by :
+pub reaches_by :
     {k : Block} {numbers : ℕ → ℕ} {p : Point} (level base : ℕ) (h : frame_of k p) → IsBegun k → IsAmong k numbers p →
     IsFrameOf k level base →
     Reaches (level == k.environment.level) level (point_ground k.call.surroundings p h) base
@@ -92,7 +92,7 @@ reaches_by {k} {p = p} level base h begun o (inr outer) =
           ∙ ap (λ i. b.at + i) frames,
     )
 
-place_at : (k : Block) (x : Spot) (is : IsNumber k x) → (is.base + number_place k.environment x) % 4 ≡ 0 →
+pub place_at : (k : Block) (x : Spot) (is : IsNumber k x) → (is.base + number_place k.environment x) % 4 ≡ 0 →
     PlaceFrom is.base (pos (number_place k.environment x)) (is.base + number_place k.environment x)
 place_at k x is even =
     let inside = is.inside in
@@ -121,13 +121,13 @@ generation_is g e f =
     ap (λ s. record { shape = s; extent = g.extent; values = g.values }) e
     ∙ ap (λ z. record { shape = number_shape; extent = z; values = g.values }) f
 
-first_base : Base
+pub first_base : Base
 first_base = record { at = 0; valid = (refl, omega arith) }
 
 -- a number of 31 bits, and the word that tells it wherever memory has what is stored
 pub record NumberAt (k : Block) (x : Spot) (is : IsNumber k x) (p : Point) : Type 0 where
   pub holds : N.Holds p.state x
-  pub serial : holds.serial ≡ is.serial
+  pub here : p.places.at holds.serial + 0 + 0 ≡ is.base + number_place k.environment x
   pub z : ℤ
   pub value : holds.values 0 [] ≡ BasicNumber z
   pub wide : is_of_precision 31 z ≡ true
@@ -142,7 +142,7 @@ pub number_at :
 number_at {k} {p = p} x is begun o f there =
     record {
       holds = holds;
-      serial = refl;
+      here = here;
       z = first.0;
       value = first.1;
       wide = first.2;

@@ -2,3 +2,4 @@ pub mod Values
 pub mod Variables
 pub mod Raises
 pub mod Laws
+pub mod Assignments

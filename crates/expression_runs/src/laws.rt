@@ -1,5 +1,6 @@
 // Laws of the definitions: each function's contract is one law, and calling it does nothing.
 
+ghost use Rattle.expression_runs.specs.Assignments.{AssignmentsDo};
 ghost use Rattle.expression_runs.specs.Laws.{NumbersDo, OverflowEnds};
 
 /// Constants, variables, sums and differences of numbers leave what they mean in a register, at each point of a block.
@@ -10,4 +11,9 @@ pub fn numbers_do()
 /// FIXEDOVERFLOW without a unit in force ends the run.
 pub fn overflow_ends()
     ensures { OverflowEnds }
+{}
+
+/// An assignment to a variable does what it means if its expression does.
+pub fn assignments_do()
+    ensures { AssignmentsDo }
 {}
