@@ -9,3 +9,4 @@ pub mod Sums
 pub mod Raises
 pub mod AssignedPoints
 pub mod Assignments
+pub mod Rows

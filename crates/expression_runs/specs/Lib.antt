@@ -3,3 +3,4 @@ pub mod Variables
 pub mod Raises
 pub mod Laws
 pub mod Assignments
+pub mod Rows

@@ -2,6 +2,9 @@
 
 ghost use Rattle.expression_runs.specs.Assignments.{AssignmentsDo};
 ghost use Rattle.expression_runs.specs.Laws.{NumbersDo, OverflowEnds};
+ghost use Rattle.expression_runs.specs.Rows.{DoubleRan};
+
+use granule_keeper::laws::granules_keep;
 
 /// Constants, variables, sums and differences of numbers leave what they mean in a register, at each point of a block.
 pub fn numbers_do()
@@ -17,3 +20,10 @@ pub fn overflow_ends()
 pub fn assignments_do()
     ensures { AssignmentsDo }
 {}
+
+/// A worked row: a variable that is doubled in a loop by GOTO, until it overflows.
+pub fn double_ran()
+    ensures { DoubleRan }
+{
+    granules_keep();
+}

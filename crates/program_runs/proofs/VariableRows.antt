@@ -85,7 +85,7 @@ body_linked =
 
 -- ---- its table
 
-differs_alone : (ts : List Template) (t : Template) → ts ≡ t ∷ [] → same_template t t ≡ true → AllDiffer ts
+pub differs_alone : (ts : List Template) (t : Template) → ts ≡ t ∷ [] → same_template t t ≡ true → AllDiffer ts
 differs_alone ts t is same = subst AllDiffer (sym is) alone
   where
     alone : AllDiffer (t ∷ [])
@@ -101,7 +101,7 @@ one_differs = differs_alone (map template_of (table_of number_program)) _ refl r
 
 -- ---- its variable
 
-number_valued : IsValued (generation_for number_declared)
+pub number_valued : IsValued (generation_for number_declared)
 number_valued leaf is less within = by_leaf leaf is less
   where
     by_leaf :
