@@ -13,4 +13,5 @@ pub mod PointSteps
 pub mod Returning
 pub mod Rows
 pub mod BlockVariables
+pub mod Remaining
 pub mod BeginningCode

@@ -15,15 +15,26 @@ use Rattle.activation_relation.specs.Changes.{popped, popped_from}
 use Rattle.activation_relation.specs.Entering.{Later, GoesBelow, HoldsBefore, BlockEnd}
 use Rattle.activation_relation.specs.FrameLaws.{restored}
 use Rattle.activation_relation.specs.Frames.{FramesStand, AreLaid, place_from}
-use Rattle.activation_relation.specs.Landing.{Resumes}
+use Rattle.activation_relation.specs.Chains.{AreActive}
+use Rattle.activation_relation.specs.Landing.{Resumes, resumed, with_units}
+use Rattle.activation_relation.specs.Remaining.{Remains}
 use Rattle.activation_relation.specs.Points.{Surroundings, Stands, IsAt}
 use Rattle.activation_relation.proofs.Blocks.{newest_of}
 use Rattle.activation_relation.proofs.PointSteps.{left_memory}
+use Rattle.activation_relation.proofs.Remaining.{remains_left, remains_same, remains_then}
 use Rattle.activation_relation.proofs.Unwinding.{activations_ended, kept_behind}
 use Rattle.activation_relation.proofs.WaitingWords.{back_found, top_found, registers_back}
 
 pub later_same : (p : Point) → Later p p
-later_same p = record { activations = refl; layers = refl; edits = refl; waiting = refl; acts = omega arith }
+later_same p =
+    record {
+      activations = refl;
+      layers = refl;
+      edits = refl;
+      waiting = refl;
+      acts = omega arith;
+      remains = remains_same p;
+    }
 
 pub later_then : (p q r : Point) → Later p q → Later q r → Later p r
 later_then p q r a b =
@@ -35,15 +46,28 @@ later_then p q r a b =
       edits = b.edits ∙ a.edits;
       waiting = b.waiting ∙ a.waiting;
       acts = omega (arith, m, n);
+      remains = remains_then p q r a.remains b.remains;
     }
 
+-- the newest block has the height above those below it
+newest_height_is :
+    (w : Surroundings) (q : Point) (acts : ℕ) (a : Activation) (as' : List Activation) (φ : Layer) (φs : List Layer) →
+    (r : Resumes w acts a as' φ φs q) → (with_units r.own a).height ≡ length as' + 1
+newest_height_is w q acts a as' φ φs r =
+    let active = subst (λ xs. AreActive w.units xs (resumed r.changed φ ∷ φs)) r.activations
+    (subst (λ ls. AreActive w.units q.state.activations ls) r.layers r.stands.active) in
+    let height = active.0.height in
+    omega (arith, height)
+
 pub left_later :
-    (w : Surroundings) (p q : Point) (acts : ℕ) (a : Activation) (φ : Layer) (kept : List S.Entry) →
-    p.state.world.acts ≤ acts → φ.edits ≡ p.control.edits → p.control.waiting ≡ None →
+    (w : Surroundings) (p q : Point) (acts : ℕ) (a : Activation) (φ : Layer) (kept : List S.Entry) → Stands w p →
+    p.state.world.acts ≤ acts → φ.edits ≡ p.control.edits → p.control.waiting ≡ None → Remains p q →
     Resumes w acts a p.state.activations φ p.control.layers q → Later p (popped kept q)
-left_later w p q acts a φ kept few edits idle r =
-    subst (λ ls. Later p (popped_from kept ls q)) (sym r.layers)
-    (let k = ap (λ (x : World). x.acts) (kept_behind 1 q.state).world in
+left_later w p q acts a φ kept stands few edits idle remains r =
+    let left' = remains_left p q (with_units r.own a) p.state.activations kept remains r.activations stands.low
+    (newest_height_is w q acts a p.state.activations φ p.control.layers r) in
+    subst (λ ls. Remains p (popped_from kept ls q) → Later p (popped_from kept ls q)) (sym r.layers)
+    (λ remains'. let k = ap (λ (x : World). x.acts) (kept_behind 1 q.state).world in
     let m = r.more in
     record {
       activations = activations_ended 1 q.state ∙ ap (drop 1) r.activations;
@@ -51,7 +75,9 @@ left_later w p q acts a φ kept few edits idle r =
       edits = edits;
       waiting = r.idle ∙ sym idle;
       acts = omega (arith, few, k, m);
+      remains = remains';
     })
+    left'
 
 pub left_entries :
     (w : Surroundings) (q : Point) (acts : ℕ) (a : Activation) (as' : List Activation) (φ : Layer)

@@ -18,17 +18,19 @@ use Rattle.activation_relation.specs.Frames.{place_from, frame_start}
 use Rattle.activation_relation.specs.Landing.{Jumps, Returns, Lands, Resumes}
 use Rattle.activation_relation.specs.Chains.{frame_at}
 use Rattle.activation_relation.specs.Points.{Surroundings, Stands, Machines, IsAt, AreAt}
+use Rattle.activation_relation.specs.Remaining.{Remains}
 
 -- ---- later points
 
--- blocks that were entered in between have been left, and places in format lists are as they were; storage may have
--- changed
+-- blocks that were entered in between have been left, and places in format lists are as they were; what lived lives on
+-- in its place, whatever came of its values
 pub record Later (p q : Point) : Type 0 where
   pub activations : q.state.activations ≡ p.state.activations
   pub layers : q.control.layers ≡ p.control.layers
   pub edits : q.control.edits ≡ p.control.edits
   pub waiting : q.control.waiting ≡ p.control.waiting
   pub acts : p.state.world.acts ≤ q.state.world.acts
+  pub remains : Remains p q
 
 -- ---- the end of a block
 
@@ -111,10 +113,10 @@ pub record Enters (w : Surroundings) (comes : Comes) (given : Entry → Point �
 pub record BlocksReturn : Type 0 where
   pub same : (p : Point) → Later p p
   pub then' : (p q r : Point) → Later p q → Later q r → Later p r
-  -- a block that was entered at a point and ends has left all but storage as it was
+  -- a block that was entered at a point and ends has left all but values as it was
   pub later :
-      (w : Surroundings) (p q : Point) (acts : ℕ) (a : Activation) (φ : Layer) (kept : List S.Entry) →
-      p.state.world.acts ≤ acts → φ.edits ≡ p.control.edits → p.control.waiting ≡ None →
+      (w : Surroundings) (p q : Point) (acts : ℕ) (a : Activation) (φ : Layer) (kept : List S.Entry) → Stands w p →
+      p.state.world.acts ≤ acts → φ.edits ≡ p.control.edits → p.control.waiting ≡ None → Remains p q →
       Resumes w acts a p.state.activations φ p.control.layers q → Later p (popped kept q)
   pub entries :
       (w : Surroundings) (q : Point) (acts : ℕ) (a : Activation) (as' : List Activation) (φ : Layer)

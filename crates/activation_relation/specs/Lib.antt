@@ -14,3 +14,4 @@ pub mod LandingLaws
 pub mod Rows
 pub mod Variables
 pub mod CodeStores
+pub mod Remaining

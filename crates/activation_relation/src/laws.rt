@@ -10,6 +10,7 @@ ghost use Rattle.activation_relation.specs.Entering.{BlocksReturn};
 ghost use Rattle.activation_relation.specs.Rows.{RunsBegin, UnitRuns};
 ghost use Rattle.activation_relation.specs.Variables.{VariablesBegin};
 ghost use Rattle.activation_relation.specs.CodeStores.{CodeStores};
+ghost use Rattle.activation_relation.specs.Remaining.{StorageRemains};
 
 /// Service 1 makes an act, or tells a line.
 pub fn acts_served()
@@ -104,4 +105,9 @@ pub fn variables_begin()
 /// The stores of a block's beginning are those of its code, and its end loads the registers that it saved.
 pub fn code_stores()
     ensures { CodeStores }
+{}
+
+/// What lives at a point lives at a later one, in its place, with its owner and its shape.
+pub fn storage_remains()
+    ensures { StorageRemains }
 {}

@@ -24,6 +24,8 @@ use Rattle.program_runs.proofs.Programs.{program_runs}
 use Rattle.program_runs.proofs.Rows.{main_each, row_is}
 use Rattle.program_runs.proofs.Starts.{first_step_of}
 use Rattle.program_runs.proofs.VariableRows.{number_each, number_end, number_is}
+use Rattle.expression_runs.specs.Rows.{double_entry, double_environment, double_main, double_program}
+use Rattle.expression_runs.proofs.Rows.{double_each, double_finish, double_is}
 use Rattle.block_headlines.specs.Headlines.{HeadlinesOfRows, Layout, Runs, whole_of}
 
 comes :
@@ -91,6 +93,30 @@ number_layout =
       made = newest_made parts number_declared;
     }
 
+double_fits : FitsMemory (picture_of parts double_program)
+double_fits = small_fits double_program (omega arith) (omega arith)
+
+abbrev double_layout : Layout
+double_layout =
+    record {
+      main = double_main;
+      others = [];
+      environment = double_environment;
+      entry = double_entry;
+      end = double_finish;
+      units = [];
+      made = newest_made parts number_declared;
+    }
+
+double_program_runs : Runs double_program double_layout
+double_program_runs =
+    record {
+      whole = λ input acts few.
+          double_is input (first_bytes (picture_of parts double_program)) acts few
+          (first_length (picture_of parts double_program) double_fits);
+      each = λ input acts few b. double_each input acts few b;
+    }
+
 row_runs : Runs row_program row_layout
 row_runs =
     record {
@@ -114,4 +140,5 @@ rows_kept laws keeps =
     record {
       calling = kept laws keeps row_program row_layout row_runs;
       number = kept laws keeps number_program number_layout number_runs;
+      doubling = kept laws keeps double_program double_layout double_program_runs;
     }

@@ -10,11 +10,12 @@ use Rattle.pli_coding.specs.SignatureTable.{table_of}
 use Rattle.activation_relation.specs.Chains.{UnitPlaces}
 use Rattle.activation_relation.specs.Layers.{Point}
 use Rattle.pli_headline.specs.Headline.{Headline, parts}
-use Rattle.program_runs.specs.Calls.{block_at, body_index, left_over}
+use Rattle.program_runs.specs.Calls.{block_at, body_index, labels_of, left_over}
 use Rattle.program_runs.specs.Procedures.{Procedure}
 use Rattle.program_runs.specs.Programs.{IsWhole, Whole, main_of}
 use Rattle.program_runs.specs.Rows.{row_program}
 use Rattle.program_runs.specs.VariableRows.{number_program}
+use Rattle.expression_runs.specs.Rows.{double_program}
 use Rattle.program_runs.specs.Starts.{no_numbers, start_point, surroundings_of}
 use Rattle.program_runs.specs.Statements.{EachDoes, IsBegun}
 
@@ -63,7 +64,8 @@ pub record Runs (program : Y.Program) (x : Layout) : Type 0 where
       EachDoes
       (block_at (surroundings_of (whole_of program x input acts).image) (linked_code (code_of parts program))
       (main_of (whole_of program x input acts)) (start_point (whole_of program x input acts).image) no_numbers)
-      x.main.body (body_index (main_of (whole_of program x input acts))) left_over
+      (labels_of (main_of (whole_of program x input acts))) x.main.body
+      (body_index (main_of (whole_of program x input acts))) left_over
 
 -- such a program keeps the headline
 abbrev pub HeadlinesKept : Type 0
@@ -74,3 +76,4 @@ HeadlinesKept =
 pub record HeadlinesOfRows : Type 0 where
   pub calling : Headline row_program (picture_of parts row_program) (table_of row_program)
   pub number : Headline number_program (picture_of parts number_program) (table_of number_program)
+  pub doubling : Headline double_program (picture_of parts double_program) (table_of double_program)

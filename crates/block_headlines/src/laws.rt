@@ -15,7 +15,8 @@ pub fn headlines_kept()
     granules_keep();
 }
 
-/// A main procedure that calls a procedure inside it keeps the headline, and so does one with a variable.
+/// A main procedure that calls a procedure inside it keeps the headline, and so do one with a variable, and one that
+/// doubles it in a loop by GOTO until it overflows.
 pub fn headlines_of_rows()
     ensures { HeadlinesOfRows }
 {

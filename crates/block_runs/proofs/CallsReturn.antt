@@ -110,6 +110,7 @@ behind_closed k wanted =
         image = o.image;
         later = o.later;
         entries = o.entries;
+        line = o.line;
         state = o.state;
         given = o.given;
         result = o.result;
@@ -139,9 +140,10 @@ at_end_owing k left' wanted c f v r s h o =
       stands = known.0;
       image = known.1;
       later = left_later k.surroundings k.point o.point k.point.state.world.acts o.activation k.beginning.layer []
-          (omega arith) h.beginning.next.edits (idle k h) o.resumes;
+          h.stands (omega arith) h.beginning.next.edits (idle k h) o.remains o.resumes;
       entries = left_entries k.surroundings o.point k.point.state.world.acts o.activation k.point.state.activations
           k.beginning.layer k.point.control.layers [] o.resumes;
+      line = ap (λ ls. (popped_from [] ls o.point).control.line) o.resumes.layers;
       state = ended_state k left' c f v r s o;
       given = o.given;
       result = o.result;

@@ -17,6 +17,7 @@ use Rattle.activation_relation.specs.Entering.{Later}
 use Rattle.activation_relation.specs.Landing.{Resumes}
 use Rattle.activation_relation.specs.Layers.{Point, services_of}
 use Rattle.activation_relation.specs.Points.{Surroundings, Stands}
+use Rattle.activation_relation.specs.Remaining.{Remains}
 use Rattle.block_runs.specs.Beginnings.{Beginning, IsBeginning, IsCalling, CallStands, begun_point, beginning_code}
 use Rattle.block_runs.specs.Endings.{IsWord, HasGiven, ending_code}
 use Rattle.block_runs.specs.Machines.{IsImage, IsIn, AreIn}
@@ -64,6 +65,8 @@ pub record AtEnd (k : Called) (left' credits : ℕ) (f : Family) (v : Services) 
         Resumes k.surroundings k.point.state.world.acts activation k.point.state.activations k.beginning.layer
         k.point.control.layers point
     pub image : IsImage k.surroundings k.code point
+    -- what lived where it was called lives on
+    pub remains : Remains k.point point
     pub others : (n : ℕ) → k.beginning.layer.saved ≤ n → after n ≡ k.numbers n
     pub state : s ≡ point.state
     pub given : ℕ
@@ -91,6 +94,8 @@ pub record IsBehind (k : Called) (wanted credits : ℕ) (f : Family) (v : Servic
   pub later : Later k.point point
   -- the stack of texts is that which stood below the call
   pub entries : point.control.entries ≡ k.beginning.layer.entries
+  -- and the line is that of the call
+  pub line : point.control.line ≡ k.beginning.layer.line
   pub state : s ≡ point.state
   pub given : ℕ
   pub result : IsResult k.function r given

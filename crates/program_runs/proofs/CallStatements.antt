@@ -5,7 +5,7 @@ use Rattle.std.proofs.lemmas.Bool.{eq-eqb}
 use Rattle.std.specs.Prelude.{cond, nat_lt, ◌==◌}
 use Rattle.pli_typing.specs.TypedTree as Y
 use Rattle.pli_meaning.specs.BasicValues.{BasicValue}
-use Rattle.pli_meaning.specs.Control.{Meaning, act, give, looked, ◌>>=◌, ◌>>◌}
+use Rattle.pli_meaning.specs.Control.{Label, Meaning, act, give, looked, ◌>>=◌, ◌>>◌}
 use Rattle.pli_meaning.specs.Evaluating as V
 use Rattle.pli_meaning.specs.Executing as M
 use Rattle.pli_meaning.specs.Executing.{begun}
@@ -33,51 +33,15 @@ use Rattle.block_runs.specs.CallStatements.{CallStatement}
 use Rattle.block_runs.specs.Machines.{IsIn, AreIn, acted}
 use Rattle.block_runs.proofs.CallStatements.{comes_map, arguments_given, own_code, given_code, call_code_of}
 use Rattle.block_runs.proofs.PointActs.{act_comes}
-use Rattle.program_runs.specs.Calls.{AreMade, Callee, IsCall, called_at, block_at, body_index, left_over, call_of}
+use Rattle.program_runs.specs.Calls.{AreMade, Callee, IsCall, called_at, block_at, body_index, call_of, labels_of}
+use Rattle.program_runs.specs.Calls.{left_over}
 use Rattle.program_runs.specs.Procedures.{HasRoom, beginning_for, block_of, frame_for}
 use Rattle.program_runs.specs.Statements.{Block, IsAmong, IsBegun, GoesOn, Does, EachDoes, size_in, statement_aims}
 use Rattle.program_runs.proofs.Calls.{procedure_runs}
+use Rattle.program_runs.proofs.NewestBlocks.{Newest, newest_ancestor, newest_at}
 use Rattle.program_runs.proofs.Statements.{acted_among, statement_closed}
 
 -- ---- the running block is the static parent
-
-newest_ancestor :
-    (a : Activation) (as' : List Activation) (level : ℕ) → a.level ≡ level →
-    height_of (ancestor (a ∷ as') a.height level) ≡ a.height
-newest_ancestor a as' level e =
-    ap (λ q. height_of (cond q (cond (a.level == level) (Some a) (ancestor as' a.parent level))
-    (ancestor as' a.height level))) (eq-eqb a.height a.height refl)
-    ∙ ap (λ q. height_of (cond q (Some a) (ancestor as' a.parent level))) (eq-eqb a.level level e)
-
--- the newest activation, with the layers beside it
-pub record Newest (k : Block) (p : Point) : Type 0 where
-  pub activation : Activation
-  pub layer : Layer
-  pub active : p.state.activations ≡ activation ∷ k.call.point.state.activations
-  pub layers : p.control.layers ≡ layer ∷ k.call.point.control.layers
-  pub height : activation.height ≡ suc (length k.call.point.state.activations)
-  pub level : activation.level ≡ k.call.beginning.layer.level
-  pub many : length k.call.point.state.activations ≡ length k.call.point.control.layers
-
-newest_at : {k : Block} {numbers : ℕ → ℕ} {p : Point} → IsBegun k → IsAmong k numbers p → Newest k p
-newest_at {k} {p = p} b o =
-    let r = b.resumes in
-    let units = k.call.surroundings.units in
-    let as' = k.call.point.state.activations in
-    let φs = k.call.point.control.layers in
-    let layers = o.later.layers ∙ r.layers in
-    let activations = o.later.activations ∙ r.activations in
-    let active = subst (λ xs. AreActive units xs (resumed r.changed k.call.beginning.layer ∷ φs)) activations
-    (subst (λ ls. AreActive units p.state.activations ls) layers o.stands.active) in
-    record {
-      activation = with_units r.own b.activation;
-      layer = resumed r.changed k.call.beginning.layer;
-      active = activations;
-      layers = layers;
-      height = active.0.height;
-      level = active.0.level;
-      many = sym (same_length units as' φs active.1);
-    }
 
 parent_height :
     {k : Block} {c : Callee} {line index more : ℕ} {p : Point} → IsCall k c line index more → Newest k p →
@@ -158,12 +122,14 @@ behind_call r = give tt
 
 -- behind the call its block goes on
 behind_goes :
-    {k : Block} {c : Callee} {line index more wanted credits : ℕ} {numbers : ℕ → ℕ} {p : Point} {f : Family}
+    {k : Block} {c : Callee} {acts line index more wanted credits : ℕ} {numbers : ℕ → ℕ} {p : Point} {f : Family}
     {r : Option BasicValue} {s : State} {v : _} (h : IsCall k c line index more) (o : IsAmong k numbers p) →
+    acts ≤ p.state.world.acts →
     IsBehind (called_at k.call.surroundings k.call.code c p numbers) wanted credits f v r s →
-    GoesOn k (index + size_in k (call_of k c line)) wanted credits f v s
-behind_goes {k} {numbers = numbers} {p = p} h o q =
+    GoesOn k acts (index + size_in k (call_of k c line)) wanted credits f v s
+behind_goes {k} {numbers = numbers} {p = p} h o since q =
     let w = k.call.surroundings in
+    let more = q.later.acts in
     record {
       point = q.point;
       numbers = numbers;
@@ -175,16 +141,18 @@ behind_goes {k} {numbers = numbers} {p = p} h o q =
         others = o.others;
         words = o.words;
       };
+      since = omega (arith, since, more);
       state = q.state;
       reach = reach_map _ q.reach (λ b y is. subst (λ n. IsIn w q.point numbers n b y) h.call is.0);
     }
 
 call_goes :
-    (k : Block) (c : Callee) (line index left' more : ℕ) (h : IsCall k c line index more) (p : Point)
-    (numbers : ℕ → ℕ) (wanted : ℕ) (f : Family) (o : IsAmong k numbers p) → IsBegun k →
-    AreMade k.call.surroundings k.call.code c p numbers →
+    (k : Block) (c : Callee) (labels : List Label) (acts line index left' more : ℕ) (h : IsCall k c line index more)
+    (p : Point) (numbers : ℕ → ℕ) (wanted : ℕ) (f : Family) (o : IsAmong k numbers p) → IsBegun k →
+    acts ≤ p.state.world.acts → AreMade k.call.surroundings k.call.code c p numbers →
     (IsBegun (block_at k.call.surroundings k.call.code c p numbers) →
-    EachDoes (block_at k.call.surroundings k.call.code c p numbers) c.procedure.body (body_index c) left_over) →
+    EachDoes (block_at k.call.surroundings k.call.code c p numbers) (labels_of c) c.procedure.body (body_index c)
+    left_over) →
     Linked k.call.surroundings.links k.call.code (index + size_of (act_code line))
     (given_code (statement_at k c line index p numbers) ++ call_code_of (statement_at k c line index p numbers)) →
     size_in k (call_of k c line)
@@ -193,12 +161,12 @@ call_goes :
     ++ call_code_of (statement_at k c line index p numbers)) →
     AreIn k.call.surroundings p numbers (index + size_of (act_code line)) f →
     Comes k.call.code 0 f (services_of p)
-    (before k.call.code (statement_aims k (index + size_in k (call_of k c line)) wanted left') k.call.surroundings.acts
-    behind_call)
+    (before k.call.code (statement_aims k labels acts (index + size_in k (call_of k c line)) wanted left')
+    k.call.surroundings.acts behind_call)
     (M.block_run c.around (block_of c.procedure) (begun (block_of c.procedure) c.calling.parent)
     k.call.surroundings.acts p.state)
 unfolding give
-call_goes k c line index left' more h p numbers wanted f o b made' each l size there =
+call_goes k c labels acts line index left' more h p numbers wanted f o b since made' each l size there =
     let w = k.call.surroundings in
     let z = statement_at k c line index p numbers in
     let given' = given_code z in
@@ -207,21 +175,25 @@ call_goes k c line index left' more h p numbers wanted f o b made' each l size t
     let inside = l.inside in
     let proc = h.callee.stands.inside in
     let at_call = h.call in
-    let aims = statement_aims k (index + size_in k (call_of k c line)) wanted left' in
+    let aims = statement_aims k labels acts (index + size_in k (call_of k c line)) wanted left' in
+    let enough = h.enough in
+    let turns = ap (λ (a : Around). a.turns) h.around in
+    let later = o.later.acts in
     let flow = M.block_run c.around (block_of c.procedure) (begun (block_of c.procedure) c.calling.parent) w.acts
     p.state in
-    let closed = statement_closed k (index + size_in k (call_of k c line)) wanted left' in
+    let closed = statement_closed k labels acts (index + size_in k (call_of k c line)) wanted left' in
     onward (before_closed w.acts behind_call closed)
     (arguments_given z p numbers (index + size_of (act_code line)) 0 f o.stands o.image (omega arith, refl)
     (parent_frame h (newest_at b o)) (front_of given' call l) there)
     (λ g at.
     comes_map (behind_aims (called_at w k.call.code c p numbers) wanted)
     (before k.call.code aims w.acts behind_call) flow
-    (λ c' f' v' r s q. record { to = behind_goes h o q })
+    (λ c' f' v' r s q. record { to = behind_goes h o since q })
     (λ c' f' v' height label s q. absurd q)
     (λ c' f' v' r s q. absurd q)
     (procedure_runs w k.call.code c p numbers (0 + size_of given') wanted g (o.stands, o.image)
-    (h.callee, room_among h o) made' o.words each (omega (arith, n, inside, proc))
+    (h.callee, room_among h o) made' o.words each (omega (arith, enough, turns, later))
+    (omega (arith, n, inside, proc))
     (λ b. subst (λ j. IsIn w p numbers j b (g b)) (omega (arith, n, size, at_call)) (at b).0)
     (λ b. (at b).1)))
 
@@ -231,10 +203,10 @@ pub call_does :
     AreMade k.call.surroundings k.call.code c p numbers) →
     ((p : Point) (numbers : ℕ → ℕ) → IsAmong k numbers p →
     IsBegun (block_at k.call.surroundings k.call.code c p numbers) →
-    EachDoes (block_at k.call.surroundings k.call.code c p numbers) c.procedure.body (body_index c) left_over) →
-    IsBegun k → Does k (call_of k c line) index left'
+    EachDoes (block_at k.call.surroundings k.call.code c p numbers) (labels_of c) c.procedure.body (body_index c)
+    left_over) → IsBegun k → (labels : List Label) → Does k labels (call_of k c line) index left'
 unfolding M.statement ◌>>=◌ ◌>>◌
-call_does k c line index left' more h made' each b p numbers credits wanted f o paid there =
+call_does k c line index left' more h made' each b labels p numbers credits wanted f o paid there =
     let w = k.call.surroundings in
     let p' = acted line p in
     let z = statement_at k c line index p' numbers in
@@ -246,7 +218,8 @@ call_does k c line index left' more h made' each b p numbers credits wanted f o 
     let size = ap (λ u. size_of u) (own_code z) in
     let tree = Y.Calling c.procedure.head.number k.environment.level Y.NoArgument in
     let tail : Unit {0} → Meaning (Unit {0}) = λ u. V.called (at_line k.around line) tree >> give tt in
-    let closed = statement_closed k (index + size_in k (call_of k c line)) wanted left' in
+    let acts = p.state.world.acts in
+    let closed = statement_closed k labels acts (index + size_in k (call_of k c line)) wanted left' in
     comes_on w.acts (act counted w.acts p.state) tail
     (act_comes (before_closed w.acts tail closed) line credits 0 f (o.stands, o.image)
     (h.line_fits, h.callee.acts, omega (arith, paid, n0, size)) (front_of one (given' ++ call) l) there
@@ -254,7 +227,9 @@ call_does k c line index left' more h made' each b p numbers credits wanted f o 
     let o' = acted_among line o less in
     comes_on w.acts (V.called (at_line k.around line) tree w.acts p'.state) behind_call
     (subst (Comes k.call.code 0 g (services_of p')
-    (before k.call.code (statement_aims k (index + size_in k (call_of k c line)) wanted left') w.acts behind_call))
+    (before k.call.code (statement_aims k labels acts (index + size_in k (call_of k c line)) wanted left') w.acts
+    behind_call))
     (sym (called_means h (newest_at b o')))
-    (call_goes k c line index left' more h p' numbers wanted g o' b (made' p' numbers o') (each p' numbers o')
+    (call_goes k c labels acts line index left' more h p' numbers wanted g o' b (omega arith) (made' p' numbers o')
+    (each p' numbers o')
     (back_of one (given' ++ call) l) (size ∙ n0) at))))

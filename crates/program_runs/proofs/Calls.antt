@@ -23,6 +23,8 @@ use Rattle.pli_coding.specs.Environments.{none_taken}
 use Rattle.pli_coding.specs.Statements.{stmts_code}
 use Rattle.activation_relation.specs.Layers.{Point, services_of}
 use Rattle.activation_relation.specs.Points.{Surroundings, Stands}
+use Rattle.activation_relation.specs.Remaining.{Remains}
+use Rattle.activation_relation.proofs.Remaining.{remains_acted, remains_entered, remains_same, remains_then}
 use Rattle.activation_relation.proofs.Returning.{later_same}
 use Rattle.run_steps.specs.Engine.{Base}
 use Rattle.run_steps.proofs.Jumps.{front_of, back_of, rest_of, linked_at}
@@ -32,18 +34,19 @@ use Rattle.run_steps.proofs.Reach.{before_closed, comes_on, onward, reach_with, 
 use Rattle.block_runs.specs.Beginnings.{IsCalling}
 use Rattle.block_runs.specs.Bodies as B
 use Rattle.block_runs.specs.Bodies.{AtEnd, behind_aims, body_aims}
-use Rattle.block_runs.specs.Machines.{IsImage, IsIn, AreIn}
+use Rattle.block_runs.specs.Machines.{IsImage, IsIn, AreIn, acted}
 use Rattle.block_runs.proofs.BlockEntries.{Premises, begun_stands}
 use Rattle.block_runs.proofs.CallsReturn.{calls_return}
 use Rattle.block_runs.proofs.CallStatements.{comes_map}
 use Rattle.block_runs.proofs.EmptyMeaning.{variables_none, entry_acts, on_nothing, own_return}
 use Rattle.block_runs.proofs.PointActs.{act_comes, stands_acted}
 use Rattle.program_runs.specs.Calls.{AreMade, Callee, IsCallee, act_index, begun_at, block_at, body_index, called_at}
-use Rattle.program_runs.specs.Calls.{left_over, variables_index}
+use Rattle.program_runs.specs.Calls.{labels_of, left_over, variables_index}
 use Rattle.program_runs.specs.Procedures.{HasRoom, beginning_for, begin_of, block_of, end_of, procedure_code}
 use Rattle.program_runs.specs.Statements.{IsAmong, IsBegun, EachDoes, statement_aims}
 use Rattle.program_runs.proofs.Procedures.{layer_begins}
-use Rattle.program_runs.proofs.Statements.{at_end, end_later, list_does}
+use Rattle.program_runs.proofs.Lists.{list_does}
+use Rattle.program_runs.proofs.Statements.{at_end, end_later}
 
 -- ---- what its block means: its variables, the act of its entry, and its statements
 
@@ -167,9 +170,14 @@ first_among w code c p numbers made' words less =
 -- where its first statement begins its block is the newest
 first_begun :
     (w : Surroundings) (code : List Instr) (c : Callee) (p : Point) (numbers : ℕ → ℕ) → AreMade w code c p numbers →
-    Stands w (block_at w code c p numbers).first → IsBegun (block_at w code c p numbers)
-first_begun w code c p numbers made' stands =
+    Stands w (begun_at w c p numbers) → Stands w (block_at w code c p numbers).first →
+    IsBegun (block_at w code c p numbers)
+first_begun w code c p numbers made' begun' stands =
     let same = ap (λ (u : World). u.acts) made'.world in
+    let x = beginning_for w p numbers c.procedure c.calling in
+    let start = begun_at w c p numbers in
+    let then' = c.made start in
+    let first = acted c.procedure.head.line then' in
     record {
       activation = made'.activation;
       resumes = record {
@@ -182,6 +190,8 @@ first_begun w code c p numbers made' stands =
         more = omega (arith, same);
       };
       acts = omega (arith, same);
+      remains = remains_then p start first (remains_entered p x.head x.entry x.layer x.head.line)
+          (remains_then start then' first (made'.remains begun') (remains_acted then' counted c.procedure.head.line));
     }
 
 body_closed : (k : B.Called) (left' : ℕ) → Closed k.code (body_aims k left')
@@ -197,13 +207,14 @@ body_goes :
     (w : Surroundings) (code : List Instr) (c : Callee) (p : Point) (numbers : ℕ → ℕ) (f : Family) →
     IsCallee w code c → IsBegun (block_at w code c p numbers) →
     IsAmong (block_at w code c p numbers) numbers (block_at w code c p numbers).first →
-    EachDoes (block_at w code c p numbers) c.procedure.body (body_index c) left_over →
+    EachDoes (block_at w code c p numbers) (labels_of c) c.procedure.body (body_index c) left_over →
+    w.acts < c.around.turns + (block_at w code c p numbers).first.state.world.acts →
     AreIn w (block_at w code c p numbers).first numbers (body_index c) f →
     Comes code 0 f (services_of (block_at w code c p numbers).first)
     (body_aims (called_at w code c p numbers) left_over)
     (M.list (at_line c.around c.procedure.head.line) c.procedure.body w.acts
     (block_at w code c p numbers).first.state)
-body_goes w code c p numbers f h b o each there =
+body_goes w code c p numbers f h b o each few there =
     let k = block_at w code c p numbers in
     let x = c.procedure in
     let one = act_code x.head.line in
@@ -214,12 +225,14 @@ body_goes w code c p numbers f h b o each there =
     let l2 = front_of body tail l1 in
     let inside = l2.inside in
     let flow = M.list k.around x.body w.acts k.first.state in
-    comes_map (statement_aims k c.calling.end left_over left_over) (body_aims k.call left_over) flow
+    let acts = k.first.state.world.acts in
+    comes_map (statement_aims k [] acts c.calling.end left_over left_over) (body_aims k.call left_over) flow
     (λ c' f' v' r s q. at_end b refl q)
-    (λ c' f' v' height label s q. absurd q)
+    (λ c' f' v' height label s q. absurd (cc q.carried))
     (λ c' f' v' r s q. q)
-    (subst (λ j. Comes code 0 f (services_of k.first) (statement_aims k j left_over left_over) flow) (sym h.end)
-    (list_does k x.body (body_index c) left_over h.turns k.first numbers 0 left_over f h.some_turns each o l2
+    (subst (λ j. Comes code 0 f (services_of k.first) (statement_aims k [] acts j left_over left_over) flow)
+    (sym h.end)
+    (list_does k [] x.body (body_index c) left_over k.first numbers 0 left_over f b few each h.labels o l2
     (omega arith, omega (arith, inside)) there))
 
 pub procedure_runs :
@@ -227,14 +240,15 @@ pub procedure_runs :
     (f : Family) → Stands w p × IsImage w code p → IsCallee w code c × HasRoom w p c.procedure c.calling →
     AreMade w code c p numbers → ((n : ℕ) → numbers n < 2 ^ 32) →
     (IsBegun (block_at w code c p numbers) →
-    EachDoes (block_at w code c p numbers) c.procedure.body (body_index c) left_over) →
+    EachDoes (block_at w code c p numbers) (labels_of c) c.procedure.body (body_index c) left_over) →
+    w.acts < c.around.turns + (p.state.world.acts + 1) →
     credits + 4 + size_of (procedure_code c.environment c.procedure) ≤ cost code →
     AreIn w p numbers c.calling.call f →
     ((b : Base) → IsCalling p (beginning_for w p numbers c.procedure c.calling) b (f b)) →
     Comes code credits f (services_of p) (behind_aims (called_at w code c p numbers) wanted)
     (M.block_run c.around (block_of c.procedure) (begun (block_of c.procedure) c.calling.parent) w.acts p.state)
 unfolding ◌>>◌
-procedure_runs w code c p numbers credits wanted f known h made' words each paid there gives =
+procedure_runs w code c p numbers credits wanted f known h made' words each few paid there gives =
     let k = called_at w code c p numbers in
     let x = c.procedure in
     let one = act_code x.head.line in
@@ -273,8 +287,9 @@ procedure_runs w code c p numbers credits wanted f known h made' words each paid
     (h.0.coded.line, h.0.acts, omega (arith, n0, n1, n2, n3, paid)) (front_of one (body ++ tail) l1) at'
     (λ g'' less at''.
     let o = first_among w code c p numbers stands' words less in
-    let b = first_begun w code c p numbers made' o.stands in
-    body_goes w code c p numbers g'' h.0 b o (each b) at''))))) there gives)
+    let b = first_begun w code c p numbers made' new.0 o.stands in
+    let same = ap (λ (u : World). u.acts) made'.world in
+    body_goes w code c p numbers g'' h.0 b o (each b) (omega (arith, few, same)) at''))))) there gives)
 
 -- ---- no variables
 
@@ -307,4 +322,5 @@ none_made w code c p numbers kind none empty =
       activations = ap (λ (q : Point). q.state.activations) here;
       idle = ap (λ (q : Point). q.control.waiting) here;
       world = ap (λ (q : Point). q.state.world) here;
+      remains = λ begun'. subst (λ q. Remains start q) (sym here) (remains_same start);
     }

@@ -2,6 +2,9 @@ pub mod Ends
 pub mod Starts
 pub mod Procedures
 pub mod Statements
+pub mod NewestBlocks
+pub mod Gotos
+pub mod Lists
 pub mod Calls
 pub mod CallStatements
 pub mod Programs

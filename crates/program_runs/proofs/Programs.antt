@@ -21,7 +21,7 @@ use Rattle.run_steps.specs.Reach.{Comes, before, never}
 use Rattle.run_steps.proofs.Reach.{comes_on, never_closed, onward}
 use Rattle.block_runs.specs.Bodies.{behind_aims}
 use Rattle.block_runs.proofs.CallStatements.{comes_map}
-use Rattle.program_runs.specs.Calls.{block_at, body_index, called_at, left_over}
+use Rattle.program_runs.specs.Calls.{block_at, body_index, called_at, labels_of, left_over}
 use Rattle.program_runs.specs.Procedures.{block_of}
 use Rattle.program_runs.specs.Programs.{Whole, IsWhole, main_of}
 use Rattle.program_runs.specs.Starts.{image_parts, surroundings_of, start_point, first_family, call_index}
@@ -67,8 +67,8 @@ finish_linked k first h =
 pub program_runs :
     Keeps granules → (k : Whole) (first : List ℕ) → IsWhole k first →
     (IsBegun (block_at (surroundings_of k.image) k.image.code (main_of k) (start_point k.image) no_numbers) →
-    EachDoes (block_at (surroundings_of k.image) k.image.code (main_of k) (start_point k.image) no_numbers) k.main.body
-    (body_index (main_of k)) left_over) →
+    EachDoes (block_at (surroundings_of k.image) k.image.code (main_of k) (start_point k.image) no_numbers)
+    (labels_of (main_of k)) k.main.body (body_index (main_of k)) left_over) →
     Comes k.image.code 0 (first_family first (services_of (start_point k.image))) (services_of (start_point k.image))
     never (M.run k.program (suc k.image.acts) k.image.acts (first_state k.image.input))
 program_runs keeps k first h each =
@@ -97,5 +97,6 @@ program_runs keeps k first h each =
     (λ c' f' v' height label s q. absurd q)
     (λ c' f' v' r s q. absurd q)
     (procedure_runs w i.code c p no_numbers (0 + call_index) 0 g (start_stands i k.main.head.number first h.start)
-    (h.callee, h.room) h.made (λ n. omega arith) each (omega (arith, inside, proc)) (λ b. (at b).0)
+    (h.callee, h.room) h.made (λ n. omega arith) each (omega arith) (omega (arith, inside, proc))
+    (λ b. (at b).0)
     (λ b. record { parent = λ more. absurd (omega (arith, more, level)); texts = (at b).1 })))))

@@ -188,7 +188,7 @@ inner_own input acts more p numbers b =
 inner_each :
     (input : List ℕ) (acts more : ℕ) (p : Point) (numbers : ℕ → ℕ) → acts + 1 < 2 ^ 64 →
     IsBegun (block_at (surroundings_of (row_image input acts)) (linked_code row_code) (row_callee more) p numbers) →
-    EachDoes (block_at (surroundings_of (row_image input acts)) (linked_code row_code) (row_callee more) p numbers)
+    EachDoes (block_at (surroundings_of (row_image input acts)) (linked_code row_code) (row_callee more) p numbers) []
     row_inner.body (body_index (row_callee more)) left_over
 inner_each input acts more p numbers few b =
     let k = block_at (surroundings_of (row_image input acts)) (linked_code row_code) (row_callee more) p numbers in
@@ -196,10 +196,10 @@ inner_each input acts more p numbers few b =
     let null = stmt_code e none_taken (Y.Null 3) in
     let rest = stmts_code e none_taken inner_rest in
     let l = back_of null rest inner_body in (
-      null_does k 3 _ left_over (record { line_fits = omega arith; acts = few }) (front_of null rest inner_body),
+      null_does k 3 _ left_over (record { line_fits = omega arith; acts = few }) (front_of null rest inner_body) [],
       (
         return_does k 4 _ left_over (record { line_fits = omega arith; acts = few })
-            (inner_own input acts more p numbers b) (front_of (stmt_code e none_taken (Y.Return 4)) [] l),
+            (inner_own input acts more p numbers b) (front_of (stmt_code e none_taken (Y.Return 4)) [] l) [],
         tt,
       ),
     )
@@ -221,8 +221,7 @@ inner_callee input acts more few =
       stands = inner_linked;
       end = refl;
       kind = refl;
-      turns = more;
-      some_turns = refl;
+      labels = (λ label e. absurd (cc e), (λ label e. absurd (cc e), λ label e. absurd (cc e)));
       acts = few;
     }
 
@@ -244,29 +243,31 @@ main_calls input more few =
       found = refl;
       enter = refl;
       around = refl;
+      enough = omega arith;
     }
 
 call_by :
     (input : List ℕ) (acts : ℕ) → acts + 1 < 2 ^ 64 → IsBegun (main_block input acts) →
-    Does (main_block input acts) row_call (row_body main_entry row_main) left_over
-call_by input zero few b = none_does (main_block input zero) row_call (row_body main_entry row_main) left_over b refl
+    Does (main_block input acts) [] row_call (row_body main_entry row_main) left_over
+call_by input zero few b =
+    none_does (main_block input zero) [] row_call (row_body main_entry row_main) left_over b refl
 call_by input (suc more) few b =
     call_does (main_block input (suc more)) (row_callee more) 6 (row_body main_entry row_main) left_over more
     (main_calls input more few)
     (λ p numbers o. none_made (surroundings_of (row_image input (suc more))) (linked_code row_code) (row_callee more) p
     numbers refl refl (refl, refl))
-    (λ p numbers o. inner_each input (suc more) more p numbers few) b
+    (λ p numbers o. inner_each input (suc more) more p numbers few) b []
 
 pub main_each :
     (input : List ℕ) (acts : ℕ) → acts + 1 < 2 ^ 64 → IsBegun (main_block input acts) →
-    EachDoes (main_block input acts) row_main.body (body_index (main_of (row_whole input acts))) left_over
+    EachDoes (main_block input acts) [] row_main.body (body_index (main_of (row_whole input acts))) left_over
 main_each input acts few b =
     let e = row_environment row_main in
     let rest = back_of (stmt_code e none_taken row_call) (stmts_code e none_taken main_rest) main_body in (
       call_by input acts few b,
       (
         null_does (main_block input acts) 7 _ left_over (record { line_fits = omega arith; acts = few })
-            (front_of (stmt_code e none_taken (Y.Null 7)) [] rest),
+            (front_of (stmt_code e none_taken (Y.Null 7)) [] rest) [],
         tt,
       ),
     )
@@ -286,8 +287,7 @@ row_is input first acts few bytes =
         stands = main_linked;
         end = refl;
         kind = refl;
-        turns = acts;
-        some_turns = refl;
+        labels = (λ label e. absurd (cc e), (λ label e. absurd (cc e), λ label e. absurd (cc e)));
         acts = few;
       };
       room = record { room = omega arith; shallow = refl; parent = tt; idle = refl };

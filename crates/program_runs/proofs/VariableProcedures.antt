@@ -14,7 +14,9 @@ use Rattle.pli_meaning.specs.StorageState.{State}
 use Rattle.pli_coding.specs.Assembly.{size_of}
 use Rattle.activation_relation.specs.Layers.{Point, services_of}
 use Rattle.activation_relation.specs.Points.{Surroundings, Stands}
+use Rattle.activation_relation.specs.Remaining.{Remains}
 use Rattle.activation_relation.specs.Variables.{with_made}
+use Rattle.activation_relation.proofs.Remaining.{remains_made}
 use Rattle.run_steps.specs.Items.{Linked}
 use Rattle.run_steps.specs.Reach.{Reach}
 use Rattle.block_runs.specs.Machines.{IsImage, IsIn}
@@ -87,4 +89,5 @@ one_made w code c p numbers x h =
       activations = ap (λ (u : Point). u.state.activations) here;
       idle = ap (λ (u : Point). u.control.waiting) here;
       world = ap (λ (u : Point). u.state.world) here;
+      remains = λ begun'. subst (λ u. Remains start u) (sym here) (remains_made start made' begun'.lives);
     }

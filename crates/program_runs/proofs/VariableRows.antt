@@ -85,7 +85,7 @@ body_linked =
 
 -- ---- its table
 
-differs_alone : (ts : List Template) (t : Template) → ts ≡ t ∷ [] → same_template t t ≡ true → AllDiffer ts
+pub differs_alone : (ts : List Template) (t : Template) → ts ≡ t ∷ [] → same_template t t ≡ true → AllDiffer ts
 differs_alone ts t is same = subst AllDiffer (sym is) alone
   where
     alone : AllDiffer (t ∷ [])
@@ -101,7 +101,7 @@ one_differs = differs_alone (map template_of (table_of number_program)) _ refl r
 
 -- ---- its variable
 
-number_valued : IsValued (generation_for number_declared)
+pub number_valued : IsValued (generation_for number_declared)
 number_valued leaf is less within = by_leaf leaf is less
   where
     by_leaf :
@@ -166,10 +166,10 @@ pub number_each :
     EachDoes
     (block_at (surroundings_of (number_image input acts)) (linked_code number_code) (main_of (number_whole input acts))
     (start_point (number_image input acts)) no_numbers)
-    number_main.body (body_index (main_of (number_whole input acts))) left_over
+    [] number_main.body (body_index (main_of (number_whole input acts))) left_over
 number_each input acts few = (
   null_does _ 3 _ left_over (record { line_fits = omega arith; acts = few })
-      (front_of (stmt_code number_environment none_taken (Y.Null 3)) [] body_linked),
+      (front_of (stmt_code number_environment none_taken (Y.Null 3)) [] body_linked) [],
   tt,
 )
 
@@ -189,8 +189,7 @@ number_is input first acts few bytes =
         stands = main_linked;
         end = refl;
         kind = refl;
-        turns = acts;
-        some_turns = refl;
+        labels = (λ label e. absurd (cc e), λ label e. absurd (cc e));
         acts = few;
       };
       room = record { room = omega arith; shallow = refl; parent = tt; idle = refl };

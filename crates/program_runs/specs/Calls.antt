@@ -1,11 +1,11 @@
 -- Calls of procedures whose statements are known: a whole block, and the statement CALL.
-use Rattle.std.specs.Prelude.{ℕ, suc, List, ◌+◌, ◌*◌, ◌^◌, ◌<◌, ◌≤◌, ◌≡◌, [], ◌∷◌, length, Some, None}
+use Rattle.std.specs.Prelude.{ℕ, suc, List, ◌+◌, ◌*◌, ◌^◌, ◌<◌, ◌≤◌, ◌≡◌, [], ◌∷◌, ◌++◌, length, Some, None}
 use Rattle.rv_meaning.specs.declared.instr.Instr.{Instr}
 use Rattle.pli_typing.specs.TypedTree as Y
 use Rattle.pli_meaning.specs.DeclaredShapes.{variables_of_block, procedure_numbered}
 use Rattle.pli_language.specs.declared.condition.Condition.{Condition}
-use Rattle.pli_meaning.specs.Control.{Normal}
-use Rattle.pli_meaning.specs.Executing.{block_run, block_variables_made, begun, entered}
+use Rattle.pli_meaning.specs.Control.{Label, Normal}
+use Rattle.pli_meaning.specs.Executing.{block_run, block_variables_made, begun, entered, labels_in}
 use Rattle.pli_meaning.specs.Raising.{Around, at_line}
 use Rattle.pli_meaning.specs.StorageState.{Activation, OnUnit}
 use Rattle.pli_coding.specs.Allocating.{act_code}
@@ -16,6 +16,7 @@ use Rattle.pli_coding.specs.Statements.{stmt_code, stmts_code}
 use Rattle.activation_relation.specs.Landing.{Changed, resumed, with_units}
 use Rattle.activation_relation.specs.Layers.{Point, services_of}
 use Rattle.activation_relation.specs.Points.{Surroundings, Stands}
+use Rattle.activation_relation.specs.Remaining.{Remains}
 use Rattle.run_steps.specs.Engine.{Base}
 use Rattle.run_steps.specs.Items.{Linked}
 use Rattle.run_steps.specs.Reach.{Family, Reach, Comes, cost}
@@ -24,7 +25,7 @@ use Rattle.block_runs.specs.Bodies.{Called, behind_aims}
 use Rattle.block_runs.specs.Machines.{IsImage, IsIn, AreIn, acted}
 use Rattle.program_runs.specs.Procedures.{Procedure, Calling, IsCoded, HasRoom, beginning_for, block_of, begin_of}
 use Rattle.program_runs.specs.Procedures.{layer_for, procedure_code}
-use Rattle.program_runs.specs.Statements.{Block, IsAmong, IsBegun, Does, EachDoes}
+use Rattle.program_runs.specs.Statements.{AreMarked, Block, IsAmong, IsBegun, Does, EachDoes}
 
 -- ---- a procedure where it is called
 
@@ -82,8 +83,7 @@ pub record IsCallee (w : Surroundings) (code : List Instr) (c : Callee) : Type 0
   pub stands : Linked w.links code c.calling.entry (procedure_code c.environment c.procedure)
   pub end : c.calling.end ≡ body_index c + size_of (stmts_code c.environment none_taken c.procedure.body)
   pub kind : c.procedure.head.kind ≡ Y.ProcedureBlock
-  pub turns : ℕ
-  pub some_turns : c.around.turns ≡ suc turns
+  pub labels : AreMarked w.links c.environment c.procedure.body (body_index c)
   pub acts : w.acts + 1 < 2 ^ 64
 
 -- its variables are made as they are meant, and nothing else changes
@@ -112,6 +112,12 @@ pub record AreMade (w : Surroundings) (code : List Instr) (c : Callee) (p : Poin
       (c.made (begun_at w c p numbers)).state.activations ≡ with_units own activation ∷ p.state.activations
   pub idle : (c.made (begun_at w c p numbers)).control.waiting ≡ None
   pub world : (c.made (begun_at w c p numbers)).state.world ≡ p.state.world
+  pub remains :
+      Stands w (begun_at w c p numbers) → Remains (begun_at w c p numbers) (c.made (begun_at w c p numbers))
+
+-- the labels that its statements may name
+abbrev pub labels_of : Callee → List Label
+labels_of c = labels_in c.procedure.body ++ []
 
 -- what its statements leave of credits at its end
 abbrev pub left_over : ℕ
@@ -124,7 +130,8 @@ ProceduresRun =
     (f : Family) → Stands w p × IsImage w code p → IsCallee w code c × HasRoom w p c.procedure c.calling →
     AreMade w code c p numbers → ((n : ℕ) → numbers n < 2 ^ 32) →
     (IsBegun (block_at w code c p numbers) →
-    EachDoes (block_at w code c p numbers) c.procedure.body (body_index c) left_over) →
+    EachDoes (block_at w code c p numbers) (labels_of c) c.procedure.body (body_index c) left_over) →
+    w.acts < c.around.turns + (p.state.world.acts + 1) →
     credits + 4 + size_of (procedure_code c.environment c.procedure) ≤ cost code →
     AreIn w p numbers c.calling.call f →
     ((b : Base) → IsCalling p (beginning_for w p numbers c.procedure c.calling) b (f b)) →
@@ -162,6 +169,8 @@ pub record IsCall (k : Block) (c : Callee) (line index more : ℕ) : Type 0 wher
   pub around :
       c.around
       ≡ record { program = k.around.program; enter = entered k.around.program more; turns = suc more; line = 0 }
+  -- in which there are turns enough for the acts that are left
+  pub enough : k.call.surroundings.acts < suc more + k.first.state.world.acts
 
 -- it does what it means if the procedure's statements do, wherever it is called
 abbrev pub CallsDo : Type 0
@@ -171,5 +180,5 @@ CallsDo =
     AreMade k.call.surroundings k.call.code c p numbers) →
     ((p : Point) (numbers : ℕ → ℕ) → IsAmong k numbers p →
     IsBegun (block_at k.call.surroundings k.call.code c p numbers) →
-    EachDoes (block_at k.call.surroundings k.call.code c p numbers) c.procedure.body (body_index c) left_over) →
-    IsBegun k → Does k (call_of k c line) index left'
+    EachDoes (block_at k.call.surroundings k.call.code c p numbers) (labels_of c) c.procedure.body (body_index c)
+    left_over) → IsBegun k → (labels : List Label) → Does k labels (call_of k c line) index left'

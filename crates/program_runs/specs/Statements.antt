@@ -1,18 +1,20 @@
 -- Statements of a procedure's body: where they run, what each of them comes to, and lists of them.
-use Rattle.std.specs.Prelude.{ℕ, suc, ◌+◌, ◌*◌, ◌^◌, ◌<◌, ◌≤◌, ◌≡◌, ⊤, None}
+use Rattle.std.specs.Prelude.{ℕ, ◌+◌, ◌*◌, ◌^◌, ◌<◌, ◌≤◌, ◌≡◌, ⊤, None, List, ◌++◌, true, length}
 use Rattle.pli_typing.specs.TypedTree as Y
-use Rattle.pli_meaning.specs.Executing.{statement, list}
+use Rattle.pli_meaning.specs.Control.{Label, is_among}
+use Rattle.pli_meaning.specs.Executing.{labels_in, list, statement}
 use Rattle.pli_meaning.specs.Raising.{Around}
 use Rattle.pli_meaning.specs.StorageState.{Activation, State}
 use Rattle.pli_serving.specs.ServiceState.{Services}
-use Rattle.pli_coding.specs.Assembly.{ReturnPlace, size_of}
-use Rattle.pli_coding.specs.Environments.{BlockOwner, Environment, none_taken}
-use Rattle.pli_coding.specs.Linking.{place_of}
+use Rattle.pli_coding.specs.Assembly.{LabelPlace, ReturnPlace, size_of}
+use Rattle.pli_coding.specs.Environments.{BlockOwner, Environment, block_around, none_taken}
+use Rattle.pli_coding.specs.Linking.{Links, place_of}
 use Rattle.pli_coding.specs.Statements.{stmt_code, stmts_code, marked}
 use Rattle.activation_relation.specs.Entering.{Later}
 use Rattle.activation_relation.specs.Landing.{Resumes}
 use Rattle.activation_relation.specs.Layers.{Point, services_of}
 use Rattle.activation_relation.specs.Points.{Stands}
+use Rattle.activation_relation.specs.Remaining.{Remains}
 use Rattle.run_steps.specs.Engine.{most_code}
 use Rattle.run_steps.specs.Items.{Linked}
 use Rattle.run_steps.specs.Reach.{Family, Reach, Aims, Comes, cost}
@@ -36,6 +38,8 @@ pub record IsBegun (k : Block) : Type 0 where
       Resumes k.call.surroundings k.call.point.state.world.acts activation k.call.point.state.activations
       k.call.beginning.layer k.call.point.control.layers k.first
   pub acts : k.call.point.state.world.acts < k.first.state.world.acts
+  -- and what lived there lives on
+  pub remains : Remains k.call.point k.first
 
 -- a point at which a statement of it begins: the blocks that it entered have been left, and registers that it doesn't
 -- save are as they were
@@ -49,42 +53,76 @@ pub record IsAmong (k : Block) (numbers : ℕ → ℕ) (p : Point) : Type 0 wher
 
 -- ---- what is aimed at
 
--- such a point, at an index, with as many credits as are wanted
-pub record GoesOn (k : Block) (index wanted credits : ℕ) (f : Family) (v : Services) (s : State) : Type 0 where
+-- such a point, at an index, with as many credits as are wanted and no fewer acts
+pub record GoesOn (k : Block) (acts index wanted credits : ℕ) (f : Family) (v : Services) (s : State) : Type 0 where
   pub point : Point
   pub numbers : ℕ → ℕ
   pub among : IsAmong k numbers point
+  pub since : acts ≤ point.state.world.acts
   pub state : s ≡ point.state
   pub reach :
       Reach k.call.code credits f v wanted (services_of point)
       (λ b y. IsIn k.call.surroundings point numbers index b y)
 
--- behind a statement, or at the end of the block by RETURN
-abbrev pub statement_aims : Block → (index wanted left' : ℕ) → Aims (Unit {0})
-statement_aims k index wanted left' =
+-- the height of the block's own activation
+abbrev pub own_height : Block → ℕ
+own_height k = length k.call.point.state.activations + 1
+
+-- such a point where a label stands: one of the lists that the block is carrying out has it. The jump has made an act.
+pub record LandsAt (k : Block) (labels : List Label) (acts credits : ℕ) (f : Family) (v : Services) (height : ℕ)
+    (label : Label) (s : State) : Type 0
+  where
+    pub own : height ≡ own_height k
+    pub carried : is_among label labels ≡ true
+    pub point : Point
+    pub numbers : ℕ → ℕ
+    pub among : IsAmong k numbers point
+    pub more : acts < point.state.world.acts
+    pub state : s ≡ point.state
+    pub index : ℕ
+    pub place : place_of k.call.surroundings.links (LabelPlace k.environment.block label) ≡ 4 * index
+    pub reach :
+        Reach k.call.code credits f v 0 (services_of point)
+        (λ b y. IsIn k.call.surroundings point numbers index b y)
+
+-- behind a statement, at a label by GOTO, or at the end of the block by RETURN
+abbrev pub statement_aims : Block → List Label → (acts index wanted left' : ℕ) → Aims (Unit {0})
+statement_aims k labels acts index wanted left' =
     record {
-      done = λ c f v r s. GoesOn k index wanted c f v s;
-      jumped = λ c f v height label s. ⊥;
+      done = λ c f v r s. GoesOn k acts index wanted c f v s;
+      jumped = λ c f v height label s. LandsAt k labels acts c f v height label s;
       returned = λ c f v r s. AtEnd k.call left' c f v r s;
     }
 
 abbrev pub size_in : Block → Y.Stmt → ℕ
 size_in k stmt = size_of (stmt_code k.environment none_taken stmt)
 
--- from any such point its code does what it means
-abbrev pub Does : Block → Y.Stmt → (index left' : ℕ) → Type 0
-Does k stmt index left' =
+-- from any such point its code does what it means; a GOTO in it may name these labels
+abbrev pub Does : Block → List Label → Y.Stmt → (index left' : ℕ) → Type 0
+Does k labels stmt index left' =
     (p : Point) (numbers : ℕ → ℕ) (credits wanted : ℕ) (f : Family) → IsAmong k numbers p →
     credits + size_in k stmt ≤ cost k.call.code → AreIn k.call.surroundings p numbers index f →
-    Comes k.call.code credits f (services_of p) (statement_aims k (index + size_in k stmt) wanted left')
+    Comes k.call.code credits f (services_of p)
+    (statement_aims k labels p.state.world.acts (index + size_in k stmt) wanted left')
     (statement k.around stmt k.call.surroundings.acts p.state)
 
 -- each statement of a list
-abbrev pub EachDoes : Block → Y.Stmts → (index left' : ℕ) → Type 0
-EachDoes k (Y.EndOfList labels) index left' = ⊤
-EachDoes k (Y.StmtThen labels first rest) index left' =
-    Does k first (index + size_of (marked k.environment.block labels)) left'
-    × EachDoes k rest (index + size_of (marked k.environment.block labels) + size_in k first) left'
+abbrev pub EachDoes : Block → List Label → Y.Stmts → (index left' : ℕ) → Type 0
+EachDoes k labels (Y.EndOfList own) index left' = ⊤
+EachDoes k labels (Y.StmtThen own first rest) index left' =
+    Does k labels first (index + size_of (marked k.environment.block own)) left'
+    × EachDoes k labels rest (index + size_of (marked k.environment.block own) + size_in k first) left'
+
+-- each label of a list stands where its statement does
+abbrev pub StandAt : Links → (block : ℕ) → List Label → (index : ℕ) → Type 0
+StandAt links block labels index =
+    (label : Label) → is_among label labels ≡ true → place_of links (LabelPlace block label) ≡ 4 * index
+
+abbrev pub AreMarked : Links → Environment → Y.Stmts → (index : ℕ) → Type 0
+AreMarked links e (Y.EndOfList own) index = StandAt links e.block own index
+AreMarked links e (Y.StmtThen own first rest) index =
+    StandAt links e.block own index
+    × AreMarked links e rest (index + size_of (marked e.block own) + size_of (stmt_code e none_taken first))
 
 -- ---- the laws
 
@@ -104,28 +142,50 @@ pub record IsOwn (k : Block) (left' : ℕ) : Type 0 where
   pub function : k.call.function ≡ None
   pub begun : IsBegun k
 
+-- a label of a list that it is carrying out stands at an index of the code
+pub record IsNear (k : Block) (labels : List Label) (label : Label) : Type 0 where
+  pub begun : IsBegun k
+  pub carried : is_among label labels ≡ true
+  pub level : k.environment.level ≡ k.call.beginning.layer.level
+  pub block : block_around k.environment k.environment.level ≡ k.environment.block
+  pub at : ℕ
+  pub place : place_of k.call.surroundings.links (LabelPlace k.environment.block label) ≡ 4 * at
+  pub near : at ≤ most_code
+
 pub record StatementsDo : Type 0 where
   pub null :
       (k : Block) (line index left' : ℕ) → HasAct k line →
       Linked k.call.surroundings.links k.call.code index (stmt_code k.environment none_taken (Y.Null line)) →
-      Does k (Y.Null line) index left'
+      (labels : List Label) → Does k labels (Y.Null line) index left'
   pub return :
       (k : Block) (line index left' : ℕ) → HasAct k line → IsOwn k left' →
       Linked k.call.surroundings.links k.call.code index (stmt_code k.environment none_taken (Y.Return line)) →
-      Does k (Y.Return line) index left'
+      (labels : List Label) → Does k labels (Y.Return line) index left'
   pub stop :
       (k : Block) (line index left' : ℕ) → HasAct k line →
       Linked k.call.surroundings.links k.call.code index (stmt_code k.environment none_taken (Y.Stop line)) →
-      Does k (Y.Stop line) index left'
+      (labels : List Label) → Does k labels (Y.Stop line) index left'
+  -- GOTO to a label of a list that the block is carrying out
+  pub goto :
+      (k : Block) (labels : List Label) (label : Label) (line index left' : ℕ) → HasAct k line →
+      IsNear k labels label →
+      Linked k.call.surroundings.links k.call.code index
+      (stmt_code k.environment none_taken (Y.Goto k.environment.level label line)) →
+      Does k labels (Y.Goto k.environment.level label line) index left'
 
--- a list does what it means if each of its statements does
+-- a list does what it means if each of its statements does; it goes on itself at its own labels. There are turns enough,
+-- since each jump makes an act.
 abbrev pub ListsDo : Type 0
 ListsDo =
-    (k : Block) (body : Y.Stmts) (index left' turns : ℕ) (p : Point) (numbers : ℕ → ℕ) (credits wanted : ℕ)
-    (f : Family) → k.around.turns ≡ suc turns → EachDoes k body index left' → IsAmong k numbers p →
+    (k : Block) (labels : List Label) (body : Y.Stmts) (index left' : ℕ) (p : Point) (numbers : ℕ → ℕ)
+    (credits wanted : ℕ) (f : Family) → IsBegun k →
+    k.call.surroundings.acts < k.around.turns + p.state.world.acts →
+    EachDoes k (labels_in body ++ labels) body index left' →
+    AreMarked k.call.surroundings.links k.environment body index → IsAmong k numbers p →
     Linked k.call.surroundings.links k.call.code index (stmts_code k.environment none_taken body) →
     (credits ≤ wanted) × (credits + size_of (stmts_code k.environment none_taken body) ≤ cost k.call.code) →
     AreIn k.call.surroundings p numbers index f →
     Comes k.call.code credits f (services_of p)
-    (statement_aims k (index + size_of (stmts_code k.environment none_taken body)) wanted left')
+    (statement_aims k labels p.state.world.acts (index + size_of (stmts_code k.environment none_taken body)) wanted
+    left')
     (list k.around body k.call.surroundings.acts p.state)

@@ -1,4 +1,4 @@
-use Rattle.program_runs.proofs.Statements.{list_does}
+use Rattle.program_runs.proofs.Lists.{list_does}
 use Rattle.program_runs.proofs.laws.lists_do.Goals as goal
 
 pub returns : goal.returns

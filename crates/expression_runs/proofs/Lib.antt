@@ -1,0 +1,12 @@
+pub mod Words
+pub mod VariableCode
+pub mod VariableMeaning
+pub mod VariablePoints
+pub mod Wrapping
+pub mod Saving
+pub mod Operands
+pub mod Sums
+pub mod Raises
+pub mod AssignedPoints
+pub mod Assignments
+pub mod Rows

@@ -1,0 +1,6 @@
+pub mod Values
+pub mod Variables
+pub mod Raises
+pub mod Laws
+pub mod Assignments
+pub mod Rows

@@ -1,0 +1,29 @@
+// Laws of the definitions: each function's contract is one law, and calling it does nothing.
+
+ghost use Rattle.expression_runs.specs.Assignments.{AssignmentsDo};
+ghost use Rattle.expression_runs.specs.Laws.{NumbersDo, OverflowEnds};
+ghost use Rattle.expression_runs.specs.Rows.{DoubleRan};
+
+use granule_keeper::laws::granules_keep;
+
+/// Constants, variables, sums and differences of numbers leave what they mean in a register, at each point of a block.
+pub fn numbers_do()
+    ensures { NumbersDo }
+{}
+
+/// FIXEDOVERFLOW without a unit in force ends the run.
+pub fn overflow_ends()
+    ensures { OverflowEnds }
+{}
+
+/// An assignment to a variable does what it means if its expression does.
+pub fn assignments_do()
+    ensures { AssignmentsDo }
+{}
+
+/// A worked row: a variable that is doubled in a loop by GOTO, until it overflows.
+pub fn double_ran()
+    ensures { DoubleRan }
+{
+    granules_keep();
+}

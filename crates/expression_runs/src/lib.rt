@@ -1,0 +1,4 @@
+// Expressions and assignments at the points of a block, by the relation of activations.
+#![tactic(auto)]
+
+pub mod laws;

@@ -1,0 +1,398 @@
+-- Lists of statements: from the start or from a label, and again from a label of their own after each jump to it.
+use Rattle.std.proofs.Common.{◌≡◌, ℕ, zero, suc, ◌+◌, ◌*◌, ◌<◌, ◌≤◌, List, [], ◌∷◌, ◌++◌, Bool, true, false}
+use Rattle.std.proofs.Common.{None, Option, Some, refl, sym, ap, ◌∙◌, subst, arith}
+use Rattle.std.proofs.lemmas.Bool.{eq-eqb}
+use Rattle.std.specs.Prelude.{cond, ◌&&◌, ◌||◌, ◌==◌}
+use Rattle.pli_language.specs.Keywords.{same_bytes}
+use Rattle.pli_typing.specs.TypedTree as Y
+use Rattle.pli_meaning.specs.Control as F
+use Rattle.pli_meaning.specs.Control.{Flow, Normal, Jump, Return, Paused, Stuck, Label, Meaning, caught, choose}
+use Rattle.pli_meaning.specs.Control.{give, is_among, list_from, looked, ◌>>=◌, ◌>>◌}
+use Rattle.pli_meaning.specs.Executing as M
+use Rattle.pli_meaning.specs.StorageState.{State, newest_height}
+use Rattle.pli_serving.specs.ServiceState.{Services}
+use Rattle.pli_coding.specs.Assembly.{Code, LabelPlace, size_of}
+use Rattle.pli_coding.specs.Environments.{none_taken}
+use Rattle.pli_coding.specs.Linking.{place_of}
+use Rattle.pli_coding.specs.Statements.{marked, stmt_code, stmts_code}
+use Rattle.activation_relation.specs.Layers.{Point, services_of}
+use Rattle.activation_relation.specs.Points.{Surroundings}
+use Rattle.run_steps.specs.Items.{Linked}
+use Rattle.run_steps.proofs.Jumps.{back_of}
+use Rattle.run_steps.proofs.Linking.{size_append}
+use Rattle.run_steps.specs.Reach.{Aims, Family, Comes, before, cost}
+use Rattle.run_steps.proofs.Reach.{comes_on, onward, reach_with}
+use Rattle.block_runs.specs.Machines.{AreIn}
+use Rattle.block_runs.proofs.CallStatements.{comes_map}
+use Rattle.program_runs.specs.Statements.{AreMarked, Block, EachDoes, GoesOn, IsAmong, IsBegun, LandsAt, own_height}
+use Rattle.program_runs.specs.Statements.{statement_aims}
+use Rattle.program_runs.proofs.NewestBlocks.{newest_at, newest_own}
+use Rattle.program_runs.proofs.Statements.{goes_here, statement_closed}
+
+marked_size : (block : ℕ) (labels : List Label) → size_of (marked block labels) ≡ 0
+marked_size block [] = refl
+marked_size block (label ∷ labels) = let n = marked_size block labels in omega (arith, n)
+
+moved_in :
+    (k : Block) {p : Point} {numbers : ℕ → ℕ} {i j : ℕ} (f : Family) → i ≡ j →
+    AreIn k.call.surroundings p numbers i f → AreIn k.call.surroundings p numbers j f
+moved_in k {p} {numbers} f e there = subst (λ n. AreIn k.call.surroundings p numbers n f) e there
+
+none_left :
+    (k : Block) (acts index c wanted : ℕ) (p : Point) (numbers : ℕ → ℕ) (f : Family) → acts ≤ p.state.world.acts →
+    IsAmong k numbers p → c ≤ wanted → AreIn k.call.surroundings p numbers index f →
+    GoesOn k acts index wanted c f (services_of p) p.state
+none_left k acts index c wanted p numbers f since o few there =
+    let here = goes_here acts c f since o there in
+    record {
+      point = here.point;
+      numbers = here.numbers;
+      among = here.among;
+      since = here.since;
+      state = here.state;
+      reach = reach_with wanted few here.reach;
+    }
+
+-- ---- since fewer acts
+
+pub goes_since :
+    {k : Block} {acts more index wanted c : ℕ} {f : Family} {v : Services} {s : State} → acts ≤ more →
+    GoesOn k more index wanted c f v s → GoesOn k acts index wanted c f v s
+goes_since few o =
+    let since = o.since in
+    record {
+      point = o.point;
+      numbers = o.numbers;
+      among = o.among;
+      since = omega (arith, few, since);
+      state = o.state;
+      reach = o.reach;
+    }
+
+pub lands_since :
+    {k : Block} {labels : List Label} {acts more c : ℕ} {f : Family} {v : Services} {height : ℕ} {label : Label}
+    {s : State} → acts ≤ more → LandsAt k labels more c f v height label s → LandsAt k labels acts c f v height label s
+lands_since few o =
+    let more = o.more in
+    record {
+      own = o.own;
+      carried = o.carried;
+      point = o.point;
+      numbers = o.numbers;
+      among = o.among;
+      more = omega (arith, few, more);
+      state = o.state;
+      index = o.index;
+      place = o.place;
+      reach = o.reach;
+    }
+
+pub comes_since :
+    {k : Block} {labels : List Label} {acts more index wanted left' c : ℕ} {f : Family} {v : Services}
+    {flow : Flow (Unit {0})} → acts ≤ more →
+    Comes k.call.code c f v (statement_aims k labels more index wanted left') flow →
+    Comes k.call.code c f v (statement_aims k labels acts index wanted left') flow
+comes_since {k} {labels} {acts} {more} {index} {wanted} {left'} {flow = flow} few o =
+    comes_map (statement_aims k labels more index wanted left') (statement_aims k labels acts index wanted left') flow
+    (λ c f v r s q. goes_since few q)
+    (λ c f v height label s q. lands_since few q)
+    (λ c f v r s q. q)
+    o
+
+-- ---- statements, from the first on
+
+statements_do :
+    (k : Block) (labels : List Label) (body : Y.Stmts) (acts index left' c wanted : ℕ) (p : Point)
+    (numbers : ℕ → ℕ) (f : Family) → acts ≤ p.state.world.acts → EachDoes k labels body index left' →
+    IsAmong k numbers p → Linked k.call.surroundings.links k.call.code index (stmts_code k.environment none_taken body) →
+    (c ≤ wanted) × (c + size_of (stmts_code k.environment none_taken body) ≤ cost k.call.code) →
+    AreIn k.call.surroundings p numbers index f →
+    Comes k.call.code c f (services_of p)
+    (statement_aims k labels acts (index + size_of (stmts_code k.environment none_taken body)) wanted left')
+    (M.statements k.around body None k.call.surroundings.acts p.state)
+unfolding M.statements give choose ◌>>◌
+statements_do k labels (Y.EndOfList own) acts index left' c wanted p numbers f since each o l fits there =
+    let n = marked_size k.environment.block own in
+    record { to = none_left k acts _ c wanted p numbers f since o fits.0 (moved_in k f (omega (arith, n)) there) }
+statements_do k labels (Y.StmtThen own first rest) acts index left' c wanted p numbers f since each o l fits there =
+    let w = k.call.surroundings in
+    let marks = marked k.environment.block own in
+    let one = stmt_code k.environment none_taken first in
+    let more = stmts_code k.environment none_taken rest in
+    let n = marked_size k.environment.block own in
+    let n0 = size_append marks (one ++ more) in
+    let n1 = size_append one more in
+    let paid = fits.1 in
+    let l1 = back_of marks (one ++ more) l in
+    let l2 = back_of one more l1 in
+    let inside = l.inside in
+    let i = index + size_of marks in
+    let next' : Unit {0} → Meaning (Unit {0}) = λ u. M.statements k.around rest None in
+    let goal = statement_aims k labels acts (i + size_of one + size_of more) wanted left' in
+    subst (λ j. Comes k.call.code c f (services_of p) (statement_aims k labels acts j wanted left')
+    (M.statements k.around (Y.StmtThen own first rest) None w.acts p.state)) (omega (arith, n0, n1))
+    (comes_on w.acts (M.statement k.around first w.acts p.state) next'
+    (comes_map (statement_aims k labels p.state.world.acts (i + size_of one) 0 left')
+    (before k.call.code goal w.acts next') (M.statement k.around first w.acts p.state)
+    (λ c' f' v' r s q.
+    let later = q.since in
+    subst (λ u. Comes k.call.code c' f' v' goal (M.statements k.around rest None w.acts u)) (sym q.state)
+    (onward (statement_closed k labels acts (i + size_of one + size_of more) wanted left') q.reach
+    (λ g at.
+    statements_do k labels rest acts (i + size_of one) left' 0 wanted q.point q.numbers g (omega (arith, since, later))
+    each.1 q.among l2 (omega arith, omega (arith, n0, n1, inside)) at)))
+    (λ c' f' v' height label s q. lands_since since q)
+    (λ c' f' v' r s q. q)
+    (each.0 p numbers c 0 f o (omega (arith, n0, n1, paid)) (moved_in k f (omega (arith, n)) there))))
+
+-- ---- and from a label of the list
+
+or_else : (label : Label) (xs ys : List Label) → is_among label (xs ++ ys) ≡ true → is_among label xs ≡ false →
+    is_among label ys ≡ true
+or_else label [] ys e f = e
+or_else label (x ∷ xs) ys e f = by (same_bytes label x) e f (λ a b. or_else label xs ys a b)
+  where
+    by :
+        (q : Bool) → q || is_among label (xs ++ ys) ≡ true → q || is_among label xs ≡ false →
+        (is_among label (xs ++ ys) ≡ true → is_among label xs ≡ false → is_among label ys ≡ true) →
+        is_among label ys ≡ true
+    by true e f rest = absurd (cc f)
+    by false e f rest = rest e f
+
+sought_do :
+    (k : Block) (labels : List Label) (label : Label) (body : Y.Stmts) (index left' wanted at : ℕ) (p : Point)
+    (numbers : ℕ → ℕ) (f : Family) → EachDoes k labels body index left' →
+    AreMarked k.call.surroundings.links k.environment body index → IsAmong k numbers p →
+    Linked k.call.surroundings.links k.call.code index (stmts_code k.environment none_taken body) →
+    is_among label (M.labels_in body) ≡ true →
+    place_of k.call.surroundings.links (LabelPlace k.environment.block label) ≡ 4 * at →
+    AreIn k.call.surroundings p numbers at f →
+    Comes k.call.code 0 f (services_of p)
+    (statement_aims k labels p.state.world.acts (index + size_of (stmts_code k.environment none_taken body)) wanted
+    left')
+    (M.statements k.around body (Some label) k.call.surroundings.acts p.state)
+unfolding M.statements give choose ◌>>◌
+sought_do k labels label (Y.EndOfList own) index left' wanted at p numbers f each marks o l among place there =
+    let n = marked_size k.environment.block own in
+    let here = marks label among in
+    record {
+      to = none_left k p.state.world.acts _ 0 wanted p numbers f (omega arith) o (omega arith)
+          (moved_in k f (omega (arith, n, here, place)) there);
+    }
+sought_do k labels label (Y.StmtThen own first rest) index left' wanted at p numbers f each marks o l among place
+    there =
+    by (is_among label own) refl
+    (λ among'. sought_do k labels label rest (index + size_of (marked k.environment.block own)
+    + size_of (stmt_code k.environment none_taken first)) left' wanted at p numbers f each.1 marks.1 o
+    (back_of (stmt_code k.environment none_taken first) (stmts_code k.environment none_taken rest)
+    (back_of (marked k.environment.block own)
+    (stmt_code k.environment none_taken first ++ stmts_code k.environment none_taken rest) l)) among' place there)
+  where
+    w : Surroundings
+    w = k.call.surroundings
+
+    marks' : Code
+    marks' = marked k.environment.block own
+
+    one : Code
+    one = stmt_code k.environment none_taken first
+
+    more : Code
+    more = stmts_code k.environment none_taken rest
+
+    met : Flow (Unit {0})
+    met = M.statements k.around (Y.StmtThen own first rest) None w.acts p.state
+
+    on : Flow (Unit {0})
+    on = M.statements k.around rest (Some label) w.acts p.state
+
+    goal : (j : ℕ) → Aims (Unit {0})
+    goal j = statement_aims k labels p.state.world.acts j wanted left'
+
+    n0 : size_of (marks' ++ (one ++ more)) ≡ size_of marks' + size_of (one ++ more)
+    n0 = size_append marks' (one ++ more)
+
+    n1 : size_of (one ++ more) ≡ size_of one + size_of more
+    n1 = size_append one more
+
+    by :
+        (q : Bool) → is_among label own ≡ q →
+        (is_among label (M.labels_in rest) ≡ true →
+        Comes k.call.code 0 f (services_of p)
+        (goal (index + size_of marks' + size_of one + size_of more)) on) →
+        Comes k.call.code 0 f (services_of p) (goal (index + size_of (marks' ++ (one ++ more))))
+        (cond (is_among label own) met on)
+    by true e later =
+        let here = marks.0 label e in
+        let inside = l.inside in
+        subst (λ q. Comes k.call.code 0 f (services_of p) (goal (index + size_of (marks' ++ (one ++ more))))
+        (cond q met on)) (sym e)
+        (statements_do k labels (Y.StmtThen own first rest) p.state.world.acts index left' 0 wanted p numbers f
+        (omega arith) each o l (omega arith, omega (arith, inside))
+        (moved_in k f (omega (arith, here, place)) there))
+    by false e later =
+        subst (λ q. Comes k.call.code 0 f (services_of p) (goal (index + size_of (marks' ++ (one ++ more))))
+        (cond q met on)) (sym e)
+        (subst (λ j. Comes k.call.code 0 f (services_of p) (goal j) on) (omega (arith, n0, n1))
+        (later (or_else label own (M.labels_in rest) among e)))
+
+-- ---- jumps that a list catches
+
+comes_caught :
+    {k : Block} {labels : List Label} {acts index wanted left' c : ℕ} {f : Family} {v : Services} (own : List Label)
+    (height : ℕ) (flow : Flow (Unit {0})) (next' : Label → Meaning (Unit {0})) → height ≡ own_height k →
+    ((label : Label) (c' : ℕ) (f' : Family) (v' : Services) (s : State) →
+    LandsAt k own acts c' f' v' height label s →
+    Comes k.call.code c' f' v' (statement_aims k labels acts index wanted left')
+    (next' label k.call.surroundings.acts s)) →
+    Comes k.call.code c f v (statement_aims k (own ++ labels) acts index wanted left') flow →
+    Comes k.call.code c f v (statement_aims k labels acts index wanted left')
+    (caught k.call.surroundings.acts height own flow next')
+comes_caught own height (Normal r s) next' same goes o = record { to = o.to }
+comes_caught {k} {labels} {acts} {index} {wanted} {left'} {c} {f} {v} own height (Jump h label s) next' same goes o =
+    ap-test (h == height) refl (is_among label own) refl
+  where
+    goal : Aims (Unit {0})
+    goal = statement_aims k labels acts index wanted left'
+
+    on : Flow (Unit {0})
+    on = next' label k.call.surroundings.acts s
+
+    lands : LandsAt k (own ++ labels) acts c f v h label s
+    lands = o.to
+
+    lands_on : (xs : List Label) → is_among label xs ≡ true → LandsAt k xs acts c f v h label s
+    lands_on xs among =
+        record {
+          own = lands.own;
+          carried = among;
+          point = lands.point;
+          numbers = lands.numbers;
+          among = lands.among;
+          more = lands.more;
+          state = lands.state;
+          index = lands.index;
+          place = lands.place;
+          reach = lands.reach;
+        }
+
+    same_height : h ≡ height
+    same_height = lands.own ∙ sym same
+
+    ap-test :
+        (q : Bool) → (h == height) ≡ q → (r : Bool) → is_among label own ≡ r →
+        Comes k.call.code c f v goal (cond ((h == height) && is_among label own) on (Jump h label s))
+    ap-test true e true g =
+        subst (λ t. Comes k.call.code c f v goal (cond (t && is_among label own) on (Jump h label s))) (sym e)
+        (subst (λ t. Comes k.call.code c f v goal (cond t on (Jump h label s))) (sym g)
+        (goes label c f v s
+        (subst (λ n. LandsAt k own acts c f v n label s) same_height (lands_on own g))))
+    ap-test true e false g =
+        subst (λ t. Comes k.call.code c f v goal (cond (t && is_among label own) on (Jump h label s))) (sym e)
+        (subst (λ t. Comes k.call.code c f v goal (cond t on (Jump h label s))) (sym g)
+        (record { to = lands_on labels (or_else label own labels lands.carried g) }))
+    ap-test false e r g = absurd (cc (sym e ∙ eq-eqb h height same_height))
+comes_caught own height (Return r s) next' same goes o = record { to = o.to }
+comes_caught own height (F.Ended s) next' same goes o = record { to = o.to }
+comes_caught own height (Paused s) next' same goes o = record { to = o.to }
+comes_caught own height Stuck next' same goes o = absurd o.to
+
+-- ---- turns of a list
+
+-- what is known of a list wherever it runs
+pub record Listing (k : Block) (labels : List Label) (body : Y.Stmts) (index left' : ℕ) : Type 0 where
+  pub begun : IsBegun k
+  pub each : EachDoes k (M.labels_in body ++ labels) body index left'
+  pub marks : AreMarked k.call.surroundings.links k.environment body index
+  pub linked : Linked k.call.surroundings.links k.call.code index (stmts_code k.environment none_taken body)
+
+abbrev list_aims : Block → List Label → Y.Stmts → (acts index wanted left' : ℕ) → Aims (Unit {0})
+list_aims k labels body acts index wanted left' =
+    statement_aims k labels acts (index + size_of (stmts_code k.environment none_taken body)) wanted left'
+
+-- where a turn jumps to another label, the next one is due
+jumped_on :
+    (n : ℕ) (k : Block) (labels : List Label) (body : Y.Stmts) (index left' wanted height : ℕ) (l : Label)
+    (acts : ℕ) → k.call.surroundings.acts < suc n + acts → (c' : ℕ) (f' : Family) (v' : Services) (s : State)
+    (q : LandsAt k (M.labels_in body) acts c' f' v' height l s) →
+    (k.call.surroundings.acts < n + q.point.state.world.acts → (g : Family) →
+    AreIn k.call.surroundings q.point q.numbers q.index g →
+    Comes k.call.code 0 g (services_of q.point)
+    (list_aims k labels body q.point.state.world.acts index wanted left')
+    (list_from n height (M.labels_in body) (M.statements k.around body) (Some l) k.call.surroundings.acts
+    q.point.state)) →
+    Comes k.call.code c' f' v' (list_aims k labels body acts index wanted left')
+    (list_from n height (M.labels_in body) (M.statements k.around body) (Some l) k.call.surroundings.acts s)
+jumped_on n k labels body index left' wanted height l acts few c' f' v' s q rest =
+    let more = q.more in
+    subst (λ u. Comes k.call.code c' f' v' (list_aims k labels body acts index wanted left')
+    (list_from n height (M.labels_in body) (M.statements k.around body) (Some l) k.call.surroundings.acts u))
+    (sym q.state)
+    (onward (statement_closed k labels acts (index + size_of (stmts_code k.environment none_taken body)) wanted left')
+    q.reach (λ g at'. comes_since (omega (arith, more)) (rest (omega (arith, few, more)) g at')))
+
+-- from a label, in so many turns
+turns_do :
+    (turns : ℕ) (k : Block) (labels : List Label) (body : Y.Stmts) (index left' wanted : ℕ) (height : ℕ)
+    (label : Label) (at : ℕ) (p : Point) (numbers : ℕ → ℕ) (f : Family) → Listing k labels body index left' →
+    height ≡ own_height k → k.call.surroundings.acts < turns + p.state.world.acts → IsAmong k numbers p →
+    is_among label (M.labels_in body) ≡ true →
+    place_of k.call.surroundings.links (LabelPlace k.environment.block label) ≡ 4 * at →
+    AreIn k.call.surroundings p numbers at f →
+    Comes k.call.code 0 f (services_of p) (list_aims k labels body p.state.world.acts index wanted left')
+    (list_from turns height (M.labels_in body) (M.statements k.around body) (Some label) k.call.surroundings.acts
+    p.state)
+unfolding list_from
+turns_do zero k labels body index left' wanted height label at p numbers f x same few o among place there =
+    let allowed = o.stands.allowed in
+    absurd (omega (arith, allowed, few))
+turns_do (suc n) k labels body index left' wanted height label at p numbers f x same few o among place there =
+    comes_caught (M.labels_in body) height
+    (M.statements k.around body (Some label) k.call.surroundings.acts p.state)
+    (λ l. list_from n height (M.labels_in body) (M.statements k.around body) (Some l)) same
+    (λ l c' f' v' s q. jumped_on n k labels body index left' wanted height l p.state.world.acts few c' f' v' s q
+    (λ m g at'. turns_do n k labels body index left' wanted height l q.index q.point q.numbers g x same m q.among
+    q.carried q.place at'))
+    (sought_do k (M.labels_in body ++ labels) label body index left' wanted at p numbers f x.each x.marks o x.linked
+    among place there)
+
+-- and from the start
+starts_do :
+    (turns : ℕ) (k : Block) (labels : List Label) (body : Y.Stmts) (index left' wanted c : ℕ) (height : ℕ)
+    (p : Point) (numbers : ℕ → ℕ) (f : Family) → Listing k labels body index left' →
+    height ≡ own_height k → k.call.surroundings.acts < turns + p.state.world.acts → IsAmong k numbers p →
+    (c ≤ wanted) × (c + size_of (stmts_code k.environment none_taken body) ≤ cost k.call.code) →
+    AreIn k.call.surroundings p numbers index f →
+    Comes k.call.code c f (services_of p) (list_aims k labels body p.state.world.acts index wanted left')
+    (list_from turns height (M.labels_in body) (M.statements k.around body) None k.call.surroundings.acts p.state)
+unfolding list_from
+starts_do zero k labels body index left' wanted c height p numbers f x same few o fits there =
+    let allowed = o.stands.allowed in
+    absurd (omega (arith, allowed, few))
+starts_do (suc n) k labels body index left' wanted c height p numbers f x same few o fits there =
+    comes_caught (M.labels_in body) height
+    (M.statements k.around body None k.call.surroundings.acts p.state)
+    (λ l. list_from n height (M.labels_in body) (M.statements k.around body) (Some l)) same
+    (λ l c' f' v' s q. jumped_on n k labels body index left' wanted height l p.state.world.acts few c' f' v' s q
+    (λ m g at'. turns_do n k labels body index left' wanted height l q.index q.point q.numbers g x same m q.among
+    q.carried q.place at'))
+    (statements_do k (M.labels_in body ++ labels) body p.state.world.acts index left' c wanted p numbers f (omega arith)
+    x.each o x.linked fits there)
+
+pub list_does :
+    (k : Block) (labels : List Label) (body : Y.Stmts) (index left' : ℕ) (p : Point) (numbers : ℕ → ℕ)
+    (c wanted : ℕ) (f : Family) → IsBegun k →
+    k.call.surroundings.acts < k.around.turns + p.state.world.acts →
+    EachDoes k (M.labels_in body ++ labels) body index left' →
+    AreMarked k.call.surroundings.links k.environment body index → IsAmong k numbers p →
+    Linked k.call.surroundings.links k.call.code index (stmts_code k.environment none_taken body) →
+    (c ≤ wanted) × (c + size_of (stmts_code k.environment none_taken body) ≤ cost k.call.code) →
+    AreIn k.call.surroundings p numbers index f →
+    Comes k.call.code c f (services_of p)
+    (statement_aims k labels p.state.world.acts (index + size_of (stmts_code k.environment none_taken body)) wanted
+    left')
+    (M.list k.around body k.call.surroundings.acts p.state)
+unfolding M.list M.list_with looked ◌>>=◌
+list_does k labels body index left' p numbers c wanted f begun few each marks o l fits there =
+    starts_do k.around.turns k labels body index left' wanted c (newest_height p.state.activations) p numbers f
+    (record { begun = begun; each = each; marks = marks; linked = l }) (newest_own (newest_at begun o)) few o fits there
