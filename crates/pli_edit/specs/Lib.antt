@@ -7,3 +7,4 @@ pub mod Faults
 pub mod Handing
 pub mod Drained
 pub mod OutputStreams
+pub mod Pasts

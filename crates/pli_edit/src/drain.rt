@@ -4,6 +4,7 @@ ghost use Rattle.std.specs.Prelude.{◌≡◌, ◌≤◌, IfOk, length};
 ghost use Rattle.pli_edit.specs.Histories.{after_call};
 
 use crate::fault::Failed;
+use std::marker::Brand;
 
 /// Takes bytes, write by write. Contracts see how its writes came out so far, and the bytes that they took.
 pub trait Drain {
@@ -26,4 +27,11 @@ pub trait Before {
     ghost use Rattle.pli_edit.specs.Histories.{History};
 
     ghost before: { History };
+}
+
+// A drain that took nothing yet; a call that knows more picks it.
+impl Before for Brand {
+    ghost use Rattle.std.specs.Prelude.{[]};
+
+    ghost before = { record { failures = 0; answers = []; bytes = [] } };
 }

@@ -12,8 +12,11 @@ mod line;
 mod mark;
 pub mod output;
 pub mod output_stream;
+pub mod past;
 mod pieces;
 pub mod place;
 mod reading;
+#[cfg(test)]
+mod stream_tests;
 #[cfg(test)]
 mod tests;
