@@ -2,7 +2,9 @@ pub mod Columns
 pub mod Ends
 pub mod FormatPieces
 pub mod Growing
+pub mod Handovers
 pub mod Lines
+pub mod LongLines
 pub mod Markings
 pub mod Taking
 pub mod Ways

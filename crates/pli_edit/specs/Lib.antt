@@ -2,3 +2,9 @@ pub mod LastLine
 pub mod Fields
 pub mod FormatPlaces
 pub mod Marks
+pub mod Histories
+pub mod Faults
+pub mod Handing
+pub mod Drained
+pub mod OutputStreams
+pub mod Pasts
