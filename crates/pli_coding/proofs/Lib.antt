@@ -1,3 +1,4 @@
 pub mod RowPieces
 mod CodeRows
 mod CountRows
+mod ParameterRows
