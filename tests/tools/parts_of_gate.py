@@ -10,7 +10,7 @@ import tempfile
 from pathlib import Path
 from types import SimpleNamespace
 
-TOP = Path(__file__).resolve().parent.parent
+TOP = Path(__file__).resolve().parent.parent.parent
 PARTS = "crates", "edits", "files", "lanes", "place", "prover"
 FUNCTIONS = """/// Has a contract.
 pub fn plain() -> u32

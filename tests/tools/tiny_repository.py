@@ -9,8 +9,8 @@ import subprocess
 import sys
 from pathlib import Path
 
-TOP = Path(__file__).resolve().parent.parent
-OF_THE_GATE = "check", "gate", "pli", ".ci", "tests/run", "tests/short_form.py"
+TOP = Path(__file__).resolve().parent.parent.parent
+OF_THE_GATE = "check", "gate", "pli", ".ci", "tests/run", "tests/tools/short_form.py"
 OTHER_SCRIPTS = "hostile_images", "command_line", "listing", "examples", "refused_memory", "gate", "map", "numbers"
 PASSED = "#!/bin/sh\necho 1 passed, 0 failed\n"
 STRIP = '#!/bin/sh\ncp "$3" "$2"\n'
@@ -95,7 +95,7 @@ FILES = {
     "crates/show_outcome/src/main.rt": "#!/bin/sh\ncat\n# rattle: true\n",
     "crates/show_outcome/stdin": "outcome\n",
     "crates/show_outcome/stdout": "outcome\n",
-    "tests/tiny.cases": CASES,
+    "tests/cases/tiny.cases": CASES,
 }
 
 
@@ -116,7 +116,7 @@ class Repository:
             self.write(name, content)
         for name in OTHER_SCRIPTS:
             self.write_program(Path(self.top, "tests", name), PASSED)
-        self.write_program(Path(self.folder, "bin", "rt"), Path(TOP, "tests", "stub_rt").read_text())
+        self.write_program(Path(self.folder, "bin", "rt"), Path(TOP, "tests", "tools", "stub_rt").read_text())
         self.write_program(Path(self.folder, "bin", "strip"), STRIP)
         self.write_program(Path(self.folder, "bin", "nice"), NICE)
         self.write_program(Path(self.folder, "bin", "python3"), PYTHON)
