@@ -8,7 +8,7 @@ use Rattle.pli_coding.specs.Registers.{zero_register, frame_register, a0, a1, a2
 use Rattle.pli_coding.specs.Assembly.{Code, size_of}
 use Rattle.pli_coding.specs.Instructions.{small, move, number, service, tested_service, load_word, plus}
 use Rattle.pli_coding.specs.Frames.{buffer_size, buffer_lower, buffer_upper, words_place, are_constant}
-use Rattle.pli_coding.specs.Environments.{Environment, Taken, with_number, with_words, save, fetch}
+use Rattle.pli_coding.specs.Environments.{Environment, Taken, declaration_of, with_number, with_words, save, fetch}
 use Rattle.pli_coding.specs.Arithmetic as A
 use Rattle.pli_coding.specs.Locating as L
 use Rattle.pli_coding.specs.Expressions as X
@@ -21,10 +21,11 @@ use Rattle.code_sizes.proofs.PieceSizes.{both, one_of, none, constant_most, numb
 use Rattle.code_sizes.proofs.PieceSizes.{plus_most}
 use Rattle.code_sizes.proofs.PieceSizes.{combined_most}
 use Rattle.code_sizes.proofs.PieceSizes.{save_most, fetch_most, loaded_most, own_most, name_most, number_loaded_most}
+use Rattle.code_sizes.proofs.PieceSizes.{number_more, number_more_most}
 use Rattle.code_sizes.proofs.PieceSizes.{copied_most, calculated_most, fitted_most, divided_most, signed_most}
 use Rattle.code_sizes.proofs.PieceSizes.{absolute_most, count_most, extreme_most, equal_most, compared_most}
 use Rattle.code_sizes.proofs.PieceSizes.{frame_found_most}
-use Rattle.code_sizes.proofs.ReachedSizes.{class_most, refer_most, leaf_most, bound_most, counted_size, element_size}
+use Rattle.code_sizes.proofs.ReachedSizes.{found_first_most, refer_most, leaf_most, bound_most, counted_size, element_size}
 use Rattle.code_sizes.proofs.ReachedSizes.{reached_most, based_most, copied_reached_most}
 
 -- ---- one behind the other, with what waits between
@@ -41,22 +42,32 @@ waits_most t a b c x y n h k l =
 
 -- ---- names
 
-refer_checked_most : (e : Environment) (l : L.Located) (b : Bool) → size_of (X.refer_checked e l b) ≤ 20
+refer_checked_most : (e : Environment) (l : L.Located) (b : Bool)
+    → size_of (X.refer_checked e l b) ≤ 20 + number_more l.number
 refer_checked_most e l true = refer_most e l false
 refer_checked_most e l false = none
 
-checked_most : (e : Environment) (l : L.Located) (place : ℤ) (b : Bool) → size_of (X.name_checked e l place b) ≤ 42
+checked_most : (e : Environment) (l : L.Located) (place : ℤ) (b : Bool)
+    → size_of (X.name_checked e l place b) ≤ 42 + 2 * number_more l.number
 checked_most e l place b =
-    both (L.name_offset e a0 l.name) _ (name_most e a0 l.name)
+    let all = both (L.name_offset e a0 l.name) _ (name_most e a0 l.name)
     (both (L.number_loaded e a1 l.number) _ (number_loaded_most e a1 l.number)
     (both (L.own_place e a2 place) _ (own_most e a2 place)
-    (both (tested_service 9) (X.refer_checked e l b) {m = 5} (omega arith) (refer_checked_most e l b))))
+    (both (tested_service 9) (X.refer_checked e l b) {m = 5} (omega arith) (refer_checked_most e l b)))) in
+    omega (arith, all)
+
+-- with room for one number more
+written_and_number : (e : Environment) (t : Taken) (v : Y.Variable) (part : Y.Part) (place : ℤ)
+    → size_of (X.name_written e t v part place) + number_more (L.located e t v).number ≤ 57
+written_and_number e t v part place =
+    let all = both (L.class_found e t v v.class) _ {m = size_of (L.class_found e t v v.class)} (omega arith)
+    (checked_most e (L.located e t v) place (L.is_referred e v part)) in
+    let first = found_first_most e t v (declaration_of e v) v.class in
+    omega (arith, all, first)
 
 written_most : (e : Environment) (t : Taken) (v : Y.Variable) (part : Y.Part) (place : ℤ)
     → size_of (X.name_written e t v part place) ≤ 57
-written_most e t v part place =
-    both (L.class_found e t v v.class) _ (class_most e t v v.class)
-    (checked_most e (L.located e t v) place (L.is_referred e v part))
+written_most e t v part place = let m = written_and_number e t v part place in omega (arith, m)
 
 to_offset_most : (e : Environment) (t : Taken) (n : L.NamePlace) (area : Y.Variable)
     → size_of (X.name_to_offset e t n area) ≤ 20
@@ -136,8 +147,10 @@ bounds_found_most : (e : Environment) (t : Taken) (v : Y.Variable) (part : Y.Par
     → size_of (X.bounds_found e t v part b) ≤ 59
 bounds_found_most e t v part b =
     one_of (L.is_direct e v) _ _ none
-    (both (L.class_found e t v v.class) _ (class_most e t v v.class)
-    (leaf_most e (L.located e t v) part.first (not (are_constant b)) (L.is_referred e v part)))
+    (let all = both (L.class_found e t v v.class) _ {m = size_of (L.class_found e t v v.class)} (omega arith)
+    (leaf_most e (L.located e t v) part.first (not (are_constant b)) (L.is_referred e v part)) in
+    let first = found_first_most e t v (declaration_of e v) v.class in
+    omega (arith, all, first))
 
 dimension_most : (e : Environment) (t : Taken) (v : Y.Variable) (part : Y.Part) (asked : X.BoundAsked) (dimension : ℕ)
     → size_of (X.dimension_code e t v part asked dimension) ≤ 78
@@ -188,10 +201,13 @@ copy_most l n = let m = stored_there_most l n 5 u1 in omega (arith, m)
 by_reference_most : (e : Environment) (t : Taken) (l : X.ArgumentList) (n : ℕ) (v : Y.Variable) (part : Y.Part)
     → size_of (X.by_reference e t l n v part) ≤ 69
 by_reference_most e t l n v part =
-    both (X.name_written e t v part (X.argument_place l n 0)) _ (written_most e t v part (X.argument_place l n 0))
+    let written = written_and_number e t v part (X.argument_place l n 0) in
+    let all = both (X.name_written e t v part (X.argument_place l n 0)) _
+    {m = size_of (X.name_written e t v part (X.argument_place l n 0))} (omega arith)
     (both (L.number_loaded e u1 (L.located e t v).number) _ (number_loaded_most e u1 (L.located e t v).number)
     (both (X.argument_stored l n 4 u1) (X.is_reference l n) (stored_there_most l n 4 u1)
-    (stored_there_most l n 5 zero_register)))
+    (stored_there_most l n 5 zero_register))) in
+    omega (arith, all, written)
 
 value_most : (t : Taken) (l : X.ArgumentList) (n : ℕ) (v : Y.Stored) → size_of (X.value_to_argument t l n v) ≤ 24
 value_most t l n (Y.StoredNumber p x) = let m = stored_there_most l n 0 a0 in omega (arith, m)
@@ -498,7 +514,9 @@ mutual
       standing_most (X.standing_locator e locator)
       (λ name. X.name_checked e (L.based_located e v name) place (L.is_referred e v part))
       (X.locator_code e t locator ++ X.name_written e t v part place) (locator_size locator + 57)
-      (λ name. let m = checked_most e (L.based_located e v name) place (L.is_referred e v part) in omega (arith, m))
+      (λ name. let m = checked_most e (L.based_located e v name) place (L.is_referred e v part) in
+      let more = number_more_most (L.based_located e v name).number in
+      omega (arith, m, more))
       (both (X.locator_code e t locator) _ (locator_sized e t locator) (written_most e t v part place))
   pointer_sized e t place (Y.PointerInto x area) =
       both (X.offset_code e t x) _ (offset_sized e t x)

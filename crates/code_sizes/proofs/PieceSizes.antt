@@ -10,15 +10,15 @@ use Rattle.pli_typing.specs.TypedTree as Y
 use Rattle.pli_coding.specs.Registers.{frame_register, a0, u1}
 use Rattle.pli_coding.specs.Assembly.{Code, size_of}
 use Rattle.pli_coding.specs.Instructions.{is_immediate, constant, number, plus, load_word, store_word}
-use Rattle.pli_coding.specs.Frames.{words_place, own_offset, display}
+use Rattle.pli_coding.specs.Frames.{words_place, own_offset, list_offset, list_place, display}
 use Rattle.pli_coding.specs.Environments.{Environment, Taken, is_register_left, save, fetch}
 use Rattle.pli_coding.specs.Arithmetic.{raised, overflow_raised, calculated_code, narrowed_code, fitted_code}
 use Rattle.pli_coding.specs.Arithmetic.{divided_code, signed_code, absolute_code, extreme_code, compared_code}
 use Rattle.pli_coding.specs.Arithmetic.{equal_code, count_checked, unless_zero, combined_code}
 use Rattle.pli_meaning.specs.Numbers.{operator_precision}
 use Rattle.pli_coding.specs.Locating.{frame_found, frame_in, frame_offset, own_place, place_behind, NamePlace}
-use Rattle.pli_coding.specs.Locating.{FrameName, DataName, NameInData, NumberPlace, KnownNumber, FrameNumber}
-use Rattle.pli_coding.specs.Locating.{DataNumber}
+use Rattle.pli_coding.specs.Locating.{FrameName, ListName, DataName, NameInData, NumberPlace, KnownNumber}
+use Rattle.pli_coding.specs.Locating.{FrameNumber, ListNumber, DataNumber}
 use Rattle.pli_coding.specs.Locating.{name_offset, number_loaded, loaded, Address, word_copied, name_copied}
 
 -- ---- one behind the other
@@ -152,13 +152,32 @@ own_most e r place =
 
 pub name_most : (e : Environment) (r : Register) (n : NamePlace) → size_of (name_offset e r n) ≤ 7
 name_most e r (FrameName level place) = frame_most e level r place
+name_most e r (ListName level place) =
+    both (frame_found e level r) _ (frame_found_most e level r)
+    (both (load_word r (frame_in e level r) list_offset) (plus r r place) {m = 1} (omega arith) (plus_most r r place))
 name_most e r (DataName d) = omega arith
 name_most e r (NameInData d place) = let p = plus_most r r (pos place) in omega (arith, p)
 
-pub number_loaded_most : (e : Environment) (r : Register) (n : NumberPlace) → size_of (number_loaded e r n) ≤ 6
+-- what a parameter's number takes more: where the list of arguments is has to be loaded first
+abbrev pub number_more : NumberPlace → ℕ
+number_more (ListNumber level place) = 3
+number_more _ = 0
+
+pub number_more_most : (n : NumberPlace) → number_more n ≤ 3
+number_more_most (KnownNumber n) = omega arith
+number_more_most (FrameNumber level place) = omega arith
+number_more_most (ListNumber level place) = omega arith
+number_more_most (DataNumber d) = omega arith
+
+pub number_loaded_most : (e : Environment) (r : Register) (n : NumberPlace)
+    → size_of (number_loaded e r n) ≤ 6 + number_more n
 number_loaded_most e r (KnownNumber n) = let m = number_most r n in omega (arith, m)
 number_loaded_most e r (FrameNumber level place) =
     both (frame_found e level r) _ (frame_found_most e level r) (load_most r (frame_in e level r) place)
+number_loaded_most e r (ListNumber level place) =
+    both (frame_found e level r) _ (frame_found_most e level r)
+    (both (load_word r (frame_in e level r) (pos (list_place level))) (load_word r r place)
+    (load_most r (frame_in e level r) (pos (list_place level))) (load_most r r place))
 number_loaded_most e r (DataNumber d) = omega arith
 
 word_most : (from to : Address) (n : ℕ) → size_of (word_copied from to n) ≤ 6

@@ -2,7 +2,7 @@
 use Rattle.std.proofs.Common.{if◌then◌else◌}
 use Rattle.std.proofs.Common.{ℕ, zero, suc, ◌+◌, ◌==◌, ◌≤◌, List, [], ◌∷◌, ◌++◌, Bool, true, false}
 use Rattle.std.proofs.Common.{arith, ℤ, pos}
-use Rattle.std.specs.Prelude.{◌&&◌, ◌-ℤ◌, neg_ℤ}
+use Rattle.std.specs.Prelude.{◌*◌, ◌&&◌, ◌-ℤ◌, neg_ℤ}
 use Rattle.pli_typing.specs.Signatures.{leaf_bytes, rounded_up}
 use Rattle.pli_meaning.specs.Contents.{same_int}
 use Rattle.pli_meaning.specs.DeclaredShapes.{kind_of}
@@ -12,12 +12,12 @@ use Rattle.pli_coding.specs.Registers.{frame_register, a0, a1, a2, a3, u0, u1, u
 use Rattle.pli_coding.specs.Assembly.{BaseIn, size_of}
 use Rattle.pli_coding.specs.Instructions.{number, service, tested_service, load_word, store_word, add, subtract}
 use Rattle.pli_coding.specs.Frames.{is_constant, buffer_lower, buffer_upper}
-use Rattle.pli_coding.specs.Environments.{Environment, Taken, with_number}
+use Rattle.pli_coding.specs.Environments.{Environment, Taken, declaration_of, with_number}
 use Rattle.pli_coding.specs.Locating as L
 use Rattle.code_sizes.proofs.PieceSizes.{both, one_of, none, constant_most, number_most, load_most, store_most}
 use Rattle.code_sizes.proofs.PieceSizes.{plus_most, copied_most, near_copied_most}
 use Rattle.code_sizes.proofs.PieceSizes.{fetch_most, loaded_most, own_most, name_most, number_loaded_most}
-use Rattle.code_sizes.proofs.PieceSizes.{frame_found_most, own_found}
+use Rattle.code_sizes.proofs.PieceSizes.{number_more, number_more_most, frame_found_most, own_found}
 
 -- ---- what is found first
 
@@ -29,37 +29,47 @@ newest_most e t v =
     (both (store_word frame_register a1 (L.waiting_number t)) _ (store_most frame_register a1 (L.waiting_number t))
     {n = 4} (omega arith))))
 
-pub class_most : (e : Environment) (t : Taken) (v : Y.Variable) (class : Y.StorageClass)
-    → size_of (L.class_found e t v class) ≤ 15
-class_most e t v Y.ControlledClass = newest_most e t v
-class_most e t v Y.AutomaticClass = none
-class_most e t v Y.ParameterClass = none
-class_most e t v Y.StaticClass = none
-class_most e t v Y.BasedClass = none
+-- what is found first is no parameter: so its three numbers and what is found take no more than that
+pub found_first_most : (e : Environment) (t : Taken) (v : Y.Variable) (d : Y.DeclaredVariable) (class : Y.StorageClass)
+    → size_of (L.class_found e t v class) + 3 * number_more (L.located_by_class e t v d class).number ≤ 15
+found_first_most e t v d Y.ControlledClass = let m = newest_most e t v in omega (arith, m)
+found_first_most e t v d Y.AutomaticClass = omega arith
+found_first_most e t v d Y.ParameterClass = omega arith
+found_first_most e t v d Y.StaticClass = omega arith
+found_first_most e t v d Y.BasedClass =
+    let m = number_more_most (L.based_number e v d) in omega (arith, m)
 
 buffer_most : (e : Environment) (b : Bool) (r : Register) → size_of (L.buffer_if e b r) ≤ 2
 buffer_most e true r = both (L.frame_found e e.level r) _ (own_found e r) {n = 2} (omega arith)
 buffer_most e false r = omega arith
 
-pub refer_most : (e : Environment) (l : L.Located) (b : Bool) → size_of (L.refer_read e l b) ≤ 20
+pub refer_most : (e : Environment) (l : L.Located) (b : Bool)
+    → size_of (L.refer_read e l b) ≤ 20 + number_more l.number
 refer_most e l b =
-    both (L.name_offset e a0 l.name) _ (name_most e a0 l.name)
+    let all = both (L.name_offset e a0 l.name) _ (name_most e a0 l.name)
     (both (L.number_loaded e a1 l.number) _ (number_loaded_most e a1 l.number)
-    (both (L.buffer_if e b a2) (tested_service 15) (buffer_most e b a2) {n = 5} (omega arith)))
+    (both (L.buffer_if e b a2) (tested_service 15) (buffer_most e b a2) {n = 5} (omega arith))) in
+    omega (arith, all)
 
-resolved_most : (e : Environment) (l : L.Located) (leaf : ℕ) (b : Bool) → size_of (L.leaf_resolved e l leaf b) ≤ 23
+resolved_most : (e : Environment) (l : L.Located) (leaf : ℕ) (b : Bool)
+    → size_of (L.leaf_resolved e l leaf b) ≤ 23 + number_more l.number
 resolved_most e l leaf b =
-    both (L.name_offset e a0 l.name) _ (name_most e a0 l.name)
+    let all = both (L.name_offset e a0 l.name) _ (name_most e a0 l.name)
     (both (L.number_loaded e a1 l.number) _ (number_loaded_most e a1 l.number)
     (both (number a2 leaf) _ (number_most a2 leaf)
-    (both (L.buffer_if e b a3) _ (buffer_most e b a3) {n = 6} (omega arith))))
+    (both (L.buffer_if e b a3) _ (buffer_most e b a3) {n = 6} (omega arith)))) in
+    omega (arith, all)
 
-refer_if_most : (e : Environment) (l : L.Located) (b r : Bool) → size_of (L.refer_if e l b r) ≤ 21
+refer_if_most : (e : Environment) (l : L.Located) (b r : Bool)
+    → size_of (L.refer_if e l b r) ≤ 21 + number_more l.number
 refer_if_most e l b true = let m = refer_most e l b in omega (arith, m)
 refer_if_most e l b false = omega arith
 
-pub leaf_most : (e : Environment) (l : L.Located) (leaf : ℕ) (b r : Bool) → size_of (L.leaf_found e l leaf b r) ≤ 44
-leaf_most e l leaf b r = both (L.leaf_resolved e l leaf b) _ (resolved_most e l leaf b) (refer_if_most e l b r)
+pub leaf_most : (e : Environment) (l : L.Located) (leaf : ℕ) (b r : Bool)
+    → size_of (L.leaf_found e l leaf b r) ≤ 44 + 2 * number_more l.number
+leaf_most e l leaf b r =
+    let all = both (L.leaf_resolved e l leaf b) _ (resolved_most e l leaf b) (refer_if_most e l b r) in
+    omega (arith, all)
 
 -- ---- simple numbers
 
@@ -195,7 +205,9 @@ element_most r type (Y.NumberThen first rest) =
     both (L.times_stride type) _ (stride_most type) {n = 1} (omega arith)
 
 leaf_reached_most : (e : Environment) (at : L.Located) (t : Taken) (v : Y.Variable) (part : Y.Part) (l : Y.Leaf)
-    (xs : Y.Numbers) → size_of (L.leaf_reached e at t v part l xs) ≤ 47 + (counted_size xs + element_size xs)
+    (xs : Y.Numbers)
+    → size_of (L.leaf_reached e at t v part l xs)
+    ≤ (47 + 2 * number_more at.number) + (counted_size xs + element_size xs)
 leaf_reached_most e at t v part l xs =
     let m = element_most u3 l.type xs in
     let all = both (L.leaf_found e at part.first (L.needs_buffer l) (L.is_referred e v part)) _
@@ -208,7 +220,8 @@ pub based_most : (e : Environment) (name : L.NamePlace) (t : Taken) (v : Y.Varia
     → size_of (L.based_reached e name t v part xs) ≤ 62 + (counted_size xs + element_size xs)
 based_most e name t v part xs =
     let m = leaf_reached_most e (L.based_located e v name) t v part (L.leaf_number e v part.first) xs in
-    omega (arith, m)
+    let more = number_more_most (L.based_located e v name).number in
+    omega (arith, m, more)
 
 direct_most : (e : Environment) (t : Taken) (v : Y.Variable) (l : Y.Leaf) (xs : Y.Numbers)
     → size_of (L.direct_reached e t v l xs) ≤ 62 + (counted_size xs + element_size xs)
@@ -221,9 +234,10 @@ direct_most e t v l xs =
 found_most : (e : Environment) (found t : Taken) (v : Y.Variable) (part : Y.Part) (l : Y.Leaf) (xs : Y.Numbers)
     → size_of (L.found_reached e found t v part l xs) ≤ 62 + (counted_size xs + element_size xs)
 found_most e found t v part l xs =
-    let all = both (L.class_found e found v v.class) _ (class_most e found v v.class)
+    let all = both (L.class_found e found v v.class) _ {m = size_of (L.class_found e found v v.class)} (omega arith)
     (leaf_reached_most e (L.located e found v) t v part l xs) in
-    omega (arith, all)
+    let first = found_first_most e found v (declaration_of e v) v.class in
+    omega (arith, all, first)
 
 pub reached_most : (e : Environment) (found t : Taken) (v : Y.Variable) (part : Y.Part) (xs : Y.Numbers)
     → size_of (L.reached e found t v part xs) ≤ 62 + (counted_size xs + element_size xs)

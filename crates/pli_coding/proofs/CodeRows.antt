@@ -77,11 +77,12 @@ variables_stand_apart = refl
 frame_holds_all : frame_end parts small 1 0 ≡ 256
 frame_holds_all = refl
 
--- a display of one word and a parameter of five: 144 and 24
-fixed_part_is_rounded : fixed_size 1 1 ≡ 176
+-- a display of one word, and one where the list of arguments is, however many there are: 144 and 8
+fixed_part_is_rounded : fixed_size 1 0 ∷ fixed_size 1 1 ∷ fixed_size 1 3 ∷ fixed_size 3 0 ∷ fixed_size 4 1 ∷ []
+    ≡ (160 ∷ 160 ∷ 160 ∷ 160 ∷ 176 ∷ [])
 fixed_part_is_rounded = refl
 
-parameters_take_no_storage : map (automatic_place parts small 2 1) (1 ∷ 2 ∷ []) ≡ (176 ∷ 208 ∷ [])
+parameters_take_no_storage : map (automatic_place parts small 2 1) (1 ∷ 2 ∷ []) ≡ (160 ∷ 192 ∷ [])
 parameters_take_no_storage = refl
 
 -- six words from the third one on end below the first two

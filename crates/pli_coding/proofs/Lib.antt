@@ -2,3 +2,4 @@ pub mod RowPieces
 mod CodeRows
 mod CountRows
 mod LinkRows
+mod ParameterRows

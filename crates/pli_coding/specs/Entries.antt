@@ -1,5 +1,5 @@
 -- How blocks are entered and left: their frames, parameters and variables.
-use Rattle.std.specs.Prelude.{ℕ, zero, suc, ◌+◌, ◌*◌, ℤ, pos, neg_ℤ, max, min, List, [], ◌∷◌, ◌++◌, Option, Some}
+use Rattle.std.specs.Prelude.{ℕ, zero, suc, ◌+◌, ℤ, pos, neg_ℤ, max, min, List, [], ◌∷◌, ◌++◌, Option, Some}
 use Rattle.std.specs.Prelude.{None, slice_get, if◌then◌else◌}
 use Rattle.rv_meaning.specs.declared.instr.Register.{Register}
 use Rattle.rv_meaning.specs.declared.instr.BranchTest.TheVariants as Test
@@ -8,10 +8,10 @@ use Rattle.pli_meaning.specs.DeclaredShapes.{variables_of_block}
 use Rattle.pli_coding.specs.Registers.{zero_register, return_register, stack_register, frame_register, held, a0, a1, a2, a3, a4, u0, u1, u2, u3, u4, u5}
 use Rattle.pli_coding.specs.Assembly.{BaseIn, OffsetOf, DataPlace, Code}
 use Rattle.pli_coding.specs.Instructions.{add, subtract, move, small, number, plus, load_word, store_word, skip_where, service}
-use Rattle.pli_coding.specs.Frames.{return_address, frame_below, saved_register, own_offset, lower_top, display, parameter_place, name_bytes, fixed_size, has_constant_size, constant_size, is_automatic, frame_bytes, last_place, automatic_place, temporary_bytes}
+use Rattle.pli_coding.specs.Frames.{return_address, frame_below, saved_register, own_offset, lower_top, display, list_offset, list_place, argument_at, name_bytes, fixed_size, has_constant_size, constant_size, is_automatic, frame_bytes, last_place, automatic_place, temporary_bytes}
 use Rattle.pli_coding.specs.StaticForms.{size_datum}
 use Rattle.pli_coding.specs.Environments.{Environment, none_taken}
-use Rattle.pli_coding.specs.Locating.{own_place, table_number, Address, stored, name_copied, is_star_type}
+use Rattle.pli_coding.specs.Locating.{own_place, table_number, Address, stored, is_star_type}
 use Rattle.pli_coding.specs.Extents.{extents_code, number_word, bytes_word, initial_code, extents_words}
 use Rattle.pli_coding.specs.Allocating.{act_code}
 
@@ -78,24 +78,14 @@ entered_without_texts kind line = small a3 0 ∷ block_entered kind line
 abbrev pub block_left : (keep : ℕ) → Code
 block_left keep = small a0 keep ∷ service 5
 
--- ---- parameters: the list of arguments stands in u5 until all are copied
+-- ---- parameters: the address of the list of arguments comes in a1, and stands in u5 until the copies are made
 
-abbrev pub argument_bytes : ℕ
-argument_bytes = 24
-
-abbrev pub argument_at : (n word : ℕ) → ℤ
-argument_at n word = pos (argument_bytes * n + 4 * word)
-
-abbrev pub words_given : (from to left : ℕ) → Code
-words_given from to zero = []
-words_given from to (suc left) =
-    load_word u1 u5 (pos from) ++ (store_word frame_register u1 (pos to) ++ words_given (from + 4) (to + 4) left)
-
--- a name and a signature's number for each
-abbrev pub parameters_given : (level n : ℕ) → List ℕ → Code
-parameters_given level n [] = []
-parameters_given level n (p ∷ ps) =
-    words_given (argument_bytes * n) (parameter_place level n) 5 ++ parameters_given level (suc n) ps
+-- where the list is, for all that names a parameter; u1 has the frame's own offset
+abbrev pub list_kept : (level : ℕ) → List ℕ → Code
+list_kept level [] = []
+list_kept level (p ∷ ps) =
+    store_word frame_register a1 (pos (list_place level))
+    ++ (subtract a1 a1 frame_register ∷ add a1 a1 u1 ∷ store_word frame_register a1 list_offset)
 
 -- a parameter that may stand for a copy: its place among the parameters, its declaration and its kind
 pub record Copied : Type 0 where
@@ -141,48 +131,61 @@ abbrev pub lower_taken : Code
 lower_taken =
     load_word u1 frame_register lower_top ++ (subtract u1 u1 u2 ∷ store_word frame_register u1 lower_top)
 
-abbrev pub copy_place : Environment → Copied → ℕ
-copy_place e c = parameter_place e.level c.n
+-- the number of the signature, behind where the name will stand
+abbrev pub copy_begun : Environment → Copied → Code
+copy_begun e c = copy_signature e c ++ (store_word u5 a1 (argument_at c.n 4) ++ lower_taken)
 
-abbrev pub copy_made : Environment → Copied → Code
-copy_made e c =
-    copy_signature e c
-    ++ (store_word frame_register a1 (pos (copy_place e c + name_bytes))
-    ++ (lower_taken
-    ++ (own_place e a0 (pos (copy_place e c)) ++ (small a2 0 ∷ move a3 u1 ∷ small a4 2 ∷ service 7))))
+-- the value, before the name is written over it: a name's words in four registers
+abbrev pub value_taken : (n : ℕ) → Y.LeafType → Code
+value_taken n (Y.CharacterLeaf x) = []
+value_taken n (Y.VaryingLeaf x) = []
+value_taken n Y.PointerLeaf =
+    load_word u0 u5 (argument_at n 0)
+    ++ (load_word u2 u5 (argument_at n 1) ++ (load_word u3 u5 (argument_at n 2) ++ load_word u4 u5 (argument_at n 3)))
+value_taken n type = load_word u4 u5 (argument_at n 0)
 
+-- the name, whose data begins at the top of the lower stack
+abbrev pub copy_named : (n : ℕ) → Code
+copy_named n =
+    load_word a0 frame_register list_offset
+    ++ (plus a0 a0 (argument_at n 0) ++ (small a2 0 ∷ move a3 u1 ∷ small a4 2 ∷ service 7))
+
+-- the data's address
 abbrev pub copy_addressed : Code
-copy_addressed = BaseIn u0 ∷ add u3 u0 u1 ∷ []
+copy_addressed = BaseIn a0 ∷ add a0 a0 u1 ∷ []
 
 abbrev pub copy_address : Address
-copy_address = record { register = u3; displacement = pos 0 }
+copy_address = record { register = a0; displacement = pos 0 }
 
-abbrev pub word_copy : (n : ℕ) → Y.LeafType → Code
-word_copy n type = copy_addressed ++ (load_word u2 u5 (argument_at n 0) ++ stored type u2 copy_address)
+abbrev pub name_kept : Code
+name_kept = store_word a0 u0 (pos 0) ++ (store_word a0 u2 (pos 4) ++ (store_word a0 u3 (pos 8) ++ store_word a0 u4 (pos 12)))
 
--- the value; the place of a text goes into the list until the texts are stored
+-- the value; the place of a text, which isn't 0, goes into the list in place of the 1 until the texts are stored
 abbrev pub copy_filled : (n : ℕ) → Y.LeafType → Code
-copy_filled n (Y.CharacterLeaf x) = store_word u5 u1 (argument_at n 0)
-copy_filled n (Y.VaryingLeaf x) = store_word u5 u1 (argument_at n 0)
-copy_filled n Y.PointerLeaf =
-    copy_addressed ++ name_copied (record { register = u5; displacement = argument_at n 0 }) copy_address
-copy_filled n type = word_copy n type
+copy_filled n (Y.CharacterLeaf x) = store_word u5 u1 (argument_at n 5)
+copy_filled n (Y.VaryingLeaf x) = store_word u5 u1 (argument_at n 5)
+copy_filled n Y.PointerLeaf = copy_addressed ++ name_kept
+copy_filled n type = copy_addressed ++ stored type u4 copy_address
+
+abbrev pub copy_made : Environment → Copied → Code
+copy_made e c = copy_begun e c ++ (value_taken c.n c.type ++ (copy_named c.n ++ copy_filled c.n c.type))
 
 abbrev pub copies_made : Environment → List Copied → Code
 copies_made e [] = []
-copies_made e (c ∷ cs) = if_copied c (copy_made e c ++ copy_filled c.n c.type) ++ copies_made e cs
+copies_made e (c ∷ cs) = if_copied c (copy_made e c) ++ copies_made e cs
 
-abbrev pub copy_length : (n : ℕ) → Y.Extent → Code
-copy_length n (Y.ConstantExtent z) = number a1 (natural z)
+-- the length that is declared, or that of the top text
+abbrev pub copy_length : Y.Extent → Code
+copy_length (Y.ConstantExtent z) = number a1 (natural z)
   where
     natural : ℤ → ℕ
     natural (pos n) = n
     natural _ = 0
-copy_length n _ = load_word a1 u5 (argument_at n 4)
+copy_length _ = small a2 2 ∷ (service 27 ++ move a1 a0 ∷ [])
 
+-- the top text, into its copy, whose place stands in the list and in u4
 abbrev pub text_copy : Copied → (mode : ℕ) → Y.Extent → Code
-text_copy c mode size =
-    if_copied c (load_word a0 u5 (argument_at c.n 0) ++ (copy_length c.n size ++ (small a2 mode ∷ service 27)))
+text_copy c mode size = if_copied c (copy_length size ++ (move a0 u4 ∷ small a2 mode ∷ service 27))
 
 abbrev pub text_filled : Copied → Y.LeafType → Code
 text_filled c (Y.CharacterLeaf size) = text_copy c 0 size

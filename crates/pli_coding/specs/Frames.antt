@@ -1,5 +1,5 @@
 -- Where a block's frame has what, in bytes from the frame's address: temporaries below it; above it what is saved, the display,
--- the parameters, and then one variable after the other.
+-- where the list of arguments is, and then one variable after the other.
 use Rattle.std.specs.Prelude.{ℕ, zero, suc, ◌+◌, ◌*◌, ◌^◌, ◌-◌, ℤ, pos, neg_ℤ, Bool, true, false, ◌&&◌, nat_le, min, List, [], ◌∷◌, length, Option, Some, None, if◌then◌else◌}
 use Rattle.std.specs.List.{list_all}
 use Rattle.pli_typing.specs.Signatures.{rounded_up, rounded_down, data_size, natural}
@@ -38,6 +38,10 @@ own_offset = pos 36
 abbrev pub lower_top : ℤ
 lower_top = pos 40
 
+-- the offset of the list of arguments, in a procedure that has parameters
+abbrev pub list_offset : ℤ
+list_offset = pos 44
+
 -- a function's number, or its name, on the way out
 abbrev pub result : ℕ
 result = 48
@@ -62,15 +66,25 @@ buffer_upper dimension = pos (76 + 8 * dimension)
 abbrev pub display : (level : ℕ) → ℤ
 display level = pos (144 + 4 * level)
 
--- a parameter's name, 16 bytes, and the number of its signature behind it
-abbrev pub parameter_place : (level n : ℕ) → ℕ
-parameter_place level n = 144 + 4 * level + 20 * n
+-- behind the display, where there are parameters, the address of the list of arguments: a word
+abbrev pub list_place : (level : ℕ) → ℕ
+list_place level = 144 + 4 * level
 
 abbrev pub name_bytes : ℕ
 name_bytes = 16
 
 abbrev pub fixed_size : (level parameters : ℕ) → ℕ
-fixed_size level parameters = rounded_up 16 (parameter_place level parameters)
+fixed_size level parameters = rounded_up 16 (list_place level + 4 * min 1 parameters)
+
+-- ---- the list of arguments: six words for each, which stand in the caller's frame as long as the callee's does
+
+abbrev pub argument_bytes : ℕ
+argument_bytes = 24
+
+-- a word of the nth argument: a name or a value from 0 on, the number of a signature or a text's length in 4, and in 5 whether it is a
+-- copy
+abbrev pub argument_at : (n word : ℕ) → ℤ
+argument_at n word = pos (argument_bytes * n + 4 * word)
 
 -- ---- variables
 

@@ -20,7 +20,7 @@ use Rattle.pli_meaning.specs.DeclaredShapes.{kind_of, shape_of}
 use Rattle.pli_coding.specs.Registers.{frame_register, a0, a1, a2, a3, a4, u0, u1, u2, u3, u4}
 use Rattle.pli_coding.specs.Assembly.{Datum, NumberWord, StaticStorage, DataPlace, BaseIn, OffsetOf, Code}
 use Rattle.pli_coding.specs.Instructions.{immediate, shift, registers, add, subtract, move, small, constant, number, displaced, plus, load_word, store_word, skip_where, service, tested_service, status_tested, error_raised}
-use Rattle.pli_coding.specs.Frames.{own_offset, buffer, buffer_size, buffer_lower, buffer_upper, display, parameter_place, name_bytes, is_constant, is_constant_type, are_constant, has_constant_size, constant_size, parameters_of_block, automatic_place, words_place}
+use Rattle.pli_coding.specs.Frames.{own_offset, buffer, buffer_size, buffer_lower, buffer_upper, display, list_offset, list_place, argument_at, name_bytes, is_constant, is_constant_type, are_constant, has_constant_size, constant_size, parameters_of_block, automatic_place, words_place}
 use Rattle.pli_coding.specs.SignatureTable.{signature_of, is_open, number_in_table}
 use Rattle.pli_coding.specs.Environments.{Environment, declaration_of, Taken, with_words, with_number, fetch}
 
@@ -43,19 +43,22 @@ own_place e r place = frame_offset e e.level r place
 
 -- ---- names, and numbers of signatures
 
--- where a name stands: in the frame at a level, or in static data, or so many bytes behind the place of a datum
+-- where a name stands: in the frame at a level, so far into the list of arguments that this frame has, in static data, or so many
+-- bytes behind the place of a datum
 abbrev pub place_behind : ℕ → ℤ → ℤ
 place_behind n z = z +ℤ pos n
 
 pub data NamePlace : Type 0 where
   FrameName : (level : ℕ) → (place : ℤ) → NamePlace
+  ListName : (level : ℕ) → (place : ℤ) → NamePlace
   DataName : Datum → NamePlace
   NameInData : Datum → (place : ℕ) → NamePlace
 
--- a constant, a word of a frame, or a word of static data
+-- a constant, a word of a frame, of its list of arguments, or of static data
 pub data NumberPlace : Type 0 where
   KnownNumber : ℕ → NumberPlace
   FrameNumber : (level : ℕ) → (place : ℤ) → NumberPlace
+  ListNumber : (level : ℕ) → (place : ℤ) → NumberPlace
   DataNumber : Datum → NumberPlace
 
 pub record Located : Type 0 where
@@ -101,8 +104,8 @@ abbrev pub place_among : (index : ℕ) → List ℕ → ℕ
 place_among index [] = 0
 place_among index (i ∷ is) = if i == index then 0 else suc (place_among index is)
 
-abbrev pub name_of_parameter : Environment → Y.Variable → ℕ
-name_of_parameter e v = parameter_place v.level (place_among v.index (parameters_of_block e.program v.block))
+abbrev pub number_of_parameter : Environment → Y.Variable → ℕ
+number_of_parameter e v = place_among v.index (parameters_of_block e.program v.block)
 
 -- words that a located or CONTROLLED variable takes: its name, and the number of its signature
 abbrev pub locator_words : ℕ
@@ -128,8 +131,8 @@ located_by_class e t v d Y.AutomaticClass =
     record { name = FrameName v.level (pos (automatic_place e.parts e.program v.block v.level v.index)); number = known_or_own e d }
 located_by_class e t v d Y.ParameterClass =
     record {
-      name = FrameName v.level (pos (name_of_parameter e v));
-      number = FrameNumber v.level (pos (name_of_parameter e v + name_bytes));
+      name = ListName v.level (argument_at (number_of_parameter e v) 0);
+      number = ListNumber v.level (argument_at (number_of_parameter e v) 4);
     }
 located_by_class e t v d Y.StaticClass = record { name = DataName (static_datum e v.block v.index d); number = known_or_own e d }
 located_by_class e t v d Y.BasedClass = record { name = FrameName e.level (waiting_name t); number = based_number e v d }
@@ -143,8 +146,18 @@ located e t v = located_by_class e t v (declaration_of e v) v.class
 abbrev pub based_located : Environment → Y.Variable → NamePlace → Located
 based_located e v name = record { name = name; number = based_number e v (declaration_of e v) }
 
+-- the offset of a place of the list of arguments that a frame has
+abbrev pub argument_offset : Environment → (level : ℕ) → Register → (place : ℤ) → Code
+argument_offset e level r place = frame_found e level r ++ (load_word r (frame_in e level r) list_offset ++ plus r r place)
+
+-- the word at a place of it, by its address
+abbrev pub argument_word : Environment → (level : ℕ) → Register → (place : ℤ) → Code
+argument_word e level r place =
+    frame_found e level r ++ (load_word r (frame_in e level r) (pos (list_place level)) ++ load_word r r place)
+
 abbrev pub name_offset : Environment → Register → NamePlace → Code
 name_offset e r (FrameName level place) = frame_offset e level r place
+name_offset e r (ListName level place) = argument_offset e level r place
 name_offset e r (DataName d) = OffsetOf r (DataPlace d) ∷ []
 name_offset e r (NameInData d place) = OffsetOf r (DataPlace d) ∷ plus r r (pos place)
 
@@ -155,6 +168,7 @@ data_word r through d = OffsetOf r (DataPlace d) ∷ BaseIn through ∷ add r r 
 abbrev pub number_loaded : Environment → Register → NumberPlace → Code
 number_loaded e r (KnownNumber n) = number r n
 number_loaded e r (FrameNumber level place) = frame_found e level r ++ load_word r (frame_in e level r) place
+number_loaded e r (ListNumber level place) = argument_word e level r place
 number_loaded e r (DataNumber d) = data_word r u0 d
 
 -- ---- CONTROLLED variables, by their numbers

@@ -13,7 +13,7 @@ use Rattle.pli_coding.specs.Frames.{result}
 use Rattle.pli_coding.specs.Environments.{BlockPlace, BlockOwner, Environment, in_frame, owned_by, none_taken}
 use Rattle.pli_coding.specs.Extents.{number_word, extents_code, refer_amount, extents_words}
 use Rattle.pli_coding.specs.Allocating.{act_code}
-use Rattle.pli_coding.specs.Entries.{all_restored, frame_begun, frame_ended, block_entered, block_left, parameters_given, arguments_copied, variables_code}
+use Rattle.pli_coding.specs.Entries.{all_restored, frame_begun, frame_ended, block_entered, block_left, list_kept, arguments_copied, variables_code}
 use Rattle.pli_coding.specs.Statements.{block_words, block_held, stmts_words, stmts_code}
 
 -- back to the caller
@@ -63,7 +63,7 @@ abbrev pub procedure_begun : Environment → Y.BlockHead → (words held : ℕ) 
 procedure_begun e head words held parameters =
     frame_begun words head.level (length parameters) (Some held)
     ++ (move u5 a1
-    ∷ (parameters_given head.level 0 parameters
+    ∷ (list_kept head.level parameters
     ++ (move a3 a2 ∷ (block_entered 0 head.line ++ (arguments_copied e parameters ++ (variables_code e head.line ++ act_code head.line))))))
 
 abbrev pub procedure_ended : Environment → Y.BlockHead → (words held : ℕ) → Option Y.LeafType → Code

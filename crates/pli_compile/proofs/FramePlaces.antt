@@ -1,5 +1,5 @@
 -- What stands in a frame is apart.
-use Rattle.std.proofs.Common.{◌≡◌, ◌<◌, ◌≤◌, ◌+◌, ℕ, zero, suc, min, List, [], ◌∷◌, Some, subst, arith}
+use Rattle.std.proofs.Common.{◌≡◌, ◌<◌, ◌≤◌, ◌+◌, ℕ, zero, suc, min, List, [], ◌∷◌, Some, refl, subst, arith}
 use Rattle.std.specs.Prelude.{slice_get}
 use Rattle.pli_typing.specs.TypedTree as Y
 use Rattle.pli_coding.specs.Frames.{MemoryParts, frame_bytes, last_place, variable_place}
@@ -33,4 +33,4 @@ pub places_apart : PlacesApart
 places_apart = apart parts
 
 pub parameters_apart : ParametersApart
-parameters_apart level parameters n before = (omega arith, omega (arith, before))
+parameters_apart level parameters n before = ((refl, omega (arith, before)), omega arith)

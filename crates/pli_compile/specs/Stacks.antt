@@ -1,12 +1,13 @@
 -- How frames lie: what stands in one is apart, and as many as may be active fit memory's part for the stacks, with all AUTOMATIC data.
-use Rattle.std.specs.Prelude.{◌≡◌, ℕ, suc, ◌+◌, ◌<◌, ◌≤◌, List, [], ◌∷◌, length, slice_get, Some, ⊤}
+use Rattle.std.specs.Prelude.{◌≡◌, ℕ, suc, ◌+◌, ◌*◌, pos, ◌<◌, ◌≤◌, List, [], ◌∷◌, length, slice_get, Some, ⊤}
 use Rattle.std.specs.List.{sum}
 use Rattle.granule_keeper.specs.Granules.{granules}
 use Rattle.pli_typing.specs.Signatures.{footprint, data_size, rounded_up, LeafKind, Area, Bounds, Leaf}
 use Rattle.pli_typing.specs.TypedTree as Y
 use Rattle.pli_meaning.specs.Contents.{Shape}
 use Rattle.pli_meaning.specs.StorageState.{most_activations, most_automatic}
-use Rattle.pli_coding.specs.Frames.{fixed_size, frame_bytes, last_place, name_bytes, parameter_place, variable_place}
+use Rattle.pli_coding.specs.Frames.{argument_bytes, display, fixed_size, frame_bytes, last_place, list_place, name_bytes}
+use Rattle.pli_coding.specs.Frames.{variable_place}
 use Rattle.pli_frames.specs.Parts.{parts}
 use Rattle.pli_frames.specs.Plans.{BlockFrame}
 use Rattle.pli_serving.specs.Arguments.{data_bytes}
@@ -75,8 +76,10 @@ PlacesApart =
     (variables : List Y.DeclaredVariable) (at i j : ℕ) (d : Y.DeclaredVariable) → slice_get variables i ≡ Some d → i < j → variable_place parts at variables j < last_place
     → variable_place parts at variables i + frame_bytes parts d ≤ variable_place parts at variables j
 
--- the law: so does what a parameter takes, its name and its signature's number, before the next one and before the variables
+-- the law: the address of the list of arguments stands behind the display and before the variables, and what an argument takes in the
+-- list, a name and the number of its signature, before the next one
 abbrev pub ParametersApart : Type 0
 ParametersApart =
     (level parameters n : ℕ) → n < parameters
-    → (parameter_place level n + name_bytes + 4 ≤ parameter_place level (suc n)) × (parameter_place level (suc n) ≤ fixed_size level parameters)
+    → ((display level ≡ pos (list_place level)) × (list_place level + 4 ≤ fixed_size level parameters))
+    × (argument_bytes * n + (name_bytes + 8) ≤ argument_bytes * suc n)

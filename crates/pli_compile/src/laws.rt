@@ -32,7 +32,7 @@ pub fn places_apart()
     ensures { PlacesApart }
 {}
 
-/// What parameters take in a frame is apart, and stands before the variables.
+/// Where the list of arguments is stands in a frame before the variables, and what parameters take in the list is apart.
 pub fn parameters_apart()
     ensures { ParametersApart }
 {}

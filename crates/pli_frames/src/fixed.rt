@@ -43,6 +43,13 @@ pub fn lower_top() -> i32
     40
 }
 
+/// The offset of the list of arguments, in a procedure that has parameters.
+pub fn list_offset() -> i32
+    ensures { result ≡ form.list_offset }
+{
+    44
+}
+
 /// A function's result.
 pub fn result_place() -> u32
     ensures { result ≡ form.result }
@@ -88,14 +95,24 @@ pub fn display(level: usize) -> Result<i32, AllocError>
     Ok(144 + 4 * level as i32)
 }
 
-/// The nth parameter's name, with the number of its signature behind it, in a block of a level.
-pub fn parameter_place(level: usize, n: usize) -> Result<u32, AllocError>
-    ensures { IfOk result (λ p. p ≡ form.parameter_place level n) }
+/// Behind the display, the address of the list of arguments, in a procedure of a level that has parameters.
+pub fn list_place(level: usize) -> Result<u32, AllocError>
+    ensures { IfOk result (λ p. p ≡ form.list_place level) }
 {
-    if level >= MOST || n >= MOST {
+    if level >= MOST {
         return Err(AllocError);
     }
-    Ok(144 + 4 * level as u32 + 20 * n as u32)
+    Ok(144 + 4 * level as u32)
+}
+
+/// A word of the nth argument in the list, in bytes from the list's address.
+pub fn argument_at(n: usize, word: u8) -> Result<i32, AllocError>
+    ensures { IfOk result (λ d. d ≡ form.argument_at n word) }
+{
+    if n >= MOST {
+        return Err(AllocError);
+    }
+    Ok(24 * n as i32 + 4 * i32::from(word))
 }
 
 /// So many temporary words from the one of a place on, the first of them lowest.

@@ -28,14 +28,15 @@ pub struct BlockFrame {
     pub end: u32,
 }
 
-/// The bytes of a frame's fixed part: what is saved, the display, the parameters. More than 32 bits hold is want of memory.
+/// The bytes of a frame's fixed part: what is saved, the display, and where the list of arguments is. More than 32 bits hold is want of
+/// memory.
 pub fn fixed_size(level: usize, parameters: usize) -> Result<u32, AllocError>
     ensures { IfOk result (λ n. n ≡ form.fixed_size level parameters) }
 {
-    if level >= 1 << 24 || parameters >= 1 << 24 {
+    if level >= 1 << 24 {
         return Err(AllocError);
     }
-    let bytes = 144 + 4 * level as u32 + 20 * parameters as u32;
+    let bytes = 144 + 4 * level as u32 + 4 * parameters.min(1) as u32;
     Ok((bytes + 15) / 16 * 16)
 }
 

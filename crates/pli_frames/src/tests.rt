@@ -134,7 +134,7 @@ fn frames_lie_as_worked_out(rt: HostRuntime) -> Result<(), Fail> {
     assert_eq!(rt; frames.len(), 2);
     if let [outer, inner] = frames.as_slice() {
         assert!(rt; outer.places.as_slice() == [176u32, 176, 208, 288].as_slice());
-        assert!(rt; outer.end == 416 && outer.words == 0 && outer.parameters == 1);
+        assert!(rt; outer.end == 400 && outer.words == 0 && outer.parameters == 1);
         assert!(rt; inner.places.is_empty() && inner.end == 160 && inner.words == 4);
     }
     Ok(())
@@ -151,6 +151,6 @@ fn sizes_are_as_worked_out(rt: HostRuntime) -> Result<(), Fail> {
         has_constant_size(&area) && constant_size(&area) == 112 && frame_bytes(&area) == 128
     );
     assert_eq!(rt; extents_words(&area)?, 4);
-    assert_eq!(rt; fixed_size(2, 3)?, 224);
+    assert_eq!(rt; fixed_size(2, 3)?, 160);
     Ok(())
 }

@@ -11,12 +11,14 @@ use Rattle.rv_address.specs.declared.transfer.Address.{Address}
 
 abbrev pub name_of : NamePlace → L.NamePlace
 name_of (N.Frame level place) = L.FrameName level place
+name_of (N.List level place) = L.ListName level place
 name_of (N.Static block index bytes) = L.DataName (StaticStorage block index bytes)
 name_of (N.InStatic block index bytes place) = L.NameInData (StaticStorage block index bytes) place
 
 abbrev pub number_of : NumberPlace → L.NumberPlace
 number_of (K.Known n) = L.KnownNumber n
 number_of (K.Frame level place) = L.FrameNumber level place
+number_of (K.List level place) = L.ListNumber level place
 number_of (K.Word block index) = L.DataNumber (NumberWord block index)
 
 abbrev pub located_of : Located → L.Located

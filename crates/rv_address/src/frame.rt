@@ -1,4 +1,4 @@
-// Places of a frame that are a variable's own: of an AUTOMATIC one, and of a parameter.
+// Which parameter of its block a variable is, and where an AUTOMATIC one stands in the frame.
 
 ghost use Rattle.std.specs.Prelude.{◌≡◌, length, IfOk};
 ghost use Rattle.pli_typing.specs.TypedView.{variable_of};
@@ -9,7 +9,6 @@ ghost use Rattle.pli_frames.specs.Parts.{parts};
 ghost use Rattle.rv_address.specs.Around.{environment_of};
 
 use crate::environment::Environment;
-use pli_frames::fixed::parameter_place;
 use pli_frames::frame::fixed_size;
 use pli_typing::statement::Typed;
 use pli_typing::typed::Variable;
@@ -44,12 +43,12 @@ fn place_among(index: usize, parameters: &[usize]) -> usize
     place
 }
 
-/// The place of a parameter's name, in bytes from the frame's address.
-pub fn name_of_parameter(environment: &Environment, variable: Variable) -> Result<u32, AllocError>
-    ensures { IfOk result (λ n. n ≡ locating.name_of_parameter (environment_of environment.now) (variable_of variable)) }
+/// The place of a parameter among those of its block, or the place behind them.
+pub fn number_of_parameter(environment: &Environment, variable: Variable) -> usize
+    ensures { result ≡ locating.number_of_parameter (environment_of environment.now) (variable_of variable) }
 {
     let parameters = parameters_of_block(environment.known.typed, variable.block);
-    parameter_place(variable.level, place_among(variable.index, parameters))
+    place_among(variable.index, parameters)
 }
 
 /// The place of an AUTOMATIC variable's name, in bytes from the frame's address.

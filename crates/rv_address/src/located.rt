@@ -16,13 +16,13 @@ ghost use Rattle.rv_address.specs.Places.{located_of, name_of, no_variable, numb
 
 use crate::controlled::controlled_number;
 use crate::environment::Environment;
-use crate::frame::{automatic_place, name_of_parameter};
+use crate::frame::{automatic_place, number_of_parameter};
 use crate::names::{Located, NamePlace, NumberPlace, own_place};
-use crate::number::{behind, count, signed};
+use crate::number::{count, signed};
 use crate::referred::needs_number_word;
 use crate::signature::is_open;
 use crate::taken::Taken;
-use pli_frames::fixed::words_place;
+use pli_frames::fixed::{argument_at, words_place};
 use pli_frames::size::{LAST_PLACE, constant_size};
 use pli_typing::typed::{DeclaredVariable, StorageClass, Variable};
 use rv_assembly::code::Code;
@@ -133,14 +133,15 @@ fn automatic_located(environment: &Environment, variable: Variable) -> Result<Lo
 fn parameter_located(environment: &Environment, variable: Variable) -> Result<Located, AllocError>
     ensures { IfOk result (λ l. located_of l ≡ form.located_by_class (environment_of environment.now) none_taken (variable_of variable) (declaration_of (environment_of environment.now) (variable_of variable)) ParameterClass) }
 {
-    let place = signed(name_of_parameter(environment, variable)?)?;
-    let number = behind(16, place)?;
+    let n = number_of_parameter(environment, variable);
+    let place = argument_at(n, 0)?;
+    let number = argument_at(n, 4)?;
     Ok(Located {
-        name: NamePlace::Frame {
+        name: NamePlace::List {
             level: variable.level,
             place,
         },
-        number: NumberPlace::Frame {
+        number: NumberPlace::List {
             level: variable.level,
             place: number,
         },

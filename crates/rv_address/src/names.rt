@@ -9,17 +9,22 @@ ghost use Rattle.rv_address.specs.Places.{name_of, number_of};
 
 use crate::environment::Environment;
 use crate::number::signed;
-use pli_frames::fixed::{display, own_offset};
+use pli_frames::fixed::{display, list_offset, list_place, own_offset};
 use rv_assembly::code::Code;
 use rv_assembly::item::{Datum, Item, Symbol};
 use rv_assembly::registers;
 use rv_meaning::instr::Register;
 use std::alloc::AllocError;
 
-/// Where a name stands: in the frame at a level, or in the static data of a variable of so many bytes, in front or at a place.
+/// Where a name stands: in the frame at a level, in the list of arguments that this frame has, or in the static data of a variable of so
+/// many bytes, in front or at a place.
 #[derive(Clone, Copy, PartialEq, Eq, Debug)]
 pub enum NamePlace {
     Frame {
+        level: usize,
+        place: i32,
+    },
+    List {
         level: usize,
         place: i32,
     },
@@ -36,11 +41,12 @@ pub enum NamePlace {
     },
 }
 
-/// Where the number of a signature is: a constant, a word of a frame, or the word of static data that a variable has.
+/// Where the number of a signature is: a constant, a word of a frame, of its list of arguments, or of static data.
 #[derive(Clone, Copy, PartialEq, Eq, Debug)]
 pub enum NumberPlace {
     Known(u32),
     Frame { level: usize, place: i32 },
+    List { level: usize, place: i32 },
     Word { block: usize, index: usize },
 }
 
@@ -129,6 +135,41 @@ fn storage_offset(
     ))
 }
 
+/// The offset of a place of the list of arguments that a frame has.
+fn argument_offset(
+    code: &mut Code,
+    environment: &Environment,
+    level: usize,
+    register: Register,
+    place: i32,
+) -> Result<(), AllocError>
+    ensures { OnOk result (code.new ≡ code.old ++ form.argument_offset (environment_of environment.now) level register place) }
+{
+    frame_found(code, environment, level, register)?;
+    code.load_word(
+        register,
+        frame_in(environment, level, register),
+        list_offset(),
+    )?;
+    code.plus(register, register, place)
+}
+
+/// The word at a place of it.
+fn argument_word(
+    code: &mut Code,
+    environment: &Environment,
+    level: usize,
+    register: Register,
+    place: i32,
+) -> Result<(), AllocError>
+    ensures { OnOk result (code.new ≡ code.old ++ form.argument_word (environment_of environment.now) level register place) }
+{
+    let list = signed(list_place(level)?)?;
+    frame_found(code, environment, level, register)?;
+    code.load_word(register, frame_in(environment, level, register), list)?;
+    code.load_word(register, register, place)
+}
+
 /// The offset of a name.
 pub fn name_offset(
     code: &mut Code,
@@ -141,6 +182,9 @@ pub fn name_offset(
     match name {
         NamePlace::Frame { level, place } => {
             frame_offset(code, environment, level, register, place)
+        }
+        NamePlace::List { level, place } => {
+            argument_offset(code, environment, level, register, place)
         }
         NamePlace::Static {
             block,
@@ -188,6 +232,9 @@ pub fn number_loaded(
         NumberPlace::Frame { level, place } => {
             frame_found(code, environment, level, register)?;
             code.load_word(register, frame_in(environment, level, register), place)
+        }
+        NumberPlace::List { level, place } => {
+            argument_word(code, environment, level, register, place)
         }
         NumberPlace::Word { block, index } => {
             let datum = Datum::NumberWord { block, index };

@@ -124,7 +124,7 @@ fn variables_are_reached_in_their_words(rt: HostRuntime) -> Result<(), Fail> {
     assert_eq!(rt; known.table().len(), 3);
     let (alloc, none) = (rt.alloc(), Numbers::End);
     let parameter = named(StorageClass::Parameter, 0);
-    assert_eq!(rt; words(alloc, &known, parameter, &none, 0)?, 16);
+    assert_eq!(rt; words(alloc, &known, parameter, &none, 0)?, 17);
     let automatic = named(StorageClass::Automatic, 1);
     assert_eq!(rt; words(alloc, &known, automatic, &none, 0)?, 1);
     let standing = named(StorageClass::Static, 2);

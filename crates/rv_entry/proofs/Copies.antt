@@ -14,9 +14,9 @@ use Rattle.pli_coding.specs.Instructions.{number, skip_where}
 use Rattle.pli_coding.specs.StaticForms.{size_datum}
 use Rattle.pli_coding.specs.Environments.{Environment, declaration_of}
 use Rattle.pli_coding.specs.Locating.{is_star_type, table_number}
-use Rattle.pli_coding.specs.Entries.{Copied, copied_declared, copied_parameters, copies_made, copy_filled, copy_made, if_copied}
+use Rattle.pli_coding.specs.Entries.{Copied, copied_declared, copied_parameters, copies_made, copy_made, if_copied}
 use Rattle.rv_entry.proofs.Steps.{copied_here, item_first, step}
-use Rattle.rv_entry.specs.Pieces.{argument_loaded, constant_signature, copied_of, copied_single, copy_begun, copy_named, copy_put, copy_skipped, lower_grown, one_copied, own_variable, parameter_copied, signature_asked, signature_found, signature_kept, signature_told, single_type, star_signature}
+use Rattle.rv_entry.specs.Pieces.{argument_loaded, constant_signature, copied_of, copied_single, copy_begun, copy_named, copy_put, copy_skipped, copy_whole, lower_grown, one_copied, own_variable, parameter_copied, signature_asked, signature_found, signature_kept, signature_told, single_type, star_signature, value_taken}
 
 -- ---- signatures
 
@@ -57,21 +57,27 @@ pub ruleset signatures = (star_found, other_found)
 
 -- ---- one copy
 
-pub begun-is : (e : _) (n : _) (d : _) (type : _) → copy_begun e (copied_of n d type) ≡ signature_found e (copied_of n d type) ++ (signature_kept e n ++ (lower_grown ++ copy_named e n))
-unfolding copy_begun signature_found signature_kept lower_grown copy_named
+pub begun-is : (e : _) (n : _) (d : _) (type : _) → copy_begun e (copied_of n d type) ≡ signature_found e (copied_of n d type) ++ (signature_kept n ++ lower_grown)
+unfolding copy_begun signature_found signature_kept lower_grown
 begun-is e n d type = refl
 
 pub ruleset begun = (begun-is, append_assoc, append-nil)
 
-pub skipped-is : (e : _) (n : _) (d : _) (type : _) → copy_skipped e (copied_of n d type) ≡ skip_where Test.Equal u4 zero_register (copy_begun e (copied_of n d type) ++ copy_put n type)
-unfolding copy_skipped copy_begun copy_put
+pub made-is : (e : _) (n : _) (d : _) (type : _) → copy_whole e (copied_of n d type) ≡ copy_begun e (copied_of n d type) ++ (value_taken n type ++ (copy_named n ++ copy_put n type))
+unfolding copy_whole copy_begun value_taken copy_named copy_put
+made-is e n d type = refl
+
+pub ruleset made = (made-is, append_assoc, append-nil)
+
+pub skipped-is : (e : _) (n : _) (d : _) (type : _) → copy_skipped e (copied_of n d type) ≡ skip_where Test.Equal u4 zero_register (copy_whole e (copied_of n d type))
+unfolding copy_skipped copy_whole
 skipped-is e n d type = refl
 
 pub ruleset skipped = (skipped-is, append_assoc, append-nil)
 
 pub copied-is : (e : Environment) (n : ℕ) (d : Y.DeclaredVariable) (type : Y.LeafType) → one_copied e (copied_of n d type) ≡ argument_loaded u4 n 5 ++ copy_skipped e (copied_of n d type)
 unfolding one_copied argument_loaded copy_skipped
-copied-is e n d type = append-nil (if_copied (copied_of n d type) (copy_made e (copied_of n d type) ++ copy_filled n type))
+copied-is e n d type = append-nil (if_copied (copied_of n d type) (copy_made e (copied_of n d type)))
 
 pub ruleset copied = (copied-is, append_assoc, append-nil)
 
@@ -88,7 +94,7 @@ parameter_here e n place xs x o v code after s h k single own a =
 copies_append : (e : Environment) (xs ys : List Copied) → copies_made e (xs ++ ys) ≡ copies_made e xs ++ copies_made e ys
 copies_append e [] ys = refl
 copies_append e (c ∷ cs) ys =
-    let one : Code = if_copied c (copy_made e c ++ copy_filled c.n c.type) in
+    let one : Code = if_copied c (copy_made e c) in
     ap (λ u. one ++ u) (copies_append e cs ys) ∙ sym (append_assoc one (copies_made e cs) (copies_made e ys))
 
 copied_from : (e : Environment) (n i p d : ℕ) (ps : List ℕ) → i < length ps → p ≡ get_or ps i d

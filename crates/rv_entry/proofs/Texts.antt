@@ -18,9 +18,9 @@ use Rattle.rv_entry.specs.Pieces.{copied_single, own_declaration, parameter_fill
 
 -- ---- lengths
 
-pub skipped-is : (n : _) (mode : _) (size : _) → text_skipped n mode size ≡ skip_where Test.Equal u4 zero_register (text_put n mode size)
+pub skipped-is : (mode : _) (size : _) → text_skipped mode size ≡ skip_where Test.Equal u4 zero_register (text_put mode size)
 unfolding text_skipped
-skipped-is n mode size = refl
+skipped-is mode size = refl
 
 pub ruleset skipped = (skipped-is, append_assoc, append-nil)
 

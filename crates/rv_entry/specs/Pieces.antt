@@ -4,15 +4,16 @@ use Rattle.rv_meaning.specs.declared.instr.Register.{Register}
 use Rattle.rv_meaning.specs.declared.instr.BranchTest.TheVariants as Test
 use Rattle.pli_typing.specs.TypedTree as Y
 use Rattle.pli_meaning.specs.DeclaredShapes.{variables_of_block}
-use Rattle.pli_coding.specs.Registers.{zero_register, stack_register, frame_register, return_register, held, a0, a1, a2, a3, a4, u0, u1, u2, u4, u5}
+use Rattle.pli_coding.specs.Registers.{zero_register, stack_register, frame_register, return_register, held, a0, a1, a2, a3, a4, u0, u1, u2, u3, u4, u5}
 use Rattle.pli_coding.specs.Assembly.{BaseIn, OffsetOf, DataPlace, Datum, Code}
-use Rattle.pli_coding.specs.Instructions.{subtract, move, small, number as number_in, plus, load_word, store_word, skip_where, service}
-use Rattle.pli_coding.specs.Frames.{return_address, frame_below, saved_register, own_offset, lower_top, display, parameter_place, name_bytes, fixed_size, temporary_bytes, constant_size, has_constant_size, is_automatic, frame_bytes, last_place, automatic_place}
+use Rattle.pli_coding.specs.Instructions.{add, subtract, move, small, number as number_in, plus, load_word, store_word, skip_where, service}
+use Rattle.pli_coding.specs.Frames.{return_address, frame_below, saved_register, own_offset, lower_top, display, list_offset, list_place, argument_at, name_bytes, fixed_size, temporary_bytes, constant_size, has_constant_size, is_automatic, frame_bytes, last_place, automatic_place}
 use Rattle.pli_coding.specs.StaticForms.{size_datum}
 use Rattle.pli_coding.specs.Environments.{Environment, declaration_of, none_taken}
-use Rattle.pli_coding.specs.Locating.{own_place, table_number, name_copied}
+use Rattle.pli_coding.specs.Locating.{own_place, stored, table_number}
 use Rattle.pli_coding.specs.Extents.{bytes_word, extents_words, initial_code, number_word}
-use Rattle.pli_coding.specs.Entries.{Copied, adjustable_made, argument_at, argument_bytes, automatic_made, constant_made, copied_declared, copied_type, copies_made, copy_address, copy_addressed, copy_filled, copy_length, copy_made, copy_signature, extents_act, lower_taken, texts_filled, word_copy, words_given}
+use Rattle.pli_coding.specs.Entries.{Copied, adjustable_made, automatic_made, constant_made, copied_declared, copied_type, copies_made, copy_address, copy_addressed, copy_filled, copy_length, copy_made, copy_signature, extents_act, lower_taken, name_kept, texts_filled}
+use Rattle.pli_coding.specs.Entries as E
 
 -- ---- frames
 
@@ -76,17 +77,17 @@ lower_grown = lower_taken
 
 -- ---- arguments
 
-unfoldable pub word_given : (from to : ℕ) → Code
-word_given from to = load_word u1 u5 (pos from) ++ store_word frame_register u1 (pos to)
+unfoldable pub list_placed : (level : ℕ) → Code
+list_placed level = store_word frame_register a1 (pos (list_place level))
 
-unfoldable pub parameter_given : (level n : ℕ) → Code
-parameter_given level n = words_given (argument_bytes * n) (parameter_place level n) 5
+unfoldable pub list_measured : Code
+list_measured = subtract a1 a1 frame_register ∷ add a1 a1 u1 ∷ store_word frame_register a1 list_offset
 
 unfoldable pub argument_loaded : Register → (n word : ℕ) → Code
 argument_loaded r n word = load_word r u5 (argument_at n word)
 
 unfoldable pub place_kept : (n : ℕ) → Code
-place_kept n = store_word u5 u1 (argument_at n 0)
+place_kept n = store_word u5 u1 (argument_at n 5)
 
 -- ---- parameters that may stand for a copy
 
@@ -124,30 +125,39 @@ constant_signature e d = number_in a1 (table_number e d) ++ number_in u2 (consta
 unfoldable pub signature_found : Environment → Copied → Code
 signature_found e c = copy_signature e c
 
-unfoldable pub signature_kept : Environment → (n : ℕ) → Code
-signature_kept e n = store_word frame_register a1 (pos (parameter_place e.level n + name_bytes))
-
-unfoldable pub copy_named : Environment → (n : ℕ) → Code
-copy_named e n =
-    own_place e a0 (pos (parameter_place e.level n)) ++ (small a2 0 ∷ move a3 u1 ∷ small a4 2 ∷ service 7)
+unfoldable pub signature_kept : (n : ℕ) → Code
+signature_kept n = store_word u5 a1 (argument_at n 4)
 
 unfoldable pub copy_begun : Environment → Copied → Code
-copy_begun e c = copy_made e c
+copy_begun e c = E.copy_begun e c
+
+unfoldable pub name_taken : (n : ℕ) → Code
+name_taken n =
+    argument_loaded u0 n 0 ++ (argument_loaded u2 n 1 ++ (argument_loaded u3 n 2 ++ argument_loaded u4 n 3))
+
+unfoldable pub value_taken : (n : ℕ) → Y.LeafType → Code
+value_taken n type = E.value_taken n type
+
+unfoldable pub copy_named : (n : ℕ) → Code
+copy_named n = E.copy_named n
 
 unfoldable pub copy_reached : Code
 copy_reached = copy_addressed
 
-unfoldable pub name_put : (n : ℕ) → Code
-name_put n = copy_addressed ++ name_copied (record { register = u5; displacement = argument_at n 0 }) copy_address
+unfoldable pub name_put : Code
+name_put = copy_addressed ++ name_kept
 
-unfoldable pub word_put : (n : ℕ) → Y.LeafType → Code
-word_put n type = word_copy n type
+unfoldable pub word_put : Y.LeafType → Code
+word_put type = copy_addressed ++ stored type u4 copy_address
 
 unfoldable pub copy_put : (n : ℕ) → Y.LeafType → Code
 copy_put n type = copy_filled n type
 
+unfoldable pub copy_whole : Environment → Copied → Code
+copy_whole e c = copy_made e c
+
 unfoldable pub copy_skipped : Environment → Copied → Code
-copy_skipped e c = skip_where Test.Equal u4 zero_register (copy_made e c ++ copy_filled c.n c.type)
+copy_skipped e c = skip_where Test.Equal u4 zero_register (copy_made e c)
 
 unfoldable pub one_copied : Environment → Copied → Code
 one_copied e c = copies_made e (c ∷ [])
@@ -158,17 +168,17 @@ parameter_copied e n place = copies_made e (copied_declared n (slice_get (variab
 
 -- ---- one text
 
-unfoldable pub length_given : (n : ℕ) → Y.Extent → Code
-length_given n size = copy_length n size
+unfoldable pub length_given : Y.Extent → Code
+length_given size = copy_length size
 
-unfoldable pub text_put : (n mode : ℕ) → Y.Extent → Code
-text_put n mode size = argument_loaded a0 n 0 ++ (length_given n size ++ (small a2 mode ∷ service 27))
+unfoldable pub text_put : (mode : ℕ) → Y.Extent → Code
+text_put mode size = length_given size ++ (move a0 u4 ∷ small a2 mode ∷ service 27)
 
-unfoldable pub text_skipped : (n mode : ℕ) → Y.Extent → Code
-text_skipped n mode size = skip_where Test.Equal u4 zero_register (text_put n mode size)
+unfoldable pub text_skipped : (mode : ℕ) → Y.Extent → Code
+text_skipped mode size = skip_where Test.Equal u4 zero_register (text_put mode size)
 
 unfoldable pub text_asked : (n mode : ℕ) → Y.Extent → Code
-text_asked n mode size = argument_loaded u4 n 5 ++ text_skipped n mode size
+text_asked n mode size = argument_loaded u4 n 5 ++ text_skipped mode size
 
 unfoldable pub parameter_filled : Environment → (n place : ℕ) → Code
 parameter_filled e n place = texts_filled (copied_declared n (slice_get (variables_of_block e.program e.block) place))

@@ -1,5 +1,5 @@
-// Copies that stand for arguments that are values. Each is made where the list says so; a number, bit, OFFSET or POINTER value goes
-// into it at once, and the place of a text into the list until the texts are stored.
+// Copies that stand for arguments that are values. Each is made where the list says so, and its name stands there in place of the value:
+// a number, bit, OFFSET or POINTER value waits in registers until it goes into the copy, and a text on the text stack.
 
 ghost use Rattle.std.specs.Prelude.{◌≡◌, map, ◌++◌, OnOk};
 ghost use Rattle.pli_language.specs.View.{option_of};
@@ -14,17 +14,16 @@ ghost use Rattle.pli_coding.specs.Entries as form;
 ghost use Rattle.rv_assembly.specs.View.{datum_of};
 ghost use Rattle.rv_address.specs.Around.{environment_of};
 ghost use Rattle.rv_address.specs.Places.{address_of};
-ghost use Rattle.rv_entry.specs.Pieces.{constant_signature, copied_of, copied_single, copy_begun, copy_named, copy_put, copy_reached, copy_skipped, name_put, one_copied, parameter_copied, signature_asked, signature_found, signature_kept, signature_told, star_signature, word_put};
+ghost use Rattle.rv_entry.specs.Pieces.{constant_signature, copied_of, copied_single, copy_begun, copy_named, copy_put, copy_reached, copy_skipped, copy_whole, name_put, name_taken, one_copied, parameter_copied, signature_asked, signature_found, signature_kept, signature_told, star_signature, value_taken, word_put};
 
-use crate::argument::{argument_at, argument_loaded, place_kept};
+use crate::argument::{argument_loaded, place_kept};
 use crate::own::{lower_grown, own_variable, single_type};
-use pli_frames::fixed::parameter_place;
+use pli_frames::fixed::{argument_at, list_offset};
 use pli_typing::typed::{Extent, Leaf, LeafType, Variable};
 use rv_address::environment::{Environment, variables_of_block};
 use rv_address::located::static_bytes;
-use rv_address::names::own_place;
-use rv_address::number::{behind, count, signed};
-use rv_address::transfer::{Address, name_copied, stored};
+use rv_address::number::count;
+use rv_address::transfer::{Address, stored};
 use rv_assembly::code::Code;
 use rv_assembly::item::{Datum, Item, Symbol};
 use rv_assembly::registers::{a0, a1, a2, a3, a4, frame, u0, u1, u2, u3, u4, u5, zero};
@@ -140,27 +139,13 @@ fn signature_found(
 
 // ---- the copy
 
-/// The signature's number, behind the name.
+/// The signature's number, behind where the name will stand.
 #[tactic(auto, unfolding(crate::specs::Pieces::signature_kept))]
-fn signature_kept(code: &mut Code, environment: &Environment, n: usize) -> Result<(), AllocError>
-    ensures { OnOk result (code.new ≡ code.old ++ signature_kept (environment_of environment.now) n) }
+fn signature_kept(code: &mut Code, n: usize) -> Result<(), AllocError>
+    ensures { OnOk result (code.new ≡ code.old ++ signature_kept n) }
 {
-    let name = signed(parameter_place(environment.level, n)?)?;
-    let place = behind(16, name)?;
-    code.store_word(frame(), a1(), place)
-}
-
-/// The name of the copy, whose data begins at the top of the lower stack.
-#[tactic(auto, unfolding(crate::specs::Pieces::copy_named))]
-fn copy_named(code: &mut Code, environment: &Environment, n: usize) -> Result<(), AllocError>
-    ensures { OnOk result (code.new ≡ code.old ++ copy_named (environment_of environment.now) n) }
-{
-    let place = signed(parameter_place(environment.level, n)?)?;
-    own_place(code, environment, a0(), place)?;
-    code.small(a2(), 0)?;
-    code.copy(a3(), u1())?;
-    code.small(a4(), 2)?;
-    code.service(7)
+    let place = argument_at(n, 4)?;
+    code.store_word(u5(), a1(), place)
 }
 
 #[tactic(auto, using(crate::proofs::Copies::begun))]
@@ -175,51 +160,88 @@ fn copy_begun(
     ensures { OnOk result (code.new ≡ code.old ++ copy_begun (environment_of environment.now) (copied_of n (declaration_of (environment_of environment.now) (variable_of variable)) (leaf_type_of kind))) }
 {
     signature_found(alloc, code, environment, n, variable, kind)?;
-    signature_kept(code, environment, n)?;
-    lower_grown(code)?;
-    copy_named(code, environment, n)
+    signature_kept(code, n)?;
+    lower_grown(code)
 }
 
-/// The address of the copy's data, in u3.
+/// A POINTER value, in four registers.
+#[tactic(auto, unfolding(crate::specs::Pieces::name_taken))]
+fn name_taken(code: &mut Code, n: usize) -> Result<(), AllocError>
+    ensures { OnOk result (code.new ≡ code.old ++ name_taken n) }
+{
+    argument_loaded(code, u0(), n, 0)?;
+    argument_loaded(code, u2(), n, 1)?;
+    argument_loaded(code, u3(), n, 2)?;
+    argument_loaded(code, u4(), n, 3)
+}
+
+/// The value, before the name is written over it.
+#[tactic(auto, unfolding(crate::specs::Pieces::argument_loaded, crate::specs::Pieces::name_taken, crate::specs::Pieces::value_taken))]
+fn value_taken(code: &mut Code, n: usize, kind: LeafType) -> Result<(), AllocError>
+    ensures { OnOk result (code.new ≡ code.old ++ value_taken n (leaf_type_of kind)) }
+{
+    match kind {
+        LeafType::Fixed(_) => argument_loaded(code, u4(), n, 0),
+        LeafType::Character(_) => Ok(()),
+        LeafType::Varying(_) => Ok(()),
+        LeafType::Bit => argument_loaded(code, u4(), n, 0),
+        LeafType::Pointer => name_taken(code, n),
+        LeafType::Offset(_) => argument_loaded(code, u4(), n, 0),
+        LeafType::Area(_) => argument_loaded(code, u4(), n, 0),
+    }
+}
+
+/// The name of the copy, whose data begins at the top of the lower stack.
+#[tactic(auto, unfolding(crate::specs::Pieces::copy_named))]
+fn copy_named(code: &mut Code, n: usize) -> Result<(), AllocError>
+    ensures { OnOk result (code.new ≡ code.old ++ copy_named n) }
+{
+    let place = argument_at(n, 0)?;
+    code.load_word(a0(), frame(), list_offset())?;
+    code.plus(a0(), a0(), place)?;
+    code.small(a2(), 0)?;
+    code.copy(a3(), u1())?;
+    code.small(a4(), 2)?;
+    code.service(7)
+}
+
+/// The address of the copy's data, in a0.
 #[tactic(auto, unfolding(crate::specs::Pieces::copy_reached))]
 fn copy_reached(code: &mut Code) -> Result<(), AllocError>
     ensures { OnOk result (code.new ≡ code.old ++ copy_reached) }
 {
-    code.push(Item::BaseIn(u0()))?;
-    code.add(u3(), u0(), u1())
+    code.push(Item::BaseIn(a0()))?;
+    code.add(a0(), a0(), u1())
 }
 
 fn copy_address() -> Address
     ensures { address_of result ≡ form.copy_address }
 {
     Address {
-        register: u3(),
+        register: a0(),
         displacement: 0,
     }
 }
 
 /// A POINTER value, into its copy.
 #[tactic(auto, unfolding(crate::specs::Pieces::copy_reached, crate::specs::Pieces::name_put))]
-fn name_put(code: &mut Code, n: usize) -> Result<(), AllocError>
-    ensures { OnOk result (code.new ≡ code.old ++ name_put n) }
+fn name_put(code: &mut Code) -> Result<(), AllocError>
+    ensures { OnOk result (code.new ≡ code.old ++ name_put) }
 {
-    let place = argument_at(n, 0)?;
     copy_reached(code)?;
-    let from = Address {
-        register: u5(),
-        displacement: place,
-    };
-    name_copied(code, from, copy_address())
+    code.store_word(a0(), u0(), 0)?;
+    code.store_word(a0(), u2(), 4)?;
+    code.store_word(a0(), u3(), 8)?;
+    code.store_word(a0(), u4(), 12)
 }
 
 /// A number, bit or OFFSET value, into its copy.
-#[tactic(auto, unfolding(crate::specs::Pieces::argument_loaded, crate::specs::Pieces::copy_reached, crate::specs::Pieces::word_put))]
-fn word_put(code: &mut Code, n: usize, kind: LeafType) -> Result<(), AllocError>
-    ensures { OnOk result (code.new ≡ code.old ++ word_put n (leaf_type_of kind)) }
+#[tactic(auto, unfolding(crate::specs::Pieces::copy_reached, crate::specs::Pieces::word_put))]
+fn word_put(code: &mut Code, kind: LeafType) -> Result<(), AllocError>
+    ensures { OnOk result (code.new ≡ code.old ++ word_put (leaf_type_of kind)) }
 {
     copy_reached(code)?;
-    argument_loaded(code, u2(), n, 0)?;
-    stored(code, kind, u2(), copy_address())
+    stored(code, kind, u4(), copy_address())
 }
 
 #[tactic(auto, unfolding(crate::specs::Pieces::copy_put, crate::specs::Pieces::place_kept, crate::specs::Pieces::name_put, crate::specs::Pieces::word_put))]
@@ -227,14 +249,31 @@ fn copy_put(code: &mut Code, n: usize, kind: LeafType) -> Result<(), AllocError>
     ensures { OnOk result (code.new ≡ code.old ++ copy_put n (leaf_type_of kind)) }
 {
     match kind {
-        LeafType::Fixed(_) => word_put(code, n, kind),
+        LeafType::Fixed(_) => word_put(code, kind),
         LeafType::Character(_) => place_kept(code, n),
         LeafType::Varying(_) => place_kept(code, n),
-        LeafType::Bit => word_put(code, n, kind),
-        LeafType::Pointer => name_put(code, n),
-        LeafType::Offset(_) => word_put(code, n, kind),
-        LeafType::Area(_) => word_put(code, n, kind),
+        LeafType::Bit => word_put(code, kind),
+        LeafType::Pointer => name_put(code),
+        LeafType::Offset(_) => word_put(code, kind),
+        LeafType::Area(_) => word_put(code, kind),
     }
+}
+
+#[tactic(auto, using(crate::proofs::Copies::made))]
+fn copy_whole(
+    alloc: Global,
+    code: &mut Code,
+    environment: &Environment,
+    n: usize,
+    variable: Variable,
+    kind: LeafType,
+) -> Result<(), AllocError>
+    ensures { OnOk result (code.new ≡ code.old ++ copy_whole (environment_of environment.now) (copied_of n (declaration_of (environment_of environment.now) (variable_of variable)) (leaf_type_of kind))) }
+{
+    copy_begun(alloc, code, environment, n, variable, kind)?;
+    value_taken(code, n, kind)?;
+    copy_named(code, n)?;
+    copy_put(code, n, kind)
 }
 
 /// The copy, unless u4 is 0.
@@ -250,8 +289,7 @@ fn copy_skipped(
     ensures { OnOk result (code.new ≡ code.old ++ copy_skipped (environment_of environment.now) (copied_of n (declaration_of (environment_of environment.now) (variable_of variable)) (leaf_type_of kind))) }
 {
     let place = code.keep_branch()?;
-    copy_begun(alloc, code, environment, n, variable, kind)?;
-    copy_put(code, n, kind)?;
+    copy_whole(alloc, code, environment, n, variable, kind)?;
     if code.words_behind(place) >= 1023 {
         return Err(AllocError);
     }

@@ -2,7 +2,7 @@
 
 use crate::block::{block_entered, block_left, entered_without_texts};
 use crate::frame::{all_restored, frame_begun, frame_ended, held_restored};
-use crate::parameter::{arguments_copied, parameters_given};
+use crate::parameter::{arguments_copied, list_kept};
 use crate::variable::{variables_code, variables_words};
 use pli_typing::statement::Typed;
 use pli_typing::typed::{
@@ -125,10 +125,12 @@ fn arguments_are_taken_in_their_words(rt: HostRuntime) -> Result<(), Fail> {
     let known = Known::new(alloc, &typed)?;
     let environment = Environment::new(&known, &[]);
     let mut code = Code::new(alloc);
-    parameters_given(&mut code, 0, &[0, 1])?;
-    assert_eq!(rt; code.size(), 20);
+    list_kept(&mut code, 0, &[])?;
+    assert_eq!(rt; code.size(), 0);
+    list_kept(&mut code, 0, &[0, 1])?;
+    assert_eq!(rt; code.size(), 4);
     arguments_copied(alloc, &mut code, &environment, &[0, 1, 2, 3, 4, 5])?;
-    assert_eq!(rt; code.size(), 118);
+    assert_eq!(rt; code.size(), 105);
     Ok(())
 }
 

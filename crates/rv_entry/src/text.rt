@@ -2,7 +2,7 @@
 
 ghost use Rattle.std.specs.Prelude.{◌≡◌, ◌<◌, map, ◌++◌, OnOk};
 ghost use Rattle.pli_language.specs.View.{option_of};
-ghost use Rattle.pli_typing.specs.TypedTree.{ConstantExtent};
+ghost use Rattle.pli_typing.specs.TypedTree.{ConstantExtent, StarExtent};
 ghost use Rattle.pli_typing.specs.TypedView.{extent_of, leaf_of, leaf_type_of};
 ghost use Rattle.pli_coding.specs.Entries as form;
 ghost use Rattle.rv_address.specs.Around.{environment_of};
@@ -20,8 +20,8 @@ use std::alloc::AllocError;
 
 /// A constant length; one below 0 counts as 0.
 #[tactic(auto)]
-fn constant_length(code: &mut Code, n: usize, number: i128) -> Result<(), AllocError>
-    ensures { OnOk result (code.new ≡ code.old ++ form.copy_length n (ConstantExtent number)) }
+fn constant_length(code: &mut Code, number: i128) -> Result<(), AllocError>
+    ensures { OnOk result (code.new ≡ code.old ++ form.copy_length (ConstantExtent number)) }
 {
     if number < 0 {
         return Ok(code.number(a1(), 0)?);
@@ -29,38 +29,47 @@ fn constant_length(code: &mut Code, n: usize, number: i128) -> Result<(), AllocE
     Ok(constant(code, a1(), number)?)
 }
 
-/// A text's length in a1: that of its declaration, or the argument's.
-#[tactic(auto, unfolding(crate::specs::Pieces::argument_loaded, crate::specs::Pieces::length_given))]
-fn length_given(code: &mut Code, n: usize, size: Extent) -> Result<(), AllocError>
-    ensures { OnOk result (code.new ≡ code.old ++ length_given n (extent_of size)) }
+/// The length of the top text, which stays.
+fn length_measured(code: &mut Code) -> Result<(), AllocError>
+    ensures { OnOk result (code.new ≡ code.old ++ form.copy_length StarExtent) }
+{
+    code.small(a2(), 2)?;
+    code.service(27)?;
+    code.copy(a1(), a0())
+}
+
+/// A text's length in a1: that of its declaration, or its own.
+#[tactic(auto, unfolding(crate::specs::Pieces::length_given))]
+fn length_given(code: &mut Code, size: Extent) -> Result<(), AllocError>
+    ensures { OnOk result (code.new ≡ code.old ++ length_given (extent_of size)) }
 {
     match size {
-        Extent::Constant(number) => constant_length(code, n, number),
-        Extent::Star => argument_loaded(code, a1(), n, 4),
-        Extent::Refer => argument_loaded(code, a1(), n, 4),
-        Extent::Evaluated(_) => argument_loaded(code, a1(), n, 4),
+        Extent::Constant(number) => constant_length(code, number),
+        Extent::Star => length_measured(code),
+        Extent::Refer => length_measured(code),
+        Extent::Evaluated(_) => length_measured(code),
     }
 }
 
-/// The top text, into its copy.
+/// The top text, into its copy, whose place is in u4.
 #[tactic(auto, unfolding(crate::specs::Pieces::text_put))]
-fn text_put(code: &mut Code, n: usize, mode: u32, size: Extent) -> Result<(), AllocError>
+fn text_put(code: &mut Code, mode: u32, size: Extent) -> Result<(), AllocError>
     requires { mode < 2048 }
-    ensures { OnOk result (code.new ≡ code.old ++ text_put n mode (extent_of size)) }
+    ensures { OnOk result (code.new ≡ code.old ++ text_put mode (extent_of size)) }
 {
-    argument_loaded(code, a0(), n, 0)?;
-    length_given(code, n, size)?;
+    length_given(code, size)?;
+    code.copy(a0(), u4())?;
     code.small(a2(), mode)?;
     code.service(27)
 }
 
 #[tactic(auto, using(rv_assembly::proofs::Patching::patching, crate::proofs::Texts::skipped))]
-fn text_skipped(code: &mut Code, n: usize, mode: u32, size: Extent) -> Result<(), AllocError>
+fn text_skipped(code: &mut Code, mode: u32, size: Extent) -> Result<(), AllocError>
     requires { mode < 2048 }
-    ensures { OnOk result (code.new ≡ code.old ++ text_skipped n mode (extent_of size)) }
+    ensures { OnOk result (code.new ≡ code.old ++ text_skipped mode (extent_of size)) }
 {
     let place = code.keep_branch()?;
-    text_put(code, n, mode, size)?;
+    text_put(code, mode, size)?;
     if code.words_behind(place) >= 1023 {
         return Err(AllocError);
     }
@@ -75,7 +84,7 @@ fn text_asked(code: &mut Code, n: usize, mode: u32, size: Extent) -> Result<(), 
     ensures { OnOk result (code.new ≡ code.old ++ text_asked n mode (extent_of size)) }
 {
     argument_loaded(code, u4(), n, 5)?;
-    text_skipped(code, n, mode, size)
+    text_skipped(code, mode, size)
 }
 
 // ---- the parameters

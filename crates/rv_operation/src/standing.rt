@@ -110,6 +110,7 @@ pub fn own_name(environment: &Environment, name: Option<NamePlace>) -> Option<Ad
         } else {
             None
         },
+        Some(NamePlace::List { .. }) => None,
         Some(NamePlace::Static { .. }) => None,
         Some(NamePlace::InStatic { .. }) => None,
         None => None,

@@ -14,7 +14,7 @@ use Rattle.pli_coding.specs.Assembly.{Code}
 use Rattle.pli_coding.specs.Environments.{BlockPlace, Environment, Taken, declaration_of, no_declaration, none_taken}
 use Rattle.pli_coding.specs.Extents.{extents_code}
 use Rattle.pli_coding.specs.Allocating.{act_code}
-use Rattle.pli_coding.specs.Entries.{arguments_copied, block_entered, frame_begun, parameters_given, variables_code}
+use Rattle.pli_coding.specs.Entries.{arguments_copied, block_entered, frame_begun, list_kept, variables_code}
 use Rattle.pli_coding.specs.Statements.{block_held, block_words, held_with, stmts_words}
 use Rattle.pli_coding.specs.Procedures.{amounts_given, frame_returned, has_routine, is_main, procedure_begun, procedure_environment, procedure_of_block, procedures_code, routine_code, routine_if, routine_words, routines_code, routines_of_block, routine_environment}
 use Rattle.rv_address.specs.declared.environment.BlockPlace.{BlockPlace as BlockPlaceHeld}
@@ -48,12 +48,12 @@ none_is_main t n h = none_among (program_of t).variables t.procedures.items n h
 
 pub begun : (e : Environment) (head : Y.BlockHead) (words held : ℕ) (ps : List ℕ) (c0 c1 c2 c3 c4 c5 c6 c7 c8 : Code)
     → c1 ≡ c0 ++ frame_begun words head.level (length ps) (Some held) → c2 ≡ c1 ++ list_taken
-    → c3 ≡ c2 ++ parameters_given head.level 0 ps → c4 ≡ c3 ++ texts_counted
+    → c3 ≡ c2 ++ list_kept head.level ps → c4 ≡ c3 ++ texts_counted
     → c5 ≡ c4 ++ block_entered 0 head.line → c6 ≡ c5 ++ arguments_copied e ps → c7 ≡ c6 ++ variables_code e head.line
     → c8 ≡ c7 ++ act_code head.line → c8 ≡ c0 ++ procedure_begun e head words held ps
 begun e head words held ps c0 c1 c2 c3 c4 c5 c6 c7 c8 e1 e2 e3 e4 e5 e6 e7 e8 =
     let p1 : Code = frame_begun words head.level (length ps) (Some held) in
-    let p3 : Code = parameters_given head.level 0 ps in
+    let p3 : Code = list_kept head.level ps in
     let p5 : Code = block_entered 0 head.line in
     let p6 : Code = arguments_copied e ps in
     let p7 : Code = variables_code e head.line in

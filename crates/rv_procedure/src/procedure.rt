@@ -20,7 +20,7 @@ use rv_assembly::item::{Item, Symbol};
 use rv_assembly::registers::{a1, a2, a3, u5};
 use rv_entry::block::block_entered;
 use rv_entry::frame::frame_begun;
-use rv_entry::parameter::{arguments_copied, parameters_given};
+use rv_entry::parameter::{arguments_copied, list_kept};
 use rv_entry::variable::variables_code;
 use rv_statement::held::held_with;
 use rv_statement::statement::stmts_code;
@@ -42,7 +42,7 @@ fn procedure_environment<'e, 't, 'a>(
         }))
 }
 
-/// The list of arguments stays in u5 until all are copied.
+/// The list of arguments stays in u5 until the copies are made.
 fn list_taken(code: &mut Code) -> Result<(), AllocError>
     ensures { OnOk result (code.new ≡ code.old ++ list_taken) }
 {
@@ -69,7 +69,7 @@ fn procedure_begun(
 {
     frame_begun(code, words, head.level, parameters.len(), Some(held))?;
     list_taken(code)?;
-    parameters_given(code, head.level, parameters)?;
+    list_kept(code, head.level, parameters)?;
     texts_counted(code)?;
     block_entered(code, 0, head.line)?;
     arguments_copied(alloc, code, environment, parameters)?;

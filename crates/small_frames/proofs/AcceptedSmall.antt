@@ -24,7 +24,7 @@ use Rattle.small_frames.proofs.ExtentsSmall.{HasSmallExtents, extents_small}
 -- ---- bytes
 
 frame_bytes : (words level parameters : ℕ) → words ≤ 1165 → level ≤ 16 → parameters ≤ 16
-    → temporary_bytes words + fixed_size level parameters ≤ 5200
+    → temporary_bytes words + fixed_size level parameters ≤ 4896
 frame_bytes words level parameters h k l = omega (arith, h, k, l)
 
 extent_bytes : (words level : ℕ) → words ≤ 533 → level ≤ 16 → temporary_bytes words + fixed_size (suc level) 0 ≤ 2368
@@ -76,7 +76,7 @@ routines_within level l (d ∷ ds) h =
 
 with_within : (program : Y.Program) → AreExtentsSmall program → (head : Y.BlockHead) (words parameters : ℕ)
     (ds : List Y.DeclaredVariable) → head.level ≤ 16 → words ≤ 1165 → parameters ≤ 16 → variables_words ds ≤ 533
-    → IsFrameWithin 5200 2368 program (frame_with head words parameters ds)
+    → IsFrameWithin 4896 2368 program (frame_with head words parameters ds)
 with_within program e head words parameters ds l w p v = (
   frame_bytes (max (variables_words ds) words) head.level parameters (omega (arith, w, v)) l p,
   routines_within head.level l (variables_of_block program head.number) (e head.number),
@@ -84,7 +84,7 @@ with_within program e head words parameters ds l w p v = (
 
 declaring_within : (program : Y.Program) → AreExtentsSmall program → SmallProcedures program.procedures
     → (b : BlockWords) → IsShort b
-    → IsFrameWithin 5200 2368 program
+    → IsFrameWithin 4896 2368 program
     (frame_with b.head b.words (length (parameters_of_block program b.head.number))
     (variables_of_block program b.head.number))
 declaring_within program e s b h =
@@ -94,7 +94,7 @@ declaring_within program e s b h =
 
 kind_within : (program : Y.Program) → AreExtentsSmall program → SmallProcedures program.procedures
     → (b : BlockWords) (kind : Y.BlockKind) → IsShort b
-    → IsFrameWithin 5200 2368 program (frame_by_kind program b kind)
+    → IsFrameWithin 4896 2368 program (frame_by_kind program b kind)
 kind_within program e s b Y.SimpleUnit h =
     with_within program e b.head b.words 0 [] h.1 h.0 (omega arith) (omega arith)
 kind_within program e s b Y.ProcedureBlock h = declaring_within program e s b h
@@ -102,7 +102,7 @@ kind_within program e s b Y.BeginBlock h = declaring_within program e s b h
 kind_within program e s b Y.UnitBlock h = declaring_within program e s b h
 
 frames_within : (program : Y.Program) → AreExtentsSmall program → SmallProcedures program.procedures
-    → (bs : List BlockWords) → AreShort bs → Every (IsFrameWithin 5200 2368 program) (map (frame_of program) bs)
+    → (bs : List BlockWords) → AreShort bs → Every (IsFrameWithin 4896 2368 program) (map (frame_of program) bs)
 frames_within program e s [] h = tt
 frames_within program e s (b ∷ bs) h =
     (kind_within program e s b b.head.kind h.0, frames_within program e s bs h.1)
@@ -116,8 +116,8 @@ routine_wider a b l level (d ∷ ds) h =
     let one = h.0 in
     (omega (arith, one, l), routine_wider a b l level ds h.1)
 
-frame_wider : (program : Y.Program) (frame routine : ℕ) → 5200 ≤ frame → 2368 ≤ routine → (f : BlockFrame)
-    → IsFrameWithin 5200 2368 program f → IsFrameWithin frame routine program f
+frame_wider : (program : Y.Program) (frame routine : ℕ) → 4896 ≤ frame → 2368 ≤ routine → (f : BlockFrame)
+    → IsFrameWithin 4896 2368 program f → IsFrameWithin frame routine program f
 frame_wider program frame routine h k f w =
     let one = w.0 in (
       omega (arith, one, h),
@@ -131,7 +131,7 @@ accepted_small frame routine h k s tokens tree t spelled declared typed =
     let program = typed_tree tree in
     let light = heads_light s tokens tree t spelled in
     let extents = extents_small tree (table_of tree) (facts_kept s tokens tree t spelled declared typed) light in
-    every_map (IsFrameWithin 5200 2368 program) (IsFrameWithin frame routine program)
+    every_map (IsFrameWithin 4896 2368 program) (IsFrameWithin frame routine program)
     (frame_wider program frame routine h k) (planned program)
     (frames_within program extents (program_small tree light) (blocks_of program.procedures)
     (program_short tree light))

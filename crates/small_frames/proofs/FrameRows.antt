@@ -76,7 +76,7 @@ most_words :
     ≡ (1029 ∷ 529 ∷ 1165 ∷ 533 ∷ [])
 most_words = refl
 
-most_bytes : (most_frame_bytes ∷ most_routine_bytes ∷ []) ≡ (5200 ∷ 2368 ∷ [])
+most_bytes : (most_frame_bytes ∷ most_routine_bytes ∷ []) ≡ (4896 ∷ 2368 ∷ [])
 most_bytes = refl
 
 -- ---- a program

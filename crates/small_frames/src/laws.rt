@@ -20,7 +20,7 @@ pub fn heads_light()
     ensures { HeadsLight }
 {}
 
-/// No block of an accepted source has a frame of more than 5,200 bytes beside its variables, and no variable a routine
+/// No block of an accepted source has a frame of more than 4,896 bytes beside its variables, and no variable a routine
 /// of extents with more than 2,368.
 pub fn accepted_small()
     ensures { AcceptedSmall }
