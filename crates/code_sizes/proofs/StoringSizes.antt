@@ -102,7 +102,9 @@ extent_most t false = recorded_most t 3 zero_register
 found_and_number : (e : Environment) (t found : Taken) (v : Y.Variable) (part : Y.Part)
     → size_of (S.aggregate_found e t found v part) + number_more (L.located e found v).number ≤ 62
 found_and_number e t found v part = by (L.is_direct e v) where
-  leaf = L.leaf_found e (L.located e found v) part.first (L.needs_buffer (L.leaf_number e v part.first))
+  leaf : Code
+  leaf =
+      L.leaf_found e (L.located e found v) part.first (L.needs_buffer (L.leaf_number e v part.first))
       (L.is_referred e v part)
   by : (b : Bool) → size_of (if b then S.extent_recorded t false
       else L.class_found e found v v.class ++ (leaf ++ S.extent_recorded t (L.is_referred e v part)))
