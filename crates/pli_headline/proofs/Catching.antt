@@ -20,7 +20,7 @@ use Rattle.pli_coding.specs.Linking.{Links, place_of}
 use Rattle.pli_headline.specs.ProvedSoFar.{Names, Types}
 use Rattle.pli_headline.proofs.Storages.{storage}
 use Rattle.run_steps.specs.Engine.{Base, address}
-use Rattle.pli_headline.proofs.DataOnce.{same_bytes-equal, same_bytes-same}
+use Rattle.code_marks.proofs.DataOnce.{same_bytes-equal, same_bytes-same}
 use Rattle.run_steps.proofs.Linking.{size_append}
 use Rattle.run_steps.specs.Items.{Linked, At}
 use Rattle.run_steps.specs.Bodies.{Known}

@@ -21,7 +21,9 @@ use Rattle.pli_coding.specs.Images.{linked_code, picture_of_code}
 use Rattle.pli_headline.specs.Headline.{FitsMemory}
 use Rattle.run_steps.specs.Engine.{call_at}
 use Rattle.run_steps.specs.DataNamed.{IsNamed, BytesStand}
-use Rattle.pli_headline.proofs.DataOnce.{Has, same_datum-same, values_has}
+use Rattle.code_marks.specs.CodeData.{Has}
+use Rattle.code_marks.proofs.DataOnce.{same_datum-same}
+use Rattle.pli_headline.proofs.DataOnce.{values_has}
 use Rattle.pli_headline.proofs.FormatsRead.{WordsAt, AreWords, words_stand, is_data_there}
 use Rattle.pli_headline.proofs.Statics.{place_in, datum_stands, constant_there, values_behind}
 

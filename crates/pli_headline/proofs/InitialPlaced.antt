@@ -12,7 +12,8 @@ use Rattle.pli_coding.specs.Linking.{links_of, data_start}
 use Rattle.pli_coding.specs.Images.{linked_code, picture_of_code}
 use Rattle.pli_headline.specs.Headline.{FitsMemory}
 use Rattle.run_steps.specs.DataNamed.{IsNamed}
-use Rattle.pli_headline.proofs.DataOnce.{Has, same_datum-equal, placed_same, named_once}
+use Rattle.code_marks.specs.CodeData.{Has}
+use Rattle.code_marks.proofs.DataOnce.{same_datum-equal, placed_same, named_once}
 use Rattle.pli_headline.proofs.Statics.{constant_stands}
 use Rattle.pli_headline.proofs.InitialRead.{start_datum, IsNamedIf, kind_reads}
 use Rattle.pli_headline.proofs.InitialLists.{leaf_of_items}

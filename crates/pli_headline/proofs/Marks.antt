@@ -18,7 +18,8 @@ use Rattle.run_steps.specs.Engine.{most_code}
 use Rattle.run_steps.proofs.Linking.{linked_length, has_items}
 use Rattle.run_steps.specs.Items.{Linked}
 use Rattle.run_steps.proofs.Jumps.{front_of, back_of}
-use Rattle.pli_headline.proofs.DataOnce.{static_has, placed_same}
+use Rattle.code_marks.proofs.DataOnce.{placed_same}
+use Rattle.pli_headline.proofs.DataOnce.{static_has}
 use Rattle.pli_headline.proofs.Raising.{Routines}
 use Rattle.pli_headline.proofs.MainProcedure.{main_head, IsAlone, main_environment, main_words, main_plain, main_held}
 use Rattle.pli_headline.proofs.FirstFrame.{start_of, start_is, start_resume}

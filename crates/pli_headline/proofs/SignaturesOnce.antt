@@ -7,7 +7,7 @@ use Rattle.rv_meaning.specs.declared.image.TableKind.TheVariants as K
 use Rattle.rv_meaning.specs.Tables.{Pair, TableLeaf, TableSignature, kind_number, pairs_words, leaves_words, signature_words}
 use Rattle.pli_typing.specs.TypedTree as Y
 use Rattle.pli_coding.specs.SignatureTable.{signature_of, same_signature, with_signature, with_signatures, number_in_table}
-use Rattle.pli_headline.proofs.DataOnce.{same_bytes-equal, same_bytes-same}
+use Rattle.code_marks.proofs.DataOnce.{same_bytes-equal, same_bytes-same}
 use Rattle.pli_headline.proofs.PlainSignatures.{HasSignature, HasAll, all_keep}
 
 -- ---- equal words, equal signatures

@@ -18,7 +18,9 @@ use Rattle.pli_headline.specs.Headline.{FitsMemory}
 use Rattle.run_steps.specs.Engine.{Base}
 use Rattle.run_steps.proofs.Linking.{linked_length}
 use Rattle.run_steps.specs.DataNamed.{IsNamed, IsPlaced, BytesStand}
-use Rattle.pli_headline.proofs.DataOnce.{Has, same_datum-equal, AreInitial, filtered_initial, named_once, initial_has, static_has, placed_same}
+use Rattle.code_marks.specs.CodeData.{Has}
+use Rattle.code_marks.proofs.DataOnce.{same_datum-equal, AreInitial, filtered_initial, named_once, placed_same}
+use Rattle.pli_headline.proofs.DataOnce.{initial_has, static_has}
 
 -- ---- bytes within others, from an index on
 

@@ -1,0 +1,2 @@
+pub mod CodeMarks
+pub mod CodeData

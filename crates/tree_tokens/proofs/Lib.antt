@@ -1,0 +1,5 @@
+mod Expressions
+mod Declarations
+mod Heads
+mod Nests
+mod Rows
