@@ -1,5 +1,6 @@
 -- The code of assignments, ALLOCATE and FREE has no more words than their nodes take.
-use Rattle.std.proofs.Common.{ℕ, ◌+◌, ◌≤◌, List, [], ◌∷◌, ◌++◌, Bool, true, false, arith, ℤ, Option, Some, None, if◌then◌else◌}
+use Rattle.std.proofs.Common.{ℕ, ◌+◌, ◌≤◌, List, [], ◌∷◌, ◌++◌, Bool, true, false, arith, ℤ, Option, Some, None}
+use Rattle.std.proofs.Common.{if◌then◌else◌}
 use Rattle.std.specs.Prelude.{nat_lt, slice_get}
 use Rattle.rv_meaning.specs.declared.instr.Register.{Register}
 use Rattle.pli_typing.specs.TypedTree as Y
@@ -106,6 +107,7 @@ found_and_number e t found v part = by (L.is_direct e v) where
   leaf =
       L.leaf_found e (L.located e found v) part.first (L.needs_buffer (L.leaf_number e v part.first))
       (L.is_referred e v part)
+
   by : (b : Bool) → size_of (if b then S.extent_recorded t false
       else L.class_found e found v v.class ++ (leaf ++ S.extent_recorded t (L.is_referred e v part)))
       + number_more (L.located e found v).number ≤ 62
@@ -141,7 +143,8 @@ filled_most : (e : Environment) (t found : Taken) (v : Y.Variable) (part : Y.Par
     → size_of (S.record_filled e t found v part xs) ≤ counted_size xs + 84
 filled_most e t found v part xs =
     let first = found_and_number e t found v part in
-    let all = both (S.aggregate_found e t found v part) _ {m = size_of (S.aggregate_found e t found v part)} (omega arith)
+    let all = both (S.aggregate_found e t found v part) _ {m = size_of (S.aggregate_found e t found v part)}
+    (omega arith)
     (both (S.subscripts_recorded e t (L.behind_locator v found) v part xs) _
     (places_most e t (L.behind_locator v found) v part xs) (number_recorded_most e t (L.located e found v))) in
     omega (arith, all, first)
