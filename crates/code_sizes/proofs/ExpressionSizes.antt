@@ -25,7 +25,8 @@ use Rattle.code_sizes.proofs.PieceSizes.{number_more, number_more_most}
 use Rattle.code_sizes.proofs.PieceSizes.{copied_most, calculated_most, fitted_most, divided_most, signed_most}
 use Rattle.code_sizes.proofs.PieceSizes.{absolute_most, count_most, extreme_most, equal_most, compared_most}
 use Rattle.code_sizes.proofs.PieceSizes.{frame_found_most}
-use Rattle.code_sizes.proofs.ReachedSizes.{found_first_most, refer_most, leaf_most, bound_most, counted_size, element_size}
+use Rattle.code_sizes.proofs.ReachedSizes.{found_first_most, refer_most, leaf_most, bound_most, counted_size}
+use Rattle.code_sizes.proofs.ReachedSizes.{element_size}
 use Rattle.code_sizes.proofs.ReachedSizes.{reached_most, based_most, copied_reached_most}
 
 -- ---- one behind the other, with what waits between
@@ -50,7 +51,9 @@ refer_checked_most e l false = none
 checked_most : (e : Environment) (l : L.Located) (place : ℤ) (b : Bool)
     → size_of (X.name_checked e l place b) ≤ 42 + 2 * number_more l.number
 checked_most e l place b =
-    let all = both (L.name_offset e a0 l.name) _ (name_most e a0 l.name)
+    let all : size_of (X.name_checked e l place b)
+    ≤ 7 + ((6 + number_more l.number) + (4 + (5 + (20 + number_more l.number)))) =
+    both (L.name_offset e a0 l.name) _ (name_most e a0 l.name)
     (both (L.number_loaded e a1 l.number) _ (number_loaded_most e a1 l.number)
     (both (L.own_place e a2 place) _ (own_most e a2 place)
     (both (tested_service 9) (X.refer_checked e l b) {m = 5} (omega arith) (refer_checked_most e l b)))) in

@@ -6,4 +6,5 @@ mod StreamSizes
 mod EntrySizes
 mod StatementSizes
 mod StartSizes
+mod ProgramSizes
 mod SizeRows

@@ -7,6 +7,7 @@ use Rattle.code_sizes.specs.StoringSizes.{allocation_size, freeing_size}
 use Rattle.code_sizes.specs.StreamSizes.{put_size, get_size}
 use Rattle.code_sizes.specs.StatementSizes.{stmt_size}
 use Rattle.code_sizes.specs.StartSizes.{start_size, routine_size}
+use Rattle.code_sizes.specs.ProgramSizes.{procedure_size, program_size}
 
 abbrev constant : Y.Number
 constant = Y.NumberConstant 5
@@ -118,3 +119,21 @@ starts :
     ∷ [])
     ≡ (29 ∷ 126 ∷ 0 ∷ [])
 starts = refl
+
+-- ---- a program
+
+abbrev main : (parameters : List ℕ) → Y.Procedure
+main parameters = record {
+  block = Y.BlockOf (record { kind = Y.ProcedureBlock; number = 0; level = 1; line = 1 }) list;
+  parameters = parameters;
+  result = None;
+}
+
+-- T: PROC OPTIONS(MAIN); I = 5; END; and its procedure with two parameters
+programs :
+    (program_size (record { variables = [] ∷ []; procedures = main [] ∷ [] })
+    ∷ procedure_size nothing (main [])
+    ∷ procedure_size nothing (main (0 ∷ 1 ∷ []))
+    ∷ [])
+    ≡ (229 ∷ 186 ∷ 316 ∷ [])
+programs = refl

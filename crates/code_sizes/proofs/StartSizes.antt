@@ -64,7 +64,7 @@ block_routines_most e index (d ∷ ds) =
     both (R.routine_if e index d d.evaluations) _ (routine_if_most e index d d.evaluations)
     (block_routines_most e (suc index) ds)
 
-routines_most : (e : Environment) (bs : List BlockPlace)
+pub routines_most : (e : Environment) (bs : List BlockPlace)
     → size_of (R.routines_code e bs) ≤ routines_size e.program bs
 routines_most e [] = none
 routines_most e (b ∷ bs) =
@@ -145,7 +145,7 @@ called_most : (ps : List Y.Procedure) → size_of (M.main_called ps) ≤ 5
 called_most [] = none
 called_most (p ∷ ps) = omega arith
 
-starts_most : (e : Environment) → size_of (M.start_code e) ≤ start_size e.program
+pub starts_most : (e : Environment) → size_of (M.start_code e) ≤ start_size e.program
 starts_most e =
     let all = both (M.first_frame e.parts) _ (first_most e)
     (both (M.statics_code e 0 e.program.variables) _ (statics_most e 0 e.program.variables)
@@ -153,7 +153,7 @@ starts_most e =
     (omega arith))) in
     omega (arith, all)
 
-raise_most : size_of M.raise_code ≤ raise_size
+pub raise_most : size_of M.raise_code ≤ raise_size
 raise_most = omega arith
 
 pub beside_procedures_sized : BesideProceduresSized

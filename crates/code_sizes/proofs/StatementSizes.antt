@@ -449,7 +449,8 @@ mutual
   stmt_sized e t (Y.Get skip pairs line) = acts_most line (P.get_code e t skip pairs) _ (gets_sized e t skip pairs)
   stmt_sized e t (Y.Put skip pairs line) = acts_most line (P.put_code e t skip pairs) _ (puts_sized e t skip pairs)
 
-  stmts_sized : (e : Environment) (t : Taken) (ss : Y.Stmts) → size_of (G.stmts_code e t ss) ≤ stmts_size e.program ss
+  pub stmts_sized : (e : Environment) (t : Taken) (ss : Y.Stmts)
+      → size_of (G.stmts_code e t ss) ≤ stmts_size e.program ss
   stmts_sized e t (Y.EndOfList labels) = marks_most e.block labels
   stmts_sized e t (Y.StmtThen labels first rest) =
       let all = both (G.marked e.block labels) (G.stmt_code e t first ++ G.stmts_code e t rest)

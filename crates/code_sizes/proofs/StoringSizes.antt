@@ -1,11 +1,12 @@
 -- The code of assignments, ALLOCATE and FREE has no more words than their nodes take.
-use Rattle.std.proofs.Common.{ℕ, ◌+◌, ◌≤◌, List, [], ◌∷◌, ◌++◌, Bool, true, false, arith, ℤ, pos, Option, Some, None}
+use Rattle.std.proofs.Common.{ℕ, ◌+◌, ◌≤◌, List, [], ◌∷◌, ◌++◌, Bool, true, false, arith, ℤ, Option, Some, None}
+use Rattle.std.proofs.Common.{if◌then◌else◌}
 use Rattle.std.specs.Prelude.{nat_lt, slice_get}
 use Rattle.rv_meaning.specs.declared.instr.Register.{Register}
 use Rattle.pli_typing.specs.TypedTree as Y
 use Rattle.pli_meaning.specs.Numbers.{operator_precision}
 use Rattle.pli_coding.specs.Registers.{zero_register, frame_register, a0, a1, a2, a3, a4, u1}
-use Rattle.pli_coding.specs.Assembly.{Code, size_of}
+use Rattle.pli_coding.specs.Assembly.{NumberWord, Code, size_of}
 use Rattle.pli_coding.specs.Instructions.{is_immediate, small, number, service, tested_service, load_word, store_word}
 use Rattle.pli_coding.specs.Environments.{Environment, Taken, with_number, with_words, save, fetch, declaration_of}
 use Rattle.pli_coding.specs.StaticForms.{initial_datum}
@@ -20,8 +21,8 @@ use Rattle.code_sizes.specs.StoringSizes.{target_size, allocation_size, allocati
 use Rattle.code_sizes.specs.StoringSizes.{StoringSized}
 use Rattle.code_sizes.proofs.PieceSizes.{both, one_of, none, constant_most, number_most, load_most, store_most}
 use Rattle.code_sizes.proofs.PieceSizes.{save_most, fetch_most, own_most, name_most, number_loaded_most, copied_most}
-use Rattle.code_sizes.proofs.PieceSizes.{frame_found_most}
-use Rattle.code_sizes.proofs.ReachedSizes.{class_most, leaf_most, counted_size, subscripts_most}
+use Rattle.code_sizes.proofs.PieceSizes.{frame_found_most, number_more, number_more_most}
+use Rattle.code_sizes.proofs.ReachedSizes.{found_first_most, leaf_most, counted_size, subscripts_most}
 use Rattle.code_sizes.proofs.ExpressionSizes.{standing_most, kind_most, address_most, given_size, subscripts_split}
 use Rattle.code_sizes.proofs.ExpressionSizes.{locator_sized, subscripts_sized, pointer_sized, reference_sized}
 use Rattle.code_sizes.proofs.ExpressionSizes.{stored_sized}
@@ -98,15 +99,29 @@ extent_most : (t : Taken) (b : Bool) → size_of (S.extent_recorded t b) ≤ 3
 extent_most t true = recorded_most t 3 a0
 extent_most t false = recorded_most t 3 zero_register
 
-found_most : (e : Environment) (t found : Taken) (v : Y.Variable) (part : Y.Part)
-    → size_of (S.aggregate_found e t found v part) ≤ 62
-found_most e t found v part =
-    one_of (L.is_direct e v) _ _ (let m = extent_most t false in omega (arith, m))
-    (both (L.class_found e found v v.class) _ (class_most e found v v.class)
-    (both (L.leaf_found e (L.located e found v) part.first (L.needs_buffer (L.leaf_number e v part.first))
-    (L.is_referred e v part)) _
-    (leaf_most e (L.located e found v) part.first (L.needs_buffer (L.leaf_number e v part.first))
-    (L.is_referred e v part)) (extent_most t (L.is_referred e v part))))
+-- with room for one number more
+found_and_number : (e : Environment) (t found : Taken) (v : Y.Variable) (part : Y.Part)
+    → size_of (S.aggregate_found e t found v part) + number_more (L.located e found v).number ≤ 62
+found_and_number e t found v part = by (L.is_direct e v) where
+  leaf : Code
+  leaf =
+      L.leaf_found e (L.located e found v) part.first (L.needs_buffer (L.leaf_number e v part.first))
+      (L.is_referred e v part)
+
+  by : (b : Bool) → size_of (if b then S.extent_recorded t false
+      else L.class_found e found v v.class ++ (leaf ++ S.extent_recorded t (L.is_referred e v part)))
+      + number_more (L.located e found v).number ≤ 62
+  by true =
+      let m = extent_most t false in
+      let more = number_more_most (L.located e found v).number in
+      omega (arith, m, more)
+  by false =
+      let first = found_first_most e found v (declaration_of e v) v.class in
+      let all = both (L.class_found e found v v.class) _ {m = size_of (L.class_found e found v v.class)} (omega arith)
+      (both leaf _
+      (leaf_most e (L.located e found v) part.first (L.needs_buffer (L.leaf_number e v part.first))
+      (L.is_referred e v part)) (extent_most t (L.is_referred e v part))) in
+      omega (arith, all, first)
 
 places_most : (e : Environment) (t waiting : Taken) (v : Y.Variable) (part : Y.Part) (xs : Y.Numbers)
     → size_of (S.subscripts_recorded e t waiting v part xs) ≤ counted_size xs + 3
@@ -116,19 +131,23 @@ places_most e t waiting v part (Y.NumberThen first rest) =
     (subscripts_most e waiting 0 (Y.NumberThen first rest) (L.leaf_number e v part.first).bounds)
     (recorded_most t 2 u1)
 
-number_recorded_most : (e : Environment) (t : Taken) (l : L.Located) → size_of (S.name_recorded e t l) ≤ 19
+number_recorded_most : (e : Environment) (t : Taken) (l : L.Located)
+    → size_of (S.name_recorded e t l) ≤ 19 + number_more l.number
 number_recorded_most e t l =
-    both (L.name_offset e a0 l.name) _ (name_most e a0 l.name)
+    let all = both (L.name_offset e a0 l.name) _ (name_most e a0 l.name)
     (both (S.record_stored t 0 a0) _ (recorded_most t 0 a0)
-    (both (L.number_loaded e a0 l.number) _ (number_loaded_most e a0 l.number) (recorded_most t 1 a0)))
+    (both (L.number_loaded e a0 l.number) _ (number_loaded_most e a0 l.number) (recorded_most t 1 a0))) in
+    omega (arith, all)
 
 filled_most : (e : Environment) (t found : Taken) (v : Y.Variable) (part : Y.Part) (xs : Y.Numbers)
     → size_of (S.record_filled e t found v part xs) ≤ counted_size xs + 84
 filled_most e t found v part xs =
-    let all = both (S.aggregate_found e t found v part) _ (found_most e t found v part)
+    let first = found_and_number e t found v part in
+    let all = both (S.aggregate_found e t found v part) _ {m = size_of (S.aggregate_found e t found v part)}
+    (omega arith)
     (both (S.subscripts_recorded e t (L.behind_locator v found) v part xs) _
     (places_most e t (L.behind_locator v found) v part xs) (number_recorded_most e t (L.located e found v))) in
-    omega (arith, all)
+    omega (arith, all, first)
 
 pub record_most : (e : Environment) (t : Taken) (r : Y.Reference) → size_of (S.record_code e t r) ≤ record_size r
 record_most e t (Y.Referring v locator part xs) =
@@ -241,12 +260,21 @@ beside_most : (e : Environment) (v : Y.Variable) (d : Y.DeclaredVariable)
     → size_of (A.number_beside_refer e v d) ≤ 6
 beside_most e v d = one_of (L.needs_number_word d) _ _ (omega arith) none
 
+-- the number of a BASED variable is no parameter's
+based_most : (e : Environment) (v : Y.Variable) (d : Y.DeclaredVariable) → number_more (L.based_number e v d) ≤ 0
+based_most e v d = by (L.needs_number_word d) where
+  by : (b : Bool) → number_more (if b then L.DataNumber (NumberWord v.block v.index)
+      else L.KnownNumber (L.table_number e d)) ≤ 0
+  by true = omega arith
+  by false = omega arith
+
 amounts_found_most : (e : Environment) (t : Taken) (line : ℕ) (v : Y.Variable) (d : Y.DeclaredVariable)
     (xs : List Y.Evaluation) → size_of (A.amounts_found e t line v d xs) ≤ 17
 amounts_found_most e t line v d [] =
     let all = both (E.refer_amount t d.leaves d.refer) _ (refer_amount_most t d.leaves d.refer)
     (number_loaded_most e a0 (L.based_number e v d)) in
-    omega (arith, all)
+    let more = based_most e v d in
+    omega (arith, all, more)
 amounts_found_most e t line v d (x ∷ xs) =
     both (A.routine_called e line v) _ (routine_most e line v) (beside_most e v d)
 
@@ -327,10 +355,12 @@ allocations_most e t line (a ∷ as') =
 freed_most : (e : Environment) (t : Taken) (name : L.NamePlace) (v : Y.Variable) (area : Option Y.Variable)
     → size_of (A.generation_freed e t name v area) ≤ 25
 freed_most e t name v area =
-    both (L.name_offset e a0 name) _ (name_most e a0 name)
+    let more = based_most e v (declaration_of e v) in
+    let all = both (L.name_offset e a0 name) _ (name_most e a0 name)
     (both (L.number_loaded e a1 (L.based_number e v (declaration_of e v))) _
     (number_loaded_most e a1 (L.based_number e v (declaration_of e v)))
-    (both (A.area_or_heap e a2 t area) (tested_service 11) (heap_most e a2 t area) {n = 5} (omega arith)))
+    (both (A.area_or_heap e a2 t area) (tested_service 11) (heap_most e a2 t area) {n = 5} (omega arith))) in
+    omega (arith, all, more)
 
 freeing_most : (e : Environment) (t : Taken) (f : Y.Freeing) → size_of (A.freeing_code e t f) ≤ freeing_size f
 freeing_most e t (Y.FreeBased v p area) =

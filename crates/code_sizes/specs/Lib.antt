@@ -3,3 +3,4 @@ pub mod StoringSizes
 pub mod StreamSizes
 pub mod StatementSizes
 pub mod StartSizes
+pub mod ProgramSizes

@@ -5,6 +5,7 @@ ghost use Rattle.code_sizes.specs.StoringSizes.{StoringSized};
 ghost use Rattle.code_sizes.specs.StreamSizes.{StreamsSized};
 ghost use Rattle.code_sizes.specs.StatementSizes.{AllStatementsSized};
 ghost use Rattle.code_sizes.specs.StartSizes.{BesideProceduresSized};
+ghost use Rattle.code_sizes.specs.ProgramSizes.{AllProgramsSized};
 
 /// The code of an expression is no longer than the sum of what its nodes take, whatever is declared around it and
 /// whatever temporaries are in use.
@@ -30,4 +31,9 @@ pub fn statements_sized()
 /// Nor is that of routines of extents, of the start of a run, and of the routines of raises.
 pub fn beside_procedures_sized()
     ensures { BesideProceduresSized }
+{}
+
+/// Nor is that of procedures and of whole programs, and an image has as many words.
+pub fn programs_sized()
+    ensures { AllProgramsSized }
 {}

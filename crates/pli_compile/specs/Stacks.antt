@@ -6,8 +6,8 @@ use Rattle.pli_typing.specs.Signatures.{footprint, data_size, rounded_up, LeafKi
 use Rattle.pli_typing.specs.TypedTree as Y
 use Rattle.pli_meaning.specs.Contents.{Shape}
 use Rattle.pli_meaning.specs.StorageState.{most_activations, most_automatic}
-use Rattle.pli_coding.specs.Frames.{argument_bytes, display, fixed_size, frame_bytes, last_place, list_place}
-use Rattle.pli_coding.specs.Frames.{name_bytes, variable_place}
+use Rattle.pli_coding.specs.Frames.{argument_bytes, display, fixed_size, frame_bytes, last_place, list_place, name_bytes}
+use Rattle.pli_coding.specs.Frames.{variable_place}
 use Rattle.pli_frames.specs.Parts.{parts}
 use Rattle.pli_frames.specs.Plans.{BlockFrame}
 use Rattle.pli_serving.specs.Arguments.{data_bytes}

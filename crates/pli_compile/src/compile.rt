@@ -46,7 +46,7 @@ fn is_short(image: &Image, tokens: usize) -> bool
     image.code().len() <= most
 }
 
-/// An image that is short for so many tokens. No program is known whose image isn't: that is want of memory.
+/// An image that is short for so many tokens. Another one is want of memory: names that share a long extent have such.
 fn short(image: Image, tokens: usize) -> Result<Image, SourceFault>
     ensures { MatchResult result (λ i. (i ≡ image) × (length i.code ≤ most_words tokens)) (λ f. (f ≡ want_of_memory) × ¬ (length image.code ≤ most_words tokens)) }
 {

@@ -50,10 +50,10 @@ TracesBytes bytes input base bound t = (image : Image) × HasBytes image bytes �
 -- ---- which of them are told
 
 -- behind an error all, behind another end none
+abbrev pub behind_end : End → List Block → List Block
+behind_end (E.Error code line) blocks = blocks
+behind_end _ blocks = []
+
 abbrev pub told_behind : Result Outcome RunFault → List Block → List Block
-told_behind (Ok o) blocks = behind_end o.end
-  where
-    behind_end : End → List Block
-    behind_end (E.Error code line) = blocks
-    behind_end _ = []
+told_behind (Ok o) blocks = behind_end o.end blocks
 told_behind (Err f) blocks = []

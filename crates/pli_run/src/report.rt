@@ -3,7 +3,7 @@
 ghost use Rattle.std.specs.Prelude.{◌≡◌, Some};
 ghost use Rattle.pli_run.specs.declared.report.Line.TheVariants.{Unread, Unwritten};
 ghost use Rattle.pli_run.specs.Reporting.{status_of, line_of, end_status, end_line, refusal_status, refusal_line, image_line};
-ghost use Rattle.pli_run.specs.Tracing.{told_behind};
+ghost use Rattle.pli_run.specs.Tracing.{behind_end, told_behind};
 
 use crate::run::RunFault;
 use pli_activations::block::{Block, BlockKind};
@@ -92,18 +92,25 @@ impl fmt::Display for Active {
     }
 }
 
+fn behind_end(end: End, blocks: &[Block]) -> &[Block]
+    ensures { result.now ≡ behind_end end blocks.now }
+{
+    match end {
+        End::Error { .. } => blocks,
+        End::Finished => &[],
+        End::Stopped => &[],
+        End::Running => &[],
+        End::Limit(_) => &[],
+    }
+}
+
 /// The blocks that are told behind the line of a run: behind an error all, newest first; else none.
 pub fn told_behind<'a>(ran: &Result<Outcome, RunFault>, blocks: &'a [Block]) -> &'a [Block]
     ensures { result.now ≡ told_behind ran.now blocks.now }
 {
     match ran {
-        Ok(
-            Outcome {
-                end: End::Error { .. },
-                ..
-            },
-        ) => blocks,
-        _ => &[],
+        Ok(outcome) => behind_end(outcome.end, blocks),
+        Err(_) => &[],
     }
 }
 
