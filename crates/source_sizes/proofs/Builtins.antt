@@ -1,6 +1,7 @@
 -- What a built-in function gives takes no more words than its arguments, each with what stands beside it, and 100.
 use Rattle.std.proofs.Common.{ℕ, suc, ◌+◌, ◌*◌, ◌≤◌, Bool, true, false, not, ◌&&◌, List, [], ◌∷◌, ◌++◌, Option, Some}
 use Rattle.std.proofs.Common.{None, if◌then◌else◌, ℤ, arith}
+use Rattle.std.specs.Prelude.{⊤}
 use Rattle.pli_language.specs.declared.expr.Place.{Place}
 use Rattle.pli_language.specs.declared.token.Word.{Word}
 use Rattle.pli_language.specs.declared.token.Word.TheVariants as W
@@ -9,7 +10,7 @@ use Rattle.pli_typing.specs.TypedTree as Y
 use Rattle.pli_typing.specs.Judging.{fine}
 use Rattle.pli_typing.specs.Converting.{Referent, Designates, Gives, GivesUnknown, GivesEmptyArea, GivesNothing}
 use Rattle.pli_typing.specs.Converting.{NotKnown, Operand, operator_digits, is_area, variable_of, no_reference}
-use Rattle.pli_typing.specs.Converting.{operand_value}
+use Rattle.pli_typing.specs.Converting.{operand_value, number_operand, text_operand}
 use Rattle.pli_typing.specs.Builtins.{bad_number, of_number, of_numbers, number_list, of_many, of_text, of_texts}
 use Rattle.pli_typing.specs.Builtins.{substring, constant_within, is_zero, divided, quotient, dimension_of, of_array}
 use Rattle.pli_typing.specs.Builtins.{of_dimension, is_controlled, allocations_of, of_controlled, has_name}
@@ -19,24 +20,24 @@ use Rattle.code_sizes.specs.ExpressionSizes.{number_size, numbers_size, text_siz
 use Rattle.code_sizes.specs.ExpressionSizes.{reference_size, locator_size, named_size, asked_size, subscripts_size}
 use Rattle.well_formed_trees.proofs.Lists.{HoldsIf}
 use Rattle.source_sizes.specs.Short.{ValueShort, Short}
-use Rattle.source_sizes.proofs.Values.{OperandShort, operand_short, wanted_short, number_operand_short, text_operand_short}
+use Rattle.source_sizes.proofs.Values.{OperandShort, operand_short, wanted_short, number_operand_short}
+use Rattle.source_sizes.proofs.Values.{text_operand_short}
 use Rattle.source_sizes.proofs.Values.{pointer_operand_short}
 
 -- operands, each with 51 words beside it, in so many words
-pub data AllShort : ℕ → List Operand → Type 0 where
-  NoOperand : (w : ℕ) → AllShort w []
-  OperandThen : (b rest w : ℕ) (o : Operand) (os : List Operand) → OperandShort b o → AllShort rest os
-      → b + 51 + rest ≤ w → AllShort w (o ∷ os)
+abbrev pub AllShort : ℕ → List Operand → Type 0
+AllShort w [] = ⊤
+AllShort w (o ∷ os) = (b : ℕ) × ((rest : ℕ) × (OperandShort b o × (AllShort rest os × (b + 51 + rest ≤ w))))
 
 pub all_more : (w x : ℕ) → w ≤ x → (os : List Operand) → AllShort w os → AllShort x os
-all_more w x l [] h = NoOperand x
-all_more w x l (o ∷ os) (OperandThen b rest w o os h more most) =
-    OperandThen b rest x o os h more (omega (arith, most, l))
+all_more w x l [] h = tt
+all_more w x l (o ∷ os) h = let most = h.1.1.1.1 in (h.0, (h.1.0, (h.1.1.0, (h.1.1.1.0, omega (arith, most, l)))))
 
 pub both_short : (w x : ℕ) (xs ys : List Operand) → AllShort w xs → AllShort x ys → AllShort (w + x) (xs ++ ys)
 both_short w x [] ys h k = all_more x (w + x) (omega arith) ys k
-both_short w x (o ∷ os) ys (OperandThen b rest w o os h more most) k =
-    OperandThen b (rest + x) (w + x) o (os ++ ys) h (both_short rest x os ys more k) (omega (arith, most))
+both_short w x (o ∷ os) ys h k =
+    let most = h.1.1.1.1 in
+    (h.0, (h.1.0 + x, (h.1.1.0, (both_short h.1.0 x os ys h.1.1.1.0 k, omega (arith, most)))))
 
 -- ---- numbers and texts
 
@@ -45,14 +46,24 @@ none_more w = omega arith
 
 pub numbers_most : (w : ℕ) (os : List Operand) → AllShort w os → numbers_size (number_list os).value ≤ w
 numbers_most w [] h = omega arith
-numbers_most w (o ∷ os) (OperandThen b rest w o os h more most) =
+numbers_most w (o ∷ os) q =
+    let b = q.0 in
+    let rest = q.1.0 in
+    let h = q.1.1.0 in
+    let most = q.1.1.1.1 in
+    let more = q.1.1.1.0 in
     let one = number_operand_short b o h in
     let all = numbers_most rest os more in
     omega (arith, one, all, most)
 
 pub subscripts_most : (w : ℕ) (os : List Operand) → AllShort w os → subscripts_size (number_list os).value ≤ w
 subscripts_most w [] h = omega arith
-subscripts_most w (o ∷ os) (OperandThen b rest w o os h more most) =
+subscripts_most w (o ∷ os) q =
+    let b = q.0 in
+    let rest = q.1.0 in
+    let h = q.1.1.0 in
+    let most = q.1.1.1.1 in
+    let more = q.1.1.1.0 in
     let one = number_operand_short b o h in
     let all = subscripts_most rest os more in
     omega (arith, one, all, most)
@@ -61,9 +72,12 @@ one_short : (w : ℕ) (place : Place) (build : Y.Number → Y.Number)
     → ((n : Y.Number) → number_size (build n) ≤ number_size n + 15) → (os : List Operand) → AllShort w os
     → number_size (of_number place build os).value ≤ w + 100
 one_short w place build k [] h = none_more w
-one_short w place build k (x ∷ []) (OperandThen b rest w x [] h more most) =
+one_short w place build k (x ∷ []) q =
+    let b = q.0 in
+    let h = q.1.1.0 in
+    let most = q.1.1.1.1 in
     let n = number_operand_short b x h in
-    let m = k _ in
+    let m = k (number_operand x).value in
     omega (arith, n, m, most)
 one_short w place build k (x ∷ y ∷ more) h = none_more w
 
@@ -72,10 +86,16 @@ two_short : (w : ℕ) (place : Place) (build : Y.Number → Y.Number → Y.Numbe
     → AllShort w os → number_size (of_numbers place build os).value ≤ w + 100
 two_short w place build k [] h = none_more w
 two_short w place build k (x ∷ []) h = none_more w
-two_short w place build k (x ∷ y ∷ []) (OperandThen b rest w x (y ∷ []) h (OperandThen c last rest y [] i more n) m) =
+two_short w place build k (x ∷ y ∷ []) q =
+    let b = q.0 in
+    let h = q.1.1.0 in
+    let m = q.1.1.1.1 in
+    let c = q.1.1.1.0.0 in
+    let i = q.1.1.1.0.1.1.0 in
+    let n = q.1.1.1.0.1.1.1.1 in
     let l = number_operand_short b x h in
     let r = number_operand_short c y i in
-    let e = k _ _ in
+    let e = k (number_operand x).value (number_operand y).value in
     omega (arith, l, r, e, n, m)
 two_short w place build k (x ∷ y ∷ z ∷ more) h = none_more w
 
@@ -83,7 +103,12 @@ many_short : (w : ℕ) (place : Place) (which : Y.Extremum) (os : List Operand) 
     → number_size (of_many place which os).value ≤ w + 100
 many_short w place which [] h = none_more w
 many_short w place which (x ∷ []) h = none_more w
-many_short w place which (x ∷ y ∷ os) (OperandThen b rest w x (y ∷ os) h more most) =
+many_short w place which (x ∷ y ∷ os) q =
+    let b = q.0 in
+    let rest = q.1.0 in
+    let h = q.1.1.0 in
+    let most = q.1.1.1.1 in
+    let more = q.1.1.1.0 in
     let n = number_operand_short b x h in
     let all = numbers_most rest (y ∷ os) more in
     omega (arith, n, all, most)
@@ -91,7 +116,10 @@ many_short w place which (x ∷ y ∷ os) (OperandThen b rest w x (y ∷ os) h m
 length_short : (w : ℕ) (place : Place) (os : List Operand) → AllShort w os
     → number_size (of_text place os).value ≤ w + 100
 length_short w place [] h = none_more w
-length_short w place (x ∷ []) (OperandThen b rest w x [] h more most) =
+length_short w place (x ∷ []) q =
+    let b = q.0 in
+    let h = q.1.1.0 in
+    let most = q.1.1.1.1 in
     let t = text_operand_short b x h in
     omega (arith, t, most)
 length_short w place (x ∷ y ∷ more) h = none_more w
@@ -101,10 +129,16 @@ texts_short : (w : ℕ) (place : Place) (build : Y.Text → Y.Text → Y.Number)
     → AllShort w os → number_size (of_texts place build os).value ≤ w + 100
 texts_short w place build k [] h = none_more w
 texts_short w place build k (x ∷ []) h = none_more w
-texts_short w place build k (x ∷ y ∷ []) (OperandThen b rest w x (y ∷ []) h (OperandThen c last rest y [] i more n) m) =
+texts_short w place build k (x ∷ y ∷ []) q =
+    let b = q.0 in
+    let h = q.1.1.0 in
+    let m = q.1.1.1.1 in
+    let c = q.1.1.1.0.0 in
+    let i = q.1.1.1.0.1.1.0 in
+    let n = q.1.1.1.0.1.1.1.1 in
     let l = text_operand_short b x h in
     let r = text_operand_short c y i in
-    let e = k _ _ in
+    let e = k (text_operand x).value (text_operand y).value in
     omega (arith, l, r, e, n, m)
 texts_short w place build k (x ∷ y ∷ z ∷ more) h = none_more w
 
@@ -112,12 +146,27 @@ substring_short : (w : ℕ) (place : Place) (os : List Operand) → AllShort w o
     → text_size (substring place os).value ≤ w + 100
 substring_short w place [] h = omega arith
 substring_short w place (s ∷ []) h = omega arith
-substring_short w place (s ∷ x ∷ []) (OperandThen b rest w s (x ∷ []) h (OperandThen c last rest x [] i more n) m) =
+substring_short w place (s ∷ x ∷ []) q =
+    let b = q.0 in
+    let h = q.1.1.0 in
+    let m = q.1.1.1.1 in
+    let c = q.1.1.1.0.0 in
+    let i = q.1.1.1.0.1.1.0 in
+    let n = q.1.1.1.0.1.1.1.1 in
     let l = text_operand_short b s h in
     let r = number_operand_short c x i in
     omega (arith, l, r, n, m)
 substring_short w place (s ∷ x ∷ y ∷ [])
-    (OperandThen b rest w s (x ∷ y ∷ []) h (OperandThen c last rest x (y ∷ []) i (OperandThen d end last y [] j more o) n) m) =
+    q =
+    let b = q.0 in
+    let h = q.1.1.0 in
+    let m = q.1.1.1.1 in
+    let c = q.1.1.1.0.0 in
+    let i = q.1.1.1.0.1.1.0 in
+    let n = q.1.1.1.0.1.1.1.1 in
+    let d = q.1.1.1.0.1.1.1.0.0 in
+    let j = q.1.1.1.0.1.1.1.0.1.1.0 in
+    let o = q.1.1.1.0.1.1.1.0.1.1.1.1 in
     let l = text_operand_short b s h in
     let r = number_operand_short c x i in
     let q = number_operand_short d y j in
@@ -137,17 +186,22 @@ quotient_short : (w : ℕ) (place : Place) (os : List Operand) → AllShort w os
 quotient_short w place [] h = none_more w
 quotient_short w place (x ∷ []) h = none_more w
 quotient_short w place (x ∷ y ∷ []) h = none_more w
-quotient_short w place (x ∷ y ∷ p ∷ [])
-    (OperandThen b rest w x (y ∷ p ∷ []) h (OperandThen c last rest y (p ∷ []) i more n) m) =
-    divided_short w b c rest last place (constant_within operator_digits p.constant) x y h i m n
-quotient_short w place (x ∷ y ∷ p ∷ q ∷ [])
-    (OperandThen b rest w x (y ∷ p ∷ q ∷ []) h (OperandThen c last rest y (p ∷ q ∷ []) i more n) m) =
-    by (is_zero q.constant) where
-      by : (z : Bool) → number_size
-          (if z then divided place (constant_within operator_digits p.constant) x y else bad_number place).value ≤ w + 100
-      by true = divided_short w b c rest last place (constant_within operator_digits p.constant) x y h i m n
-      by false = none_more w
-quotient_short w place (x ∷ y ∷ p ∷ q ∷ r ∷ more) h = none_more w
+quotient_short w place (x ∷ y ∷ p ∷ []) q =
+    let more = q.1.1.1.0 in
+    divided_short w q.0 more.0 q.1.0 more.1.0 place (constant_within operator_digits p.constant) x y q.1.1.0
+    more.1.1.0 q.1.1.1.1 more.1.1.1.1
+quotient_short w place (x ∷ y ∷ p ∷ z ∷ []) q = by (is_zero z.constant)
+  where
+    by : (b : Bool)
+        → number_size
+        (if b then divided place (constant_within operator_digits p.constant) x y else bad_number place).value
+        ≤ w + 100
+    by true =
+        let more = q.1.1.1.0 in
+        divided_short w q.0 more.0 q.1.0 more.1.0 place (constant_within operator_digits p.constant) x y q.1.1.0
+        more.1.1.0 q.1.1.1.1 more.1.1.1.1
+    by false = none_more w
+quotient_short w place (x ∷ y ∷ p ∷ z ∷ r ∷ more) h = none_more w
 
 -- ---- arguments that aren't evaluated
 
@@ -182,7 +236,10 @@ dimensions_short : (w : ℕ) (place : Place) (build : Y.Reference → ℕ → Y.
     → AllShort w os → number_size (of_dimension place build os).value ≤ w + 100
 dimensions_short w place build k [] h = none_more w
 dimensions_short w place build k (x ∷ []) h = none_more w
-dimensions_short w place build k (x ∷ y ∷ []) (OperandThen b rest w x (y ∷ []) h more most) =
+dimensions_short w place build k (x ∷ y ∷ []) q =
+    let b = q.0 in
+    let h = q.1.1.0 in
+    let most = q.1.1.1.1 in
     array_short w b place build k x.referent y.constant h.1 (omega (arith, most))
 dimensions_short w place build k (x ∷ y ∷ z ∷ more) h = none_more w
 
@@ -223,7 +280,10 @@ address_short w b place NotKnown h l = omega arith
 addr_short : (w : ℕ) (place : Place) (os : List Operand) → AllShort w os
     → pointer_size (address place os).value ≤ w + 100
 addr_short w place [] h = omega arith
-addr_short w place (x ∷ []) (OperandThen b rest w x [] h more most) =
+addr_short w place (x ∷ []) q =
+    let b = q.0 in
+    let h = q.1.1.0 in
+    let most = q.1.1.1.1 in
     address_short w b place x.referent h.1 (omega (arith, most))
 addr_short w place (x ∷ y ∷ more) h = omega arith
 
@@ -238,7 +298,10 @@ into_short : (w : ℕ) (place : Place) (os : List Operand) → AllShort w os
     → pointer_size (pointer_into place os).value ≤ w + 100
 into_short w place [] h = omega arith
 into_short w place (o ∷ []) h = omega arith
-into_short w place (o ∷ a ∷ []) (OperandThen b rest w o (a ∷ []) h more most) =
+into_short w place (o ∷ a ∷ []) q =
+    let b = q.0 in
+    let h = q.1.1.0 in
+    let most = q.1.1.1.1 in
     let x = wanted_short b (λ o. offset_size o ≤ b + 2) own_offset Y.NullOffset o.place (operand_value o).value
     (omega arith) (own_offset_short b) (operand_short b o h) in
     omega (arith, x, most)
@@ -248,7 +311,10 @@ offset_into_short : (w : ℕ) (place : Place) (os : List Operand) → AllShort w
     → Short (w + 100) (offset_into place os).value
 offset_into_short w place [] h = omega arith
 offset_into_short w place (p ∷ []) h = omega arith
-offset_into_short w place (p ∷ a ∷ []) (OperandThen b rest w p (a ∷ []) h more most) =
+offset_into_short w place (p ∷ a ∷ []) q =
+    let b = q.0 in
+    let h = q.1.1.0 in
+    let most = q.1.1.1.1 in
     let x = pointer_operand_short b p h in
     omega (arith, x, most)
 offset_into_short w place (p ∷ a ∷ c ∷ more) h = omega arith

@@ -32,12 +32,13 @@ use Rattle.pli_typing.specs.References.{given, expression, reference, qualified,
 use Rattle.code_sizes.specs.ExpressionSizes.{pointer_size, reference_size, call_size, locator_size, arguments_size}
 use Rattle.code_sizes.specs.ExpressionSizes.{argument_size, named_size}
 use Rattle.well_formed_trees.proofs.Lists.{HoldsIf}
-use Rattle.tree_tokens.specs.TreeTokens.{expr_tokens, reference_tokens, qualified_tokens, arguments_tokens, exprs_tokens}
+use Rattle.tree_tokens.specs.TreeTokens.{expr_tokens, reference_tokens, qualified_tokens, arguments_tokens}
+use Rattle.tree_tokens.specs.TreeTokens.{exprs_tokens}
 use Rattle.tree_tokens.specs.TreeTokens.{further_tokens}
 use Rattle.source_sizes.specs.Short.{ValueShort, Short, most_words, ExpressionsShort, ReferencesShort}
 use Rattle.source_sizes.proofs.Values.{value_more, short_more, typed_short, OperandShort, operand_short, pointer_short}
 use Rattle.source_sizes.proofs.Values.{pointer_operand_short, stored_short, prefixed_short, infixed_short}
-use Rattle.source_sizes.proofs.Builtins.{AllShort, NoOperand, OperandThen, all_more, both_short, subscripts_most}
+use Rattle.source_sizes.proofs.Builtins.{AllShort, all_more, both_short, subscripts_most}
 use Rattle.source_sizes.proofs.Builtins.{builtin_short, named_most}
 
 -- ---- calls, with 51 words beside each argument
@@ -112,7 +113,12 @@ arguments_most : (w : ℕ) (callee : Callee) (ps : List Designated) (os : List O
 arguments_most w callee [] [] h = omega arith
 arguments_most w callee [] (o ∷ os) h = omega arith
 arguments_most w callee (p ∷ ps) [] h = omega arith
-arguments_most w callee (p ∷ ps) (o ∷ os) (OperandThen b rest w o os h more most) =
+arguments_most w callee (p ∷ ps) (o ∷ os) q =
+    let b = q.0 in
+    let rest = q.1.0 in
+    let h = q.1.1.0 in
+    let most = q.1.1.1.1 in
+    let more = q.1.1.1.0 in
     let one = argument_short b h.0 callee p o.place o.referent h.1 in
     let all = arguments_most rest callee ps os more in
     omega (arith, one, all, most)
@@ -331,7 +337,7 @@ mutual
   qualified_short scope (T.Last n a) =
       all_more (104 * arguments_tokens a + 0) (104 * arguments_tokens a) (omega arith) _
       (both_short (104 * arguments_tokens a) 0 (listed (arguments scope a).value) [] (arguments_short scope a)
-      (NoOperand 0))
+      tt)
   qualified_short scope (T.Of n a q) =
       all_more (104 * arguments_tokens a + 104 * given_tokens q) (104 * (arguments_tokens a + given_tokens q))
       (omega arith) _
@@ -340,7 +346,7 @@ mutual
 
   arguments_short : (scope : Scope) (a : T.Arguments)
       → AllShort (104 * arguments_tokens a) (listed (arguments scope a).value)
-  arguments_short scope T.Absent = NoOperand 0
+  arguments_short scope T.Absent = tt
   arguments_short scope (T.Listed es) =
       let h = further_most es in
       all_more (104 * further_tokens es) (104 * (2 + exprs_tokens es)) (omega (arith, h)) (expressions scope es).value
@@ -348,10 +354,14 @@ mutual
 
   expressions_are_short : (scope : Scope) (es : T.Exprs)
       → AllShort (104 * further_tokens es) (expressions scope es).value
-  expressions_are_short scope T.NoExpr = NoOperand 0
-  expressions_are_short scope (T.ExprThen e es) =
-      OperandThen (most_words (expr_tokens e)) (104 * further_tokens es) (104 * further_tokens (T.ExprThen e es)) _ _
-      (omega arith, expression_is_short scope e) (expressions_are_short scope es) (omega arith)
+  expressions_are_short scope T.NoExpr = tt
+  expressions_are_short scope (T.ExprThen e es) = (
+    most_words (expr_tokens e),
+    (
+      104 * further_tokens es,
+      ((omega arith, expression_is_short scope e), (expressions_are_short scope es, omega arith)),
+    ),
+  )
 
 -- ---- the laws
 

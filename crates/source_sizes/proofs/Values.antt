@@ -137,7 +137,8 @@ number_short w place v h =
 text_short : (w : ℕ) → 53 ≤ w → (place : Place) (v : Option Y.Value) → HoldsIf (ValueShort w) v
     → text_size (text_wanted place v).value ≤ w + 3
 text_short w s place v h =
-    wanted_short w (λ t. text_size t ≤ w + 3) text_of (Y.TextConstant []) place v (omega (arith, s)) (text_converted w) h
+    wanted_short w (λ t. text_size t ≤ w + 3) text_of (Y.TextConstant []) place v (omega (arith, s))
+    (text_converted w) h
 
 bit_short : (w : ℕ) (place : Place) (v : Option Y.Value) → HoldsIf (ValueShort w) v
     → bit_size (bit_wanted place v).value ≤ w + 6
@@ -147,7 +148,8 @@ bit_short w place v h =
 own_bit_short : (w : ℕ) → 53 ≤ w → (place : Place) (v : Option Y.Value) → HoldsIf (ValueShort w) v
     → bit_size (own_bit_wanted place v).value ≤ w
 own_bit_short w s place v h =
-    wanted_short w (λ b. bit_size b ≤ w) only_bit (Y.BitConstant false) place v (omega (arith, s)) (own_bit_converted w) h
+    wanted_short w (λ b. bit_size b ≤ w) only_bit (Y.BitConstant false) place v (omega (arith, s))
+    (own_bit_converted w) h
 
 pub pointer_short : (w : ℕ) → 53 ≤ w → (place : Place) (v : Option Y.Value) → HoldsIf (ValueShort w) v
     → pointer_size (pointer_wanted place v).value ≤ w + 1
