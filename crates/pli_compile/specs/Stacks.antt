@@ -1,5 +1,5 @@
 -- How frames lie: what stands in one is apart, and as many as may be active fit memory's part for the stacks, with all AUTOMATIC data.
-use Rattle.std.specs.Prelude.{◌≡◌, ℕ, suc, ◌+◌, ◌*◌, pos, ◌<◌, ◌≤◌, Bool, true, ◌&&◌, nat_le, List, [], ◌∷◌, length, slice_get, Some, ⊤}
+use Rattle.std.specs.Prelude.{◌≡◌, ℕ, suc, ◌+◌, ◌*◌, pos, ◌+ℤ◌, ◌<◌, ◌≤◌, Bool, true, ◌&&◌, nat_le, List, [], ◌∷◌, length, slice_get, Some, ⊤}
 use Rattle.std.specs.List.{list_all, sum}
 use Rattle.granule_keeper.specs.Granules.{granules}
 use Rattle.pli_typing.specs.Signatures.{footprint, data_size, rounded_up, LeafKind, Area, Bounds, Leaf}
@@ -7,7 +7,9 @@ use Rattle.pli_typing.specs.TypedTree as Y
 use Rattle.pli_meaning.specs.Contents.{Shape}
 use Rattle.pli_meaning.specs.DeclaredShapes.{variables_of_block}
 use Rattle.pli_meaning.specs.StorageState.{most_activations, most_automatic}
-use Rattle.pli_coding.specs.Frames.{argument_bytes, display, fixed_size, frame_bytes, last_place, list_place, name_bytes, temporary_bytes, variable_place}
+use Rattle.pli_coding.specs.Expressions.{ArgumentList, argument_place, argument_words}
+use Rattle.pli_coding.specs.Frames.{argument_at, argument_bytes, display, fixed_size, frame_bytes, last_place, list_place}
+use Rattle.pli_coding.specs.Frames.{name_bytes, temporary_bytes, variable_place, words_place}
 use Rattle.pli_coding.specs.Procedures.{routine_words}
 use Rattle.pli_frames.specs.Parts.{parts}
 use Rattle.pli_frames.specs.Plans.{BlockFrame, planned}
@@ -94,3 +96,9 @@ ParametersApart =
     (level parameters n : ℕ) → n < parameters
     → ((display level ≡ pos (list_place level)) × (list_place level + 4 ≤ fixed_size level parameters))
     × (argument_bytes * n + (name_bytes + 8) ≤ argument_bytes * suc n)
+
+-- the law: a word of a list of arguments is where the caller stores it, counted from the list's address
+abbrev pub ListsMet : Type 0
+ListsMet =
+    (l : ArgumentList) (n word : ℕ) → argument_words * n + word < l.words
+    → words_place l.place l.words +ℤ argument_at n word ≡ argument_place l n word
