@@ -1,7 +1,8 @@
 // Frames, and names and numbers of signatures by where they stand.
 
-ghost use Rattle.std.specs.Prelude.{◌≡◌, [], ◌∷◌, ◌++◌, OnOk, IfOk};
+ghost use Rattle.std.specs.Prelude.{◌≡◌, pos, [], ◌∷◌, ◌++◌, OnOk, IfOk};
 ghost use Rattle.pli_coding.specs.Assembly.{DataPlace, OffsetOf, StaticStorage};
+ghost use Rattle.pli_coding.specs.Frames.{list_place};
 ghost use Rattle.pli_coding.specs.Locating as form;
 ghost use Rattle.rv_assembly.specs.View.{datum_of};
 ghost use Rattle.rv_address.specs.Around.{environment_of};
@@ -154,6 +155,13 @@ fn argument_offset(
     code.plus(register, register, place)
 }
 
+/// Where the address of that list stands in the frame.
+fn list_address(level: usize) -> Result<i32, AllocError>
+    ensures { IfOk result (λ d. d ≡ pos (list_place level)) }
+{
+    signed(list_place(level)?)
+}
+
 /// The word at a place of it.
 fn argument_word(
     code: &mut Code,
@@ -164,8 +172,8 @@ fn argument_word(
 ) -> Result<(), AllocError>
     ensures { OnOk result (code.new ≡ code.old ++ form.argument_word (environment_of environment.now) level register place) }
 {
-    let list = signed(list_place(level)?)?;
     frame_found(code, environment, level, register)?;
+    let list = list_address(level)?;
     code.load_word(register, frame_in(environment, level, register), list)?;
     code.load_word(register, register, place)
 }
