@@ -1,11 +1,11 @@
 // Frames, and names and numbers of signatures by where they stand.
 
-ghost use Rattle.std.specs.Prelude.{◌≡◌, pos, [], ◌∷◌, ◌++◌, OnOk, IfOk};
+ghost use Rattle.std.specs.Prelude.{◌≡◌, [], ◌∷◌, ◌++◌, OnOk, IfOk};
 ghost use Rattle.pli_coding.specs.Assembly.{DataPlace, OffsetOf, StaticStorage};
-ghost use Rattle.pli_coding.specs.Frames.{list_place};
 ghost use Rattle.pli_coding.specs.Locating as form;
 ghost use Rattle.rv_assembly.specs.View.{datum_of};
 ghost use Rattle.rv_address.specs.Around.{environment_of};
+ghost use Rattle.rv_address.specs.Pieces.{list_loaded};
 ghost use Rattle.rv_address.specs.Places.{name_of, number_of};
 
 use crate::environment::Environment;
@@ -155,11 +155,17 @@ fn argument_offset(
     code.plus(register, register, place)
 }
 
-/// Where the address of that list stands in the frame.
-fn list_address(level: usize) -> Result<i32, AllocError>
-    ensures { IfOk result (λ d. d ≡ pos (list_place level)) }
+/// The address of that list, once the frame was found.
+fn list_loaded(
+    code: &mut Code,
+    environment: &Environment,
+    level: usize,
+    register: Register,
+) -> Result<(), AllocError>
+    ensures { OnOk result (code.new ≡ code.old ++ list_loaded (environment_of environment.now) level register) }
 {
-    signed(list_place(level)?)
+    let place = signed(list_place(level)?)?;
+    code.load_word(register, frame_in(environment, level, register), place)
 }
 
 /// The word at a place of it.
@@ -173,8 +179,7 @@ fn argument_word(
     ensures { OnOk result (code.new ≡ code.old ++ form.argument_word (environment_of environment.now) level register place) }
 {
     frame_found(code, environment, level, register)?;
-    let list = list_address(level)?;
-    code.load_word(register, frame_in(environment, level, register), list)?;
+    list_loaded(code, environment, level, register)?;
     code.load_word(register, register, place)
 }
 
