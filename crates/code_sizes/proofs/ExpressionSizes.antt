@@ -25,7 +25,8 @@ use Rattle.code_sizes.proofs.PieceSizes.{number_more, number_more_most}
 use Rattle.code_sizes.proofs.PieceSizes.{copied_most, calculated_most, fitted_most, divided_most, signed_most}
 use Rattle.code_sizes.proofs.PieceSizes.{absolute_most, count_most, extreme_most, equal_most, compared_most}
 use Rattle.code_sizes.proofs.PieceSizes.{frame_found_most}
-use Rattle.code_sizes.proofs.ReachedSizes.{found_first_most, refer_most, leaf_most, bound_most, counted_size, element_size}
+use Rattle.code_sizes.proofs.ReachedSizes.{found_first_most, refer_most, leaf_most, bound_most}
+use Rattle.code_sizes.proofs.ReachedSizes.{counted_size, element_size}
 use Rattle.code_sizes.proofs.ReachedSizes.{reached_most, based_most, copied_reached_most}
 
 -- ---- one behind the other, with what waits between

@@ -74,7 +74,8 @@ names_program =
     (main
     (Y.Allocate (Y.AllocateBased x (Some a) (Y.SetPointer (whole q)) ∷ []) line
     ∷ set (located (ptr q) x) 31 (n 5)
-    ∷ do_call 2 0 (reference a ∷ Y.ByOffsetInParameter (ptr q) 0 ∷ Y.ByCopy Y.PointerLeaf (Y.StoredPointer (ptr q)) ∷ [])
+    ∷ do_call 2 0
+    (reference a ∷ Y.ByOffsetInParameter (ptr q) 0 ∷ Y.ByCopy Y.PointerLeaf (Y.StoredPointer (ptr q)) ∷ [])
     ∷ [])
     ∷ procedure (Y.BlockOf (head Y.ProcedureBlock 2 1 2) (list
     (put_numbers (value_at (Y.PointerInto (Y.OffsetIn (whole o)) b) ∷ value_at (ptr l) ∷ [])

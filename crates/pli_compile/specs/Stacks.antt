@@ -1,5 +1,6 @@
 -- How frames lie: what stands in one is apart, and as many as may be active fit memory's part for the stacks, with all AUTOMATIC data.
-use Rattle.std.specs.Prelude.{◌≡◌, ℕ, suc, ◌+◌, ◌*◌, pos, ◌+ℤ◌, ◌<◌, ◌≤◌, Bool, true, ◌&&◌, nat_le, List, [], ◌∷◌, length, slice_get, Some, ⊤}
+use Rattle.std.specs.Prelude.{◌≡◌, ℕ, suc, ◌+◌, ◌*◌, pos, ◌+ℤ◌, ◌<◌, ◌≤◌, Bool, true, ◌&&◌, nat_le, List}
+use Rattle.std.specs.Prelude.{[], ◌∷◌, length, slice_get, Some, ⊤}
 use Rattle.std.specs.List.{list_all, sum}
 use Rattle.granule_keeper.specs.Granules.{granules}
 use Rattle.pli_typing.specs.Signatures.{footprint, data_size, rounded_up, LeafKind, Area, Bounds, Leaf}
@@ -8,8 +9,8 @@ use Rattle.pli_meaning.specs.Contents.{Shape}
 use Rattle.pli_meaning.specs.DeclaredShapes.{variables_of_block}
 use Rattle.pli_meaning.specs.StorageState.{most_activations, most_automatic}
 use Rattle.pli_coding.specs.Expressions.{ArgumentList, argument_place, argument_words}
-use Rattle.pli_coding.specs.Frames.{argument_at, argument_bytes, display, fixed_size, frame_bytes, last_place, list_place}
-use Rattle.pli_coding.specs.Frames.{name_bytes, temporary_bytes, variable_place, words_place}
+use Rattle.pli_coding.specs.Frames.{argument_at, argument_bytes, display, fixed_size, frame_bytes, last_place}
+use Rattle.pli_coding.specs.Frames.{list_place, name_bytes, temporary_bytes, variable_place, words_place}
 use Rattle.pli_coding.specs.Procedures.{routine_words}
 use Rattle.pli_frames.specs.Parts.{parts}
 use Rattle.pli_frames.specs.Plans.{BlockFrame, planned}
@@ -89,8 +90,8 @@ PlacesApart =
     (variables : List Y.DeclaredVariable) (at i j : ℕ) (d : Y.DeclaredVariable) → slice_get variables i ≡ Some d → i < j → variable_place parts at variables j < last_place
     → variable_place parts at variables i + frame_bytes parts d ≤ variable_place parts at variables j
 
--- the law: the address of the list of arguments stands behind the display and before the variables, and what an argument takes in the
--- list, a name and the number of its signature, before the next one
+-- the law: the address of the list of arguments stands behind the display and before the variables, and what an
+-- argument takes in the list, a name and the number of its signature, before the next one
 abbrev pub ParametersApart : Type 0
 ParametersApart =
     (level parameters n : ℕ) → n < parameters

@@ -32,7 +32,7 @@ pub fn places_apart()
     ensures { PlacesApart }
 {}
 
-/// Where the list of arguments is stands in a frame before the variables, and what parameters take in the list is apart.
+/// Where the list of arguments is stands in a frame before the variables, and parameters are apart in the list.
 pub fn parameters_apart()
     ensures { ParametersApart }
 {}
