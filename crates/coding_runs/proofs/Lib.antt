@@ -9,6 +9,7 @@ mod StorageRuns
 mod AreaRuns
 mod FormRuns
 mod PointerRuns
+mod ParameterRuns
 mod ArraysApart
 mod UnitKinds
 mod CountRuns

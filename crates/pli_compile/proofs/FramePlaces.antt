@@ -1,10 +1,13 @@
 -- What stands in a frame is apart.
-use Rattle.std.proofs.Common.{◌≡◌, ◌<◌, ◌≤◌, ◌+◌, ℕ, zero, suc, min, List, [], ◌∷◌, Some, refl, subst, arith}
-use Rattle.std.specs.Prelude.{slice_get}
+use Rattle.std.proofs.Common.{◌≡◌, ◌<◌, ◌≤◌, ◌+◌, ◌*◌, ◌-◌, ℕ, zero, suc, min, pos, List, [], ◌∷◌, Some}
+use Rattle.std.proofs.Common.{refl, sym, ap, ◌∙◌, subst, arith}
+use Rattle.std.proofs.Math.IntN.{neg_ℤ-+ℤ, neg_ℤ-neg_ℤ, +ℤ-neg_ℤ_cancel}
+use Rattle.std.specs.Prelude.{slice_get, neg_ℤ, ◌+ℤ◌}
 use Rattle.pli_typing.specs.TypedTree as Y
-use Rattle.pli_coding.specs.Frames.{MemoryParts, frame_bytes, last_place, variable_place}
+use Rattle.pli_coding.specs.Expressions.{argument_words}
+use Rattle.pli_coding.specs.Frames.{MemoryParts, argument_bytes, frame_bytes, last_place, variable_place}
 use Rattle.pli_frames.specs.Parts.{parts}
-use Rattle.pli_compile.specs.Stacks.{ParametersApart, PlacesApart}
+use Rattle.pli_compile.specs.Stacks.{ListsMet, ParametersApart, PlacesApart}
 
 -- (for any parts of memory: what areas take needn't be known)
 
@@ -34,3 +37,18 @@ places_apart = apart parts
 
 pub parameters_apart : ParametersApart
 parameters_apart level parameters n before = ((refl, omega (arith, before)), omega arith)
+
+-- so many words further in the list
+word_met : (place words n bytes : ℕ) → n < words → bytes ≡ 4 * n
+    → neg_ℤ (pos (4 * (place + words))) +ℤ pos bytes ≡ neg_ℤ (pos (4 * (place + words - n)))
+word_met place words n bytes within is =
+    let left : ℕ = 4 * (place + words - n) in
+    let whole : 4 * (place + words) ≡ left + bytes = omega (arith, within, is) in
+    ap (λ m. neg_ℤ (pos m) +ℤ pos bytes) whole
+    ∙ ap (λ z. z +ℤ pos bytes) (neg_ℤ-+ℤ (pos left) (pos bytes))
+    ∙ ap (λ z. (neg_ℤ (pos left) +ℤ neg_ℤ (pos bytes)) +ℤ z) (sym (neg_ℤ-neg_ℤ (pos bytes)))
+    ∙ +ℤ-neg_ℤ_cancel (neg_ℤ (pos left)) (neg_ℤ (pos bytes))
+
+pub lists_met : ListsMet
+lists_met l n word within =
+    word_met l.place l.words (argument_words * n + word) (argument_bytes * n + 4 * word) within (omega arith)

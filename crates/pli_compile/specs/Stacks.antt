@@ -1,13 +1,14 @@
 -- How frames lie: what stands in one is apart, and as many as may be active fit memory's part for the stacks, with all AUTOMATIC data.
-use Rattle.std.specs.Prelude.{◌≡◌, ℕ, suc, ◌+◌, ◌*◌, pos, ◌<◌, ◌≤◌, List, [], ◌∷◌, length, slice_get, Some, ⊤}
+use Rattle.std.specs.Prelude.{◌≡◌, ℕ, suc, ◌+◌, ◌*◌, pos, ◌+ℤ◌, ◌<◌, ◌≤◌, List, [], ◌∷◌, length, slice_get, Some, ⊤}
 use Rattle.std.specs.List.{sum}
 use Rattle.granule_keeper.specs.Granules.{granules}
 use Rattle.pli_typing.specs.Signatures.{footprint, data_size, rounded_up, LeafKind, Area, Bounds, Leaf}
 use Rattle.pli_typing.specs.TypedTree as Y
 use Rattle.pli_meaning.specs.Contents.{Shape}
 use Rattle.pli_meaning.specs.StorageState.{most_activations, most_automatic}
-use Rattle.pli_coding.specs.Frames.{argument_bytes, display, fixed_size, frame_bytes, last_place, list_place, name_bytes}
-use Rattle.pli_coding.specs.Frames.{variable_place}
+use Rattle.pli_coding.specs.Expressions.{ArgumentList, argument_place, argument_words}
+use Rattle.pli_coding.specs.Frames.{argument_at, argument_bytes, display, fixed_size, frame_bytes, last_place}
+use Rattle.pli_coding.specs.Frames.{list_place, name_bytes, variable_place, words_place}
 use Rattle.pli_frames.specs.Parts.{parts}
 use Rattle.pli_frames.specs.Plans.{BlockFrame}
 use Rattle.pli_serving.specs.Arguments.{data_bytes}
@@ -76,10 +77,16 @@ PlacesApart =
     (variables : List Y.DeclaredVariable) (at i j : ℕ) (d : Y.DeclaredVariable) → slice_get variables i ≡ Some d → i < j → variable_place parts at variables j < last_place
     → variable_place parts at variables i + frame_bytes parts d ≤ variable_place parts at variables j
 
--- the law: the address of the list of arguments stands behind the display and before the variables, and what an argument takes in the
--- list, a name and the number of its signature, before the next one
+-- the law: the address of the list of arguments stands behind the display and before the variables, and what an
+-- argument takes in the list, a name and the number of its signature, before the next one
 abbrev pub ParametersApart : Type 0
 ParametersApart =
     (level parameters n : ℕ) → n < parameters
     → ((display level ≡ pos (list_place level)) × (list_place level + 4 ≤ fixed_size level parameters))
     × (argument_bytes * n + (name_bytes + 8) ≤ argument_bytes * suc n)
+
+-- the law: a word of a list of arguments is where the caller stores it, counted from the list's address
+abbrev pub ListsMet : Type 0
+ListsMet =
+    (l : ArgumentList) (n word : ℕ) → argument_words * n + word < l.words
+    → words_place l.place l.words +ℤ argument_at n word ≡ argument_place l n word

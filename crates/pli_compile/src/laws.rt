@@ -1,7 +1,7 @@
 // Laws of refusals and of trees: each function's contract is one law, and calling it does nothing.
 
 ghost use Rattle.pli_compile.specs.Compiling.{FirstPathShort, ProcedureFound, RefusedNever};
-ghost use Rattle.pli_compile.specs.Stacks.{ParametersApart, PlacesApart, StacksFit};
+ghost use Rattle.pli_compile.specs.Stacks.{ListsMet, ParametersApart, PlacesApart, StacksFit};
 
 use pli_headline::first_path::first_path_small;
 
@@ -32,7 +32,12 @@ pub fn places_apart()
     ensures { PlacesApart }
 {}
 
-/// Where the list of arguments is stands in a frame before the variables, and what parameters take in the list is apart.
+/// Where the list of arguments is stands in a frame before the variables, and parameters are apart in the list.
 pub fn parameters_apart()
     ensures { ParametersApart }
+{}
+
+/// A word of a list of arguments is where the caller stores it, counted from the list's address.
+pub fn lists_met()
+    ensures { ListsMet }
 {}

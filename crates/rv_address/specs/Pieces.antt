@@ -1,5 +1,5 @@
 -- Pieces of the code of addresses.
-use Rattle.std.specs.Prelude.{ℕ, ◌*◌, List, [], ◌∷◌, ◌++◌}
+use Rattle.std.specs.Prelude.{ℕ, ◌*◌, pos, List, [], ◌∷◌, ◌++◌}
 use Rattle.rv_meaning.specs.declared.instr.BranchTest.TheVariants as Test
 use Rattle.rv_meaning.specs.declared.instr.Register.{Register}
 use Rattle.pli_typing.specs.TypedTree as Y
@@ -7,9 +7,9 @@ use Rattle.pli_meaning.specs.Codes.{subscript_code}
 use Rattle.pli_coding.specs.Registers.{frame_register, a0, a1, u0, u1, u2, u3}
 use Rattle.pli_coding.specs.Assembly.{BaseIn, Code}
 use Rattle.pli_coding.specs.Instructions.{add, subtract, move, load_word, store_word, service, status_tested, skip_where, error_raised}
-use Rattle.pli_coding.specs.Frames.{buffer_lower, buffer_upper, automatic_place}
+use Rattle.pli_coding.specs.Frames.{buffer_lower, buffer_upper, automatic_place, list_place}
 use Rattle.pli_coding.specs.Environments.{Environment, Taken}
-use Rattle.pli_coding.specs.Locating.{Address, place_behind, waiting_number, bound_loaded, direct_base, place_kept}
+use Rattle.pli_coding.specs.Locating.{Address, frame_in, place_behind, waiting_number, bound_loaded, direct_base, place_kept}
 use Rattle.pli_coding.specs.Locating.{subscript_given, subscript_counted, subscripts_counted, element_added}
 
 -- the distance of bounds that aren't both constant
@@ -34,6 +34,10 @@ direct_start e v _ = automatic_place e.parts e.program v.block v.level v.index
 abbrev pub found_added : Environment → Taken → Y.Leaf → (subscripts : Y.Numbers) → Code
 found_added e t l subscripts = subscripts_counted e t 0 subscripts l.bounds
     ++ (BaseIn u0 ∷ add u3 u3 u0 ∷ element_added u3 l.type subscripts)
+
+-- the address of a list of arguments
+abbrev pub list_loaded : Environment → (level : ℕ) → Register → Code
+list_loaded e level r = load_word r (frame_in e level r) (pos (list_place level))
 
 -- the nth word of a name
 abbrev pub word_loaded : Address → (n : ℕ) → Code

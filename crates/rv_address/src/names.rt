@@ -5,6 +5,7 @@ ghost use Rattle.pli_coding.specs.Assembly.{DataPlace, OffsetOf, StaticStorage};
 ghost use Rattle.pli_coding.specs.Locating as form;
 ghost use Rattle.rv_assembly.specs.View.{datum_of};
 ghost use Rattle.rv_address.specs.Around.{environment_of};
+ghost use Rattle.rv_address.specs.Pieces.{list_loaded};
 ghost use Rattle.rv_address.specs.Places.{name_of, number_of};
 
 use crate::environment::Environment;
@@ -154,6 +155,19 @@ fn argument_offset(
     code.plus(register, register, place)
 }
 
+/// The address of that list, once the frame was found.
+fn list_loaded(
+    code: &mut Code,
+    environment: &Environment,
+    level: usize,
+    register: Register,
+) -> Result<(), AllocError>
+    ensures { OnOk result (code.new ≡ code.old ++ list_loaded (environment_of environment.now) level register) }
+{
+    let place = signed(list_place(level)?)?;
+    code.load_word(register, frame_in(environment, level, register), place)
+}
+
 /// The word at a place of it.
 fn argument_word(
     code: &mut Code,
@@ -164,9 +178,8 @@ fn argument_word(
 ) -> Result<(), AllocError>
     ensures { OnOk result (code.new ≡ code.old ++ form.argument_word (environment_of environment.now) level register place) }
 {
-    let list = signed(list_place(level)?)?;
     frame_found(code, environment, level, register)?;
-    code.load_word(register, frame_in(environment, level, register), list)?;
+    list_loaded(code, environment, level, register)?;
     code.load_word(register, register, place)
 }
 

@@ -57,19 +57,23 @@ pub ruleset signatures = (star_found, other_found)
 
 -- ---- one copy
 
-pub begun-is : (e : _) (n : _) (d : _) (type : _) → copy_begun e (copied_of n d type) ≡ signature_found e (copied_of n d type) ++ (signature_kept n ++ lower_grown)
+pub begun-is : (e : _) (n : _) (d : _) (type : _)
+    → copy_begun e (copied_of n d type) ≡ signature_found e (copied_of n d type) ++ (signature_kept n ++ lower_grown)
 unfolding copy_begun signature_found signature_kept lower_grown
 begun-is e n d type = refl
 
 pub ruleset begun = (begun-is, append_assoc, append-nil)
 
-pub made-is : (e : _) (n : _) (d : _) (type : _) → copy_whole e (copied_of n d type) ≡ copy_begun e (copied_of n d type) ++ (value_taken n type ++ (copy_named n ++ copy_put n type))
+pub made-is : (e : _) (n : _) (d : _) (type : _)
+    → copy_whole e (copied_of n d type)
+    ≡ copy_begun e (copied_of n d type) ++ (value_taken n type ++ (copy_named n ++ copy_put n type))
 unfolding copy_whole copy_begun value_taken copy_named copy_put
 made-is e n d type = refl
 
 pub ruleset made = (made-is, append_assoc, append-nil)
 
-pub skipped-is : (e : _) (n : _) (d : _) (type : _) → copy_skipped e (copied_of n d type) ≡ skip_where Test.Equal u4 zero_register (copy_whole e (copied_of n d type))
+pub skipped-is : (e : _) (n : _) (d : _) (type : _)
+    → copy_skipped e (copied_of n d type) ≡ skip_where Test.Equal u4 zero_register (copy_whole e (copied_of n d type))
 unfolding copy_skipped copy_whole
 skipped-is e n d type = refl
 

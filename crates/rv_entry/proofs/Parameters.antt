@@ -9,8 +9,8 @@ unfolding list_placed list_measured
 both level [] h = absurd (h refl)
 both level (p ∷ ps) h = refl
 
-pub kept : (level : ℕ) (ps : List ℕ) (code placed after : Code) → (length ps ≡ 0 → ⊥) → placed ≡ code ++ list_placed level
-    → after ≡ placed ++ list_measured → after ≡ code ++ list_kept level ps
+pub kept : (level : ℕ) (ps : List ℕ) (code placed after : Code) → (length ps ≡ 0 → ⊥)
+    → placed ≡ code ++ list_placed level → after ≡ placed ++ list_measured → after ≡ code ++ list_kept level ps
 kept level ps code placed after h a b =
     b
     ∙ ap (λ c. c ++ list_measured) a

@@ -18,7 +18,8 @@ use Rattle.rv_entry.specs.Pieces.{copied_single, own_declaration, parameter_fill
 
 -- ---- lengths
 
-pub skipped-is : (mode : _) (size : _) → text_skipped mode size ≡ skip_where Test.Equal u4 zero_register (text_put mode size)
+pub skipped-is : (mode : _) (size : _)
+    → text_skipped mode size ≡ skip_where Test.Equal u4 zero_register (text_put mode size)
 unfolding text_skipped
 skipped-is mode size = refl
 

@@ -1,5 +1,6 @@
-// Copies that stand for arguments that are values. Each is made where the list says so, and its name stands there in place of the value:
-// a number, bit, OFFSET or POINTER value waits in registers until it goes into the copy, and a text on the text stack.
+// Copies that stand for arguments that are values. Each is made where the list says so, and its name stands there in
+// place of the value: a number, bit, OFFSET or POINTER value waits in registers until it goes into the copy, and a text
+// on the text stack.
 
 ghost use Rattle.std.specs.Prelude.{◌≡◌, map, ◌++◌, OnOk};
 ghost use Rattle.pli_language.specs.View.{option_of};
