@@ -1,0 +1,5 @@
+pub mod ReturnValues
+pub mod Beginnings
+pub mod NoValues
+pub mod Functions
+pub mod FunctionCalls

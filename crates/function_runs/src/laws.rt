@@ -1,0 +1,21 @@
+// Laws of the definitions: each function's contract is one law, and calling it does nothing.
+
+ghost use Rattle.function_runs.specs.FunctionCalls.{FunctionCallsDo};
+ghost use Rattle.function_runs.specs.Functions.{FunctionsRun};
+ghost use Rattle.function_runs.specs.Returns.{ReturnsDo};
+
+/// RETURN with a number leaves its word in the function's frame, and the block comes to its end.
+pub fn returns_do()
+    ensures { ReturnsDo }
+{}
+
+/// A function comes behind its call with its word in a0, if each of its statements does what it means; one that runs off
+/// its end raises ERROR.
+pub fn functions_run()
+    ensures { FunctionsRun }
+{}
+
+/// So does a call of it in an expression of the block that declares it.
+pub fn function_calls_do()
+    ensures { FunctionCallsDo }
+{}
