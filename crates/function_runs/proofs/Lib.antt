@@ -3,3 +3,4 @@ pub mod Beginnings
 pub mod NoValues
 pub mod Functions
 pub mod FunctionCalls
+pub mod Rows

@@ -1,3 +1,4 @@
 pub mod Functions
 pub mod Returns
 pub mod FunctionCalls
+pub mod Rows
