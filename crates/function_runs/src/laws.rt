@@ -2,6 +2,7 @@
 
 ghost use Rattle.function_runs.specs.FunctionCalls.{FunctionCallsDo};
 ghost use Rattle.function_runs.specs.Functions.{FunctionsRun};
+ghost use Rattle.function_runs.specs.OuterVariables.{OuterNumbers};
 ghost use Rattle.function_runs.specs.Returns.{ReturnsDo};
 ghost use Rattle.function_runs.specs.Rows.{FetchRan};
 
@@ -21,6 +22,12 @@ pub fn functions_run()
 /// So does a call of it in an expression of the block that declares it.
 pub fn function_calls_do()
     ensures { FunctionCallsDo }
+{}
+
+/// Variables of a block are variables of the procedures and functions that it declares: their code finds them by its
+/// display.
+pub fn outer_numbers()
+    ensures { OuterNumbers }
 {}
 
 /// A worked row: a main procedure that adds what a function returns to a variable, until it overflows.
