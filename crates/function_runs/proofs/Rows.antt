@@ -2,6 +2,7 @@
 use Rattle.std.proofs.Common.{◌≡◌, ℕ, zero, suc, ◌+◌, ◌*◌, ◌^◌, ◌<◌, List, [], ◌∷◌, ◌++◌, inl, length, map, Some}
 use Rattle.std.proofs.Common.{refl, sym, subst, arith}
 use Rattle.rv_meaning.specs.Machine.{memory_size}
+use Rattle.pli_language.specs.declared.condition.Condition.{Condition}
 use Rattle.pli_language.specs.declared.condition.Condition.TheVariants as C
 use Rattle.pli_typing.specs.TypedTree as Y
 use Rattle.pli_meaning.specs.declared.outcome.End.TheVariants as E
@@ -62,9 +63,10 @@ use Rattle.function_runs.specs.Functions.{IsFunction, function_block, function_c
 use Rattle.function_runs.specs.Functions.{function_tail}
 use Rattle.function_runs.specs.Rows.{FetchRan, fetch_added, fetch_again, fetch_body, fetch_code, fetch_entry}
 use Rattle.function_runs.specs.Rows.{fetch_environment, fetch_first, fetch_image, fetch_inner, fetch_main, fetch_program}
-use Rattle.function_runs.specs.Rows.{fetch_rest, fetch_return, fetch_spot, fetched, inner_body, inner_coded, inner_entry}
-use Rattle.function_runs.specs.Rows.{inner_environment, inner_procedure, main_coded}
+use Rattle.function_runs.specs.Rows.{fetch_rest, fetch_return, fetch_spot, fetch_twice, fetched, inner_body, inner_coded}
+use Rattle.function_runs.specs.Rows.{inner_entry, inner_environment, inner_procedure, main_coded}
 use Rattle.function_runs.proofs.FunctionCalls.{function_does}
+use Rattle.function_runs.proofs.OuterVariables.{function_number}
 use Rattle.function_runs.proofs.ReturnValues.{return_does}
 
 -- ---- its code
@@ -256,18 +258,58 @@ inner_block input acts more call p numbers =
     function_block (surroundings_of (fetch_image input acts)) (linked_code fetch_code)
     (called_from (fetch_callee more) call) p numbers
 
+inner_system :
+    (input : List ℕ) (acts more call : ℕ) (p : Point) (numbers : ℕ → ℕ) (condition : Condition) →
+    IsAmong (fetch_block input acts) numbers p →
+    IsSystem (force (fetch_block input acts).first.state.activations condition) →
+    IsSystem (force (inner_block input acts more call p numbers).first.state.activations condition)
+inner_system input acts more call p numbers condition o h =
+    subst (λ xs. IsSystem (force xs condition)) (sym o.later.activations) h
+
+inner_made :
+    (input : List ℕ) (acts more call : ℕ) (p : Point) (numbers : ℕ → ℕ) → IsAmong (fetch_block input acts) numbers p →
+    AreMade (surroundings_of (fetch_image input acts)) (linked_code fetch_code) (called_from (fetch_callee more) call) p
+    numbers
+    × IsSystem (force (inner_block input acts more call p numbers).first.state.activations C.Error)
+inner_made input acts more call p numbers o =
+    let c = called_from (fetch_callee more) call in (
+      none_made (surroundings_of (fetch_image input acts)) (linked_code fetch_code) c p numbers refl refl (refl, refl),
+      inner_system input acts more call p numbers C.Error o tt,
+    )
+
 inner_each :
     (input : List ℕ) (acts more call : ℕ) (p : Point) (numbers : ℕ → ℕ) → acts + 1 < 2 ^ 64 →
+    IsBegun (fetch_block input acts) → IsAmong (fetch_block input acts) numbers p →
     IsBegun (inner_block input acts more call p numbers) →
     EachDoes (inner_block input acts more call p numbers) [] inner_body (body_index (fetch_callee more)) left_over
-inner_each input acts more call p numbers few b =
+inner_each input acts more call p numbers few b o b' =
     let k = inner_block input acts more call p numbers in
-    let source = Y.NumberConstant 2147483647 in
-    let n = linked_length (links_of fetch_code) 0 fetch_code in (
-      return_does k [] source 3 _ left_over 0 100
+    let n = linked_length (links_of fetch_code) 0 fetch_code in
+    let three = setting_of k [] 3 100 in
+    let x = function_number (fetch_block input acts) (called_from (fetch_callee more) call) fetch_spot
+    (record {
+      begun = b;
+      level = refl;
+      parent = refl;
+      inner = refl;
+      further = omega arith;
+      few = omega arith;
+      program = refl;
+      parts = refl;
+    }) (fetch_number input acts) p numbers o (inner_made input acts more call p numbers o).0 b' in
+    let over : OverflowComes three = overflow_ends three
+    (record {
+      routines = routines;
+      overflow = inner_system input acts more call p numbers C.FixedOverflow o tt;
+      error = inner_system input acts more call p numbers C.Error o tt;
+      acts = few;
+      most = omega arith;
+    }) in
+    let operand = variable_does three fetch_spot b' x in (
+      return_does k [] fetch_twice 3 _ left_over 1 100
           (record {
             act = record { line_fits = omega arith; acts = few };
-            begun = b;
+            begun = b';
             owner = refl;
             end = refl;
             near = omega arith;
@@ -278,20 +320,8 @@ inner_each input acts more call p numbers few b =
             statement = front_of (stmt_code inner_environment none_taken fetch_return) [] inner_body_linked;
             paid = omega (arith, n);
           })
-          (constant_does (setting_of k [] 3 100) 2147483647 (omega arith)),
+          (sum_does three (Y.NumberIn (whole fetch_spot)) (Y.NumberIn (whole fetch_spot)) 0 0 over operand operand),
       tt,
-    )
-
-inner_made :
-    (input : List ℕ) (acts more call : ℕ) (p : Point) (numbers : ℕ → ℕ) → IsAmong (fetch_block input acts) numbers p →
-    AreMade (surroundings_of (fetch_image input acts)) (linked_code fetch_code) (called_from (fetch_callee more) call) p
-    numbers
-    × IsSystem (force (inner_block input acts more call p numbers).first.state.activations C.Error)
-inner_made input acts more call p numbers o =
-    let c = called_from (fetch_callee more) call in (
-      none_made (surroundings_of (fetch_image input acts)) (linked_code fetch_code) c p numbers refl refl (refl, refl),
-      subst (λ xs. IsSystem (force (M.activation_of (row_head 1 1 2) (function_entry fetch_inner 1) (length xs + 1) ∷ xs) C.Error))
-          (sym o.later.activations) tt,
     )
 
 -- ---- its statements
@@ -304,7 +334,7 @@ unraised input acts line few =
 
 first_is :
     (input : List ℕ) (acts : ℕ) → acts + 1 < 2 ^ 64 → IsBegun (fetch_block input acts) →
-    IsAssignment (fetch_block input acts) fetch_spot (Y.NumberConstant 7) 5 fetch_start 0 200
+    IsAssignment (fetch_block input acts) fetch_spot (Y.NumberConstant 715827883) 5 fetch_start 0 200
 first_is input acts few b =
     let n = linked_length (links_of fetch_code) 0 fetch_code in
     record {
@@ -357,7 +387,7 @@ fetched_is input more few b =
       most = omega arith;
     })
     (λ call p numbers o. inner_made input (suc more) more call p numbers o)
-    (λ call p numbers o b'. inner_each input (suc more) more call p numbers few b')
+    (λ call p numbers o b'. inner_each input (suc more) more call p numbers few b o b')
 
 again_does :
     (input : List ℕ) (acts : ℕ) → acts + 1 < 2 ^ 64 → IsBegun (fetch_block input acts) →
@@ -376,8 +406,8 @@ pub fetch_each :
     EachDoes (fetch_block input acts) [] fetch_body (body_index (main_of (fetch_whole input acts))) left_over
 fetch_each input acts few b =
     (
-      assign_does (fetch_block input acts) [] fetch_spot (Y.NumberConstant 7) 5 fetch_start left_over 0 200
-          (first_is input acts few b) (constant_does (setting_of (fetch_block input acts) [] 5 200) 7 (omega arith)),
+      assign_does (fetch_block input acts) [] fetch_spot (Y.NumberConstant 715827883) 5 fetch_start left_over 0 200
+          (first_is input acts few b) (constant_does (setting_of (fetch_block input acts) [] 5 200) 715827883 (omega arith)),
       (again_does input acts few b, tt),
     )
 

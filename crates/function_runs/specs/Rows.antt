@@ -25,14 +25,14 @@ use Rattle.expression_runs.specs.Variables.{Spot, number_declared, whole}
 use Rattle.function_runs.specs.Functions.{function_code}
 use Rattle.function_runs.specs.Returns.{return_of}
 
--- ---- the program: DECLARE X FIXED BINARY(31); F: PROCEDURE RETURNS(FIXED BINARY(31)); RETURN (2147483647); END F;
--- X = 7; X = X + F();
+-- ---- the program: DECLARE X FIXED BINARY(31); F: PROCEDURE RETURNS(FIXED BINARY(31)); RETURN (X + X); END F;
+-- X = 715827883; X = X + F();
 
 abbrev pub fetch_spot : Spot
 fetch_spot = record { block = 0; level = 0; index = 0 }
 
 abbrev pub fetch_first : Y.Stmt
-fetch_first = assignment fetch_spot (Y.NumberConstant 7) 5
+fetch_first = assignment fetch_spot (Y.NumberConstant 715827883) 5
 
 abbrev pub fetched : Y.Number
 fetched = Y.NumberFrom (Y.Calling 1 0 Y.NoArgument)
@@ -49,8 +49,11 @@ fetch_rest = Y.StmtThen [] fetch_again (Y.EndOfList [])
 abbrev pub fetch_body : Y.Stmts
 fetch_body = Y.StmtThen [] fetch_first fetch_rest
 
+abbrev pub fetch_twice : Y.Number
+fetch_twice = Y.Calculated Y.Sum (Y.NumberIn (whole fetch_spot)) (Y.NumberIn (whole fetch_spot))
+
 abbrev pub fetch_return : Y.Stmt
-fetch_return = return_of (Y.NumberConstant 2147483647) 3
+fetch_return = return_of fetch_twice 3
 
 abbrev pub inner_body : Y.Stmts
 inner_body = Y.StmtThen [] fetch_return (Y.EndOfList [])
@@ -129,7 +132,7 @@ pub record FetchRan : Type 0 where
       Comes (linked_code fetch_code) 0 (first_family first (services_of (start_point (fetch_image input acts))))
       (services_of (start_point (fetch_image input acts))) never
       (run fetch_program (suc acts) acts (first_state input))
-  -- that ends since 7 and what the function returns have more than 31 bits
+  -- that ends in the second assignment, since 2147483649 has more than 31 bits
   pub ends :
       (input : List ℕ) →
       meaning fetch_program input 8
