@@ -8,7 +8,7 @@ use Rattle.rv_meaning.proofs.MemoryLaws.{load-store_same, load-store_other}
 use Rattle.pli_meaning.specs.StorageState.{Activation}
 use Rattle.pli_serving.specs.ServiceState as S
 use Rattle.pli_coding.specs.Frames.{MemoryParts, return_address, saved_register, lower_top}
-use Rattle.pli_coding.specs.Frames.{temporary_bytes}
+use Rattle.pli_coding.specs.Frames.{result, temporary_bytes}
 use Rattle.storage_relation.proofs.Holders.{eqb-refl, eqb-other}
 use Rattle.activation_relation.specs.Layers.{Layer}
 use Rattle.activation_relation.specs.Frames.{FrameStands, FramesStand, GoesBack, AreLaid, upper_top, word_place}
@@ -143,6 +143,44 @@ lower_stored parts base lower m a as' φ φs h is = (
 
     word : (p : ℕ) → (p + 4 ≤ φ.at + 40) ⊎ (φ.at + 40 + 4 ≤ p) → load 4 new p ≡ load 4 m p
     word p o = load-store_other 4 4 m (φ.at + 40) lower p o
+
+-- the word of a function's result
+pub result_stored :
+    (parts : MemoryParts) (base v : ℕ) (m : List ℕ) (a : Activation) (as' : List Activation) (φ : Layer)
+    (φs : List Layer) → FramesStand parts base m (a ∷ as') (φ ∷ φs) →
+    AreLaid parts (φ ∷ φs) × (φ.lower ≤ length m) →
+    FramesStand parts base (store 4 m (φ.at + result) v) (a ∷ as') (φ ∷ φs)
+result_stored parts base v m a as' φ φs h is = (
+  record {
+    back = back_same φ.kind base φ.back (place_from φ.at return_address) m new (word (φ.at + 0) (inl (omega arith)))
+        h.0.back;
+    below = word (φ.at + 4) (inl (omega arith)) ∙ h.0.below;
+    saved = λ i few. word (φ.at + (8 + 4 * i)) (inl (omega (arith, few, seven))) ∙ h.0.saved i few;
+    own = word (φ.at + 36) (inl (omega arith)) ∙ h.0.own;
+    lower = word (φ.at + 40) (inl (omega arith)) ∙ h.0.lower;
+    display_words = λ i few. word (φ.at + (144 + 4 * i)) (inr (omega arith)) ∙ h.0.display_words i few;
+    waits = λ i v' few e.
+        word (word_place φ i) (inl (omega (arith, few, covered, above))) ∙ h.0.waits i v' few e;
+  },
+  frames_kept parts base (φ.at + 48) 4 m new as' φs h.1 is.0.1
+      (beside_above parts (φ.at + 48) 4 φs is.0.1 (omega (arith, above)))
+      (stored_beside (φ.at + 48) 4 ((φ.at + 48, v) ∷ []) m ((omega arith, omega arith), tt)),
+)
+  where
+    new : List ℕ
+    new = store 4 m (φ.at + 48) v
+
+    seven : φ.saved ≤ 7
+    seven = is.0.0.saved
+
+    covered : 4 * φ.words ≤ temporary_bytes φ.words
+    covered = words_covered φ.words
+
+    above : upper_top parts φs + temporary_bytes φ.words ≡ φ.at
+    above = is.0.0.above
+
+    word : (p : ℕ) → (p + 4 ≤ φ.at + 48) ⊎ (φ.at + 48 + 4 ≤ p) → load 4 new p ≡ load 4 m p
+    word p o = load-store_other 4 4 m (φ.at + 48) v p o
 
 pub frame_changed :
     (parts : MemoryParts) (base : ℕ) (m : List ℕ) (a : Activation) (as' : List Activation) (φ : Layer)

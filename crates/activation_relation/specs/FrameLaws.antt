@@ -7,7 +7,7 @@ use Rattle.rv_meaning.specs.Memory.{load, store}
 use Rattle.pli_meaning.specs.StorageState.{Activation, ancestor, height_of, newest_height}
 use Rattle.pli_meaning.specs.StorageState.{Binding, OnUnit}
 use Rattle.pli_coding.specs.Frames.{MemoryParts, return_address, frame_below, saved_register, own_offset}
-use Rattle.pli_coding.specs.Frames.{lower_top, display, fixed_size}
+use Rattle.pli_coding.specs.Frames.{lower_top, display, fixed_size, result}
 use Rattle.pli_serving.specs.ServiceState as S
 use Rattle.pli_serving.specs.ServiceState.{ProcedureBlock}
 use Rattle.storage_relation.specs.Stored.{IsBeside}
@@ -106,6 +106,12 @@ pub record WordsWait : Type 0 where
       (φs : List Layer) → FramesStand parts base m (a ∷ as') (φ ∷ φs) →
       AreLaid parts (φ ∷ φs) × (φ.lower ≤ length m) × (lower < 2 ^ 32) →
       FramesStand parts base (store 4 m (place_from φ.at lower_top) lower) (a ∷ as') (lowered lower φ ∷ φs)
+  -- a function's result has a word of its own, of which nothing more is told
+  pub returned :
+      (parts : MemoryParts) (base v : ℕ) (m : List ℕ) (a : Activation) (as' : List Activation) (φ : Layer)
+      (φs : List Layer) → FramesStand parts base m (a ∷ as') (φ ∷ φs) →
+      AreLaid parts (φ ∷ φs) × (φ.lower ≤ length m) →
+      FramesStand parts base (store 4 m (φ.at + result) v) (a ∷ as') (φ ∷ φs)
   -- its units, its stack and the lists that it carries out are no part of its frame, nor what its variables stand for
   pub changed :
       (parts : MemoryParts) (base : ℕ) (m : List ℕ) (a : Activation) (as' : List Activation) (φ : Layer)

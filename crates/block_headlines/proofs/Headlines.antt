@@ -26,6 +26,8 @@ use Rattle.program_runs.proofs.Starts.{first_step_of}
 use Rattle.program_runs.proofs.VariableRows.{number_each, number_end, number_is}
 use Rattle.expression_runs.specs.Rows.{double_entry, double_environment, double_main, double_program}
 use Rattle.expression_runs.proofs.Rows.{double_each, double_finish, double_is}
+use Rattle.function_runs.specs.Rows.{fetch_entry, fetch_environment, fetch_main, fetch_program, inner_procedure}
+use Rattle.function_runs.proofs.Rows.{fetch_each, fetch_finish, fetch_is}
 use Rattle.block_headlines.specs.Headlines.{HeadlinesOfRows, Layout, Runs, whole_of}
 
 comes :
@@ -117,6 +119,30 @@ double_program_runs =
       each = λ input acts few b. double_each input acts few b;
     }
 
+fetch_fits : FitsMemory (picture_of parts fetch_program)
+fetch_fits = small_fits fetch_program (omega arith) (omega arith)
+
+abbrev fetch_layout : Layout
+fetch_layout =
+    record {
+      main = fetch_main;
+      others = inner_procedure ∷ [];
+      environment = fetch_environment;
+      entry = fetch_entry;
+      end = fetch_finish;
+      units = [];
+      made = newest_made parts number_declared;
+    }
+
+fetch_program_runs : Runs fetch_program fetch_layout
+fetch_program_runs =
+    record {
+      whole = λ input acts few.
+          fetch_is input (first_bytes (picture_of parts fetch_program)) acts few
+          (first_length (picture_of parts fetch_program) fetch_fits);
+      each = λ input acts few b. fetch_each input acts few b;
+    }
+
 row_runs : Runs row_program row_layout
 row_runs =
     record {
@@ -141,4 +167,5 @@ rows_kept laws keeps =
       calling = kept laws keeps row_program row_layout row_runs;
       number = kept laws keeps number_program number_layout number_runs;
       doubling = kept laws keeps double_program double_layout double_program_runs;
+      fetching = kept laws keeps fetch_program fetch_layout fetch_program_runs;
     }

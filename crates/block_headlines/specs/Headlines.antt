@@ -16,6 +16,7 @@ use Rattle.program_runs.specs.Programs.{IsWhole, Whole, main_of}
 use Rattle.program_runs.specs.Rows.{row_program}
 use Rattle.program_runs.specs.VariableRows.{number_program}
 use Rattle.expression_runs.specs.Rows.{double_program}
+use Rattle.function_runs.specs.Rows.{fetch_program}
 use Rattle.program_runs.specs.Starts.{no_numbers, start_point, surroundings_of}
 use Rattle.program_runs.specs.Statements.{EachDoes, IsBegun}
 
@@ -77,3 +78,4 @@ pub record HeadlinesOfRows : Type 0 where
   pub calling : Headline row_program (picture_of parts row_program) (table_of row_program)
   pub number : Headline number_program (picture_of parts number_program) (table_of number_program)
   pub doubling : Headline double_program (picture_of parts double_program) (table_of double_program)
+  pub fetching : Headline fetch_program (picture_of parts fetch_program) (table_of fetch_program)

@@ -21,7 +21,7 @@ use Rattle.activation_relation.specs.Layers.{services_of}
 use Rattle.activation_relation.proofs.PointSteps.{stacks_over}
 use Rattle.activation_relation.proofs.Returning.{left_later, left_entries}
 use Rattle.block_runs.specs.Beginnings.{IsCalling, begun_point, beginning_code}
-use Rattle.block_runs.specs.Bodies.{Called, IsCall, AtEnd, body_aims, behind_aims}
+use Rattle.block_runs.specs.Bodies.{Called, IsCall, AtEnd, body_aims, behind_aims, place_in}
 use Rattle.block_runs.specs.Endings.{ending_code}
 use Rattle.block_runs.specs.Machines.{IsIn, AreIn}
 use Rattle.block_runs.proofs.BlockEntries.{Premises}
@@ -123,15 +123,15 @@ behind_closed k wanted =
 at_end_owing :
     (k : Called) (left' wanted c : ℕ) (f : Family) (v : Services) (r : Option BasicValue) (s : State) → IsCall k →
     AtEnd k left' c f v r s →
-    (owing k.code (left' + size_of (ending_code k.beginning.layer k.function)) (behind_aims k wanted)).done c f v r
+    (owing k.code (left' + size_of (ending_code k.beginning.layer (place_in k.function))) (behind_aims k wanted)).done c f v r
     (with_world s.world (newest_ended s))
 at_end_owing k left' wanted c f v r s h o =
-    let debt = left' + size_of (ending_code k.beginning.layer k.function) in
+    let debt = left' + size_of (ending_code k.beginning.layer (place_in k.function)) in
     let l = leaving_of k left' c f v r s o in
     let q = popped [] o.point in
     let is = is_leaving k left' c f v r s o h in
     let known = ended_stands k.surroundings k.code o.point l.end is.stands is.image is.is in
-    let back = ends k.function l is (λ b. o.given) left' h.word
+    let back = ends (place_in k.function) l is (λ b. o.given) left' h.word
     (λ b. (reached_holds o.reach b).1) h.ending in
     done_owing (behind_closed k wanted) debt wanted (omega arith) (reach_then o.reach back) r
     (with_world s.world (newest_ended s))
@@ -160,7 +160,7 @@ pub calls_return :
     AreIn k.surroundings (begun_point k.beginning k.point) k.numbers
     (k.entry + size_of (beginning_code k.beginning)) g →
     Comes k.code
-    (credits + (left' + size_of (ending_code k.beginning.layer k.function)) + 2 + size_of
+    (credits + (left' + size_of (ending_code k.beginning.layer (place_in k.function))) + 2 + size_of
     (beginning_code k.beginning)) g
     (services_of (begun_point k.beginning k.point)) (body_aims k left')
     (part k.surroundings.acts (begun_point k.beginning k.point).state)) →
@@ -168,7 +168,7 @@ pub calls_return :
     Comes k.code credits f (services_of k.point) (behind_aims k wanted)
     (left true newest_ended (part k.surroundings.acts (begun_point k.beginning k.point).state))
 calls_return k part credits left' wanted f h body there gives =
-    let debt = left' + size_of (ending_code k.beginning.layer k.function) in
+    let debt = left' + size_of (ending_code k.beginning.layer (place_in k.function)) in
     let aims = behind_aims k wanted in
     let owed = owing k.code debt aims in
     let flow = part k.surroundings.acts (begun_point k.beginning k.point).state in

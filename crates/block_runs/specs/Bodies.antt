@@ -5,8 +5,10 @@ use Rattle.pli_meaning.specs.BasicValues.{BasicValue, BasicNumber, BasicBit, Bas
 use Rattle.rv_meaning.specs.Machine.{value}
 use Rattle.rv_meaning.specs.Words.{word, flag}
 use Rattle.pli_serving.specs.Bytes.{offset_word}
+use Rattle.pli_typing.specs.Signatures.{Bit, Fixed, LeafKind, Offset}
 use Rattle.pli_coding.specs.Registers.{a0}
 use Rattle.pli_meaning.specs.Control.{Meaning, left}
+use Rattle.pli_meaning.specs.Numbers.{is_of_precision}
 use Rattle.pli_meaning.specs.StorageState.{State, Activation, newest_ended}
 use Rattle.pli_serving.specs.ServiceState.{Services}
 use Rattle.pli_coding.specs.Assembly.{size_of}
@@ -22,8 +24,17 @@ use Rattle.block_runs.specs.Beginnings.{Beginning, IsBeginning, IsCalling, CallS
 use Rattle.block_runs.specs.Endings.{IsWord, HasGiven, ending_code}
 use Rattle.block_runs.specs.Machines.{IsImage, IsIn, AreIn}
 
--- a call: what is around it, its point, what waits in registers, what is called, and where the call, the beginning and
--- the end stand; a function leaves its word at a place of its frame
+-- a function leaves its word at a place of its frame: a value of a kind
+pub record Function : Type 0 where
+  pub place : ℕ
+  pub kind : LeafKind
+
+abbrev pub place_in : Option Function → Option ℕ
+place_in None = None
+place_in (Some x) = Some x.place
+
+-- a call: what is around it, its point, what waits in registers, what is called, where the call, the beginning and the
+-- end stand, and whether it is a function
 pub record Called : Type 0 where
   pub surroundings : Surroundings
   pub code : List Instr
@@ -33,22 +44,26 @@ pub record Called : Type 0 where
   pub call : ℕ
   pub entry : ℕ
   pub end : ℕ
-  pub function : Option ℕ
+  pub function : Option Function
 
 pub record IsCall (k : Called) : Type 0 where
   pub stands : Stands k.surroundings k.point
   pub image : IsImage k.surroundings k.code k.point
   pub beginning : IsBeginning k.surroundings k.point k.numbers k.beginning
   pub code : CallStands k.surroundings k.code k.beginning k.call k.entry
-  pub ending : Linked k.surroundings.links k.code k.end (ending_code k.beginning.layer k.function)
-  pub word : IsWord k.function
+  pub ending : Linked k.surroundings.links k.code k.end (ending_code k.beginning.layer (place_in k.function))
+  pub word : IsWord (place_in k.function)
 
--- a function's result as the word that it leaves: a number, a bit or an offset
-abbrev pub IsResult : (function : Option ℕ) → Option BasicValue → (given : ℕ) → Type 0
+-- a function's result as the word that it leaves, by its kind: a number, a bit or an offset
+abbrev pub IsOfKind : LeafKind → Option BasicValue → (given : ℕ) → Type 0
+IsOfKind (Fixed p) (Some (BasicNumber z)) given = (given ≡ word z) × (is_of_precision p z ≡ true)
+IsOfKind Bit (Some (BasicBit b)) given = given ≡ flag b
+IsOfKind Offset (Some (BasicOffset o)) given = given ≡ offset_word o
+IsOfKind _ _ _ = ⊥
+
+abbrev pub IsResult : Option Function → Option BasicValue → (given : ℕ) → Type 0
 IsResult None None given = given ≡ 0
-IsResult (Some place) (Some (BasicNumber z)) given = given ≡ word z
-IsResult (Some place) (Some (BasicBit b)) given = given ≡ flag b
-IsResult (Some place) (Some (BasicOffset o)) given = given ≡ offset_word o
+IsResult (Some x) r given = IsOfKind x.kind r given
 IsResult _ _ _ = ⊥
 
 -- ---- what is asked of a body
@@ -73,7 +88,7 @@ pub record AtEnd (k : Called) (left' credits : ℕ) (f : Family) (v : Services) 
     pub result : IsResult k.function r given
     pub reach :
         Reach k.code credits f v left' (services_of point)
-        (λ b y. IsIn k.surroundings point after k.end b y × HasGiven k.beginning.layer k.function given y)
+        (λ b y. IsIn k.surroundings point after k.end b y × HasGiven k.beginning.layer (place_in k.function) given y)
 
 abbrev pub body_aims : Called → (left' : ℕ) → Aims (Unit {0})
 body_aims k left' =
@@ -119,7 +134,7 @@ CallsReturn =
     AreIn k.surroundings (begun_point k.beginning k.point) k.numbers
     (k.entry + size_of (beginning_code k.beginning)) g →
     Comes k.code
-    (credits + (left' + size_of (ending_code k.beginning.layer k.function)) + 2 + size_of
+    (credits + (left' + size_of (ending_code k.beginning.layer (place_in k.function))) + 2 + size_of
     (beginning_code k.beginning)) g
     (services_of (begun_point k.beginning k.point)) (body_aims k left')
     (part k.surroundings.acts (begun_point k.beginning k.point).state)) →

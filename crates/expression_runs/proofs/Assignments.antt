@@ -137,7 +137,7 @@ store_reaches k x is {numbers} {p} {index} begun o c f z wide n l there =
 -- ---- the value
 
 -- a number of 31 bits needs no other check
-fit_is :
+pub fit_is :
     (around : Around) (z : ℤ) (acts : ℕ) (s : State) → is_of_precision 31 z ≡ true →
     ((R.value_of around (checked 31 z)) >>= (λ z'. give (BasicNumber z'))) acts s ≡ Normal (BasicNumber z) s
 unfolding R.value_of give ◌>>=◌

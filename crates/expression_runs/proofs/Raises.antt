@@ -83,10 +83,10 @@ stands_raised {w} c n {p} known few = (
 abbrev raising_regs : (number n : ℕ) → Base → List (ℕ × ℕ)
 raising_regs number n b = (10, number) ∷ (11, n) ∷ (17, 30) ∷ []
 
-abbrev coded : (n : ℕ) → Base → List (ℕ × ℕ)
+abbrev pub coded : (n : ℕ) → Base → List (ℕ × ℕ)
 coded n b = (11, n) ∷ []
 
-abbrev conditioned : (number n : ℕ) → Base → List (ℕ × ℕ)
+abbrev pub conditioned : (number n : ℕ) → Base → List (ℕ × ℕ)
 conditioned number n b = (10, number) ∷ (11, n) ∷ []
 
 small_is : (z n : ℕ) → z ≡ 0 → n < 2 ^ 32 → sum z n ≡ n
@@ -212,7 +212,7 @@ unfolding looked ◌>>=◌
 unit_of_error X around n k s only = error_run_is X around n k s (force s.activations C.Error) only
 
 -- ERROR is raised at its routine
-error_comes :
+pub error_comes :
     {X : Type 0} {w : Surroundings} {code : List Instr} {p : Point} {numbers : ℕ → ℕ} {aims : Aims X}
     (closed : Closed code aims) (routines : Routines w.links code) (credits : ℕ) (f : Family) (around : Around) (n : ℕ)
     (h : IsFrame (frame_under w.parts p.control.layers)) (known : Stands w p × IsImage w code p) → n < 2 ^ 16 → (credits + 4 < cost code) × (w.acts + 1 < 2 ^ 64) →

@@ -57,7 +57,7 @@ abbrev body_of : Around → Y.BlockHead → Y.Stmts → Meaning (Unit {0})
 body_of around head body =
     M.block_variables_made (at_line around head.line) head head.kind >> behind_variables (at_line around head.line) body
 
-on_same :
+pub on_same :
     (k : ℕ) (flow : Flow (Unit {0})) (next other : Unit {0} → Meaning (Unit {0})) →
     ((s : State) → next tt k s ≡ other tt k s) → flow_on k flow next ≡ flow_on k flow other
 on_same k (Normal r s) next other h = h s
@@ -194,7 +194,7 @@ first_begun w code c p numbers made' begun' stands =
           (remains_then start then' first (made'.remains begun') (remains_acted then' counted c.procedure.head.line));
     }
 
-body_closed : (k : B.Called) (left' : ℕ) → Closed k.code (body_aims k left')
+pub body_closed : (k : B.Called) (left' : ℕ) → Closed k.code (body_aims k left')
 body_closed k left' =
     record {
       done = λ r x s o. end_later r o;
@@ -316,6 +316,7 @@ none_made w code c p numbers kind none empty =
           start.state kind none
           ∙ ap (λ (q : Point). Normal tt q.state) (sym here);
       activation = M.activation_of x.head x.entry (length p.state.activations + 1);
+      parent = refl;
       changed = record { units = φ.units; waits = φ.waits; top = φ.top; carried = φ.carried };
       layers = ap (λ (q : Point). q.control.layers) here;
       own = [];

@@ -30,7 +30,7 @@ use Rattle.run_steps.proofs.Linking.{size_append}
 use Rattle.run_steps.specs.Reach.{Family, Reach, Closed, Comes, before, cost, reached}
 use Rattle.run_steps.proofs.Reach.{reach_then, reach_map, reach_with, onward, stay, comes_on, before_closed}
 use Rattle.run_steps.specs.Temporaries.{nothing}
-use Rattle.block_runs.specs.Bodies.{Called, AtEnd, IsResult}
+use Rattle.block_runs.specs.Bodies.{Called, AtEnd, IsResult, place_in}
 use Rattle.block_runs.specs.Endings.{HasGiven}
 use Rattle.block_runs.specs.Machines.{IsIn, AreIn, acted}
 use Rattle.block_runs.proofs.CallStatements.{comes_map}
@@ -145,7 +145,7 @@ goes_here {k} {index} {numbers} {p} acts wanted f since o there =
     }
 
 -- at the end of the block it resumes, with nothing changed but storage
-resumes_among :
+pub resumes_among :
     {k : Block} {numbers : ℕ → ℕ} {p : Point} (b : IsBegun k) → IsAmong k numbers p →
     Resumes k.call.surroundings k.call.point.state.world.acts b.activation k.call.point.state.activations
     k.call.beginning.layer k.call.point.control.layers p
@@ -166,8 +166,8 @@ resumes_among b o =
 none_given : (k : Called) → k.function ≡ None → IsResult k.function None 0
 none_given k e = subst (λ o. IsResult o None 0) (sym e) refl
 
-nothing_left : (k : Called) → k.function ≡ None → (y : Whole) → HasGiven k.beginning.layer k.function 0 y
-nothing_left k e y = subst (λ o. HasGiven k.beginning.layer o 0 y) (sym e) refl
+nothing_left : (k : Called) → k.function ≡ None → (y : Whole) → HasGiven k.beginning.layer (place_in k.function) 0 y
+nothing_left k e y = subst (λ o. HasGiven k.beginning.layer (place_in o) 0 y) (sym e) refl
 
 pub at_end :
     {k : Block} {acts left' c : ℕ} {f : Family} {v : Services} {s : State} → IsBegun k → k.call.function ≡ None →

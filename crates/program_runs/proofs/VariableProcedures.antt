@@ -1,5 +1,5 @@
 -- A procedure with one variable makes it where its block begins.
-use Rattle.std.proofs.Common.{◌≡◌, ℕ, ◌+◌, List, [], ◌∷◌, length, sym, ap, ◌∙◌, subst}
+use Rattle.std.proofs.Common.{◌≡◌, ℕ, ◌+◌, List, [], ◌∷◌, length, refl, sym, ap, ◌∙◌, subst}
 use Rattle.std.specs.Prelude.{pos}
 use Rattle.rv_meaning.specs.declared.instr.Instr.{Instr}
 use Rattle.pli_typing.specs.TypedTree as Y
@@ -83,6 +83,7 @@ one_made w code c p numbers x h =
           shape = (generation_for x).shape;
         } ∷ [];
       };
+      parent = refl;
       changed = record { units = φ.units; waits = φ.waits; top = made'.top; carried = φ.carried };
       layers = ap (λ (u : Point). u.control.layers) here;
       own = [];

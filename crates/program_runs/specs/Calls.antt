@@ -103,6 +103,7 @@ pub record AreMade (w : Surroundings) (code : List Instr) (c : Callee) (p : Poin
       (begun_at w c p numbers).state
       ≡ Normal tt (c.made (begun_at w c p numbers)).state
   pub activation : Activation
+  pub parent : activation.parent ≡ c.calling.parent
   pub changed : Changed
   pub layers :
       (c.made (begun_at w c p numbers)).control.layers

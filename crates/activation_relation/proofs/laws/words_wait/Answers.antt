@@ -1,5 +1,12 @@
-use Rattle.activation_relation.proofs.WaitingWords.{words_stored, lower_stored, frame_changed, words_across}
+use Rattle.activation_relation.proofs.WaitingWords.{words_stored, lower_stored, frame_changed, result_stored}
+use Rattle.activation_relation.proofs.WaitingWords.{words_across}
 use Rattle.activation_relation.proofs.laws.words_wait.Goals as goal
 
 pub returns : goal.returns
-returns c = record { stored = words_stored; lowered = lower_stored; changed = frame_changed; across = words_across }
+returns c = record {
+  stored = words_stored;
+  lowered = lower_stored;
+  returned = result_stored;
+  changed = frame_changed;
+  across = words_across;
+}

@@ -1,0 +1,5 @@
+pub mod Functions
+pub mod Returns
+pub mod FunctionCalls
+pub mod OuterVariables
+pub mod Rows

@@ -1,0 +1,38 @@
+// Laws of the definitions: each function's contract is one law, and calling it does nothing.
+
+ghost use Rattle.function_runs.specs.FunctionCalls.{FunctionCallsDo};
+ghost use Rattle.function_runs.specs.Functions.{FunctionsRun};
+ghost use Rattle.function_runs.specs.OuterVariables.{OuterNumbers};
+ghost use Rattle.function_runs.specs.Returns.{ReturnsDo};
+ghost use Rattle.function_runs.specs.Rows.{FetchRan};
+
+use granule_keeper::laws::granules_keep;
+
+/// RETURN with a number leaves its word in the function's frame, and the block comes to its end.
+pub fn returns_do()
+    ensures { ReturnsDo }
+{}
+
+/// A function comes behind its call with its word in a0, if each of its statements does what it means; one that runs
+/// off its end raises ERROR.
+pub fn functions_run()
+    ensures { FunctionsRun }
+{}
+
+/// So does a call of it in an expression of the block that declares it.
+pub fn function_calls_do()
+    ensures { FunctionCallsDo }
+{}
+
+/// Variables of a block are variables of the procedures and functions that it declares: their code finds them by its
+/// display.
+pub fn outer_numbers()
+    ensures { OuterNumbers }
+{}
+
+/// A worked row: a main procedure that adds what a function returns to a variable, until it overflows.
+pub fn fetch_ran()
+    ensures { FetchRan }
+{
+    granules_keep();
+}
