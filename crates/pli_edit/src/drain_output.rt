@@ -110,6 +110,10 @@ impl<D: Drain, B: Before> OutputStream for DrainOutput<D, B> {
 
     ghost has_failed = { λ o. o.has_failed };
 
+    fn has_failed(&self) -> bool {
+        self.has_failed
+    }
+
     fn put_a(&mut self, text: &[u8], width: Option<u32>) -> Result<(), EditFault> {
         let Some(width) = width else {
             return self.put(0, text, 0);

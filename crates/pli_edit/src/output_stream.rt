@@ -20,6 +20,10 @@ pub trait OutputStream {
 
     ghost has_failed: { Self → Bool };
 
+    /// Whether a write failed. Then each call that writes answers `Write`.
+    fn has_failed(&self) -> bool
+        ensures { result ≡ has_failed self.now };
+
     /// A text in a field of `width` bytes, padded with blanks or cut on the right; as it is without a width.
     ///
     /// # Errors
@@ -87,6 +91,10 @@ impl OutputStream for Output {
     ghost output = { λ o. o };
 
     ghost has_failed = { λ _. false };
+
+    fn has_failed(&self) -> bool {
+        false
+    }
 
     fn put_a(&mut self, text: &[u8], width: Option<u32>) -> Result<(), EditFault> {
         Output::put_a(self, text, width)
