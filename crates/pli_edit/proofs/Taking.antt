@@ -6,7 +6,7 @@ use Rattle.std.proofs.lemmas.List.{take-replicate}
 use Rattle.pli_meaning.specs.InputLines.{Input, Mark, marks_of, begins_with_line_feed, field_of, behind_field}
 use Rattle.pli_meaning.specs.Texts.{fitted, number_in_text}
 use Rattle.pli_edit.specs.declared.fault.EditFault.{EditFault}
-use Rattle.pli_edit.specs.declared.fault.EditFault.TheVariants.{AtEnd, TooWide, NotNumber, Memory}
+use Rattle.pli_edit.specs.declared.fault.EditFault.TheVariants.{AtEnd, TooWide, NotNumber, Read, Write, Memory}
 use Rattle.pli_edit.specs.Fields.{IsLineField, IsNumberOf, TakesText, TakesNumber}
 
 -- no more marks than bytes, and the end of the last line
@@ -45,6 +45,8 @@ number-refused width old new false fault h = (let same : fault ≡ AtEnd = cc in
 number-refused width old new true AtEnd h = let no_way : AtEnd ≡ Memory = h.0 in cc
 number-refused width old new true TooWide h = let no_way : TooWide ≡ Memory = h.0 in cc
 number-refused width old new true NotNumber h = let no_way : NotNumber ≡ Memory = h.0 in cc
+number-refused width old new true Read h = let no_way : Read ≡ Memory = h.0 in cc
+number-refused width old new true Write h = let no_way : Write ≡ Memory = h.0 in cc
 number-refused width old new true Memory h = h.1
 
 number-told :
@@ -54,6 +56,8 @@ number-told width old new field (Ok z) e b n = (sym (ap number_in_text e) ∙ n,
 number-told width old new field (Err AtEnd) e b n = ((sym (ap number_in_text e) ∙ n.0, n.1), b)
 number-told width old new field (Err TooWide) e b n = ((sym (ap number_in_text e) ∙ n.0, n.1), b)
 number-told width old new field (Err NotNumber) e b n = ((sym (ap number_in_text e) ∙ n.0, n.1), b)
+number-told width old new field (Err Read) e b n = ((sym (ap number_in_text e) ∙ n.0, n.1), b)
+number-told width old new field (Err Write) e b n = ((sym (ap number_in_text e) ∙ n.0, n.1), b)
 number-told width old new field (Err Memory) e b n = let no_way : Memory ≡ NotNumber = n.1 in cc
 
 -- of a field that was taken as a text

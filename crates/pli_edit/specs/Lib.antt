@@ -2,3 +2,10 @@ pub mod LastLine
 pub mod Fields
 pub mod FormatPlaces
 pub mod Marks
+pub mod Histories
+pub mod Faults
+pub mod Feeding
+pub mod KnownMarks
+pub mod Streams
+pub mod ReadChains
+pub mod Following

@@ -7,6 +7,10 @@ use std::alloc::{AllocError, AllocFailed};
 use std::fmt;
 use thiserror::Error;
 
+/// A call of a feed or of a drain that failed.
+#[derive(Clone, Copy, PartialEq, Eq, Debug)]
+pub struct Failed;
+
 /// Why a field isn't taken or written, by its number. It prints as `2 TooWide`.
 #[derive(Clone, Copy, PartialEq, Eq, Debug, Error)]
 pub enum EditFault {
@@ -16,6 +20,10 @@ pub enum EditFault {
     TooWide = 2,
     /// The field, which is taken, stands for no number.
     NotNumber = 3,
+    /// A read of the input failed.
+    Read = 4,
+    /// A write of the output failed.
+    Write = 5,
     /// There is no memory for the field.
     Memory = 9,
 }

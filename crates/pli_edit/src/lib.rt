@@ -2,13 +2,21 @@
 #![tactic(auto)]
 
 pub mod fault;
+pub mod feed;
+mod feed_bytes;
+pub mod feed_input;
+mod feed_marks;
+mod feed_reading;
+mod feed_stream;
 pub mod format;
 pub mod input;
+pub mod input_stream;
 mod line;
 mod mark;
 pub mod output;
 mod pieces;
 pub mod place;
 mod reading;
+mod whole_stream;
 #[cfg(test)]
 mod tests;
