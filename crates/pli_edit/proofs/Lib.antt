@@ -3,8 +3,10 @@ pub mod Ends
 pub mod FeedCalls
 pub mod FormatPieces
 pub mod Growing
+pub mod Handovers
 pub mod Known
 pub mod Lines
+pub mod LongLines
 pub mod Looking
 pub mod Markings
 pub mod Moving

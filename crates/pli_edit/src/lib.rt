@@ -1,6 +1,8 @@
 // Edit-directed streams: the fields that GET takes from the input and PUT writes behind the output, and the items that move in both.
 #![tactic(auto)]
 
+pub mod drain;
+pub mod drain_output;
 pub mod fault;
 pub mod feed;
 mod feed_bytes;
@@ -9,14 +11,20 @@ mod feed_marks;
 mod feed_reading;
 mod feed_stream;
 pub mod format;
+mod handing;
 pub mod input;
 pub mod input_stream;
+mod left;
 mod line;
 mod mark;
 pub mod output;
+pub mod output_stream;
+pub mod past;
 mod pieces;
 pub mod place;
 mod reading;
 mod whole_stream;
+#[cfg(test)]
+mod stream_tests;
 #[cfg(test)]
 mod tests;
