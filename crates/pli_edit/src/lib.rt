@@ -25,6 +25,8 @@ pub mod place;
 mod reading;
 mod whole_stream;
 #[cfg(test)]
-mod stream_tests;
+mod drain_tests;
+#[cfg(test)]
+mod feed_tests;
 #[cfg(test)]
 mod tests;
