@@ -1,6 +1,6 @@
 // Output that goes to a drain.
 
-ghost use Rattle.std.specs.Prelude.{◌≡◌, ◌+◌, ◌^◌, ◌<◌, ◌++◌, [], true, false, length, min, replicate};
+ghost use Rattle.std.specs.Prelude.{◌≡◌, ◌||◌, ◌+◌, ◌^◌, ◌<◌, ◌++◌, [], true, false, length, min, replicate};
 ghost use Rattle.pli_meaning.specs.Stream.{blanks};
 ghost use Rattle.pli_edit.specs.Drained.{taken_since, output_of, one_if, IsDrained, last_line, most_line};
 ghost use Rattle.pli_edit.specs.Faults.{is_fault, is_write};
@@ -23,7 +23,7 @@ const MOST_LINE: usize = 1 << 32;
 
 /// Writes on a drain. It keeps no bytes: what a call writes is handed over before it returns.
 ///
-/// After a write that failed or took nothing none is made, and each call answers `Write`.
+/// After a write that failed or took nothing none is made, and each call that would write answers `Write`.
 #[derive(Drop)]
 pub struct DrainOutput<D: Drain, B: Before> {
     drain: D,
@@ -56,7 +56,8 @@ impl<D: Drain, B: Before> DrainOutput<D, B> {
 
     /// The drain back.
     pub fn into_inner(self) -> D
-        ensures { IsDrained B.before (output_of B.before (D.history self.drain) self.left.numbers) self.has_failed (D.history result) }
+        ensures { IsDrained B.before (output_of B.before (D.history self.drain) self.left.numbers) self.has_failed
+            (D.history result) }
     {
         self.drain
     }
@@ -71,12 +72,14 @@ impl<D: Drain, B: Before> DrainOutput<D, B> {
         line: usize,
     ) -> Result<(), EditFault>
         requires fits { before + length text.now + behind < 2 ^ 64 }
-        requires counted { line ≡ min (last_line (output_of B.before (D.history self.old.drain) self.old.left.numbers ++ (replicate before fill ++ (text.now ++ replicate behind fill)))) most_line }
-        ensures written { IsWrittenOn (output_of B.before (D.history self.old.drain) self.old.left.numbers ++ (replicate before fill ++ (text.now ++ replicate behind fill)))
+        requires counted { line ≡ min (last_line (output_of B.before (D.history self.old.drain) self.old.left.numbers
+            ++ (replicate before fill ++ (text.now ++ replicate behind fill)))) most_line }
+        ensures written { IsWrittenOn (output_of B.before (D.history self.old.drain) self.old.left.numbers
+                ++ (replicate before fill ++ (text.now ++ replicate behind fill)))
             (output_of B.before (D.history self.old.drain) self.old.left.numbers) result
             (output_of B.before (D.history self.new.drain) self.new.left.numbers) }
-        ensures failed { self.new.has_failed ≡ is_fault is_write result }
-        ensures again { self.old.has_failed ≡ true → self.new.has_failed ≡ true }
+        ensures failed { self.new.has_failed ≡ (self.old.has_failed || is_fault is_write result) }
+        ensures again { self.old.has_failed ≡ true → result ≡ Err EditFault.Write }
     {
         self.line = line;
         if self.has_failed {
@@ -93,11 +96,12 @@ impl<D: Drain, B: Before> DrainOutput<D, B> {
 
     // A text behind blanks and before blanks.
     fn put(&mut self, before: u32, text: &[u8], behind: u32) -> Result<(), EditFault>
-        ensures written { IsWrittenOn (output_of B.before (D.history self.old.drain) self.old.left.numbers ++ (blanks before ++ (text.now ++ blanks behind)))
+        ensures written { IsWrittenOn (output_of B.before (D.history self.old.drain) self.old.left.numbers
+                ++ (blanks before ++ (text.now ++ blanks behind)))
             (output_of B.before (D.history self.old.drain) self.old.left.numbers) result
             (output_of B.before (D.history self.new.drain) self.new.left.numbers) }
-        ensures failed { self.new.has_failed ≡ is_fault is_write result }
-        ensures again { self.old.has_failed ≡ true → self.new.has_failed ≡ true }
+        ensures failed { self.new.has_failed ≡ (self.old.has_failed || is_fault is_write result) }
+        ensures again { self.old.has_failed ≡ true → result ≡ Err EditFault.Write }
     {
         let (before, behind) = (before as usize, behind as usize);
         let line = line_behind(self.line + before, text) + behind;
@@ -127,9 +131,6 @@ impl<D: Drain, B: Before> OutputStream for DrainOutput<D, B> {
         let digits = decimal(&mut buffer, number);
         if digits.len() <= width as usize {
             return self.put(width - digits.len() as u32, digits, 0);
-        }
-        if self.has_failed {
-            return Err(EditFault::Write);
         }
         Err(EditFault::TooWide)
     }
