@@ -37,7 +37,12 @@ standing_behind (b ∷ bs) = S.Open
 
 abbrev pub behind : Reading → Fed → Fed
 behind (Gave bytes) f = record {
-  history = record { failures = f.history.failures; answers = f.history.answers ++ length bytes ∷ []; bytes = f.history.bytes ++ bytes };
+  history = record {
+    failures = f.history.failures;
+    answers = f.history.answers ++ length bytes ∷ [];
+    bytes =
+        f.history.bytes ++ bytes;
+  };
   standing = standing_behind bytes;
   left = f.left - 1;
 }
@@ -54,10 +59,12 @@ MayCome (Gave bytes) f = (0 < f.left) × (length bytes ≤ 4096)
 MayCome Broke f = 0 < f.left
 MayCome NotMade f = f.left ≡ 0
 
--- reads that are made one behind another, each where the bytes that aren't taken want it, and none behind the end or a failure
+-- reads that are made one behind another, each where the bytes that aren't taken want it, and none behind the end or a
+-- failure
 abbrev pub Reads : (wants : List ℕ → Bool) → (pending : List ℕ) → List Reading → Fed → Fed → Type 0
 Reads wants pending [] a b = b ≡ a
-Reads wants pending (r ∷ rs) a b = (wants pending ≡ true) × (a.standing ≡ S.Open) × MayCome r a × Reads wants (pending ++ bytes_of r) rs (behind r a) b
+Reads wants pending (r ∷ rs) a b = (wants pending ≡ true) × (a.standing ≡ S.Open) × MayCome r a ×
+    Reads wants (pending ++ bytes_of r) rs (behind r a) b
 
 -- the bytes that reads gave
 abbrev pub gained : List Reading → List ℕ

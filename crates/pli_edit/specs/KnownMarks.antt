@@ -1,5 +1,6 @@
 -- Marks that are known while more bytes may come, and what is still wanted behind them.
-use Rattle.std.specs.Prelude.{◌≡◌, ℕ, zero, suc, ◌+◌, ◌-◌, ◌*◌, Bool, true, false, ◌==◌, nat_le, List, [], ◌∷◌, ◌++◌, length, replicate, if◌then◌else◌}
+use Rattle.std.specs.Prelude.{◌≡◌, ℕ, zero, suc, ◌+◌, ◌-◌, ◌*◌, Bool, true, false, ◌==◌, nat_le, List, [], ◌∷◌, ◌++◌}
+use Rattle.std.specs.Prelude.{length, replicate, if◌then◌else◌}
 use Rattle.pli_meaning.specs.InputLines.{Mark, CharacterMark, LineEndMark, marks_of}
 use Rattle.pli_edit.specs.Feeding.{Fed, to_come}
 
@@ -11,9 +12,11 @@ behind_return (b ∷ bs) ms = if b == 10 then ms else CharacterMark 13 ∷ ms
 -- the marks that bytes begin with, whatever comes behind them
 abbrev pub known : List ℕ → List Mark
 known [] = []
-known (b ∷ bs) = if b == 10 then LineEndMark ∷ known bs else (if b == 13 then behind_return bs (known bs) else CharacterMark b ∷ known bs)
+known (b ∷ bs) = if b == 10 then LineEndMark ∷ known bs else
+    (if b == 13 then behind_return bs (known bs) else CharacterMark b ∷ known bs)
 
--- ---- a stream of marks: ends of lines that were looked over, then bytes that were read and not taken, then what is to come
+-- ---- a stream of marks: ends of lines that were looked over, then bytes that were read and not taken, then what is to
+-- come
 
 pub record Marked : Type 0 where
   pub fed : Fed

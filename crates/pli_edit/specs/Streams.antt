@@ -1,16 +1,19 @@
 -- What a call does to a stream of marks, and to each input that agrees with what was read.
-use Rattle.std.specs.Prelude.{◌≡◌, ◌≤◌, ◌<◌, ℕ, suc, ◌+◌, ◌-◌, Bool, true, false, List, [], ◌∷◌, ◌++◌, length, drop, Option, Some, None, Result, Ok, Err}
+use Rattle.std.specs.Prelude.{◌≡◌, ◌≤◌, ◌<◌, ℕ, suc, ◌+◌, ◌-◌, Bool, true, false, List, [], ◌∷◌, ◌++◌, length, drop}
+use Rattle.std.specs.Prelude.{Option, Some, None, Result, Ok, Err}
 use Rattle.pli_meaning.specs.InputLines.{Input, Mark, CharacterMark, marks_of, next_line}
 use Rattle.pli_edit.specs.Feeding.{Fed, Reading, Reads, gained, first_fed, Agrees, to_come, is_broken}
 use Rattle.pli_edit.specs.Histories.{History}
-use Rattle.pli_edit.specs.KnownMarks.{Marked, known, known_from, marks_left, most_left, wants_mark, wants_characters, wants_lines}
+use Rattle.pli_edit.specs.KnownMarks.{Marked, known, known_from, marks_left, most_left, wants_mark, wants_characters}
+use Rattle.pli_edit.specs.KnownMarks.{wants_lines}
 use Rattle.pli_edit.specs.Marks.{mark_of, begins_line, begins_with_character, ends_line}
 use Rattle.pli_edit.specs.declared.fault.EditFault.{EditFault}
 use Rattle.pli_edit.specs.declared.fault.EditFault.TheVariants as E
 use Rattle.pli_edit.specs.declared.feed.Standing.TheVariants as S
 use Rattle.pli_edit.specs.declared.mark.Mark.{Mark as TakenMark}
 
--- the reads that a call made, each where something was wanted behind the marks that were known; and what it claims of the marks
+-- the reads that a call made, each where something was wanted behind the marks that were known; and what it claims of
+-- the marks
 -- that were left and those that are left, for each input that agrees with what was read
 pub record Goes (wants : List Mark → Bool) (claim : List Mark → List Mark → Type 0) (a b : Marked) : Type 0 where
   pub readings : List Reading
@@ -29,7 +32,8 @@ pub record Moves (wants : List Mark → Bool) (front : List Mark) (a b : Marked)
 
 -- a read failed, or no other may be made, where something was wanted
 abbrev pub Breaks : (wants : List Mark → Bool) → Marked → Marked → Type 0
-Breaks wants a b = Goes wants (λ old new. Unit {0}) a b × (is_broken b.fed.standing ≡ true) × (most_left b ≤ most_left a)
+Breaks wants a b = Goes wants (λ old new. Unit {0}) a b × (is_broken b.fed.standing ≡ true) ×
+    (most_left b ≤ most_left a)
 
 -- nothing is left, and the end was seen
 abbrev pub IsAtEnd : Marked → Type 0
@@ -42,7 +46,8 @@ Takes (Some m) a b = Moves wants_mark (mark_of m ∷ []) a b
 
 -- the first character of the line is taken; at its end all stays
 abbrev pub TakesInLine : Option ℕ → Marked → Marked → Type 0
-TakesInLine None a b = Moves wants_mark [] a b × ((all : List ℕ) → Agrees b.fed all → begins_with_character (marks_left b all) ≡ false)
+TakesInLine None a b = Moves wants_mark [] a b ×
+    ((all : List ℕ) → Agrees b.fed all → begins_with_character (marks_left b all) ≡ false)
 TakesInLine (Some byte) a b = Moves wants_mark (CharacterMark byte ∷ []) a b
 
 -- a line is passed
@@ -60,16 +65,20 @@ IsKnownMark bytes None = (known bytes ≡ []) × (length bytes ≤ 1)
 IsKnownMark bytes (Some (m, size)) =
     (size ≤ length bytes) × (0 < size)
     × ((more : List ℕ) → known (bytes ++ more) ≡ mark_of m ∷ known (drop size bytes ++ more))
-    × ((is_begun : Bool) (more : List ℕ) → marks_of is_begun (bytes ++ more) ≡ mark_of m ∷ marks_of (begins_line m) (drop size bytes ++ more))
+    × ((is_begun : Bool) (more : List ℕ) →
+    marks_of is_begun (bytes ++ more) ≡ mark_of m ∷ marks_of (begins_line m) (drop size bytes ++ more))
 
 -- the first mark behind the lines, which stays
 abbrev pub IsFront : Option (TakenMark × ℕ) → Marked → Type 0
-IsFront None b = (b.fed.standing ≡ S.Ended) × ((all : List ℕ) → Agrees b.fed all → marks_of b.is_begun (b.pending ++ to_come b.fed all) ≡ [])
+IsFront None b = (b.fed.standing ≡ S.Ended) ×
+    ((all : List ℕ) → Agrees b.fed all → marks_of b.is_begun (b.pending ++ to_come b.fed all) ≡ [])
 IsFront (Some (m, size)) b =
     (size ≤ length b.pending)
     × ((all : List ℕ) → Agrees b.fed all →
-       marks_of b.is_begun (b.pending ++ to_come b.fed all) ≡ mark_of m ∷ marks_of (begins_line m) (drop size b.pending ++ to_come b.fed all))
-    × (b.fed.standing ≡ S.Open → (more : List ℕ) → known (b.pending ++ more) ≡ mark_of m ∷ known (drop size b.pending ++ more))
+    marks_of b.is_begun (b.pending ++ to_come b.fed all) ≡ mark_of m ∷ marks_of (begins_line m)
+    (drop size b.pending ++ to_come b.fed all))
+    × (b.fed.standing ≡ S.Open → (more : List ℕ) →
+    known (b.pending ++ more) ≡ mark_of m ∷ known (drop size b.pending ++ more))
     × (size ≡ 0 → (b.is_begun ≡ true) × (begins_line m ≡ false))
 
 -- reads while the bytes tell no mark
@@ -119,14 +128,16 @@ Follows a b = (readings : List Reading) × Reads (λ _. true) [] readings a.mark
 -- a call reads where something is wanted behind known marks; what it does to each input that agrees with what was read
 abbrev pub Reaches : (wants : List Mark → Bool) → (claim : Input → Input → Type 0) → Held → Held → Type 0
 Reaches wants claim a b =
-    Goes wants (λ old new. claim (record { marks = old; column = a.column }) (record { marks = new; column = b.column })) a.marked b.marked
+    Goes wants (λ old new. claim (record { marks = old; column = a.column })
+    (record { marks = new; column = b.column })) a.marked b.marked
     × (has_failed b ≡ false)
 
 abbrev pub Fails : (wants : List Mark → Bool) → Held → Held → Type 0
 Fails wants a b = Breaks wants a.marked b.marked
 
 -- the same by what a call answers: from Read on nothing is claimed of the input
-abbrev pub Tells : {A : Type 0} → (wants : List Mark → Bool) → (claim : Input → Input → Type 0) → Result A EditFault → Held → Held → Type 0
+abbrev pub Tells : {A : Type 0} → (wants : List Mark → Bool) → (claim : Input → Input → Type 0) → Result A EditFault →
+    Held → Held → Type 0
 Tells wants claim (Ok x) a b = Reaches wants claim a b
 Tells wants claim (Err E.AtEnd) a b = Reaches wants claim a b
 Tells wants claim (Err E.TooWide) a b = Reaches wants claim a b

@@ -15,7 +15,8 @@ pub trait Feed {
         ensures told { history self.new ≡ after_call result buffer.new (history self.old) };
 }
 
-/// How a stream stands with its feed: bytes may come, none is left, a read failed, or as many reads were made as may be.
+/// How a stream stands with its feed: bytes may come, none is left, a read failed, or as many reads were made as may
+/// be.
 #[derive(Clone, Copy, PartialEq, Eq, Debug)]
 pub enum Standing {
     Open,

@@ -13,7 +13,8 @@ const ROOM: usize = 4097;
 /// So many reads are made at most.
 const MOST_READS: u32 = 1 << 30;
 
-/// A feed, and what it gave that isn't taken yet. Each read asks for as many bytes as the others, so the buffer never grows.
+/// A feed, and what it gave that isn't taken yet. Each read asks for as many bytes as the others, so the buffer never
+/// grows.
 #[derive(Drop)]
 pub struct FeedBytes<F: Feed> {
     feed: F,
@@ -31,8 +32,8 @@ impl<F: Feed> Model for FeedBytes<F> {
     ghost Value = { Buffered };
 
     ghost view = { λ b. record {
-        fed = record { history = F.history b.feed; standing = b.standing; left = b.left };
-        pending = take (b.end - b.place) (drop b.place b.buffer);
+      fed = record { history = F.history b.feed; standing = b.standing; left = b.left };
+      pending = take (b.end - b.place) (drop b.place b.buffer);
     } };
 
     ghost invariant = { λ b. (b.place ≤ b.end) × (b.end ≤ 4097) };
@@ -83,12 +84,15 @@ impl<F: Feed> FeedBytes<F> {
         self.place += count;
     }
 
-    /// One more read, behind at most one byte that isn't taken yet. `Read` where it fails, or where none may be made any more.
+    /// One more read, behind at most one byte that isn't taken yet. `Read` where it fails, or where none may be made
+    /// any more.
     pub fn read(&mut self) -> Result<(), EditFault>
         requires few { length self.old.pending ≤ 1 }
         requires open { self.old.fed.standing ≡ Standing.Open }
-        ensures read { (r : Reading) × MayCome r self.old.fed × (self.new ≡ record { fed = behind r self.old.fed; pending = self.old.pending ++ bytes_of r }) }
-        ensures told { MatchResult result (λ _. is_broken self.new.fed.standing ≡ false) (λ e. (e ≡ EditFault.Read) × (is_broken self.new.fed.standing ≡ true)) }
+        ensures read { (r : Reading) × MayCome r self.old.fed ×
+            (self.new ≡ record { fed = behind r self.old.fed; pending = self.old.pending ++ bytes_of r }) }
+        ensures told { MatchResult result (λ _. is_broken self.new.fed.standing ≡ false)
+            (λ e. (e ≡ EditFault.Read) × (is_broken self.new.fed.standing ≡ true)) }
     {
         if self.left == 0 {
             self.standing = Standing::Spent;
@@ -109,7 +113,8 @@ impl<F: Feed> FeedBytes<F> {
     }
 }
 
-// Puts the byte that stands between the places, if there is one, at the front, and tells where it begins if it ends at 1.
+// Puts the byte that stands between the places, if there is one, at the front, and tells where it begins if it ends at
+// 1.
 fn kept(buffer: &mut [u8], place: usize, end: usize) -> usize
     requires within { (place ≤ end) × (end ≤ length buffer.old) }
     requires few { end ≤ place + 1 }

@@ -16,7 +16,8 @@ use crate::input::number_told;
 use std::alloc::Global;
 use std::marker::Model;
 
-/// What is left of the input, and the column that is reached. Only bytes that were read and not taken are kept. A read that fails, or
+/// What is left of the input, and the column that is reached. Only bytes that were read and not taken are kept. A read
+/// that fails, or
 /// one more than 2^30 reads, is `Read`, and so is each call from then on.
 #[derive(Drop)]
 pub struct FeedInput<F: Feed> {
@@ -65,7 +66,8 @@ impl<F: Feed> FeedInput<F> {
 
     // `Read` behind a fault.
     fn check(&self) -> Result<(), EditFault>
-        ensures { MatchResult result (λ _. has_failed self.now ≡ false) (λ e. (e ≡ EditFault.Read) × (has_failed self.now ≡ true)) }
+        ensures { MatchResult result (λ _. has_failed self.now ≡ false)
+            (λ e. (e ≡ EditFault.Read) × (has_failed self.now ≡ true)) }
     {
         if self.has_failed() {
             return Err(EditFault::Read);
@@ -76,7 +78,8 @@ impl<F: Feed> FeedInput<F> {
     /// Whether a character is left.
     pub fn has_character(&mut self) -> Result<bool, EditFault>
         ensures { MatchResult result
-            (λ is_left. Reaches (wants_characters 1) (λ i j. (j ≡ i) × (lines.has_character i.marks ≡ is_left)) self.old self.new)
+            (λ is_left. Reaches (wants_characters 1) (λ i j. (j ≡ i) × (lines.has_character i.marks ≡ is_left))
+            self.old self.new)
             (λ e. (e ≡ EditFault.Read) × Fails (wants_characters 1) self.old self.new) }
     {
         self.check()?;
@@ -98,7 +101,8 @@ impl<F: Feed> FeedInput<F> {
     pub fn pass_line_field(&mut self, width: u32)
         requires { (all : List ℕ) → Agrees self.old.marked.fed all → IsInLine width (marks_left self.old.marked all) }
         ensures fed { self.new.marked.fed ≡ self.old.marked.fed }
-        ensures passed { (all : List ℕ) → Agrees self.old.marked.fed all → input_of self.new all ≡ lines.behind_field width (input_of self.old all) }
+        ensures passed { (all : List ℕ) → Agrees self.old.marked.fed all →
+            input_of self.new all ≡ lines.behind_field width (input_of self.old all) }
     {
         self.marks.pass(width);
         self.column += u64::from(width);
@@ -115,10 +119,12 @@ impl<F: Feed> FeedInput<F> {
         Ok(field)
     }
 
-    /// The next `width` characters, padded with blanks where the input ends inside. `AtEnd` where none is left, and `Memory`: then
+    /// The next `width` characters, padded with blanks where the input ends inside. `AtEnd` where none is left, and
+    /// `Memory`: then
     /// nothing is taken.
     pub fn get_a(&mut self, width: u32) -> Result<Vec<u8>, EditFault>
-        ensures { Tells (wants_field width) (λ i j. TakesText width i (lines.has_character i.marks) result j) result self.old self.new }
+        ensures { Tells (wants_field width) (λ i j. TakesText width i (lines.has_character i.marks) result j) result
+            self.old self.new }
     {
         self.check()?;
         if !self.marks.has_character()? {
@@ -127,10 +133,12 @@ impl<F: Feed> FeedInput<F> {
         self.take_field(width)
     }
 
-    /// The number that the next field of `width` characters stands for. `NotNumber` where it stands for none: it is taken all the
+    /// The number that the next field of `width` characters stands for. `NotNumber` where it stands for none: it is
+    /// taken all the
     /// same. `AtEnd` where no character is left, and `Memory`: then nothing is taken.
     pub fn get_f(&mut self, width: u32) -> Result<i32, EditFault>
-        ensures { Tells (wants_field width) (λ i j. TakesNumber width i (lines.has_character i.marks) result j) result self.old self.new }
+        ensures { Tells (wants_field width) (λ i j. TakesNumber width i (lines.has_character i.marks) result j) result
+            self.old self.new }
     {
         if let Some(field) = self.line_field(width) {
             let told = number_told(field);
@@ -191,7 +199,8 @@ impl<F: Feed> FeedInput<F> {
     fn next_column(&mut self, column: u32) -> Result<(), EditFault>
         requires { has_failed self.old ≡ false }
         ensures { MatchResult result
-            (λ _. Reaches (wants_next_line (column - 1)) (λ i j. j ≡ lines.further_in (column - 1) (lines.behind_lines 1 i)) self.old self.new)
+            (λ _. Reaches (wants_next_line (column - 1))
+            (λ i j. j ≡ lines.further_in (column - 1) (lines.behind_lines 1 i)) self.old self.new)
             (λ e. (e ≡ EditFault.Read) × Fails (wants_next_line (column - 1)) self.old self.new) }
     {
         pass_line(&mut self.marks)?;

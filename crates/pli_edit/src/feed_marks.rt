@@ -5,7 +5,8 @@ ghost use Rattle.pli_meaning.specs.InputLines as lines;
 ghost use Rattle.pli_edit.specs.Feeding.{Agrees, first_fed, is_broken};
 ghost use Rattle.pli_edit.specs.KnownMarks.{marks_left, most_left, wants_mark, wants_characters};
 ghost use Rattle.pli_edit.specs.Marks.{IsInLine};
-ghost use Rattle.pli_edit.specs.Streams.{behind_mark, over_line, Breaks, IsKnownMark, LooksAt, LooksInVain, Moves, Takes, TakesInLine};
+ghost use Rattle.pli_edit.specs.Streams.{behind_mark, over_line, Breaks, IsKnownMark, LooksAt, LooksInVain, Moves};
+ghost use Rattle.pli_edit.specs.Streams.{Takes, TakesInLine};
 
 use crate::fault::EditFault;
 use crate::feed::Feed;
@@ -13,7 +14,8 @@ use crate::feed_bytes::FeedBytes;
 use crate::mark::{Mark, first_mark, has_line_end};
 use std::marker::Model;
 
-/// The marks that are left of an input: ends of lines that were looked over, then what its feed gave, then what this will give.
+/// The marks that are left of an input: ends of lines that were looked over, then what its feed gave, then what this
+/// will give.
 #[derive(Drop)]
 pub struct FeedMarks<F: Feed> {
     bytes: FeedBytes<F>,
@@ -27,9 +29,16 @@ impl<F: Feed> Model for FeedMarks<F> {
 
     ghost Value = { Marked };
 
-    ghost view = { λ m. record { fed = m.bytes.fed; lines = m.lines; is_begun = m.is_begun; pending = m.bytes.pending } };
+    ghost view = { λ m. record {
+      fed = m.bytes.fed;
+      lines = m.lines;
+      is_begun = m.is_begun;
+      pending =
+          m.bytes.pending;
+    } };
 
-    ghost invariant = { λ m. most_left (record { fed = m.bytes.fed; lines = m.lines; is_begun = m.is_begun; pending = m.bytes.pending }) < 2 ^ 64 };
+    ghost invariant = { λ m. most_left
+        (record { fed = m.bytes.fed; lines = m.lines; is_begun = m.is_begun; pending = m.bytes.pending }) < 2 ^ 64 };
 }
 
 impl<F: Feed> FeedMarks<F> {
@@ -61,7 +70,8 @@ impl<F: Feed> FeedMarks<F> {
     /// The first mark behind the lines that were looked over, and how many bytes it takes. It stays.
     fn first(&mut self) -> Result<Option<(Mark, usize)>, EditFault>
         requires { is_broken self.old.fed.standing ≡ false }
-        ensures { MatchResult result (λ found. LooksAt found self.old self.new) (λ e. (e ≡ EditFault.Read) × LooksInVain self.old self.new) }
+        ensures { MatchResult result (λ found. LooksAt found self.old self.new)
+            (λ e. (e ≡ EditFault.Read) × LooksInVain self.old self.new) }
     {
         while self.bytes.standing().is_open() {
             let found = known_mark(self.bytes.pending());
@@ -139,7 +149,7 @@ impl<F: Feed> FeedMarks<F> {
         requires { is_broken self.old.fed.standing ≡ false }
         ensures { MatchResult result
             (λ is_left. Moves (wants_characters 1) [] self.old self.new
-                × ((all : List ℕ) → Agrees self.new.fed all → lines.has_character (marks_left self.new all) ≡ is_left))
+            × ((all : List ℕ) → Agrees self.new.fed all → lines.has_character (marks_left self.new all) ≡ is_left))
             (λ e. (e ≡ EditFault.Read) × Breaks (wants_characters 1) self.old self.new) }
     {
         while let Some((mark, size)) = self.first()? {
@@ -172,7 +182,8 @@ impl<F: Feed> FeedMarks<F> {
         requires { (all : List ℕ) → Agrees self.old.fed all → IsInLine count (marks_left self.old all) }
         ensures fed { self.new.fed ≡ self.old.fed }
         ensures passed { (all : List ℕ) (column : ℕ) → Agrees self.old.fed all →
-            record { marks = marks_left self.new all; column = column + count } ≡ lines.place_behind count column (marks_left self.old all) }
+            record { marks = marks_left self.new all; column = column + count } ≡ lines.place_behind count column
+            (marks_left self.old all) }
         ensures fewer { count + most_left self.new ≤ most_left self.old }
     {
         self.bytes.pass(count as usize);
@@ -181,7 +192,7 @@ impl<F: Feed> FeedMarks<F> {
 }
 
 // The first mark of bytes that go on, and how many it takes; none where more bytes are wanted.
-#[tactic(auto, using(crate::proofs::Known::wanted_first, crate::proofs::Known::wanted_second, crate::proofs::Known::known_feed, crate::proofs::Known::known_character, crate::proofs::Known::known_return_feed, crate::proofs::Known::known_return))]
+#[tactic(auto, using(crate::proofs::Known::known_marks))]
 fn known_mark(bytes: &[u8]) -> Option<(Mark, usize)>
     ensures { IsKnownMark bytes.now result }
 {

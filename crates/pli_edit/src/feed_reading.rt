@@ -1,6 +1,7 @@
 // Ways through marks that come from a feed, with the column that is reached.
 
-ghost use Rattle.std.specs.Prelude.{◌≡◌, ◌+◌, ◌^◌, ◌<◌, ◌≤◌, ◌++◌, IfOk, MatchResult, false, length, vec_len, vec_capacity};
+ghost use Rattle.std.specs.Prelude.{◌≡◌, ◌+◌, ◌^◌, ◌<◌, ◌≤◌, ◌++◌, IfOk, MatchResult, false, length, vec_len};
+ghost use Rattle.std.specs.Prelude.{vec_capacity};
 ghost use Rattle.pli_meaning.specs.InputLines as lines;
 ghost use Rattle.pli_edit.specs.Feeding.{is_broken};
 ghost use Rattle.pli_edit.specs.KnownMarks.{most_left, wants_characters, wants_further, wants_lines};
@@ -16,9 +17,12 @@ pub fn pass<F: Feed>(marks: &mut FeedMarks<F>, start: u64, count: u32) -> Result
     requires columns { start + most_left marks.old < 2 ^ 64 }
     requires whole { is_broken marks.old.fed.standing ≡ false }
     ensures reached { MatchResult result
-        (λ column. Goes (wants_characters count) (λ old new. record { marks = new; column = column } ≡ lines.place_behind count start old) marks.old marks.new)
+        (λ column. Goes (wants_characters count)
+        (λ old new. record { marks = new; column = column } ≡ lines.place_behind count start old) marks.old
+        marks.new)
         (λ e. (e ≡ EditFault.Read) × Breaks (wants_characters count) marks.old marks.new) }
-    ensures room { IfOk result (λ column. (column + most_left marks.new < 2 ^ 64) × (is_broken marks.new.fed.standing ≡ false)) }
+    ensures room { IfOk result
+        (λ column. (column + most_left marks.new < 2 ^ 64) × (is_broken marks.new.fed.standing ≡ false)) }
     ensures fewer { most_left marks.new ≤ most_left marks.old }
 {
     let mut column = start;
@@ -48,10 +52,11 @@ pub fn take_characters<F: Feed>(
     requires capacity { vec_len field.old + count ≤ vec_capacity field.old }
     ensures reached { MatchResult result
         (λ column. Goes (wants_characters count) (λ old new.
-            (record { marks = new; column = column } ≡ lines.place_behind count start old)
-            × (field.new.items ≡ field.old.items ++ lines.characters count old)) marks.old marks.new)
+        (record { marks = new; column = column } ≡ lines.place_behind count start old)
+        × (field.new.items ≡ field.old.items ++ lines.characters count old)) marks.old marks.new)
         (λ e. (e ≡ EditFault.Read) × Breaks (wants_characters count) marks.old marks.new) }
-    ensures room { IfOk result (λ column. (column + most_left marks.new < 2 ^ 64) × (is_broken marks.new.fed.standing ≡ false)) }
+    ensures room { IfOk result
+        (λ column. (column + most_left marks.new < 2 ^ 64) × (is_broken marks.new.fed.standing ≡ false)) }
     ensures fewer { most_left marks.new ≤ most_left marks.old }
     ensures capacity { vec_capacity field.old ≤ vec_capacity field.new }
 {
@@ -80,9 +85,11 @@ pub fn pass_in_line<F: Feed>(
     requires columns { start + most_left marks.old < 2 ^ 64 }
     requires whole { is_broken marks.old.fed.standing ≡ false }
     ensures reached { MatchResult result
-        (λ column. Goes (wants_further count) (λ old new. record { marks = new; column = column } ≡ lines.further count start old) marks.old marks.new)
+        (λ column. Goes (wants_further count)
+        (λ old new. record { marks = new; column = column } ≡ lines.further count start old) marks.old marks.new)
         (λ e. (e ≡ EditFault.Read) × Breaks (wants_further count) marks.old marks.new) }
-    ensures room { IfOk result (λ column. (column + most_left marks.new < 2 ^ 64) × (is_broken marks.new.fed.standing ≡ false)) }
+    ensures room { IfOk result
+        (λ column. (column + most_left marks.new < 2 ^ 64) × (is_broken marks.new.fed.standing ≡ false)) }
     ensures fewer { most_left marks.new ≤ most_left marks.old }
 {
     let mut column = start;
@@ -103,7 +110,9 @@ pub fn pass_in_line<F: Feed>(
 pub fn pass_lines<F: Feed>(marks: &mut FeedMarks<F>, count: u32) -> Result<(), EditFault>
     requires { is_broken marks.old.fed.standing ≡ false }
     ensures reached { MatchResult result
-        (λ _. Goes (wants_lines count) (λ old new. record { marks = new; column = 1 } ≡ lines.behind_lines count (record { marks = old; column = 1 })) marks.old marks.new)
+        (λ _. Goes (wants_lines count)
+        (λ old new. record { marks = new; column = 1 } ≡ lines.behind_lines count
+        (record { marks = old; column = 1 })) marks.old marks.new)
         (λ e. (e ≡ EditFault.Read) × Breaks (wants_lines count) marks.old marks.new) }
     ensures room { most_left marks.new ≤ most_left marks.old }
     ensures whole { IfOk result (λ _. is_broken marks.new.fed.standing ≡ false) }
@@ -122,7 +131,8 @@ pub fn pass_lines<F: Feed>(marks: &mut FeedMarks<F>, count: u32) -> Result<(), E
 /// To the start of the next line, or to the end.
 pub fn pass_line<F: Feed>(marks: &mut FeedMarks<F>) -> Result<(), EditFault>
     requires { is_broken marks.old.fed.standing ≡ false }
-    ensures { MatchResult result (λ _. PassesLine marks.old marks.new) (λ e. (e ≡ EditFault.Read) × Breaks (wants_lines 1) marks.old marks.new) }
+    ensures { MatchResult result (λ _. PassesLine marks.old marks.new)
+        (λ e. (e ≡ EditFault.Read) × Breaks (wants_lines 1) marks.old marks.new) }
 {
     while let Some(mark) = marks.take()? {
         match mark {

@@ -1,4 +1,5 @@
-// Input from feeds that give little at a time, or that fail: what is taken is what a whole input gives, and no more is read than that asks.
+// Input from feeds that give little at a time, or that fail: what is taken is what a whole input gives, and no more is
+// read than that asks.
 
 ghost use Rattle.std.specs.Prelude.{◌≡◌, ◌≤◌, IfOk, length};
 

@@ -4,6 +4,8 @@
 
 pub mod drain;
 pub mod drain_output;
+#[cfg(test)]
+mod drain_tests;
 pub mod fault;
 pub mod feed;
 mod feed_bytes;
@@ -11,6 +13,8 @@ pub mod feed_input;
 mod feed_marks;
 mod feed_reading;
 mod feed_stream;
+#[cfg(test)]
+mod feed_tests;
 pub mod format;
 mod handing;
 pub mod input;
@@ -24,10 +28,6 @@ pub mod past;
 mod pieces;
 pub mod place;
 mod reading;
-mod whole_stream;
-#[cfg(test)]
-mod drain_tests;
-#[cfg(test)]
-mod feed_tests;
 #[cfg(test)]
 mod tests;
+mod whole_stream;

@@ -19,7 +19,8 @@ returns-in_err-take_in_line-clause-reached g c =
     let p = err_from_is_err_and c.from_residual.result c.from_residual.ensures.1 in
     rw (p.1, p.2) (
       c.in_err-take_in_line.ensures.0,
-      further_vain c.args.count c.args.start l.left l.column c.args.marks.now l.marks c.take_in_line.new.self c.loop-left-test.true l.invariant.way c.in_err-take_in_line.ensures.1,
+      further_vain c.args.count c.args.start l.left l.column c.args.marks.now l.marks c.take_in_line.new.self
+          c.loop-left-test.true l.invariant.way c.in_err-take_in_line.ensures.1,
     )
 
 pub loop-left-preserved : goal.loop-left-preserved
@@ -28,7 +29,8 @@ loop-left-preserved g c =
     let x = c.in-Some.field-0 in
     let k = subst (λ f. TakesInLine f l.marks c.take_in_line.new.self) c.in-Some.is c.in_ok-take_in_line.ensures in
     record {
-      way = further_on c.args.count c.args.start l.left l.column x _ l.marks c.take_in_line.new.self c.loop-left-test.true l.invariant.way k;
+      way = further_on c.args.count c.args.start l.left l.column x _ l.marks c.take_in_line.new.self
+          c.loop-left-test.true l.invariant.way k;
       room = (let fewer = k.fewer in omega (arith, fewer, l.invariant.room));
       fewer = (let fewer = k.fewer in omega (arith, fewer, l.invariant.fewer));
     }
@@ -37,4 +39,5 @@ pub returns-in-None-clause-reached : goal.returns-in-None-clause-reached
 returns-in-None-clause-reached g c =
     let l = c.loop-left in
     let k = subst (λ f. TakesInLine f l.marks c.take_in_line.new.self) c.in-None.is c.in_ok-take_in_line.ensures in
-    further_stop c.args.count c.args.start l.left l.column c.args.marks.now l.marks c.take_in_line.new.self c.loop-left-test.true l.invariant.way k
+    further_stop c.args.count c.args.start l.left l.column c.args.marks.now l.marks c.take_in_line.new.self
+    c.loop-left-test.true l.invariant.way k

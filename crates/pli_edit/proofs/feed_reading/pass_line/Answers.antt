@@ -12,7 +12,10 @@ pub returns-in_err-mark : goal.returns-in_err-mark
 returns-in_err-mark g c =
     let l = c.loop-mark in
     let p = err_from_is_err_and c.from_residual.result c.from_residual.ensures.1 in
-    rw (p.1, p.2) (c.in_err-mark.ensures.0, line_vain c.args.marks.now l.marks c.take.new.self l.invariant c.in_err-mark.ensures.1)
+    rw (p.1, p.2) (
+      c.in_err-mark.ensures.0,
+      line_vain c.args.marks.now l.marks c.take.new.self l.invariant c.in_err-mark.ensures.1,
+    )
 
 pub loop-mark-preserved : goal.loop-mark-preserved
 loop-mark-preserved g c =
@@ -31,4 +34,5 @@ returns-in-LineEnd g c =
 pub returns-in_default : goal.returns-in_default
 returns-in_default g c =
     let l = c.loop-mark in
-    line_stopped c.args.marks.now l.marks c.take.new.self l.invariant (subst (λ f. Takes f l.marks c.take.new.self) c.in_default.is c.in_ok-mark.ensures)
+    line_stopped c.args.marks.now l.marks c.take.new.self l.invariant
+    (subst (λ f. Takes f l.marks c.take.new.self) c.in_default.is c.in_ok-mark.ensures)

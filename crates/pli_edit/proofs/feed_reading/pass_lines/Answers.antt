@@ -17,7 +17,8 @@ returns-in_err-take-clause-reached g c =
     let p = err_from_is_err_and c.from_residual.result c.from_residual.ensures.1 in
     rw (p.1, p.2) (
       c.in_err-take.ensures.0,
-      lines_vain c.args.count l.left c.args.marks.now l.marks c.take.new.self c.loop-left-test.true l.invariant.way c.in_err-take.ensures.1,
+      lines_vain c.args.count l.left c.args.marks.now l.marks c.take.new.self c.loop-left-test.true l.invariant.way
+          c.in_err-take.ensures.1,
     )
 
 pub loop-left-preserved-in-Some-LineEnd : goal.loop-left-preserved-in-Some-LineEnd

@@ -1,4 +1,5 @@
-use Rattle.std.proofs.Common.{◌≡◌, ◌<◌, ◌≤◌, ℕ, ◌+◌, ◌-◌, List, [], ◌++◌, true, false, Some, None, Ok, Err, refl, sym, subst, ap, ◌∙◌, arith}
+use Rattle.std.proofs.Common.{◌≡◌, ◌<◌, ◌≤◌, ℕ, ◌+◌, ◌-◌, List, [], ◌++◌, true, false, Some, None, Ok, Err, refl, sym}
+use Rattle.std.proofs.Common.{subst, ap, ◌∙◌, arith}
 use Rattle.std.proofs.lemmas.Result.{err_from_is_err_and, MatchResult-weaker}
 use Rattle.std.specs.Prelude.{Vec, ℤ}
 use Rattle.std.specs.declared.alloc.Global.{Global}
@@ -16,11 +17,14 @@ returns-in-Some g c =
     let h = c.args.self.now in
     let k = c.pass_line_field.new.self in
     let r = c.number_told-told.result in
-    reaches_tells (wants_field w) (λ i j. TakesNumber w i (has_character i.marks) r j) r h k (number_is_no_read _ r c.number_told-told.ensures)
-    (reaches_unread (wants_field w) (λ i j. TakesNumber w i (has_character i.marks) r j) h k c.in-Some.ensures.0 c.pass_line_field.ensures.fed
-     (λ all agrees.
-         let there = c.in-Some.ensures.1 all agrees in
-         number-there w (input_of h all) (input_of k all) _ c.in-Some.field.now r there.1 there (c.pass_line_field.ensures.passed all agrees) c.number_told-told.ensures))
+    reaches_tells (wants_field w) (λ i j. TakesNumber w i (has_character i.marks) r j) r h k
+    (number_is_no_read _ r c.number_told-told.ensures)
+    (reaches_unread (wants_field w) (λ i j. TakesNumber w i (has_character i.marks) r j) h k c.in-Some.ensures.0
+    c.pass_line_field.ensures.fed
+    (λ all agrees.
+    let there = c.in-Some.ensures.1 all agrees in
+    number-there w (input_of h all) (input_of k all) _ c.in-Some.field.now r there.1 there
+    (c.pass_line_field.ensures.passed all agrees) c.number_told-told.ensures))
 
 pub returns-in-Ok : goal.returns-in-Ok
 returns-in-Ok g c =
@@ -29,13 +33,16 @@ returns-in-Ok g c =
     let k = c.get_a.new.self in
     let r = c.number_told.result in
     let told = rw c.deref.ensures.value at c.number_told.ensures in
-    reaches_tells (wants_field w) (λ i j. TakesNumber w i (has_character i.marks) r j) r h k (number_is_no_read _ r c.number_told.ensures)
-    (reaches_map (wants_field w) (λ i j. TakesText w i (has_character i.marks) (Ok c.in-Ok.field) j) (λ i j. TakesNumber w i (has_character i.marks) r j) h k c.in-Ok.ensures
-     (λ i j e. number-taken w i j (has_character i.marks) c.in-Ok.field r e told))
+    reaches_tells (wants_field w) (λ i j. TakesNumber w i (has_character i.marks) r j) r h k
+    (number_is_no_read _ r c.number_told.ensures)
+    (reaches_map (wants_field w) (λ i j. TakesText w i (has_character i.marks) (Ok c.in-Ok.field) j)
+    (λ i j. TakesNumber w i (has_character i.marks) r j) h k c.in-Ok.ensures
+    (λ i j e. number-taken w i j (has_character i.marks) c.in-Ok.field r e told))
 
 pub returns-in-Err : goal.returns-in-Err
 returns-in-Err g c =
     let w = c.args.width in
     let f = c.in-Err.fault in
-    tells_map (Vec ℕ Global) ℤ (wants_field w) (λ i j. TakesText w i (has_character i.marks) (Err f) j) (λ i j. TakesNumber w i (has_character i.marks) (Err f) j) f c.args.self.now c.get_a.new.self c.in-Err.ensures
+    tells_map (Vec ℕ Global) ℤ (wants_field w) (λ i j. TakesText w i (has_character i.marks) (Err f) j)
+    (λ i j. TakesNumber w i (has_character i.marks) (Err f) j) f c.args.self.now c.get_a.new.self c.in-Err.ensures
     (λ i j e. number-refused w i j (has_character i.marks) f e)

@@ -9,6 +9,9 @@ use Rattle.pli_edit.proofs.feed_input.FeedInput.line_field.Goals as goal
 pub returns : goal.returns
 returns g c =
     let h : Held = record { marked = c.self.inside.marks; column = c.self.inside.column } in
-    subst (λ (h : Held). MatchOption c.line.result ⊤ (λ field. (has_failed h ≡ false) × ((all : List ℕ) → Agrees h.marked.fed all → IsLineField c.args.width (input_of h all) field.now)))
+    subst (λ (h : Held). MatchOption c.line.result ⊤
+    (λ field. (has_failed h ≡ false) ×
+    ((all : List ℕ) → Agrees h.marked.fed all → IsLineField c.args.width (input_of h all) field.now)))
     c.self.view_is
-    (field_there (λ line. line.now) c.line.result c.args.width h (ap has_failed c.self.view_is ∙ (sym c.has_failed.ensures ∙ c.if-has_failed.false)) c.line.ensures)
+    (field_there (λ line. line.now) c.line.result c.args.width h
+    (ap has_failed c.self.view_is ∙ (sym c.has_failed.ensures ∙ c.if-has_failed.false)) c.line.ensures)

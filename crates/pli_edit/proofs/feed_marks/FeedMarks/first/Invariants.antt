@@ -5,7 +5,13 @@ use Rattle.pli_edit.proofs.feed_marks.FeedMarks.first.Given as goal
 
 abbrev pub invariant-loop-self : goal.invariant-loop-self
 invariant-loop-self g l = record {
-  waits : Waits l.fn.self (record { fed = l.self-inside.bytes.fed; lines = l.self-inside.lines; is_begun = l.self-inside.is_begun; pending = l.self-inside.bytes.pending });
+  waits : Waits l.fn.self (record {
+    fed = l.self-inside.bytes.fed;
+    lines = l.self-inside.lines;
+    is_begun = l.self-inside.is_begun;
+    pending =
+        l.self-inside.bytes.pending;
+  });
   whole : is_broken l.self-inside.bytes.fed.standing ≡ false;
 }
 

@@ -20,7 +20,9 @@ invariant_of-self g c =
     let s = c.self.inside in
     let b : Marked = record { fed = s.bytes.fed; lines = s.lines; is_begun = s.is_begun; pending = s.bytes.pending } in
     let fewer = pass_fewer c.args.count b (subst (Requires c.args.count) (sym c.self.view_is) c.requires) in
-    subst (λ (d : Buffered). most_left (record { fed = d.fed; lines = s.lines; is_begun = true; pending = d.pending }) < 18446744073709551616) (sym c.pass.ensures)
+    subst (λ (d : Buffered). most_left
+    (record { fed = d.fed; lines = s.lines; is_begun = true; pending = d.pending }) < 18446744073709551616)
+    (sym c.pass.ensures)
     (omega (arith, fewer, c.self.invariant))
 
 pub returns-clause-passed : goal.returns-clause-passed
@@ -29,16 +31,28 @@ returns-clause-passed g c =
     let b : Marked = record { fed = s.bytes.fed; lines = s.lines; is_begun = s.is_begun; pending = s.bytes.pending } in
     let so = passed_there c.args.count b (subst (Requires c.args.count) (sym c.self.view_is) c.requires) in
     subst (λ (d : Buffered). (all : List ℕ) (column : ℕ) → Agrees c.args.self.now.fed all →
-        ◌≡◌ {A = Input} (record { marks = marks_left (record { fed = d.fed; lines = s.lines; is_begun = true; pending = d.pending }) all; column = column + c.args.count }) (place_behind c.args.count column (marks_left c.args.self.now all)))
+    ◌≡◌ {A = Input} (record {
+      marks =
+          marks_left (record { fed = d.fed; lines = s.lines; is_begun = true; pending = d.pending }) all;
+      column =
+          column + c.args.count;
+    }) (place_behind c.args.count column (marks_left c.args.self.now all)))
     (sym c.pass.ensures)
     (subst (λ (b' : Marked). (all : List ℕ) (column : ℕ) → Agrees b'.fed all →
-        ◌≡◌ {A = Input} (record { marks = marks_left (behind_characters c.args.count b) all; column = column + c.args.count }) (place_behind c.args.count column (marks_left b' all)))
-     c.self.view_is so)
+    ◌≡◌ {A = Input} (record {
+      marks = marks_left (behind_characters c.args.count b) all;
+      column =
+          column + c.args.count;
+    }) (place_behind c.args.count column (marks_left b' all)))
+    c.self.view_is so)
 
 pub returns-clause-fewer : goal.returns-clause-fewer
 returns-clause-fewer g c =
     let s = c.self.inside in
     let b : Marked = record { fed = s.bytes.fed; lines = s.lines; is_begun = s.is_begun; pending = s.bytes.pending } in
     let fewer = pass_fewer c.args.count b (subst (Requires c.args.count) (sym c.self.view_is) c.requires) in
-    subst (λ (d : Buffered). c.args.count + most_left (record { fed = d.fed; lines = s.lines; is_begun = true; pending = d.pending }) ≤ most_left c.args.self.now) (sym c.pass.ensures)
-    (subst (λ (b' : Marked). c.args.count + most_left (behind_characters c.args.count b) ≤ most_left b') c.self.view_is fewer)
+    subst (λ (d : Buffered). c.args.count + most_left
+    (record { fed = d.fed; lines = s.lines; is_begun = true; pending = d.pending }) ≤ most_left c.args.self.now)
+    (sym c.pass.ensures)
+    (subst (λ (b' : Marked). c.args.count + most_left (behind_characters c.args.count b) ≤ most_left b')
+    c.self.view_is fewer)

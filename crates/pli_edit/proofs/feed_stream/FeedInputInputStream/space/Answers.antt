@@ -5,4 +5,6 @@ use Rattle.pli_edit.proofs.StreamCalls.{matched_follows}
 use Rattle.pli_edit.proofs.feed_stream.FeedInputInputStream.space.Goals as goal
 
 pub returns-clause-follows : goal.returns-clause-follows
-returns-clause-follows g c = matched_follows (wants_characters c.args.count) (λ _ i j. j ≡ behind_field c.args.count i) c.space.result c.args.self.now c.space.new.self c.space.ensures
+returns-clause-follows g c =
+    matched_follows (wants_characters c.args.count) (λ _ i j. j ≡ behind_field c.args.count i) c.space.result
+    c.args.self.now c.space.new.self c.space.ensures
