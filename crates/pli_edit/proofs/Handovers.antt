@@ -1,5 +1,6 @@
 -- Bytes that are handed over piece by piece.
-use Rattle.std.proofs.Common.{◌≡◌, ℕ, zero, suc, ◌+◌, ◌-◌, ◌<◌, ◌≤◌, List, [], ◌∷◌, ◌++◌, length, take, drop, replicate, refl, subst, sym, ap, ◌∙◌, append_assoc, append-nil, length-append, arith, Ok, Err}
+use Rattle.std.proofs.Common.{◌≡◌, ℕ, zero, suc, ◌+◌, ◌-◌, ◌<◌, ◌≤◌, List, [], ◌∷◌, ◌++◌, length, take, drop, replicate}
+use Rattle.std.proofs.Common.{refl, subst, sym, ap, ◌∙◌, append_assoc, append-nil, length-append, arith, Ok, Err}
 use Rattle.std.proofs.Math.Seq.{take-append-add}
 use Rattle.std.proofs.lemmas.List.{take-append-le, take-append-drop, length-replicate, take-replicate, drop-replicate}
 use Rattle.std.proofs.lemmas.Slice.{take-put_mid, drop-put_mid}

@@ -1,10 +1,16 @@
 pub mod Columns
 pub mod Ends
+pub mod FeedCalls
 pub mod FormatPieces
 pub mod Growing
 pub mod Handovers
+pub mod Known
 pub mod Lines
 pub mod LongLines
+pub mod Looking
 pub mod Markings
+pub mod Moving
+pub mod Passing
+pub mod StreamCalls
 pub mod Taking
 pub mod Ways

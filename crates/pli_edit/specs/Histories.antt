@@ -8,5 +8,6 @@ pub record History : Type 0 where
   pub bytes : List ℕ
 
 abbrev pub after_call : {E : Type 0} → Result ℕ E → (buffer : List ℕ) → History → History
-after_call (Ok n) buffer h = record { failures = h.failures; answers = h.answers ++ n ∷ []; bytes = h.bytes ++ take n buffer }
+after_call (Ok n) buffer h =
+    record { failures = h.failures; answers = h.answers ++ n ∷ []; bytes = h.bytes ++ take n buffer }
 after_call (Err e) buffer h = record { failures = h.failures + 1; answers = h.answers; bytes = h.bytes }

@@ -19,6 +19,11 @@ IsFirstMark is_begun bytes None = marks_of is_begun bytes ≡ []
 IsFirstMark is_begun bytes (Some (m, size)) =
     (size ≤ length bytes) × (marks_of is_begun bytes ≡ mark_of m ∷ marks_of (begins_line m) (drop size bytes))
 
+-- only the end of a last line takes no byte
+abbrev pub IsSizedMark : (is_begun : Bool) → Option (TakenMark × ℕ) → Type 0
+IsSizedMark is_begun None = Unit {0}
+IsSizedMark is_begun (Some (m, size)) = size ≡ 0 → (is_begun ≡ true) × (begins_line m ≡ false)
+
 abbrev pub IsTaken : (old : List Mark) → Option TakenMark → (new : List Mark) → Type 0
 IsTaken old None new = (old ≡ []) × (new ≡ [])
 IsTaken old (Some m) new = old ≡ mark_of m ∷ new
@@ -26,6 +31,19 @@ IsTaken old (Some m) new = old ≡ mark_of m ∷ new
 abbrev pub IsShown : List Mark → Option TakenMark → Type 0
 IsShown marks None = marks ≡ []
 IsShown marks (Some m) = marks ≡ mark_of m ∷ drop 1 marks
+
+-- the first mark is a character
+abbrev pub begins_with_character : List Mark → Bool
+begins_with_character [] = false
+begins_with_character (LineEndMark ∷ ms) = false
+begins_with_character (CharacterMark b ∷ ms) = true
+
+-- characters, and then the end of their line
+abbrev pub ends_line : List Mark → Bool
+ends_line [] = false
+ends_line (LineEndMark ∷ []) = true
+ends_line (LineEndMark ∷ m ∷ ms) = false
+ends_line (CharacterMark b ∷ ms) = ends_line ms
 
 -- so many marks are characters
 abbrev pub are_characters : (count : ℕ) → List Mark → Bool

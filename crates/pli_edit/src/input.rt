@@ -142,7 +142,7 @@ impl Input {
 }
 
 /// The number that a field stands for. `NotNumber` where it stands for none.
-fn number_told(field: &[u8]) -> Result<i32, EditFault>
+pub fn number_told(field: &[u8]) -> Result<i32, EditFault>
     ensures { IsNumberOf (number_in_text field.now) result }
 {
     match number_in(field) {

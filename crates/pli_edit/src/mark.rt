@@ -2,7 +2,7 @@
 
 ghost use Rattle.std.specs.Prelude.{◌≡◌, ◌+◌, ◌<◌, ℕ, IfOk, MatchOption, drop, false, length, ⊤};
 ghost use Rattle.pli_meaning.specs.InputLines as lines;
-ghost use Rattle.pli_edit.specs.Marks.{begins_line_end, has_line_end, IsFirstMark, IsInLine, IsTaken, IsShown, ReachUpTo};
+ghost use Rattle.pli_edit.specs.Marks.{begins_line_end, has_line_end, IsFirstMark, IsInLine, IsSizedMark, IsTaken, IsShown, ReachUpTo};
 
 use std::alloc::{AllocError, Global};
 use std::marker::Model;
@@ -100,7 +100,7 @@ impl Marks {
 }
 
 // Whether a byte may end a line, or belong to its end.
-fn has_line_end(line: &[u8]) -> bool
+pub fn has_line_end(line: &[u8]) -> bool
     ensures { result ≡ has_line_end line.now }
 {
     for byte in line {
@@ -135,8 +135,9 @@ fn characters_end(bytes: &[u8]) -> usize
 
 // The first mark and how many bytes it takes. CR directly before LF belongs to the line's end; a last line without LF ends too.
 #[tactic(auto, using(crate::proofs::Markings::first_ended, crate::proofs::Markings::first_none, crate::proofs::Markings::first_feed, crate::proofs::Markings::first_return, crate::proofs::Markings::first_character))]
-fn first_mark(rest: &[u8], is_begun: bool) -> Option<(Mark, usize)>
-    ensures { IsFirstMark is_begun rest.now result }
+pub fn first_mark(rest: &[u8], is_begun: bool) -> Option<(Mark, usize)>
+    ensures mark { IsFirstMark is_begun rest.now result }
+    ensures size { IsSizedMark is_begun result }
 {
     if rest.is_empty() {
         return if is_begun {

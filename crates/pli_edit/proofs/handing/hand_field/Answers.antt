@@ -1,4 +1,5 @@
-use Rattle.std.proofs.Common.{◌≡◌, ℕ, ◌+◌, [], ◌++◌, Ok, Err, length, take, replicate, subst, ap, sym, ◌∙◌, length-append, append_assoc}
+use Rattle.std.proofs.Common.{◌≡◌, ℕ, ◌+◌, [], ◌++◌, Ok, Err, length, take, replicate, subst, ap, sym, ◌∙◌}
+use Rattle.std.proofs.Common.{length-append, append_assoc}
 use Rattle.std.proofs.lemmas.List.{length-replicate}
 use Rattle.pli_edit.specs.Handing.{IsHandedOver}
 use Rattle.pli_edit.proofs.Handovers.{joined, cut_first, cut_later, piece_taken}
@@ -34,7 +35,8 @@ returns-in-Err-hand_repeated g c =
     subst (λ k. IsHandedOver (first ++ (text ++ behind)) start (Err (k + count)) new) before
     (subst (λ l. IsHandedOver l start (Err (length (first ++ text) + count)) new) (append_assoc first text behind)
     (cut_later (first ++ text) behind start two new count
-    (joined first text start one two c.in_ok-hand_repeated.ensures c.in_default.ensures) c.in-Err-hand_repeated.ensures))
+    (joined first text start one two c.in_ok-hand_repeated.ensures c.in_default.ensures)
+    c.in-Err-hand_repeated.ensures))
 
 pub returns-then-size-le-PIECE : goal.returns-then-size-le-PIECE
 returns-then-size-le-PIECE g c =
