@@ -23,70 +23,79 @@ use Rattle.code_marks.proofs.Stored.{extents_none, refer_amount_none, initial_no
 use Rattle.code_marks.proofs.Statements.{Marking, nothing, behind, before, both, all_restored_none, frame_begun_none}
 use Rattle.code_marks.proofs.Statements.{frame_ended_none, entered_none, variables_none, statements}
 use Rattle.std.specs.Prelude.{◌+◌, ◌*◌}
-use Rattle.pli_coding.specs.Registers.{stack_register, frame_register, a1, a3, u2, u4, u5}
-use Rattle.pli_coding.specs.Frames.{own_offset, lower_top, name_bytes, parameter_place, constant_size}
+use Rattle.pli_coding.specs.Registers.{stack_register, frame_register, a1, a3, u0, u2, u3, u4, u5}
+use Rattle.pli_coding.specs.Frames.{own_offset, lower_top, name_bytes, argument_at, list_offset, list_place}
+use Rattle.pli_coding.specs.Frames.{constant_size}
 use Rattle.pli_coding.specs.Locating.{table_number}
 use Rattle.pli_coding.specs.Extents.{number_word}
 use Rattle.pli_coding.specs.Statements.{block_words, block_held, stmts_words}
 
 -- ---- arguments
 
-given_words_none : (from to left : ℕ) → Unmarked (E.words_given from to left)
-given_words_none from to zero = none
-given_words_none from to (suc left) =
-    also (load_none u1 u5 (pos from)) (also (store_none frame_register u1 (pos to)) (given_words_none (from + 4)
-    (to + 4) left))
-
-parameters_none : (level n : ℕ) (ps : List ℕ) → Unmarked (E.parameters_given level n ps)
-parameters_none level n [] = none
-parameters_none level n (p ∷ ps) =
-    also (given_words_none (E.argument_bytes * n) (parameter_place level n) 5) (parameters_none level (suc n) ps)
+list_kept_none : (level : ℕ) (ps : List ℕ) → Unmarked (E.list_kept level ps)
+list_kept_none level [] = none
+list_kept_none level (p ∷ ps) =
+    also (store_none frame_register a1 (pos (list_place level)))
+    (next refl (next refl (store_none frame_register a1 list_offset)))
 
 if_copied_none : (c : E.Copied) (code : Code) → Unmarked code → Unmarked (E.if_copied c code)
-if_copied_none c code h = also (load_none u4 u5 (E.argument_at c.n 5)) (next refl h)
+if_copied_none c code h = also (load_none u4 u5 (argument_at c.n 5)) (next refl h)
 
 signature_none : (e : Environment) (c : E.Copied) → Unmarked (E.copy_signature e c)
 signature_none e c =
     one_of (is_star_type c.type)
-    (also (number_none a0 (table_number e c.declared)) (next refl (also (load_none a3 u5 (E.argument_at c.n 4))
+    (also (number_none a0 (table_number e c.declared)) (next refl (also (load_none a3 u5 (argument_at c.n 4))
     (clear refl))))
     (also (number_none a1 (table_number e c.declared)) (number_none u2 (constant_size e.parts c.declared)))
 
-copy_made_none : (e : Environment) (c : E.Copied) → Unmarked (E.copy_made e c)
-copy_made_none e c =
+copy_begun_none : (e : Environment) (c : E.Copied) → Unmarked (E.copy_begun e c)
+copy_begun_none e c =
     also (signature_none e c)
-    (also (store_none frame_register a1 (pos (E.copy_place e c + name_bytes)))
-    (also (also (load_none u1 frame_register lower_top) (next refl (store_none frame_register u1 lower_top)))
-    (also (own_none e a0 (pos (E.copy_place e c))) (clear refl))))
+    (also (store_none u5 a1 (argument_at c.n 4))
+    (also (load_none u1 frame_register lower_top) (next refl (store_none frame_register u1 lower_top))))
 
-word_copy_none : (n : ℕ) (type : Y.LeafType) → Unmarked (E.word_copy n type)
-word_copy_none n type =
-    next refl (next refl (also (load_none u2 u5 (E.argument_at n 0)) (stored_none type u2 E.copy_address)))
+value_taken_none : (n : ℕ) (type : Y.LeafType) → Unmarked (E.value_taken n type)
+value_taken_none n (Y.FixedLeaf p) = load_none u4 u5 (argument_at n 0)
+value_taken_none n Y.BitLeaf = load_none u4 u5 (argument_at n 0)
+value_taken_none n (Y.CharacterLeaf x) = none
+value_taken_none n (Y.VaryingLeaf x) = none
+value_taken_none n Y.PointerLeaf =
+    also (load_none u0 u5 (argument_at n 0))
+    (also (load_none u2 u5 (argument_at n 1))
+    (also (load_none u3 u5 (argument_at n 2)) (load_none u4 u5 (argument_at n 3))))
+value_taken_none n (Y.OffsetLeaf area) = load_none u4 u5 (argument_at n 0)
+value_taken_none n (Y.AreaLeaf x) = load_none u4 u5 (argument_at n 0)
+
+copy_named_none : (n : ℕ) → Unmarked (E.copy_named n)
+copy_named_none n =
+    also (load_none a0 frame_register list_offset) (also (plus_none a0 a0 (argument_at n 0)) (clear refl))
 
 copy_filled_none : (n : ℕ) (type : Y.LeafType) → Unmarked (E.copy_filled n type)
-copy_filled_none n (Y.FixedLeaf p) = word_copy_none n (Y.FixedLeaf p)
-copy_filled_none n Y.BitLeaf = word_copy_none n Y.BitLeaf
-copy_filled_none n (Y.CharacterLeaf x) = store_none u5 u1 (E.argument_at n 0)
-copy_filled_none n (Y.VaryingLeaf x) = store_none u5 u1 (E.argument_at n 0)
-copy_filled_none n Y.PointerLeaf = next refl
-    (next refl (copied_none (record { register = u5; displacement = E.argument_at n 0 }) E.copy_address))
-copy_filled_none n (Y.OffsetLeaf area) = word_copy_none n (Y.OffsetLeaf area)
-copy_filled_none n (Y.AreaLeaf x) = word_copy_none n (Y.AreaLeaf x)
+copy_filled_none n (Y.FixedLeaf p) = next refl (next refl (stored_none (Y.FixedLeaf p) u4 E.copy_address))
+copy_filled_none n Y.BitLeaf = next refl (next refl (stored_none Y.BitLeaf u4 E.copy_address))
+copy_filled_none n (Y.CharacterLeaf x) = store_none u5 u1 (argument_at n 5)
+copy_filled_none n (Y.VaryingLeaf x) = store_none u5 u1 (argument_at n 5)
+copy_filled_none n Y.PointerLeaf = clear refl
+copy_filled_none n (Y.OffsetLeaf area) = next refl (next refl (stored_none (Y.OffsetLeaf area) u4 E.copy_address))
+copy_filled_none n (Y.AreaLeaf x) = next refl (next refl (stored_none (Y.AreaLeaf x) u4 E.copy_address))
+
+copy_made_none : (e : Environment) (c : E.Copied) → Unmarked (E.copy_made e c)
+copy_made_none e c =
+    also (copy_begun_none e c)
+    (also (value_taken_none c.n c.type) (also (copy_named_none c.n) (copy_filled_none c.n c.type)))
 
 copies_none : (e : Environment) (cs : List E.Copied) → Unmarked (E.copies_made e cs)
 copies_none e [] = none
-copies_none e (c ∷ cs) =
-    also (if_copied_none c _ (also (copy_made_none e c) (copy_filled_none c.n c.type))) (copies_none e cs)
+copies_none e (c ∷ cs) = also (if_copied_none c _ (copy_made_none e c)) (copies_none e cs)
 
-copy_length_none : (n : ℕ) (x : Y.Extent) → Unmarked (E.copy_length n x)
-copy_length_none n (Y.ConstantExtent z) = number_none a1 _
-copy_length_none n Y.StarExtent = load_none a1 u5 (E.argument_at n 4)
-copy_length_none n Y.ReferExtent = load_none a1 u5 (E.argument_at n 4)
-copy_length_none n (Y.EvaluatedExtent place) = load_none a1 u5 (E.argument_at n 4)
+copy_length_none : (x : Y.Extent) → Unmarked (E.copy_length x)
+copy_length_none (Y.ConstantExtent z) = number_none a1 _
+copy_length_none Y.StarExtent = clear refl
+copy_length_none Y.ReferExtent = clear refl
+copy_length_none (Y.EvaluatedExtent place) = clear refl
 
 text_copy_none : (c : E.Copied) (mode : ℕ) (x : Y.Extent) → Unmarked (E.text_copy c mode x)
-text_copy_none c mode x =
-    if_copied_none c _ (also (load_none a0 u5 (E.argument_at c.n 0)) (also (copy_length_none c.n x) (clear refl)))
+text_copy_none c mode x = if_copied_none c _ (also (copy_length_none x) (clear refl))
 
 text_filled_none : (c : E.Copied) (type : Y.LeafType) → Unmarked (E.text_filled c type)
 text_filled_none c (Y.FixedLeaf p) = none
@@ -129,7 +138,7 @@ begun_none : (e : Environment) (head : Y.BlockHead) (words held : ℕ) (ps : Lis
 begun_none e head words held ps =
     also (frame_begun_none words head.level (length ps) (Some held))
     (next refl
-    (also (parameters_none head.level 0 ps)
+    (also (list_kept_none head.level ps)
     (next refl
     (also (entered_none 0 head.line)
     (also (arguments_none e ps) (also (variables_none e head.line) (act_none head.line)))))))

@@ -11,7 +11,8 @@ use Rattle.pli_coding.specs.Assembly.{Datum, Code}
 use Rattle.pli_coding.specs.Instructions.{is_immediate}
 use Rattle.pli_coding.specs.Frames.{is_constant}
 use Rattle.pli_coding.specs.Environments.{Environment, Taken, with_number}
-use Rattle.pli_coding.specs.Locating.{frame_found, frame_offset, own_place, NamePlace, FrameName, DataName, NameInData}
+use Rattle.pli_coding.specs.Locating.{frame_found, frame_offset, own_place, NamePlace, FrameName, ListName}
+use Rattle.pli_coding.specs.Locating.{DataName, NameInData, ListNumber}
 use Rattle.pli_coding.specs.Locating.{NumberPlace, KnownNumber, FrameNumber, DataNumber, Located, name_offset}
 use Rattle.pli_coding.specs.Locating.{number_loaded, newest_found, class_found, buffer_if, refer_read, leaf_resolved}
 use Rattle.pli_coding.specs.Locating.{refer_if, leaf_found, Address, direct_base, direct_register, loaded, is_simple}
@@ -29,6 +30,7 @@ use Rattle.code_marks.proofs.Pieces.{store_none}
 use Rattle.code_marks.proofs.Pieces.{plus_none, fetch_none}
 use Rattle.std.specs.Prelude.{◌+◌, ◌*◌}
 use Rattle.pli_coding.specs.Frames.{own_offset, buffer, buffer_size, buffer_lower, buffer_upper, display}
+use Rattle.pli_coding.specs.Frames.{list_offset, list_place}
 use Rattle.pli_coding.specs.Registers.{a2, a3, u0}
 use Rattle.pli_coding.specs.Locating.{frame_in, controlled_number, waiting_number, waiting_name, place_behind}
 use Rattle.pli_coding.specs.Locating.{based_located}
@@ -48,6 +50,8 @@ own_none e r place = frame_offset_none e e.level r place
 
 pub name_none : (e : Environment) (r : Register) (name : NamePlace) → Unmarked (name_offset e r name)
 name_none e r (FrameName level place) = frame_offset_none e level r place
+name_none e r (ListName level place) =
+    also (frame_found_none e level r) (also (load_none r (frame_in e level r) list_offset) (plus_none r r place))
 name_none e r (DataName d) = clear refl
 name_none e r (NameInData d place) = next refl (plus_none r r (pos place))
 
@@ -55,6 +59,9 @@ pub number_loaded_none : (e : Environment) (r : Register) (n : NumberPlace) → 
 number_loaded_none e r (KnownNumber n) = number_none r n
 number_loaded_none e r (FrameNumber level place) =
     also (frame_found_none e level r) (load_none r (frame_in e level r) place)
+number_loaded_none e r (ListNumber level place) =
+    also (frame_found_none e level r)
+    (also (load_none r (frame_in e level r) (pos (list_place level))) (load_none r r place))
 number_loaded_none e r (DataNumber d) = clear refl
 
 newest_none : (e : Environment) (t : Taken) (v : Y.Variable) → Unmarked (newest_found e t v)
