@@ -123,8 +123,8 @@ behind_closed k wanted =
 at_end_owing :
     (k : Called) (left' wanted c : ℕ) (f : Family) (v : Services) (r : Option BasicValue) (s : State) → IsCall k →
     AtEnd k left' c f v r s →
-    (owing k.code (left' + size_of (ending_code k.beginning.layer (place_in k.function))) (behind_aims k wanted)).done c f v r
-    (with_world s.world (newest_ended s))
+    (owing k.code (left' + size_of (ending_code k.beginning.layer (place_in k.function))) (behind_aims k wanted)).done c
+    f v r (with_world s.world (newest_ended s))
 at_end_owing k left' wanted c f v r s h o =
     let debt = left' + size_of (ending_code k.beginning.layer (place_in k.function)) in
     let l = leaving_of k left' c f v r s o in

@@ -11,7 +11,8 @@ use Rattle.pli_meaning.specs.Contents.{Generation}
 use Rattle.pli_meaning.specs.Evaluating.{Designated}
 use Rattle.pli_meaning.specs.Numbers.{is_of_precision}
 use Rattle.pli_meaning.specs.Placing.{with_element}
-use Rattle.pli_meaning.specs.StorageState.{AreaContents, Living, State, area_of_leaves, generation_at, generation_changed}
+use Rattle.pli_meaning.specs.StorageState.{AreaContents, Living, State, area_of_leaves, generation_at}
+use Rattle.pli_meaning.specs.StorageState.{generation_changed}
 use Rattle.pli_meaning.specs.StorageState.{generation_of, heap_serial, living_changed, living_of}
 use Rattle.area_keeper.specs.Keeper.{Keeper}
 use Rattle.pli_coding.specs.Frames.{MemoryParts}
@@ -74,7 +75,6 @@ owned_assigned parts serial d v p is =
   where
     change : Living → Living
     change = generation_changed (with_element d v)
-
 
     place : (n : ℕ) → Living → Type 0
     place n l = IsPlaceOf parts p.control.layers l.owner (p.places.at n) (bytes_of p.keeper (holder_of l))

@@ -160,7 +160,8 @@ stored_goes :
     Linked k.call.surroundings.links k.call.code y.index (stores k.environment x) →
     Comes k.call.code c' f' v' (owing k.call.code debt (statement_aims k labels acts i wanted left'))
     (put_in k x line (BasicNumber z) k.call.surroundings.acts s)
-stored_goes k labels x source line index left' need most h acts wanted debt size i c' f' v' z s y since wide q paid end l =
+stored_goes k labels x source line index left' need most h acts wanted debt size i c' f' v' z s y since wide q paid end
+    l =
     let w = k.call.surroundings in
     let code = k.call.code in
     let aims = statement_aims k labels acts i wanted left' in
@@ -239,5 +240,5 @@ assign_does k labels x source line index left' need most h ev p numbers c wanted
     (λ c' f' v' height label s q.
     lands_repaid debt aims (λ i g' u q'. lands_since (omega arith) q') q)
     (λ c' f' v' r s q. absurd q)
-    (ev p' numbers 0 0 (index + size_of one) g o' refl (let room = h.registers in omega (arith, room), h.saved) lv (omega (arith, all, n0, n1, n2))
-    at))))))
+    (ev p' numbers 0 0 (index + size_of one) g o' refl (let room = h.registers in omega (arith, room), h.saved) lv
+    (omega (arith, all, n0, n1, n2)) at))))))

@@ -96,7 +96,8 @@ small_is z n e h = omega (arith, e, h)
 raised_here :
     {w : Surroundings} {code : List Instr} {p : Point} {numbers : ℕ → ℕ} {i : ℕ} {aims : Aims (Unit {0})}
     (closed : Closed code aims) (credits : ℕ) (f : Family) (c : Condition) (number n : ℕ)
-    (h : IsFrame (frame_under w.parts p.control.layers)) (known : Stands w p × IsImage w code p) → (credits < cost code) × (w.acts + 1 < 2 ^ 64) →
+    (h : IsFrame (frame_under w.parts p.control.layers)) (known : Stands w p × IsImage w code p) →
+    (credits < cost code) × (w.acts + 1 < 2 ^ 64) →
     Linked w.links code i (Plain I.Ecall ∷ []) → U.condition_of number ≡ Some c → n < 2 ^ 16 →
     IsSystem (force p.state.activations c) →
     ((b : Base) → At b i (Known (point_ground w p h) (services_of p) numbers (λ j. 0)
@@ -215,7 +216,8 @@ unit_of_error X around n k s only = error_run_is X around n k s (force s.activat
 pub error_comes :
     {X : Type 0} {w : Surroundings} {code : List Instr} {p : Point} {numbers : ℕ → ℕ} {aims : Aims X}
     (closed : Closed code aims) (routines : Routines w.links code) (credits : ℕ) (f : Family) (around : Around) (n : ℕ)
-    (h : IsFrame (frame_under w.parts p.control.layers)) (known : Stands w p × IsImage w code p) → n < 2 ^ 16 → (credits + 4 < cost code) × (w.acts + 1 < 2 ^ 64) →
+    (h : IsFrame (frame_under w.parts p.control.layers)) (known : Stands w p × IsImage w code p) → n < 2 ^ 16 →
+    (credits + 4 < cost code) × (w.acts + 1 < 2 ^ 64) →
     p.control.line ≡ around.line → IsSystem (force p.state.activations C.Error) →
     ((b : Base) → At b (routines.at + 8) (Known (point_ground w p h) (services_of p) numbers
     (λ j. 0) (coded n) b) (f b)) →
@@ -328,7 +330,8 @@ condition_comes {w} {code} {p} {numbers} closed routines credits f around c numb
     (λ b. zero_equal _ _ (at2 b).holds.regs.0 (zero_is (at2 b).holds.body)) in
     subst (Comes code 0 f2 (services_of q) _) (sym (unit_of_raise around c n w.acts q.state only.0))
     (onward closed r2 (λ f3 at3.
-    error_comes closed routines 3 f3 around n h known2 small' (let i = mine.inside in omega (arith, i), fits.1) same only.1
+    error_comes closed routines 3 f3 around n h known2 small' (let i = mine.inside in omega (arith, i), fits.1) same
+    only.1
     (λ b. let o = at3 b in record {
       pc = o.pc ∙ ap (address b) (omega arith);
       holds = record { body = o.holds.body; regs = (o.holds.regs.1.0, tt) };

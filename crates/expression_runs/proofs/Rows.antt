@@ -260,8 +260,7 @@ double_each input acts few b =
     let x = double_number input acts in
     let four = setting_of k labels 4 100 in
     let over : OverflowComes four = overflow_ends four (unraised input acts 4 few) in
-    let operand = variable_does four double_spot b x in
-    (
+    let operand = variable_does four double_spot b x in (
       assign_does k labels double_spot (Y.NumberConstant 536870912) 3 double_start left_over 0 100
           (first_is input acts few b) (constant_does (setting_of k labels 3 100) 536870912 (omega arith)),
       (
@@ -344,12 +343,13 @@ double_runs keeps input first acts few bytes =
 -- ---- what the program comes to
 
 unfoldable flows : Unit {0}
-unfolding F.give F.◌>>=◌ F.◌>>◌ F.looked F.stored F.act F.finish F.returns F.jumps F.choose F.given F.list_from F.leaving
+unfolding F.give F.◌>>=◌ F.◌>>◌ F.looked F.stored F.act F.finish F.returns F.jumps F.choose F.given F.list_from
+    F.leaving
 flows = tt
 
 unfoldable values : Unit {0}
 unfolding V.number V.designated V.located V.numbers V.variable_designated V.part_designated V.stored_value R.or_error
-  R.demanded R.value_of R.raised R.unit_run R.error R.error_unit_run P.element_stored M.assigned
+    R.demanded R.value_of R.raised R.unit_run R.error R.error_unit_run P.element_stored M.assigned
 values = tt
 
 unfoldable makings : Unit {0}

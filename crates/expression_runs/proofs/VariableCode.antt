@@ -33,7 +33,7 @@ address_from e x o =
     record {
       register = if has_constant_size (declared_in o) then frame_in e x.level u3 else u3;
       displacement = pos (if has_constant_size (declared_in o)
-      then automatic_place e.parts e.program x.block x.level x.index + 16 + leaf_place (declared_in o) 0 else 0);
+          then automatic_place e.parts e.program x.block x.level x.index + 16 + leaf_place (declared_in o) 0 else 0);
     }
 
 abbrev reached_from : Environment → Taken → Spot → Option Y.DeclaredVariable → Code

@@ -10,8 +10,8 @@ use Rattle.pli_meaning.specs.Executing as M
 use Rattle.pli_meaning.specs.Placing as P
 use Rattle.pli_meaning.specs.Raising as R
 use Rattle.pli_meaning.specs.Raising.{Around}
-use Rattle.pli_meaning.specs.StorageState.{Living, State, binding_in, ancestor_at, generation_of, if_same_shape, living_of}
-use Rattle.pli_meaning.specs.StorageState.{named, standing_for, with_generation, with_world}
+use Rattle.pli_meaning.specs.StorageState.{Living, State, binding_in, ancestor_at, generation_of, if_same_shape}
+use Rattle.pli_meaning.specs.StorageState.{living_of, named, standing_for, with_generation, with_world}
 use Rattle.pli_typing.specs.TypedTree as Y
 use Rattle.expression_runs.specs.Variables.{Spot, number_binding, number_shape, variable_of, whole, whole_part}
 
@@ -47,7 +47,7 @@ pub designated_is :
     (around : Around) {s : State} {x : Spot} (k : ℕ) (h : Holds s x) →
     V.designated around (whole x) k s ≡ give (designated_number h.serial h.values) k s
 unfolding V.designated V.located V.numbers V.variable_designated V.part_designated looked ◌>>=◌ ◌>>◌ R.or_error
-  R.demanded choose give
+    R.demanded choose give
 designated_is around {s} {x} k h =
     ap (λ o. flow_on k (R.or_error around 101 o k s)
     (λ b. V.part_designated around b.name b.shape whole_part [])) h.stands

@@ -82,8 +82,7 @@ reaches_by {k} {p = p} level base h begun o (inr outer) =
     ap (frame_at p.control.layers) same
     ∙ ap (λ ls. frame_at ls (height_of (ancestor_at k.first.state level))) o.later.layers
     ∙ sym outer.4 in
-    subst (λ q. Reaches q level (point_ground w p h) base) (sym outer.0)
-    (
+    subst (λ q. Reaches q level (point_ground w p h) base) (sym outer.0) (
       word_in (frame_under w.parts p.control.layers) (144 + 4 * level) h (omega arith) (omega (arith, less, few)),
       λ t b m stands.
           outer_load w.parts w.units b.at level m p.state.activations p.control.layers n.activation
@@ -147,11 +146,10 @@ number_at {k} {p = p} x is begun o f there =
       value = first.1;
       wide = first.2;
       tells = λ m stored.
-          let t = told m stored in
-          (
+          let t = told m stored in (
             ap (load 4 m) (sym here)
-            ∙ word_loaded 31 (p.places.at is.serial + 0 + 0) first.0 m refl
-            (subst (λ v. Tells (Fixed 31) v (p.places.at is.serial + 0 + 0) m) first.1 t.0),
+                ∙ word_loaded 31 (p.places.at is.serial + 0 + 0) first.0 m refl
+                (subst (λ v. Tells (Fixed 31) v (p.places.at is.serial + 0 + 0) m) first.1 t.0),
             subst (λ n. n % 4 ≡ 0) here t.1,
           );
     }
@@ -219,7 +217,8 @@ variable_does k x begun is p numbers taken c index f o line registers l paid the
     let even = (n.tells (f base).machine.memory (there base).at.storage).1 in
     let part = loads e x in
     let r = read_based (x.level == e.level) x.level {t = λ i. 0} c f is.base Load.Word
-    (pos (number_place e x)) (is.base + number_place e x) (λ b. word n.z) (reaches_by x.level is.base h begun o is.frame)
+    (pos (number_place e x)) (is.base + number_place e x) (λ b. word n.z)
+    (reaches_by x.level is.base h begun o is.frame)
     (omega (arith, inside)) (place_at k.block x is even)
     (λ b m stands. (n.tells m stands.storage).0) (subst (Linked w.links k.block.call.code index) code l)
     (λ b. known_in h (there b) tt) in

@@ -146,7 +146,8 @@ called_means k c more {p = p} h o =
     let n = newest_at h.begun o in
     ap (λ q. V.procedure_entered k.around q level [] acts s) h.found
     ∙ ap (λ (enters : Entry → Meaning (Option BasicValue)). enters (function_entry c.procedure height) acts s) h.enter
-    ∙ ap (λ (a : Around). M.block_run a (block_of c.procedure) (function_entry c.procedure height) acts s) (sym h.around)
+    ∙ ap (λ (a : Around). M.block_run a (block_of c.procedure) (function_entry c.procedure height) acts s)
+    (sym h.around)
     ∙ ap (λ m. M.block_run c.around (block_of c.procedure) (function_entry c.procedure m) acts s)
     (own_ancestor h.level n ∙ sym h.parent)
 
@@ -156,9 +157,9 @@ abbrev as_number : Option BasicValue → Meaning ℤ
 as_number r = V.returned r >>= (λ v. give (number_in v))
 
 behind_goes :
-    (k : Setting) (c : Callee) (more taken index credits : ℕ) {numbers : ℕ → ℕ} {p : Point} (h : IsFunctionCall k c more)
-    (o : IsAmong k.block numbers p) (part : Code) (call : ℕ) → call + 2 ≡ index + size_of part → (c' : ℕ) (f : Family)
-    (v : Services) (r : Option BasicValue) (s : State) →
+    (k : Setting) (c : Callee) (more taken index credits : ℕ) {numbers : ℕ → ℕ} {p : Point}
+    (h : IsFunctionCall k c more) (o : IsAmong k.block numbers p) (part : Code) (call : ℕ) →
+    call + 2 ≡ index + size_of part → (c' : ℕ) (f : Family) (v : Services) (r : Option BasicValue) (s : State) →
     IsBehind (function_at k.block.call.surroundings k.block.call.code (called_from c call) p numbers)
     (credits + size_of part) c' f v r s →
     Comes k.block.call.code c' f v (number_aims k.block k.labels (behind p numbers taken credits index part))
@@ -228,7 +229,8 @@ function_does k c more h made' each p numbers taken credits index f o line regis
     let goal = number_aims k.block k.labels y in
     let closed = number_closed k.block k.labels y in
     let tree = Y.Calling c.procedure.head.number k.block.environment.level Y.NoArgument in
-    let flow = M.block_run c.around (block_of c.procedure) (function_entry c.procedure c.calling.parent) w.acts p.state in
+    let entry = function_entry c.procedure c.calling.parent in
+    let flow = M.block_run c.around (block_of c.procedure) entry w.acts p.state in
     let most = h.most in
     let enough = h.enough in
     let turns = ap (λ (a : Around). a.turns) h.around in
@@ -239,13 +241,14 @@ function_does k c more h made' each p numbers taken credits index f o line regis
     (arguments_given z p numbers index credits f o.stands o.image (omega arith, refl) (newest_frame_at k c more h o)
     (front_of given' call' l') there)
     (λ g at.
-    comes_map (behind_aims (function_at w code c' p numbers) (credits + size_of part)) (before code goal w.acts as_number)
-    flow
+    comes_map (behind_aims (function_at w code c' p numbers) (credits + size_of part))
+    (before code goal w.acts as_number) flow
     (λ c1 f1 v1 r s q. behind_goes k c more taken index credits h o part call (omega (arith, size, n)) c1 f1 v1 r s q)
     (λ c1 f1 v1 height label s q. absurd q)
     (λ c1 f1 v1 r s q. absurd q)
     (function_runs w code c' p numbers (credits + size_of given') (credits + size_of part) g (o.stands, o.image)
-    (function_from k c call h.function, room_from k c call p (room_among k c more h o)) (back_of given' call' l') (made' call p numbers o).0 o.words
+    (function_from k c call h.function, room_from k c call p (room_among k c more h o)) (back_of given' call' l')
+    (made' call p numbers o).0 o.words
     (each call p numbers o) (made' call p numbers o).1 (omega (arith, enough, turns, later))
     (omega (arith, paid, most, size, n)) (λ b. (at b).0)
     (λ b. record { parent = (at b).1.parent; texts = (at b).1.texts })))))

@@ -179,14 +179,15 @@ body_goes w code c p numbers f h b o each only few there =
     let next' : Unit {0} → Meaning (Unit {0}) = λ u. M.end_reached k.around true in
     let aims = body_aims k.call left_over in
     comes_on w.acts flow next'
-    (comes_map (statement_aims k [] acts (body_index c + size_of body) left_over left_over) (before code aims w.acts next')
-    flow
+    (comes_map (statement_aims k [] acts (body_index c + size_of body) left_over left_over)
+    (before code aims w.acts next') flow
     (λ c' f' v' r s q.
     subst (λ u. Comes code c' f' v' aims (M.end_reached k.around true w.acts u)) (sym q.state)
     (onward (body_closed k.call left_over) q.reach
     (λ g at.
     value_lacks (body_closed k.call left_over) h.routines k.around left_over g
-    (point_frame q.among.stands q.among.image) (q.among.stands, q.among.image) h.line (omega (arith, last, proc), h.acts)
+    (point_frame q.among.stands q.among.image) (q.among.stands, q.among.image) h.line
+    (omega (arith, last, proc), h.acts)
     h.raises (subst (λ xs. IsSystem (force xs C.Error)) (sym q.among.later.activations) only) l4 at)))
     (λ c' f' v' height label s q. absurd (cc q.carried))
     (λ c' f' v' r s q. q)

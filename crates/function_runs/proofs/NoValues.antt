@@ -120,8 +120,9 @@ value_lacks {X} {w} {code} {p} {numbers} {i} closed routines around c f h known 
       );
     }) in
     let g2 = reached r2 in
-    let calling : Calling w.links code (i + size_of first + 2) g2 (λ b. Done (services_of q) (g2 b).machine.memory line 1)
-    = record {
+    let calling :
+    Calling w.links code (i + size_of first + 2) g2 (λ b. Done (services_of q) (g2 b).machine.memory line 1) =
+    record {
       linked = first_of (Plain I.Ecall) (code' ++ jump) l2;
       pc = λ b. (reached_holds r2 b).pc;
       answers = λ b.

@@ -80,12 +80,11 @@ below_frame {k} {p = p} level base i b o (inl own) =
     let newest : own_height k ≡ suc (length φs) = omega (arith, many) in
     let there : frame_at p.control.layers (own_height k) ≡ frame_under parts p.control.layers =
     subst (λ ls. frame_at ls (own_height k) ≡ frame_under parts ls) (sym n.layers)
-    (ap (λ q. cond q n.layer.at (frame_at φs (own_height k))) (eq-eqb (own_height k) (suc (length φs)) newest)) in
-    (
+    (ap (λ q. cond q n.layer.at (frame_at φs (own_height k))) (eq-eqb (own_height k) (suc (length φs)) newest)) in (
       omega (arith, height),
       own.1
-      ∙ sym (subst (λ ls. frame_at ls (own_height k) ≡ frame_under parts ls) o.later.layers there)
-      ∙ ap (λ j. frame_at k.first.control.layers j) (sym height),
+          ∙ sym (subst (λ ls. frame_at ls (own_height k) ≡ frame_under parts ls) o.later.layers there)
+          ∙ ap (λ j. frame_at k.first.control.layers j) (sym height),
     )
 below_frame level base i b o (inr outer) = (outer.2, outer.4)
 

@@ -62,9 +62,10 @@ use Rattle.function_runs.specs.FunctionCalls.{IsFunctionCall, called_from}
 use Rattle.function_runs.specs.Functions.{IsFunction, function_block, function_code, function_entry}
 use Rattle.function_runs.specs.Functions.{function_tail}
 use Rattle.function_runs.specs.Rows.{FetchRan, fetch_added, fetch_again, fetch_body, fetch_code, fetch_entry}
-use Rattle.function_runs.specs.Rows.{fetch_environment, fetch_first, fetch_image, fetch_inner, fetch_main, fetch_program}
-use Rattle.function_runs.specs.Rows.{fetch_rest, fetch_return, fetch_spot, fetch_twice, fetched, inner_body, inner_coded}
-use Rattle.function_runs.specs.Rows.{inner_entry, inner_environment, inner_procedure, main_coded}
+use Rattle.function_runs.specs.Rows.{fetch_environment, fetch_first, fetch_image, fetch_inner, fetch_main}
+use Rattle.function_runs.specs.Rows.{fetch_program, fetch_rest, fetch_return, fetch_spot, fetch_twice, fetched}
+use Rattle.function_runs.specs.Rows.{inner_body, inner_coded, inner_entry, inner_environment, inner_procedure}
+use Rattle.function_runs.specs.Rows.{main_coded}
 use Rattle.function_runs.proofs.FunctionCalls.{function_does}
 use Rattle.function_runs.proofs.OuterVariables.{function_number}
 use Rattle.function_runs.proofs.ReturnValues.{return_does}
@@ -404,12 +405,12 @@ again_does input (suc more) few b =
 pub fetch_each :
     (input : List ℕ) (acts : ℕ) → acts + 1 < 2 ^ 64 → IsBegun (fetch_block input acts) →
     EachDoes (fetch_block input acts) [] fetch_body (body_index (main_of (fetch_whole input acts))) left_over
-fetch_each input acts few b =
-    (
-      assign_does (fetch_block input acts) [] fetch_spot (Y.NumberConstant 715827883) 5 fetch_start left_over 0 200
-          (first_is input acts few b) (constant_does (setting_of (fetch_block input acts) [] 5 200) 715827883 (omega arith)),
-      (again_does input acts few b, tt),
-    )
+fetch_each input acts few b = (
+  assign_does (fetch_block input acts) [] fetch_spot (Y.NumberConstant 715827883) 5 fetch_start left_over 0 200
+      (first_is input acts few b)
+      (constant_does (setting_of (fetch_block input acts) [] 5 200) 715827883 (omega arith)),
+  (again_does input acts few b, tt),
+)
 
 -- ---- the whole
 
@@ -450,17 +451,18 @@ fetch_runs keeps input first acts few bytes =
 -- ---- what the program comes to
 
 unfoldable flows : Unit {0}
-unfolding F.give F.◌>>=◌ F.◌>>◌ F.looked F.stored F.act F.finish F.returns F.jumps F.choose F.given F.list_from F.leaving
+unfolding F.give F.◌>>=◌ F.◌>>◌ F.looked F.stored F.act F.finish F.returns F.jumps F.choose F.given F.list_from
+    F.leaving
 flows = tt
 
 unfoldable values : Unit {0}
 unfolding V.number V.designated V.located V.numbers V.variable_designated V.part_designated V.stored_value R.or_error
-  R.demanded R.value_of R.raised R.unit_run R.error R.error_unit_run P.element_stored M.assigned
+    R.demanded R.value_of R.raised R.unit_run R.error R.error_unit_run P.element_stored M.assigned
 values = tt
 
 unfoldable calls : Unit {0}
 unfolding V.called V.arguments V.all_passed_last V.procedure_entered V.returned K.variables_made K.automatic_made
-  K.extents K.variable_made K.parameters_bound
+    K.extents K.variable_made K.parameters_bound
 calls = tt
 
 unfoldable statements : Unit {0}

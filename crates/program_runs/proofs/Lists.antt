@@ -104,7 +104,8 @@ comes_since {k} {labels} {acts} {more} {index} {wanted} {left'} {flow = flow} fe
 statements_do :
     (k : Block) (labels : List Label) (body : Y.Stmts) (acts index left' c wanted : ℕ) (p : Point)
     (numbers : ℕ → ℕ) (f : Family) → acts ≤ p.state.world.acts → EachDoes k labels body index left' →
-    IsAmong k numbers p → Linked k.call.surroundings.links k.call.code index (stmts_code k.environment none_taken body) →
+    IsAmong k numbers p →
+    Linked k.call.surroundings.links k.call.code index (stmts_code k.environment none_taken body) →
     (c ≤ wanted) × (c + size_of (stmts_code k.environment none_taken body) ≤ cost k.call.code) →
     AreIn k.call.surroundings p numbers index f →
     Comes k.call.code c f (services_of p)

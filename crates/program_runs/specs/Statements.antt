@@ -173,8 +173,8 @@ pub record StatementsDo : Type 0 where
       (stmt_code k.environment none_taken (Y.Goto k.environment.level label line)) →
       Does k labels (Y.Goto k.environment.level label line) index left'
 
--- a list does what it means if each of its statements does; it goes on itself at its own labels. There are turns enough,
--- since each jump makes an act.
+-- a list does what it means if each of its statements does; it goes on itself at its own labels. There are turns
+-- enough, since each jump makes an act.
 abbrev pub ListsDo : Type 0
 ListsDo =
     (k : Block) (labels : List Label) (body : Y.Stmts) (index left' : ℕ) (p : Point) (numbers : ℕ → ℕ)
