@@ -577,7 +577,8 @@ last_comes k h z given c f l there =
     let n0 = size_append (up ++ below) jump in
     let n1 = size_append up below in
     let r1 = stack_back k h (numbers_back k) to given c f (front_of up below l0) there in
-    let r2 = frame_back k h (numbers_back k) to given (c + size_of up) (reached r1) (back_of up below l0) (reached_holds r1) in
+    let r2 = frame_back k h (numbers_back k) to given (c + size_of up) (reached r1) (back_of up below l0)
+    (reached_holds r1) in
     let r3 = jumped_back k h z given (c + size_of up + 1) (reached r2)
     (linked_at _ jump (omega (arith, n1)) (back_of (up ++ below) jump l)) (reached_holds r2) in
     reach_with (c + size_of (last_code k)) (omega (arith, n0, n1))
@@ -608,8 +609,8 @@ ends function k z given c word' has l =
     (reached_holds r2) in
     let r4 = all_loaded k h z given (c + 2 + 1 + size_of gives) (reached r3) (front_of restores last l3)
     (reached_holds r3) in
-    let r5 = last_comes k h z given (c + 2 + 1 + size_of gives + size_of restores) (reached r4) (back_of restores last l3)
-    (reached_holds r4) in
+    let r5 = last_comes k h z given (c + 2 + 1 + size_of gives + size_of restores) (reached r4)
+    (back_of restores last l3) (reached_holds r4) in
     reach_with (c + size_of (ending_code k.end.layer function)) (omega (arith, n0, n1))
     (reach_then r1 (reach_then r2 (reach_then r3 (reach_then r4 r5))))
 
