@@ -1,5 +1,5 @@
 -- A procedure's block is entered: from its call to the machine of the new point.
-use Rattle.std.proofs.Common.{◌≡◌, ℕ, ◌+◌, ◌%◌, ◌^◌, ◌<◌, List, [], ◌∷◌, ◌++◌, refl}
+use Rattle.std.proofs.Common.{◌≡◌, ℕ, ◌+◌, ◌*◌, ◌%◌, ◌^◌, ◌<◌, ◌≤◌, List, [], ◌∷◌, ◌++◌, refl}
 use Rattle.std.proofs.Common.{sym, ap}
 use Rattle.std.proofs.Common.{◌∙◌, subst, arith}
 use Rattle.std.proofs.lemmas.Int.{ints}
@@ -15,16 +15,17 @@ use Rattle.pli_coding.specs.Instructions.{move, small, number, load_word}
 use Rattle.pli_coding.specs.Registers.{frame_register, a0, a1, a2, a3, a7, u5}
 use Rattle.activation_relation.specs.Chains.{HasParent}
 use Rattle.activation_relation.specs.FrameLaws.{AreWords}
-use Rattle.activation_relation.specs.Frames.{frame_under, stored, frame_stores}
+use Rattle.activation_relation.specs.Frames.{frame_under, stored, frame_stores, words_from}
 use Rattle.activation_relation.specs.Layers.{Point, services_of}
 use Rattle.activation_relation.specs.Points.{Surroundings, Stands}
 use Rattle.activation_relation.proofs.Blocks.{enter_answered}
 use Rattle.activation_relation.proofs.PointSteps.{entered_stands, entered_memory}
+use Rattle.activation_relation.proofs.StoredWords.{within_run}
 use Rattle.run_steps.specs.Bodies.{Known, reserved, reserved_are}
 use Rattle.run_steps.proofs.Bodies.{at_place, frame_is, zero_is, constant_piece}
 use Rattle.run_steps.specs.Calls.{Calling}
 use Rattle.run_steps.proofs.Calls.{called, call_done}
-use Rattle.run_steps.specs.Engine.{Base}
+use Rattle.run_steps.specs.Engine.{Base, address}
 use Rattle.run_steps.specs.Items.{Linked, At}
 use Rattle.run_steps.proofs.Items.{straight}
 use Rattle.run_steps.proofs.Jumps.{front_of, back_of}
@@ -56,9 +57,11 @@ begun_at w p x f =
       point = p;
       layer = x.layer;
       parent = x.entry.parent;
-      texts = x.texts;
+      texts = λ b. x.texts;
       list = λ b. (f b).machine.registers 11;
       given = λ b. (f b).machine.registers 10;
+      return = λ b. address b x.layer.back;
+      first = λ b. (x.layer.at + 0, address b x.layer.back) ∷ words_from (x.layer.at + 8) x.layer.held 0 x.layer.saved;
     }
 
 is_begun :
@@ -76,7 +79,12 @@ is_begun {p = p} {x = x} f q at =
       parent = λ b. (at b).calling.parent;
       lower = q.is.lower;
       top = q.is.top;
-      back = q.is.back;
+      within = λ b.
+          let most : x.layer.saved ≤ 7 = q.is.next.laid.saved in (
+            (omega arith, omega arith),
+            within_run x.layer.at (144 + 4 * x.layer.level) (x.layer.at + 8) x.layer.held 0 x.layer.saved (omega arith)
+                (omega (arith, most)),
+          );
     }
 
 are_words :
@@ -110,7 +118,7 @@ memory_new :
 memory_new {w} {p = p} {x = x} f q b m o =
     let k = begun_at w p x f in
     let e : m ≡ stored (frame_stores w.parts b.at x.entry.parent p.state.activations x.layer p.control.layers) o.first =
-    o.is ∙ ap (λ xs. stored xs o.first) (all_stored k b q.is.kind) in
+    o.is ∙ ap (λ xs. stored xs o.first) (all_stored k b q.is.kind refl) in
     let high = (bounds w.parts p.control.layers q.stands.laid).high in
     let last = q.image.parts.inside in
     let lower = q.is.lower in
@@ -132,7 +140,7 @@ frame_comes :
 frame_comes {w} {p = p} {numbers = numbers} {x = x} c index f q at l there =
     let k = begun_at w p x f in
     let h = is_begun f q at in
-    let r = frame_made k h {t = λ n. 0} c f l
+    let r = frame_made k h {t = λ n. 0} c f (λ b. refl) l
     (λ b. record {
       pc = (there b).at.pc;
       holds = record {

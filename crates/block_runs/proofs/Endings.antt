@@ -24,8 +24,8 @@ use Rattle.pli_coding.specs.Frames.{return_address, frame_below, saved_register,
 use Rattle.pli_coding.specs.Instructions.{is_immediate, load_word, plus, small}
 use Rattle.pli_coding.specs.Registers.{frame_register, stack_register, return_register, zero_register, held, a0, a7}
 use Rattle.image_runs.specs.Runs.{Whole}
-use Rattle.activation_relation.specs.Changes.{popped, popped_from}
-use Rattle.activation_relation.specs.Entering.{BlockEnd, GoesBelow}
+use Rattle.activation_relation.specs.Changes.{Keeps, popped, popped_from}
+use Rattle.activation_relation.specs.Entering.{BlockEnd, GoesBelow, HoldsBefore}
 use Rattle.activation_relation.specs.Frames.{AreLaid, FrameStands, FramesStand, GoesBack, frame_under, frame_start}
 use Rattle.activation_relation.specs.Frames.{upper_top}
 use Rattle.activation_relation.specs.Layers.{Point, services_of}
@@ -49,6 +49,7 @@ use Rattle.run_steps.proofs.Reaching.{reach_moved}
 use Rattle.run_steps.specs.Temporaries.{put}
 use Rattle.run_steps.proofs.Temporaries.{held_put, held_is, put_other, put_same}
 use Rattle.block_runs.specs.Machines.{IsIn, IsImage, AreEven}
+use Rattle.block_runs.specs.InnerBeginnings.{inner_ending_code}
 use Rattle.block_runs.specs.Endings.{IsEnding, IsWord, HasGiven, ending_code, result_code}
 use Rattle.block_runs.proofs.Places.{IsFrame, ground_at, word_in, newest_frame}
 use Rattle.block_runs.proofs.PointGrounds.{registers_in, call_is}
@@ -70,21 +71,41 @@ pub record IsLeaving (k : Leaving) : Type 0 where
   pub back : k.end.back ≤ most_code
   pub there : (b : Base) → IsIn k.surroundings k.point k.end.after k.end.index b (k.first b)
 
+-- what is known of it, whichever kind of block it is
+pub record Leaves (k : Leaving) : Type 0 where
+  pub stands : Stands k.surroundings k.point
+  pub image : IsImage k.surroundings k.code k.point
+  pub newest : k.point.control.layers ≡ k.end.layer ∷ k.end.others
+  pub holds : HoldsBefore k.end.layer k.end.before k.end.after
+  pub texts : Keeps 0 k.end.layer.entries k.point.control.entries k.end.kept
+  pub there : (b : Base) → IsIn k.surroundings k.point k.end.after k.end.index b (k.first b)
+
+leaves : {k : Leaving} → IsLeaving k → Leaves k
+leaves h =
+    record {
+      stands = h.stands;
+      image = h.image;
+      newest = h.is.newest;
+      holds = h.is.holds;
+      texts = h.is.texts;
+      there = h.there;
+    }
+
 abbrev memory_of : Leaving → Base → List ℕ
 memory_of k b = (k.first b).machine.memory
 
-pub laid_there : (k : Leaving) → IsLeaving k → AreLaid k.surroundings.parts (k.end.layer ∷ k.end.others)
-laid_there k h = subst (AreLaid k.surroundings.parts) h.is.newest h.stands.laid
+pub laid_there : (k : Leaving) → Leaves k → AreLaid k.surroundings.parts (k.end.layer ∷ k.end.others)
+laid_there k h = subst (AreLaid k.surroundings.parts) h.newest h.stands.laid
 
-pub own_frame : (k : Leaving) → IsLeaving k → IsFrame k.end.layer.at
+pub own_frame : (k : Leaving) → Leaves k → IsFrame k.end.layer.at
 own_frame k h =
     newest_frame k.surroundings.parts (k.end.layer ∷ k.end.others) h.image.parts (laid_there k h)
-    (subst (AreEven k.surroundings.parts) h.is.newest h.image.even)
+    (subst (AreEven k.surroundings.parts) h.newest h.image.even)
 
-pub frame_of_below : (k : Leaving) → IsLeaving k → IsFrame (frame_under k.surroundings.parts k.end.others)
+pub frame_of_below : (k : Leaving) → Leaves k → IsFrame (frame_under k.surroundings.parts k.end.others)
 frame_of_below k h =
     newest_frame k.surroundings.parts k.end.others h.image.parts (laid_there k h).1
-    (subst (AreEven k.surroundings.parts) h.is.newest h.image.even).1
+    (subst (AreEven k.surroundings.parts) h.newest h.image.even).1
 
 -- the words of its own frame
 record OwnFrame (k : Leaving) (b : Base) : Type 0 where
@@ -92,20 +113,20 @@ record OwnFrame (k : Leaving) (b : Base) : Type 0 where
   others : List Activation
   words : FrameStands k.surroundings.parts b.at (memory_of k b) activation others k.end.layer k.end.others
 
-own_words : (k : Leaving) → IsLeaving k → (b : Base) → OwnFrame k b
+own_words : (k : Leaving) → Leaves k → (b : Base) → OwnFrame k b
 own_words k h b =
-    let n = newest_of k.surroundings.units k.point k.end.layer k.end.others h.stands.active h.is.newest in
+    let n = newest_of k.surroundings.units k.point k.end.layer k.end.others h.stands.active h.newest in
     let parts = k.surroundings.parts in
     let m = memory_of k b in
     let stand = subst (λ xs. FramesStand parts b.at m xs (k.end.layer ∷ k.end.others)) n.first
-    (subst (λ ls. FramesStand parts b.at m k.point.state.activations ls) h.is.newest (h.there b).at.frames) in
+    (subst (λ ls. FramesStand parts b.at m k.point.state.activations ls) h.newest (h.there b).at.frames) in
     record { activation = n.activation; others = n.others; words = stand.0 }
 
 -- with a frame and a free byte in registers, and memory as it was
 abbrev leaving_ground : Leaving → (at free : ℕ) → IsFrame at → Ground
 leaving_ground k at free h = ground_at at free h (λ b m. m ≡ memory_of k b)
 
-abbrev own_ground : (k : Leaving) → IsLeaving k → Ground
+abbrev own_ground : (k : Leaving) → Leaves k → Ground
 own_ground k h = leaving_ground k k.end.layer.at k.end.layer.top (own_frame k h)
 
 -- ---- the services end the block
@@ -117,15 +138,15 @@ same_world : (as' : List Activation) (s : State) → (without_newest as' s).worl
 same_world [] s = refl
 same_world (a ∷ as') s = refl
 
-same_acts : (k : Leaving) → IsLeaving k → (services_of k.point).world.acts ≤ (popped_services k).world.acts
+same_acts : (k : Leaving) → Leaves k → (services_of k.point).world.acts ≤ (popped_services k).world.acts
 same_acts k h =
     let e : (popped k.end.kept k.point).state.world.acts ≡ k.point.state.world.acts =
-    ap (λ ls. (popped_from k.end.kept ls k.point).state.world.acts) h.is.newest
+    ap (λ ls. (popped_from k.end.kept ls k.point).state.world.acts) h.newest
     ∙ ap (λ (u : World). u.acts) (same_world k.point.state.activations k.point.state) in
     omega (arith, e)
 
 leave_asked :
-    (k : Leaving) (h : IsLeaving k) {i : ℕ} (c : ℕ) →
+    (k : Leaving) (h : Leaves k) {i : ℕ} (c : ℕ) →
     Linked k.surroundings.links k.code i (small a0 0 ∷ small a7 5 ∷ []) →
     i ≡ k.end.index →
     Reach k.code c k.first (services_of k.point) (c + 2) (services_of k.point)
@@ -133,7 +154,7 @@ leave_asked :
     (λ b'. (17, 5) ∷ (10, 0) ∷ []) b) y)
 leave_asked k h c l e =
     let v = services_of k.point in
-    let newest = h.is.newest in
+    let newest = h.newest in
     straight c k.first v v
     (λ b y. Known (own_ground k h) v k.end.after (λ n. 0) (λ b'. (17, 5) ∷ (10, 0) ∷ []) b y) l (omega arith)
     (λ b. (h.there b).at.pc ∙ ap (address b) (sym e))
@@ -154,7 +175,7 @@ leave_asked k h c l e =
     zero_sum z n e less = omega (arith, e, less)
 
 leave_called :
-    (k : Leaving) (h : IsLeaving k) {i : ℕ} (c : ℕ) (f : Family) →
+    (k : Leaving) (h : Leaves k) {i : ℕ} (c : ℕ) (f : Family) →
     Linked k.surroundings.links k.code i (Plain I.Ecall ∷ []) →
     ((b : Base) → At b i (Known (own_ground k h) (services_of k.point) k.end.after (λ n. 0)
     (λ b'. (17, 5) ∷ (10, 0) ∷ []) b) (f b)) →
@@ -177,8 +198,8 @@ leave_called k h {i} c f l there =
           o.body.services o.regs.0 o.regs.1.0 refl refl refl refl (λ call y. refl)
           ∙ ap (λ call. B.leave_served call 0 (x 11)) (call_is w k.code k.point m h.image)
           ∙ leave_answered w.units k.point m φ k.end.others 0 (x 11) k.end.kept
-          (record { active = h.stands.active; newest = h.is.newest; low = h.stands.low }) h.is.texts
-          (stacks_over w k.point 0 φ k.end.others h.stands h.is.newest).1;
+          (record { active = h.stands.active; newest = h.newest; low = h.stands.low }) h.texts
+          (stacks_over w k.point 0 φ k.end.others h.stands h.newest).1;
     } in
     call_done c f v v' (λ b. (f b).machine.memory) (λ b. 0) (λ b. (f b).machine.registers 11)
     (λ b. Known (own_ground k h) v' k.end.after (λ n. 0) (λ b'. (10, 0) ∷ []) b) (same_acts k h) calling
@@ -194,7 +215,7 @@ abbrev leaving_regs : (given : Base → ℕ) → Base → List (ℕ × ℕ)
 leaving_regs given b = (10, given b) ∷ []
 
 result_loaded :
-    (function : Option ℕ) (k : Leaving) (h : IsLeaving k) (given : Base → ℕ) {i : ℕ} (c : ℕ) (f : Family) →
+    (function : Option ℕ) (k : Leaving) (h : Leaves k) (given : Base → ℕ) {i : ℕ} (c : ℕ) (f : Family) →
     IsWord function → ((b : Base) → HasGiven k.end.layer function (given b) (k.first b)) →
     Linked k.surroundings.links k.code i (result_code function) →
     ((b : Base) → At b i (Known (own_ground k h) (popped_services k) k.end.after (λ n. 0) (λ b'. (10, 0) ∷ []) b)
@@ -263,11 +284,14 @@ held_apart (suc (suc (suc (suc (suc zero))))) l y u = (refl, refl)
 held_apart (suc (suc (suc (suc (suc (suc zero)))))) l y u = (refl, refl)
 held_apart (suc (suc (suc (suc (suc (suc (suc n))))))) l y u = absurd (omega (arith, l))
 
+abbrev back_at : (to given : Base → ℕ) → Base → List (ℕ × ℕ)
+back_at to given b = (1, to b) ∷ (10, given b) ∷ []
+
 abbrev back_regs : Leaving → (given : Base → ℕ) → Base → List (ℕ × ℕ)
-back_regs k given b = (1, address b k.end.back) ∷ (10, given b) ∷ []
+back_regs k given = back_at (λ b. address b k.end.back) given
 
 registers_loaded :
-    (k : Leaving) (h : IsLeaving k) (given : Base → ℕ) (left n : ℕ) (numbers : ℕ → ℕ) {i : ℕ} (c : ℕ) (f : Family) →
+    (k : Leaving) (h : Leaves k) (given : Base → ℕ) (left n : ℕ) (numbers : ℕ → ℕ) {i : ℕ} (c : ℕ) (f : Family) →
     n + left ≤ k.end.layer.saved → Linked k.surroundings.links k.code i (registers_restored n left) →
     ((b : Base) → At b i (Known (own_ground k h) (popped_services k) numbers (λ j. 0) (back_regs k given) b) (f b)) →
     Reach k.code c f (popped_services k) (c + size_of (registers_restored n left)) (popped_services k)
@@ -332,14 +356,14 @@ back_word :
 back_word kind base back at m e o = subst (λ x. GoesBack x base back at m) e o
 
 all_loaded :
-    (k : Leaving) (h : IsLeaving k) (given : Base → ℕ) {i : ℕ} (c : ℕ) (f : Family) →
+    (k : Leaving) (h : Leaves k) (z : IsLeaving k) (given : Base → ℕ) {i : ℕ} (c : ℕ) (f : Family) →
     Linked k.surroundings.links k.code i (all_restored k.end.layer.saved) →
     ((b : Base) → At b i (Known (own_ground k h) (popped_services k) k.end.after (λ j. 0) (leaving_regs given) b)
     (f b)) →
     Reach k.code c f (popped_services k) (c + size_of (all_restored k.end.layer.saved)) (popped_services k)
     (λ b y. At b (i + size_of (all_restored k.end.layer.saved))
     (Known (own_ground k h) (popped_services k) (numbers_back k) (λ j. 0) (back_regs k given) b) y)
-all_loaded k h given c f l there =
+all_loaded k h z given c f l there =
     let first = load_word return_register frame_register return_address in
     let rest = registers_restored 0 k.end.layer.saved in
     let size = size_append first rest in
@@ -347,8 +371,8 @@ all_loaded k h given c f l there =
     let r1 = load_piece c f return_register return_address (at + 0) (λ b. address b k.end.back)
     (word_in at 0 (own_frame k h) refl (omega arith))
     (λ b m e. ap (λ u. load 4 u (at + 0)) e
-    ∙ back_word k.end.layer.kind b.at k.end.layer.back (at + 0) (memory_of k b) h.is.kind (own_words k h b).words.back
-    ∙ ap (address b) (sym h.is.back))
+    ∙ back_word k.end.layer.kind b.at k.end.layer.back (at + 0) (memory_of k b) z.is.kind (own_words k h b).words.back
+    ∙ ap (address b) (sym z.is.back))
     (record { reserved_stay = λ y u. refl; known_stay = λ b y u o. o; set = λ y u. refl })
     (record { reserved_stay = λ y u. refl; known_stay = λ b y u o. o; set = λ y u. refl })
     (front_of first rest l) there in
@@ -362,18 +386,18 @@ abbrev start_of : Leaving → ℕ
 start_of k = frame_start k.end.layer
 
 stack_back :
-    (k : Leaving) (h : IsLeaving k) (given : Base → ℕ) {i : ℕ} (c : ℕ) (f : Family) →
+    (k : Leaving) (h : Leaves k) (numbers : ℕ → ℕ) (to given : Base → ℕ) {i : ℕ} (c : ℕ) (f : Family) →
     Linked k.surroundings.links k.code i
     (plus stack_register frame_register (neg_ℤ (pos (temporary_bytes k.end.layer.words)))) →
-    ((b : Base) → At b i (Known (own_ground k h) (popped_services k) (numbers_back k) (λ j. 0) (back_regs k given) b)
+    ((b : Base) → At b i (Known (own_ground k h) (popped_services k) numbers (λ j. 0) (back_at to given) b)
     (f b)) →
     Reach k.code c f (popped_services k)
     (c + size_of (plus stack_register frame_register (neg_ℤ (pos (temporary_bytes k.end.layer.words)))))
     (popped_services k)
     (λ b y. At b (i + size_of (plus stack_register frame_register (neg_ℤ (pos (temporary_bytes k.end.layer.words)))))
-    (Known (leaving_ground k k.end.layer.at (start_of k) (own_frame k h)) (popped_services k) (numbers_back k) (λ j. 0)
-    (back_regs k given) b) y)
-stack_back k h given c f l there =
+    (Known (leaving_ground k k.end.layer.at (start_of k) (own_frame k h)) (popped_services k) numbers (λ j. 0)
+    (back_at to given) b) y)
+stack_back k h numbers to given c f l there =
     let n = temporary_bytes k.end.layer.words in
     let z = neg_ℤ (pos n) in
     let at = k.end.layer.at in
@@ -384,7 +408,7 @@ stack_back k h given c f l there =
     let g = own_ground k h in
     let g' = leaving_ground k at (start_of k) frame in
     displaced_by (is_immediate z) c f (λ s d. I.Immediate Imm.Add stack_register s d) frame_register z (λ b. b.at + at)
-    (Known g v (numbers_back k) (λ j. 0) (back_regs k given)) (Known g' v (numbers_back k) (λ j. 0) (back_regs k given))
+    (Known g v numbers (λ j. 0) (back_at to given)) (Known g' v numbers (λ j. 0) (back_at to given))
     (below_small n (omega (arith, above, room)))
     (λ b. let v' = b.valid.1 in omega (arith, v', room))
     (λ y u. refl) (λ b. frame_is (there b).holds.body) (omega arith)
@@ -392,7 +416,7 @@ stack_back k h given c f l there =
       does = λ b j y s d o e. record {
         body = record {
           services = o.body.services;
-          registers = stack_put g g' b (numbers_back k) y.machine.registers (sum (y.machine.registers s.index) (word d))
+          registers = stack_put g g' b numbers y.machine.registers (sum (y.machine.registers s.index) (word d))
               o.body.registers refl
               (e ∙ below_sum b.at at n b.valid.1 (omega (arith, room)) (omega (arith, above)));
           bytes = o.body.bytes;
@@ -405,24 +429,24 @@ stack_back k h given c f l there =
     })
     l there
 
-abbrev below_ground : (k : Leaving) → IsLeaving k → Ground
+abbrev below_ground : (k : Leaving) → Leaves k → Ground
 below_ground k h =
     leaving_ground k (frame_under k.surroundings.parts k.end.others) (start_of k) (frame_of_below k h)
 
 frame_back :
-    (k : Leaving) (h : IsLeaving k) (given : Base → ℕ) {i : ℕ} (c : ℕ) (f : Family) →
+    (k : Leaving) (h : Leaves k) (numbers : ℕ → ℕ) (to given : Base → ℕ) {i : ℕ} (c : ℕ) (f : Family) →
     Linked k.surroundings.links k.code i (load_word frame_register frame_register frame_below) →
     ((b : Base) → At b i (Known (leaving_ground k k.end.layer.at (start_of k) (own_frame k h)) (popped_services k)
-    (numbers_back k) (λ j. 0) (back_regs k given) b) (f b)) →
+    numbers (λ j. 0) (back_at to given) b) (f b)) →
     Reach k.code c f (popped_services k) (c + 1) (popped_services k)
-    (λ b y. At b (i + 1) (Known (below_ground k h) (popped_services k) (numbers_back k) (λ j. 0)
-    (back_regs k given) b) y)
-frame_back k h given c f l there =
+    (λ b y. At b (i + 1) (Known (below_ground k h) (popped_services k) numbers (λ j. 0)
+    (back_at to given) b) y)
+frame_back k h numbers to given c f l there =
     let at = k.end.layer.at in
     let frame = own_frame k h in
     let v = popped_services k in
     straight c f v v
-    (λ b y. Known (below_ground k h) v (numbers_back k) (λ j. 0) (back_regs k given) b y) l (omega arith)
+    (λ b y. Known (below_ground k h) v numbers (λ j. 0) (back_at to given) b y) l (omega arith)
     (λ b. (there b).pc)
     (λ b.
     let o = (there b).holds in
@@ -432,7 +456,7 @@ frame_back k h given c f l there =
       record {
         body = record {
           services = o.body.services;
-          registers = frame_put (leaving_ground k at (start_of k) frame) (below_ground k h) b (numbers_back k) x _
+          registers = frame_put (leaving_ground k at (start_of k) frame) (below_ground k h) b numbers x _
               o.body.registers refl
               (ap (λ u. load 4 u (at + 4)) o.body.memory ∙ (own_words k h b).words.below);
           bytes = o.body.bytes;
@@ -443,14 +467,14 @@ frame_back k h given c f l there =
     ))
 
 jumped_back :
-    (k : Leaving) (h : IsLeaving k) (given : Base → ℕ) {i : ℕ} (c : ℕ) (f : Family) →
+    (k : Leaving) (h : Leaves k) (z : IsLeaving k) (given : Base → ℕ) {i : ℕ} (c : ℕ) (f : Family) →
     Linked k.surroundings.links k.code i (Plain (I.JumpRegister zero_register return_register (pos 0)) ∷ []) →
     ((b : Base) → At b i (Known (below_ground k h) (popped_services k) (numbers_back k) (λ j. 0)
     (back_regs k given) b) (f b)) →
     Reach k.code c f (popped_services k) (c + 1) (popped_services k)
     (λ b y. At b k.end.back
     (Known (below_ground k h) (popped_services k) (numbers_back k) (λ j. 0) (back_regs k given) b) y)
-jumped_back k h given {i} c f l there =
+jumped_back k h z given {i} c f l there =
     hop k.code c (c + 1) f (popped_services k)
     (λ b y. At b k.end.back (Known (below_ground k h) (popped_services k) (numbers_back k) (λ j. 0)
     (back_regs k given) b) y)
@@ -459,7 +483,7 @@ jumped_back k h given {i} c f l there =
     let o = (there b).holds in
     let inside = l.inside in
     let small' = l.small' in
-    let back = h.back in
+    let back = z.back in
     let v = b.valid.1 in
     let e = o.regs.0 in (
       _,
@@ -485,7 +509,7 @@ jumped_back k h given {i} c f l there =
 -- ---- the machine of the block below
 
 goes_below :
-    (k : Leaving) (h : IsLeaving k) (given : Base → ℕ) (b : Base) (y : Whole) →
+    (k : Leaving) (h : Leaves k) (given : Base → ℕ) (b : Base) (y : Whole) →
     Known (below_ground k h) (popped_services k) (numbers_back k) (λ j. 0) (back_regs k given) b y →
     GoesBelow k.end.layer b.at (k.first b).machine y.machine
 goes_below k h given b y o =
@@ -518,15 +542,15 @@ pub record IsBack (k : Leaving) (given : Base → ℕ) (b : Base) (y : Whole) : 
   pub given_is : y.machine.registers 10 ≡ given b
 
 is_back :
-    (k : Leaving) (h : IsLeaving k) (given : Base → ℕ) (b : Base) (y : Whole) →
+    (k : Leaving) (h : Leaves k) (given : Base → ℕ) (b : Base) (y : Whole) →
     At b k.end.back (Known (below_ground k h) (popped_services k) (numbers_back k) (λ j. 0) (back_regs k given) b) y →
     IsBack k given b y
 is_back k h given b y o =
     record {
       is = record {
         services = o.holds.body.services;
-        at = machine_below k.surroundings k.point k.end b.at (k.first b).machine y.machine h.stands h.is.newest
-            (h.there b).at h.is.holds (goes_below k h given b y o.holds) o.pc;
+        at = machine_below k.surroundings k.point k.end b.at (k.first b).machine y.machine h.stands h.newest
+            (h.there b).at h.holds (goes_below k h given b y o.holds) o.pc;
         zero = zero_is o.holds.body;
         bytes = o.holds.body.bytes;
       };
@@ -539,32 +563,35 @@ abbrev last_code : Leaving → Code
 last_code k = frame_ended k.end.layer.words ++ Plain (I.JumpRegister zero_register return_register (pos 0)) ∷ []
 
 last_comes :
-    (k : Leaving) (h : IsLeaving k) (given : Base → ℕ) {i : ℕ} (c : ℕ) (f : Family) →
+    (k : Leaving) (h : Leaves k) (z : IsLeaving k) (given : Base → ℕ) {i : ℕ} (c : ℕ) (f : Family) →
     Linked k.surroundings.links k.code i (last_code k) →
     ((b : Base) → At b i (Known (own_ground k h) (popped_services k) (numbers_back k) (λ j. 0) (back_regs k given) b)
     (f b)) →
     Reach k.code c f (popped_services k) (c + size_of (last_code k)) (popped_services k) (λ b y. IsBack k given b y)
-last_comes k h given c f l there =
+last_comes k h z given c f l there =
+    let to : Base → ℕ = λ b. address b k.end.back in
     let up = plus stack_register frame_register (neg_ℤ (pos (temporary_bytes k.end.layer.words))) in
     let below = load_word frame_register frame_register frame_below in
     let jump = Plain (I.JumpRegister zero_register return_register (pos 0)) ∷ [] in
     let l0 = front_of (up ++ below) jump l in
     let n0 = size_append (up ++ below) jump in
     let n1 = size_append up below in
-    let r1 = stack_back k h given c f (front_of up below l0) there in
-    let r2 = frame_back k h given (c + size_of up) (reached r1) (back_of up below l0) (reached_holds r1) in
-    let r3 = jumped_back k h given (c + size_of up + 1) (reached r2)
+    let r1 = stack_back k h (numbers_back k) to given c f (front_of up below l0) there in
+    let r2 = frame_back k h (numbers_back k) to given (c + size_of up) (reached r1) (back_of up below l0)
+    (reached_holds r1) in
+    let r3 = jumped_back k h z given (c + size_of up + 1) (reached r2)
     (linked_at _ jump (omega (arith, n1)) (back_of (up ++ below) jump l)) (reached_holds r2) in
     reach_with (c + size_of (last_code k)) (omega (arith, n0, n1))
     (reach_map _ (reach_then r1 (reach_then r2 r3)) (λ b y o. is_back k h given b y o))
 
 pub ends :
-    (function : Option ℕ) (k : Leaving) (h : IsLeaving k) (given : Base → ℕ) (c : ℕ) → IsWord function →
+    (function : Option ℕ) (k : Leaving) (z : IsLeaving k) (given : Base → ℕ) (c : ℕ) → IsWord function →
     ((b : Base) → HasGiven k.end.layer function (given b) (k.first b)) →
     Linked k.surroundings.links k.code k.end.index (ending_code k.end.layer function) →
     Reach k.code c k.first (services_of k.point) (c + size_of (ending_code k.end.layer function)) (popped_services k)
     (λ b y. IsBack k given b y)
-ends function k h given c word' has l =
+ends function k z given c word' has l =
+    let h = leaves z in
     let ask = small a0 0 ∷ small a7 5 ∷ [] in
     let call = Plain I.Ecall ∷ [] in
     let gives = result_code function in
@@ -580,23 +607,90 @@ ends function k h given c word' has l =
     (reached_holds r1) in
     let r3 = result_loaded function k h given (c + 2 + 1) (reached r2) word' has (front_of gives (restores ++ last) l2)
     (reached_holds r2) in
-    let r4 = all_loaded k h given (c + 2 + 1 + size_of gives) (reached r3) (front_of restores last l3)
+    let r4 = all_loaded k h z given (c + 2 + 1 + size_of gives) (reached r3) (front_of restores last l3)
     (reached_holds r3) in
-    let r5 = last_comes k h given (c + 2 + 1 + size_of gives + size_of restores) (reached r4) (back_of restores last l3)
-    (reached_holds r4) in
+    let r5 = last_comes k h z given (c + 2 + 1 + size_of gives + size_of restores) (reached r4)
+    (back_of restores last l3) (reached_holds r4) in
     reach_with (c + size_of (ending_code k.end.layer function)) (omega (arith, n0, n1))
     (reach_then r1 (reach_then r2 (reach_then r3 (reach_then r4 r5))))
 
-pub ended_stands :
-    (w : Surroundings) (code : List Instr) (q : Point) (e : BlockEnd) → Stands w q → IsImage w code q → IsEnding q e →
-    Stands w (popped e.kept q) × IsImage w code (popped e.kept q)
-ended_stands w code q e stands image is = (
-  left_stands w q e.layer e.others e.kept stands is.newest,
-  subst (λ ls. IsImage w code (popped_from e.kept ls q)) (sym is.newest)
+-- ---- a begin block, whose end goes on behind it
+
+inner_below :
+    (k : Leaving) (h : Leaves k) (to given : Base → ℕ) (b : Base) (y : Whole) → k.end.layer.saved ≡ 0 →
+    Known (below_ground k h) (popped_services k) k.end.after (λ j. 0) (back_at to given) b y →
+    GoesBelow k.end.layer b.at (k.first b).machine y.machine
+inner_below k h to given b y none o =
+    record {
+      frame = frame_is o.body ∙ sym (own_words k h b).words.below;
+      top = stack_is (below_ground k h) b k.end.after y.machine.registers o.body.registers;
+      registers = λ n less.
+          held_is n (below_ground k h) b k.end.after y.machine.registers less o.body.registers
+          ∙ sym ((h.there b).at.registers n less) ∙ by n (nat_lt n k.end.layer.saved) refl;
+      memory = o.body.memory;
+    }
+  where
+    by :
+        (n : ℕ) (q : Bool) → nat_lt n k.end.layer.saved ≡ q →
+        V.value (k.first b).machine (held n)
+        ≡ cond q (load 4 (memory_of k b) (k.end.layer.at + (8 + 4 * n))) (V.value (k.first b).machine (held n))
+    by n true e =
+        let saved : n < k.end.layer.saved = ltb-true n k.end.layer.saved e in
+        absurd (omega (arith, saved, none))
+    by n false e = refl
+
+pub inner_ends :
+    (k : Leaving) (h : Leaves k) (c : ℕ) → k.end.layer.saved ≡ 0 →
+    k.end.back ≡ k.end.index + size_of (inner_ending_code k.end.layer) →
+    Linked k.surroundings.links k.code k.end.index (inner_ending_code k.end.layer) →
+    Reach k.code c k.first (services_of k.point) (c + size_of (inner_ending_code k.end.layer)) (popped_services k)
+    (λ b y. IsIn k.surroundings (popped k.end.kept k.point) k.end.before k.end.back b y)
+inner_ends k h c none behind l =
+    let ask = small a0 0 ∷ small a7 5 ∷ [] in
+    let call = Plain I.Ecall ∷ [] in
+    let up = plus stack_register frame_register (neg_ℤ (pos (temporary_bytes k.end.layer.words))) in
+    let below = load_word frame_register frame_register frame_below in
+    let l1 = back_of ask (call ++ (up ++ below)) l in
+    let l2 = back_of call (up ++ below) l1 in
+    let n = size_append up below in
+    let r1 = leave_asked k h c (front_of ask (call ++ (up ++ below)) l) refl in
+    let r2 = leave_called k h (c + 2) (reached r1) (front_of call (up ++ below) l1) (reached_holds r1) in
+    let g = reached r2 in
+    let to : Base → ℕ = λ b. (g b).machine.registers 1 in
+    let zero' : Base → ℕ = λ b. 0 in
+    let r3 = stack_back k h k.end.after to zero' (c + 2 + 1) g (front_of up below l2)
+    (λ b. let o = reached_holds r2 b in record {
+      pc = o.pc;
+      holds = record { body = o.holds.body; regs = (refl, (o.holds.regs.0, tt)) };
+    }) in
+    let r4 = frame_back k h k.end.after to zero' (c + 2 + 1 + size_of up) (reached r3) (back_of up below l2)
+    (reached_holds r3) in
+    reach_with (c + size_of (inner_ending_code k.end.layer)) (omega (arith, n))
+    (reach_map _ (reach_then r1 (reach_then r2 (reach_then r3 r4)))
+    (λ b y o. record {
+      services = o.holds.body.services;
+      at = machine_below k.surroundings k.point k.end b.at (k.first b).machine y.machine h.stands h.newest
+          (h.there b).at h.holds (inner_below k h to zero' b y none o.holds)
+          (o.pc ∙ ap (address b) (omega (arith, behind, n)));
+      zero = zero_is o.holds.body;
+      bytes = o.holds.body.bytes;
+    }))
+
+pub left_below :
+    (w : Surroundings) (code : List Instr) (q : Point) (e : BlockEnd) → Stands w q → IsImage w code q →
+    q.control.layers ≡ e.layer ∷ e.others → Stands w (popped e.kept q) × IsImage w code (popped e.kept q)
+left_below w code q e stands image newest = (
+  left_stands w q e.layer e.others e.kept stands newest,
+  subst (λ ls. IsImage w code (popped_from e.kept ls q)) (sym newest)
       (record {
         keeper = image.keeper;
         layout = image.layout;
         parts = image.parts;
-        even = (subst (AreEven w.parts) is.newest image.even).1;
+        even = (subst (AreEven w.parts) newest image.even).1;
       }),
 )
+
+pub ended_stands :
+    (w : Surroundings) (code : List Instr) (q : Point) (e : BlockEnd) → Stands w q → IsImage w code q → IsEnding q e →
+    Stands w (popped e.kept q) × IsImage w code (popped e.kept q)
+ended_stands w code q e stands image is = left_below w code q e stands image is.newest

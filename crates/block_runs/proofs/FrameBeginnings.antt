@@ -1,6 +1,6 @@
 -- The code of a block's beginning makes its frame: what is saved, the frame below, the lower stack's top, the
 -- display, and the frame's own place.
-use Rattle.std.proofs.Common.{◌≡◌, ℕ, zero, suc, ◌+◌, ◌*◌, ◌^◌, ◌<◌, ◌≤◌, List, [], ◌∷◌, ◌++◌, Some}
+use Rattle.std.proofs.Common.{◌≡◌, ℕ, zero, suc, ◌+◌, ◌*◌, ◌^◌, ◌<◌, ◌≤◌, List, [], ◌∷◌, ◌++◌, Some, None}
 use Rattle.std.proofs.Common.{refl, sym}
 use Rattle.std.proofs.Common.{ap, ◌∙◌, subst, arith}
 use Rattle.std.proofs.lemmas.List.{append-nil, append_assoc}
@@ -26,11 +26,11 @@ use Rattle.activation_relation.specs.Frames.{FramesStand, Stores, words_from, lo
 use Rattle.activation_relation.specs.Owned.{AreWithin}
 use Rattle.activation_relation.proofs.Blocks.{same_length}
 use Rattle.activation_relation.proofs.Displays.{ancestor_low}
-use Rattle.activation_relation.proofs.StoredWords.{within_append, within_run}
+use Rattle.activation_relation.proofs.StoredWords.{within_append}
 use Rattle.pli_meaning.specs.StorageState.{Activation}
 use Rattle.run_steps.specs.Bodies.{Ground, Known, reserved, reserved_are, nth, with'}
 use Rattle.run_steps.proofs.Bodies.{frame_is, plus_piece, load_piece, displaced_by, lose_known}
-use Rattle.run_steps.specs.Engine.{Base, address, most_code}
+use Rattle.run_steps.specs.Engine.{Base, address}
 use Rattle.run_steps.specs.Items.{Linked, At}
 use Rattle.run_steps.proofs.Items.{straight}
 use Rattle.run_steps.proofs.Jumps.{front_of, back_of}
@@ -81,15 +81,18 @@ stack_is g b h x e = ap (nth 1) e
 
 -- ---- a frame that is begun
 
--- around it, before the frame's address goes into its register and behind that; what is saved, and how it begins
+-- around it, before the frame's address goes into its register and behind that; what registers are given; and the
+-- words that it has first, before that of the frame below
 pub record Begun : Type 0 where
   pub surroundings : Surroundings
   pub point : Point
   pub layer : Layer
   pub parent : ℕ
-  pub texts : ℕ
+  pub texts : Base → ℕ
   pub list : Base → ℕ
   pub given : Base → ℕ
+  pub return : Base → ℕ
+  pub first : Base → Stores
 
 abbrev pub layers_of : Begun → List Layer
 layers_of k = k.point.control.layers
@@ -104,7 +107,7 @@ pub record IsBegun (k : Begun) : Type 0 where
   pub parent : (b : Base) → 0 < k.layer.level → k.given b ≡ b.at + frame_at (layers_of k) k.parent
   pub lower : k.layer.lower ≡ lower_end k.surroundings.parts (layers_of k)
   pub top : k.layer.top ≡ k.layer.at + fixed_size k.layer.level k.layer.parameters
-  pub back : k.layer.back ≤ most_code
+  pub within : (b : Base) → AreWithin k.layer.at (144 + 4 * k.layer.level) (k.first b)
 
 pub new_frame : (k : Begun) → IsBegun k → IsFrame k.layer.at
 new_frame k h =
@@ -158,7 +161,7 @@ abbrev pub whole : (k : Begun) → IsBegun k → Making
 whole k h = record (inside k h) { free = k.layer.top }
 
 abbrev pub back_of_call : Begun → Base → ℕ
-back_of_call k b = address b k.layer.back
+back_of_call k b = k.return b
 
 abbrev pub given_to : Begun → Given
 given_to k = record { texts = k.texts; parent = k.given; list = k.list; back = back_of_call k }
@@ -176,7 +179,7 @@ saved_words k b = return_word k b ++ words_from (k.layer.at + 8) k.layer.held 0 
 
 abbrev pub with_below : Begun → Base → Stores
 with_below k b =
-    saved_words k b ++ ((k.layer.at + 4, b.at + frame_under k.surroundings.parts (layers_of k)) ∷ [])
+    k.first b ++ ((k.layer.at + 4, b.at + frame_under k.surroundings.parts (layers_of k)) ∷ [])
 
 abbrev pub with_lower : Begun → Base → Stores
 with_lower k b = with_below k b ++ ((k.layer.at + 40, k.layer.lower) ∷ [])
@@ -199,7 +202,7 @@ makes k xs v h t rs i b y = At b i (Known (making_ground k xs) v h t rs b) y
 -- ---- the pieces
 
 abbrev pub given_regs : Begun → Base → List (ℕ × ℕ)
-given_regs k b = (10, k.given b) ∷ (11, k.list b) ∷ (12, k.texts) ∷ (1, back_of_call k b) ∷ []
+given_regs k b = (10, k.given b) ∷ (11, k.list b) ∷ (12, k.texts b) ∷ (1, back_of_call k b) ∷ []
 
 abbrev none_yet : Base → Stores
 none_yet b = []
@@ -235,12 +238,12 @@ address_made k h {t = t} c f l there =
 -- the place to return to, and registers
 saves_made :
     (k : Begun) (h : IsBegun k) {links : Links} {code : List Instr} {i : ℕ} {v : Services} {t : ℕ → ℕ} (c : ℕ)
-    (f : Family) → Linked links code i (all_saved u0 k.layer.saved) →
+    (f : Family) → ((b : Base) → saved_words k b ≡ k.first b) → Linked links code i (all_saved u0 k.layer.saved) →
     ((b : Base) → makes (outside k h) none_yet v k.layer.held t (regs_of k) i b (f b)) →
     Reach code c f v (c + size_of (all_saved u0 k.layer.saved)) v
-    (λ b y. makes (outside k h) (saved_words k) v k.layer.held t (regs_of k)
+    (λ b y. makes (outside k h) k.first v k.layer.held t (regs_of k)
     (i + size_of (all_saved u0 k.layer.saved)) b y)
-saves_made k h c f l there =
+saves_made k h c f same l there =
     let m = outside k h in
     let first = store_word u0 return_register return_address in
     let rest = registers_saved u0 0 k.layer.saved in
@@ -256,8 +259,8 @@ saves_made k h c f l there =
       far = record { reserved_stay = λ y u. refl; known_stay = λ b y u o. o; set = λ y u. refl };
     } in
     let r1 = register_stored m x none_yet c f is (front_of first rest l) there in
-    let r2 = registers_stored m (given_to k) k.layer.saved 0 (return_word k) (saved_words k)
-    (c + size_of first) (reached r1) (let few = h.laid.0.saved in omega (arith, few)) (λ b. refl)
+    let r2 = registers_stored m (given_to k) k.layer.saved 0 (return_word k) k.first
+    (c + size_of first) (reached r1) (let few = h.laid.0.saved in omega (arith, few)) same
     (back_of first rest l) (reached_holds r1) in
     reach_moved (omega (arith, size)) (omega (arith, size)) (reach_then r1 r2)
 
@@ -265,7 +268,7 @@ saves_made k h c f l there =
 below_made :
     (k : Begun) (h : IsBegun k) {links : Links} {code : List Instr} {i : ℕ} {v : Services} {t : ℕ → ℕ} (c : ℕ)
     (f : Family) → Linked links code i (store_word u0 frame_register frame_below) →
-    ((b : Base) → makes (outside k h) (saved_words k) v k.layer.held t (regs_of k) i b (f b)) →
+    ((b : Base) → makes (outside k h) k.first v k.layer.held t (regs_of k) i b (f b)) →
     Reach code c f v (c + size_of (store_word u0 frame_register frame_below)) v
     (λ b y. makes (outside k h) (with_below k) v k.layer.held t (regs_of k)
     (i + size_of (store_word u0 frame_register frame_below)) b y)
@@ -276,7 +279,7 @@ below_made k h c f l there =
       from = frame_register;
       value = λ b. b.at + frame_under k.surroundings.parts (layers_of k);
     } in
-    register_stored (outside k h) x (saved_words k) c f
+    register_stored (outside k h) x k.first c f
     (record {
       even = refl;
       few = omega arith;
@@ -290,19 +293,10 @@ below_made k h c f l there =
 
 -- ---- all of it stands in the frame
 
-within_saved : (k : Begun) (h : IsBegun k) (b : Base) → AreWithin k.layer.at (144 + 4 * k.layer.level) (saved_words k b)
-within_saved k h b =
-    let few = h.laid.0.saved in
-    let most : k.layer.saved ≤ 7 = few in (
-      (omega arith, omega arith),
-      within_run k.layer.at (144 + 4 * k.layer.level) (k.layer.at + 8) k.layer.held 0 k.layer.saved (omega arith)
-          (omega (arith, most)),
-    )
-
 within_below : (k : Begun) (h : IsBegun k) (b : Base) → AreWithin k.layer.at (144 + 4 * k.layer.level) (with_below k b)
 within_below k h b =
-    within_append k.layer.at (144 + 4 * k.layer.level) (saved_words k b)
-    ((k.layer.at + 4, b.at + frame_under k.surroundings.parts (layers_of k)) ∷ []) (within_saved k h b)
+    within_append k.layer.at (144 + 4 * k.layer.level) (k.first b)
+    ((k.layer.at + 4, b.at + frame_under k.surroundings.parts (layers_of k)) ∷ []) (h.within b)
     ((omega arith, omega arith), tt)
 
 pub within_lower :
@@ -623,32 +617,64 @@ from_lower k h c f l there =
     reach_moved (omega (arith, n0, n1, n2)) (omega (arith, n0, n1, n2))
     (reach_then r1 (reach_then r2 (reach_then r3 (reach_then r4 r5))))
 
+abbrev below_code : Begun → Code
+below_code k = store_word u0 frame_register frame_below ++ lower_code k
+
+from_below :
+    (k : Begun) (h : IsBegun k) {links : Links} {code : List Instr} {i : ℕ} {v : Services} {t : ℕ → ℕ} (c : ℕ)
+    (f : Family) → Linked links code i (below_code k) →
+    ((b : Base) → makes (outside k h) k.first v k.layer.held t (regs_of k) i b (f b)) →
+    Reach code c f v (c + size_of (below_code k)) v
+    (λ b y. makes (whole k h) (all_words k) v k.layer.held t (regs_of k) (i + size_of (below_code k)) b y)
+from_below k h c f l there =
+    let below = store_word u0 frame_register frame_below in
+    let last = lower_code k in
+    let n = size_append below last in
+    let r1 = below_made k h c f (front_of below last l) there in
+    let r2 = from_lower k h (c + size_of below) (reached r1) (back_of below last l) (reached_holds r1) in
+    reach_moved (omega (arith, n)) (omega (arith, n)) (reach_then r1 r2)
+
+-- of a procedure, which saves registers
 abbrev pub frame_code : Begun → Code
 frame_code k = frame_begun k.layer.words k.layer.level k.layer.parameters (Some k.layer.saved)
 
 pub frame_made :
     (k : Begun) (h : IsBegun k) {links : Links} {code : List Instr} {i : ℕ} {v : Services} {t : ℕ → ℕ} (c : ℕ)
-    (f : Family) → Linked links code i (frame_code k) →
+    (f : Family) → ((b : Base) → saved_words k b ≡ k.first b) → Linked links code i (frame_code k) →
     ((b : Base) → makes (outside k h) (λ b'. []) v k.layer.held t (given_regs k) i b (f b)) →
     Reach code c f v (c + size_of (frame_code k)) v
     (λ b y. makes (whole k h) (all_words k) v k.layer.held t (regs_of k) (i + size_of (frame_code k)) b y)
-frame_made k h c f l there =
+frame_made k h c f same l there =
     let up = plus u0 stack_register (pos (temporary_bytes k.layer.words)) in
     let saves = all_saved u0 k.layer.saved in
-    let below = store_word u0 frame_register frame_below in
-    let last = lower_code k in
-    let l1 = back_of up (saves ++ (below ++ last)) l in
-    let l2 = back_of saves (below ++ last) l1 in
-    let n0 = size_append up (saves ++ (below ++ last)) in
-    let n1 = size_append saves (below ++ last) in
-    let n2 = size_append below last in
-    let r1 = address_made k h c f (front_of up (saves ++ (below ++ last)) l) there in
-    let r2 = saves_made k h (c + size_of up) (reached r1) (front_of saves (below ++ last) l1) (reached_holds r1) in
-    let r3 = below_made k h (c + size_of up + size_of saves) (reached r2) (front_of below last l2) (reached_holds r2) in
-    let r4 = from_lower k h (c + size_of up + size_of saves + size_of below) (reached r3) (back_of below last l2)
-    (reached_holds r3) in
-    reach_moved (omega (arith, n0, n1, n2)) (omega (arith, n0, n1, n2))
-    (reach_then r1 (reach_then r2 (reach_then r3 r4)))
+    let last = below_code k in
+    let l1 = back_of up (saves ++ last) l in
+    let n0 = size_append up (saves ++ last) in
+    let n1 = size_append saves last in
+    let r1 = address_made k h c f (front_of up (saves ++ last) l) there in
+    let r2 = saves_made k h (c + size_of up) (reached r1) same (front_of saves last l1) (reached_holds r1) in
+    let r3 = from_below k h (c + size_of up + size_of saves) (reached r2) (back_of saves last l1) (reached_holds r2) in
+    reach_moved (omega (arith, n0, n1)) (omega (arith, n0, n1)) (reach_then r1 (reach_then r2 r3))
+
+-- and of a begin block, which saves none
+abbrev pub inner_frame_code : Begun → Code
+inner_frame_code k = frame_begun k.layer.words k.layer.level k.layer.parameters None
+
+pub inner_frame_made :
+    (k : Begun) (h : IsBegun k) {links : Links} {code : List Instr} {i : ℕ} {v : Services} {t : ℕ → ℕ} (c : ℕ)
+    (f : Family) → ((b : Base) → [] ≡ k.first b) → Linked links code i (inner_frame_code k) →
+    ((b : Base) → makes (outside k h) (λ b'. []) v k.layer.held t (given_regs k) i b (f b)) →
+    Reach code c f v (c + size_of (inner_frame_code k)) v
+    (λ b y. makes (whole k h) (all_words k) v k.layer.held t (regs_of k) (i + size_of (inner_frame_code k)) b y)
+inner_frame_made k h c f none l there =
+    let up = plus u0 stack_register (pos (temporary_bytes k.layer.words)) in
+    let last = below_code k in
+    let n = size_append up last in
+    let r1 = address_made k h c f (front_of up last l) there in
+    let r2 = from_below k h (c + size_of up) (reached r1) (back_of up last l)
+    (λ b. let o = reached_holds r1 b in
+    record { pc = o.pc; holds = over_same (outside k h) none_yet k.first (reached r1 b) (none b) o.holds }) in
+    reach_moved (omega (arith, n)) (omega (arith, n)) (reach_then r1 r2)
 
 -- ---- what was stored is what the relation's beginning stores
 
@@ -663,13 +689,30 @@ stores_joined r w d b l o =
 
 pub all_stored :
     (k : Begun) (b : Base) → k.layer.kind ≡ S.ProcedureBlock →
+    k.first b
+    ≡ ((k.layer.at + 0, address b k.layer.back) ∷ []) ++ words_from (k.layer.at + 8) k.layer.held 0 k.layer.saved →
     all_words k b ≡ frame_stores k.surroundings.parts b.at k.parent k.point.state.activations k.layer (layers_of k)
-all_stored k b kind =
+all_stored k b kind first =
     let w = words_from (k.layer.at + 8) k.layer.held 0 k.layer.saved in
     let d = new_display k b in
     let below : ℕ × ℕ = (k.layer.at + 4, b.at + frame_under k.surroundings.parts (layers_of k)) in
     let lower : ℕ × ℕ = (k.layer.at + 40, k.layer.lower) in
     let own : ℕ × ℕ = (k.layer.at + 36, k.layer.at) in
-    stores_joined (return_word k b) w d below lower own
-    ∙ ap (λ x. return_stores x (k.layer.at + 0) (back_of_call k b) ++ (w ++ (below ∷ lower ∷ (d ++ (own ∷ [])))))
-    (sym kind)
+    let back = address b k.layer.back in
+    ap (λ (xs : Stores). (((xs ++ (below ∷ [])) ++ (lower ∷ [])) ++ d) ++ (own ∷ [])) first
+    ∙ stores_joined ((k.layer.at + 0, back) ∷ []) w d below lower own
+    ∙ ap (λ x. return_stores x (k.layer.at + 0) back ++ (w ++ (below ∷ lower ∷ (d ++ (own ∷ []))))) (sym kind)
+
+pub inner_stored :
+    (k : Begun) (b : Base) → k.layer.kind ≡ S.BeginBlock → k.layer.saved ≡ 0 → k.first b ≡ [] →
+    all_words k b ≡ frame_stores k.surroundings.parts b.at k.parent k.point.state.activations k.layer (layers_of k)
+inner_stored k b kind saved first =
+    let d = new_display k b in
+    let below : ℕ × ℕ = (k.layer.at + 4, b.at + frame_under k.surroundings.parts (layers_of k)) in
+    let lower : ℕ × ℕ = (k.layer.at + 40, k.layer.lower) in
+    let own : ℕ × ℕ = (k.layer.at + 36, k.layer.at) in
+    let rest : Stores = below ∷ lower ∷ (d ++ (own ∷ [])) in
+    ap (λ (xs : Stores). (((xs ++ (below ∷ [])) ++ (lower ∷ [])) ++ d) ++ (own ∷ [])) first
+    ∙ ap (λ n. words_from (k.layer.at + 8) k.layer.held 0 n ++ rest) (sym saved)
+    ∙ ap (λ x. return_stores x (k.layer.at + 0) (address b k.layer.back)
+    ++ (words_from (k.layer.at + 8) k.layer.held 0 k.layer.saved ++ rest)) (sym kind)

@@ -36,14 +36,14 @@ use Rattle.block_runs.proofs.StoredGrounds.{frames_over}
 
 -- how many texts there are, what a0 and a1 are given, and where it goes back
 pub record Given : Type 0 where
-  pub texts : ℕ
+  pub texts : Base → ℕ
   pub parent : Base → ℕ
   pub list : Base → ℕ
   pub back : Base → ℕ
 
 -- with where the new frame will stand
 abbrev pub begun_regs : (at : ℕ) → Given → Base → List (ℕ × ℕ)
-begun_regs at g b = (5, b.at + at) ∷ (10, g.parent b) ∷ (11, g.list b) ∷ (12, g.texts) ∷ (1, g.back b) ∷ []
+begun_regs at g b = (5, b.at + at) ∷ (10, g.parent b) ∷ (11, g.list b) ∷ (12, g.texts b) ∷ (1, g.back b) ∷ []
 
 -- ---- registers
 

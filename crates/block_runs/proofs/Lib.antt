@@ -4,6 +4,7 @@ pub mod FrameStores
 pub mod FrameBeginnings
 pub mod PointGrounds
 pub mod BlockEntries
+pub mod InnerEntries
 pub mod Endings
 pub mod PointCalls
 pub mod PointActs

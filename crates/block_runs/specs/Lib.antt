@@ -1,5 +1,6 @@
 pub mod Machines
 pub mod Beginnings
+pub mod InnerBeginnings
 pub mod Endings
 pub mod Laws
 pub mod EmptyProcedures

@@ -1,6 +1,7 @@
 // Laws of the definitions: each function's contract is one law, and calling it does nothing.
 
 ghost use Rattle.block_runs.specs.Laws.{BlocksBegin, BlocksEnd, ActsCome};
+ghost use Rattle.block_runs.specs.InnerBeginnings.{InnerBlocksBegin, InnerBlocksEnd};
 ghost use Rattle.block_runs.specs.EmptyProcedures.{EmptyCalls};
 ghost use Rattle.block_runs.specs.CallStatements.{StatementsCall};
 ghost use Rattle.block_runs.specs.Bodies.{CallsReturn};
@@ -9,6 +10,16 @@ ghost use Rattle.block_runs.specs.Rows.{EmptyCalled};
 /// The code of a procedure's beginning takes machine and services from its call to its block.
 pub fn blocks_begin()
     ensures { BlocksBegin }
+{}
+
+/// The code of a begin block takes them from where it stands to its own block.
+pub fn inner_blocks_begin()
+    ensures { InnerBlocksBegin }
+{}
+
+/// The code of a begin block's end takes them on behind it, in the block around.
+pub fn inner_blocks_end()
+    ensures { InnerBlocksEnd }
 {}
 
 /// The code of a procedure's end takes them back behind its call, to the block below.
