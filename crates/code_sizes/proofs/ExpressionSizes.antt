@@ -52,8 +52,8 @@ checked_most : (e : Environment) (l : L.Located) (place : ℤ) (b : Bool)
     → size_of (X.name_checked e l place b) ≤ 42 + 2 * number_more l.number
 checked_most e l place b =
     let all : size_of (X.name_checked e l place b)
-        ≤ 7 + ((6 + number_more l.number) + (4 + (5 + (20 + number_more l.number)))) =
-        both (L.name_offset e a0 l.name) _ (name_most e a0 l.name)
+    ≤ 7 + ((6 + number_more l.number) + (4 + (5 + (20 + number_more l.number)))) =
+    both (L.name_offset e a0 l.name) _ (name_most e a0 l.name)
     (both (L.number_loaded e a1 l.number) _ (number_loaded_most e a1 l.number)
     (both (L.own_place e a2 place) _ (own_most e a2 place)
     (both (tested_service 9) (X.refer_checked e l b) {m = 5} (omega arith) (refer_checked_most e l b)))) in

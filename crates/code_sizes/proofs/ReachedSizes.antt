@@ -55,7 +55,7 @@ resolved_most : (e : Environment) (l : L.Located) (leaf : ℕ) (b : Bool)
     → size_of (L.leaf_resolved e l leaf b) ≤ 23 + number_more l.number
 resolved_most e l leaf b =
     let all : size_of (L.leaf_resolved e l leaf b) ≤ 7 + ((6 + number_more l.number) + (2 + (2 + 6))) =
-        both (L.name_offset e a0 l.name) _ (name_most e a0 l.name)
+    both (L.name_offset e a0 l.name) _ (name_most e a0 l.name)
     (both (L.number_loaded e a1 l.number) _ (number_loaded_most e a1 l.number)
     (both (number a2 leaf) _ (number_most a2 leaf)
     (both (L.buffer_if e b a3) _ (buffer_most e b a3) {n = 6} (omega arith)))) in
