@@ -28,7 +28,6 @@ named_has d (JumpAhead words ∷ is) h = passed (named_has d is) h
 named_has d (JumpBack words ∷ is) h = passed (named_has d is) h
 named_has d (Mark s ∷ is) h = passed (named_has d is) h
 
-
 -- what is named is there
 pub static_has : (code : Code) (d : Datum) → IsNamed d code → Has (static_data code) d
 static_has code d h = D.static_has code d (named_has d code h)
