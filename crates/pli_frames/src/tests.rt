@@ -133,7 +133,7 @@ fn frames_lie_as_worked_out(rt: HostRuntime) -> Result<(), Fail> {
     let frames = plan(rt.alloc(), &typed)?;
     assert_eq!(rt; frames.len(), 2);
     if let [outer, inner] = frames.as_slice() {
-        assert!(rt; outer.places.as_slice() == [176u32, 176, 208, 288].as_slice());
+        assert!(rt; outer.places.as_slice() == [160u32, 160, 192, 272].as_slice());
         assert!(rt; outer.end == 400 && outer.words == 0 && outer.parameters == 1);
         assert!(rt; inner.places.is_empty() && inner.end == 160 && inner.words == 4);
     }
