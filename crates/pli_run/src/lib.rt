@@ -5,4 +5,3 @@ pub mod image_file;
 pub mod report;
 pub mod run;
 pub mod source_run;
-pub mod traced;
