@@ -1,5 +1,5 @@
 -- What the calls of output streams write.
-use Rattle.std.specs.Prelude.{◌≡◌, ℕ, Bool, true, false, List, Option, Some, None, Result, Ok, Err}
+use Rattle.std.specs.Prelude.{◌≡◌, ℕ, List, Option, Some, None, Result, Ok, Err}
 use Rattle.pli_meaning.specs.Stream.{with_field}
 use Rattle.pli_edit.specs.declared.fault.EditFault.{EditFault}
 use Rattle.pli_edit.specs.declared.fault.EditFault.TheVariants as E
@@ -10,8 +10,7 @@ IsWrittenOn output old (Ok done) new = new ≡ output
 IsWrittenOn output old (Err E.Memory) new = new ≡ old
 IsWrittenOn output old (Err fault) new = (fault ≡ E.Write) × (new ≡ output)
 
--- a number's field behind the output, where it is wide enough; a stream that failed before answers that in any case
-abbrev pub IsFieldWrittenOn : Option (List ℕ) → (old : List ℕ) → (had_failed : Bool) → Result (Unit {0}) EditFault → (new : List ℕ) → Type 0
-IsFieldWrittenOn (Some field) old had_failed result new = IsWrittenOn (with_field field old) old result new
-IsFieldWrittenOn None old false result new = (result ≡ Err E.TooWide) × (new ≡ old)
-IsFieldWrittenOn None old true result new = (result ≡ Err E.Write) × (new ≡ old)
+-- a number's field behind the output, where it is wide enough
+abbrev pub IsFieldWrittenOn : Option (List ℕ) → (old : List ℕ) → Result (Unit {0}) EditFault → (new : List ℕ) → Type 0
+IsFieldWrittenOn (Some field) old result new = IsWrittenOn (with_field field old) old result new
+IsFieldWrittenOn None old result new = (result ≡ Err E.TooWide) × (new ≡ old)

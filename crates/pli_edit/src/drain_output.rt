@@ -1,6 +1,6 @@
 // Output that goes to a drain.
 
-ghost use Rattle.std.specs.Prelude.{◌≡◌, ◌+◌, ◌^◌, ◌<◌, ◌++◌, [], true, false, length, min, replicate};
+ghost use Rattle.std.specs.Prelude.{◌≡◌, ◌||◌, ◌+◌, ◌^◌, ◌<◌, ◌++◌, [], true, false, length, min, replicate};
 ghost use Rattle.pli_meaning.specs.Stream.{blanks};
 ghost use Rattle.pli_edit.specs.Drained.{taken_since, output_of, one_if, IsDrained, last_line, most_line};
 ghost use Rattle.pli_edit.specs.Faults.{is_fault, is_write};
@@ -23,7 +23,7 @@ const MOST_LINE: usize = 1 << 32;
 
 /// Writes on a drain. It keeps no bytes: what a call writes is handed over before it returns.
 ///
-/// After a write that failed or took nothing none is made, and each call answers `Write`.
+/// After a write that failed or took nothing none is made, and each call that would write answers `Write`.
 #[derive(Drop)]
 pub struct DrainOutput<D: Drain, B: Before> {
     drain: D,
@@ -75,8 +75,8 @@ impl<D: Drain, B: Before> DrainOutput<D, B> {
         ensures written { IsWrittenOn (output_of B.before (D.history self.old.drain) self.old.left.numbers ++ (replicate before fill ++ (text.now ++ replicate behind fill)))
             (output_of B.before (D.history self.old.drain) self.old.left.numbers) result
             (output_of B.before (D.history self.new.drain) self.new.left.numbers) }
-        ensures failed { self.new.has_failed ≡ is_fault is_write result }
-        ensures again { self.old.has_failed ≡ true → self.new.has_failed ≡ true }
+        ensures failed { self.new.has_failed ≡ (self.old.has_failed || is_fault is_write result) }
+        ensures again { self.old.has_failed ≡ true → result ≡ Err EditFault.Write }
     {
         self.line = line;
         if self.has_failed {
@@ -96,8 +96,8 @@ impl<D: Drain, B: Before> DrainOutput<D, B> {
         ensures written { IsWrittenOn (output_of B.before (D.history self.old.drain) self.old.left.numbers ++ (blanks before ++ (text.now ++ blanks behind)))
             (output_of B.before (D.history self.old.drain) self.old.left.numbers) result
             (output_of B.before (D.history self.new.drain) self.new.left.numbers) }
-        ensures failed { self.new.has_failed ≡ is_fault is_write result }
-        ensures again { self.old.has_failed ≡ true → self.new.has_failed ≡ true }
+        ensures failed { self.new.has_failed ≡ (self.old.has_failed || is_fault is_write result) }
+        ensures again { self.old.has_failed ≡ true → result ≡ Err EditFault.Write }
     {
         let (before, behind) = (before as usize, behind as usize);
         let line = line_behind(self.line + before, text) + behind;
@@ -127,9 +127,6 @@ impl<D: Drain, B: Before> OutputStream for DrainOutput<D, B> {
         let digits = decimal(&mut buffer, number);
         if digits.len() <= width as usize {
             return self.put(width - digits.len() as u32, digits, 0);
-        }
-        if self.has_failed {
-            return Err(EditFault::Write);
         }
         Err(EditFault::TooWide)
     }

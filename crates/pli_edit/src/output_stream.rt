@@ -1,6 +1,6 @@
 // What PUT writes on, whatever stands behind it.
 
-ghost use Rattle.std.specs.Prelude.{◌≡◌, true};
+ghost use Rattle.std.specs.Prelude.{◌≡◌, ◌||◌, true, IsErr};
 ghost use Rattle.pli_meaning.specs.Stream as stream;
 ghost use Rattle.pli_edit.specs.Faults.{is_fault, is_write};
 ghost use Rattle.pli_edit.specs.Fields.{text_field};
@@ -11,8 +11,8 @@ use crate::output::Output;
 
 /// Writes fields and control items, one a call. What a call writes is handed over before it returns.
 ///
-/// Contracts see all the output, also what a write that failed left, and whether one failed. `Memory` where there is none, and then
-/// nothing changed. `Write` where a write failed in this call or before.
+/// Contracts see all the output, also what a write that failed left, and whether one failed. `Memory` where there is
+/// none, and then nothing changed. `Write` where a write failed in this call or before.
 pub trait OutputStream {
     ghost use Rattle.std.specs.Prelude.{Bool, List, ℕ};
 
@@ -31,18 +31,19 @@ pub trait OutputStream {
     /// `Memory`, `Write`.
     fn put_a(&mut self, text: &[u8], width: Option<u32>) -> Result<(), EditFault>
         ensures written { IsWrittenOn (stream.with_field (text_field width text.now) (output self.old)) (output self.old) result (output self.new) }
-        ensures failed { has_failed self.new ≡ is_fault is_write result }
-        ensures again { has_failed self.old ≡ true → has_failed self.new ≡ true };
+        ensures failed { has_failed self.new ≡ (has_failed self.old || is_fault is_write result) }
+        ensures again { has_failed self.old ≡ true → result ≡ Err EditFault.Write };
 
     /// A number at the right end of a field of `width` bytes.
     ///
     /// # Errors
     ///
-    /// `TooWide` where the field is too narrow, and then nothing changed; `Memory`, `Write`.
+    /// `TooWide` where the field is too narrow, also after a write that failed, and then nothing changed; `Memory`,
+    /// `Write`.
     fn put_f(&mut self, number: i32, width: u32) -> Result<(), EditFault>
-        ensures written { IsFieldWrittenOn (stream.fixed_field width number) (output self.old) (has_failed self.old) result (output self.new) }
-        ensures failed { has_failed self.new ≡ is_fault is_write result }
-        ensures again { has_failed self.old ≡ true → has_failed self.new ≡ true };
+        ensures written { IsFieldWrittenOn (stream.fixed_field width number) (output self.old) result (output self.new) }
+        ensures failed { has_failed self.new ≡ (has_failed self.old || is_fault is_write result) }
+        ensures again { has_failed self.old ≡ true → IsErr result };
 
     /// So many blanks.
     ///
@@ -51,8 +52,8 @@ pub trait OutputStream {
     /// `Memory`, `Write`.
     fn space(&mut self, count: u32) -> Result<(), EditFault>
         ensures written { IsWrittenOn (stream.spaced count (output self.old)) (output self.old) result (output self.new) }
-        ensures failed { has_failed self.new ≡ is_fault is_write result }
-        ensures again { has_failed self.old ≡ true → has_failed self.new ≡ true };
+        ensures failed { has_failed self.new ≡ (has_failed self.old || is_fault is_write result) }
+        ensures again { has_failed self.old ≡ true → result ≡ Err EditFault.Write };
 
     /// So many line feeds.
     ///
@@ -61,8 +62,8 @@ pub trait OutputStream {
     /// `Memory`, `Write`.
     fn skip(&mut self, count: u32) -> Result<(), EditFault>
         ensures written { IsWrittenOn (stream.skipped count (output self.old)) (output self.old) result (output self.new) }
-        ensures failed { has_failed self.new ≡ is_fault is_write result }
-        ensures again { has_failed self.old ≡ true → has_failed self.new ≡ true };
+        ensures failed { has_failed self.new ≡ (has_failed self.old || is_fault is_write result) }
+        ensures again { has_failed self.old ≡ true → result ≡ Err EditFault.Write };
 
     /// Blanks up to a column, behind a line feed where it is passed.
     ///
@@ -71,8 +72,8 @@ pub trait OutputStream {
     /// `Memory`, `Write`.
     fn column(&mut self, column: u32) -> Result<(), EditFault>
         ensures written { IsWrittenOn (stream.moved_to_column column (output self.old)) (output self.old) result (output self.new) }
-        ensures failed { has_failed self.new ≡ is_fault is_write result }
-        ensures again { has_failed self.old ≡ true → has_failed self.new ≡ true };
+        ensures failed { has_failed self.new ≡ (has_failed self.old || is_fault is_write result) }
+        ensures again { has_failed self.old ≡ true → result ≡ Err EditFault.Write };
 
     /// An unfinished last line gets its line feed.
     ///
@@ -81,8 +82,8 @@ pub trait OutputStream {
     /// `Memory`, `Write`.
     fn finish(&mut self) -> Result<(), EditFault>
         ensures written { IsWrittenOn (stream.finished (output self.old)) (output self.old) result (output self.new) }
-        ensures failed { has_failed self.new ≡ is_fault is_write result }
-        ensures again { has_failed self.old ≡ true → has_failed self.new ≡ true };
+        ensures failed { has_failed self.new ≡ (has_failed self.old || is_fault is_write result) }
+        ensures again { has_failed self.old ≡ true → result ≡ Err EditFault.Write };
 }
 
 impl OutputStream for Output {

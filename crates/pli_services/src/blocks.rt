@@ -51,7 +51,7 @@ fn block_of(entered: Entered, frame: u32, texts: u32, standing: Standing) -> Opt
     })
 }
 
-impl<O: OutputStream + Drop> Flow<O> {
+impl<O: OutputStream> Flow<O> {
     /// A block other than an on-unit, where no raise waits.
     fn block_entered(&self, kind: BlockKind) -> Option<Entered>
         ensures { option_map entered_shown result ≡ blocks.block_entered (kind_shown kind) self.now.line (option_map waiting_of self.now.waiting) }

@@ -35,7 +35,7 @@ pub struct Flow<O = Output> {
     pub waiting: Option<Waiting>,
 }
 
-impl<O: OutputStream + Drop> Flow<O> {
+impl<O: OutputStream> Flow<O> {
     /// No block is entered, and no raise waits.
     pub fn new(alloc: Global, output: O) -> Flow<O>
         requires { O.output output ≡ [] }

@@ -21,7 +21,7 @@ pub struct Shown<O = Output> {
     pub end: End,
 }
 
-impl<O: OutputStream + Drop> Shown<O> {
+impl<O: OutputStream> Shown<O> {
     /// Nothing is shown, and the run goes on.
     pub fn new(alloc: Global, output: O) -> Shown<O>
         requires { O.output output ≡ [] }
