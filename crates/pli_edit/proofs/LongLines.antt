@@ -19,7 +19,8 @@ either false k l m h = omega (arith, h)
 
 over-same : (t : List ℕ) (k l m : ℕ) → min k m ≡ min l m → min (line_over k t) m ≡ min (line_over l t) m
 over-same [] k l m h = h
-over-same (b ∷ bs) k l m h = over-same bs (if b == 10 then 0 else k + 1) (if b == 10 then 0 else l + 1) m (either (b == 10) k l m h)
+over-same (b ∷ bs) k l m h =
+    over-same bs (if b == 10 then 0 else k + 1) (if b == 10 then 0 else l + 1) m (either (b == 10) k l m h)
 
 -- a text between blanks
 pub line_sent :
@@ -47,9 +48,10 @@ pub column_sent :
     o ++ (blanks ((column - 1) - line) ++ ([] ++ [])) ≡ moved_to_column column o
 column_sent o column line m h small less =
     let count : (column - 1) - line ≡ column - column_of o = omega (arith, h) in
+    let passed = o ++ line_feed ∷ blanks (column - 1) in
     ap (λ l. o ++ l) (append-nil (blanks ((column - 1) - line)) ∙ ap blanks count)
     ∙ elim (leb_tells (column_of o) column) [
-      | inl t ↦ ap (λ b. if b then o ++ blanks (column - column_of o) else o ++ line_feed ∷ blanks (column - 1)) (sym t.0)
+      | inl t ↦ ap (λ b. if b then o ++ blanks (column - column_of o) else passed) (sym t.0)
       | inr f ↦ absurd (omega (arith, h, f.1))
     ]
 
@@ -57,13 +59,15 @@ pub column_passed :
     (o : List ℕ) (column line m : ℕ) → line ≡ min (last_line o) m → column ≤ line →
     o ++ ([] ++ (10 ∷ [] ++ blanks (column - 1))) ≡ moved_to_column column o
 column_passed o column line m h more =
+    let passed = o ++ line_feed ∷ blanks (column - 1) in
     elim (leb_tells (column_of o) column) [
       | inl t ↦ absurd (omega (arith, h, t.1))
-      | inr f ↦ ap (λ b. if b then o ++ blanks (column - column_of o) else o ++ line_feed ∷ blanks (column - 1)) (sym f.0)
+      | inr f ↦ ap (λ b. if b then o ++ blanks (column - column_of o) else passed) (sym f.0)
     ]
 
 -- a last line that is finished already, and one that isn't
-pub line_done : (o : List ℕ) (line m : ℕ) → line ≡ min (last_line o) m → 0 < m → line ≡ 0 → o ++ ([] ++ ([] ++ [])) ≡ finished o
+pub line_done :
+    (o : List ℕ) (line m : ℕ) → line ≡ min (last_line o) m → 0 < m → line ≡ 0 → o ++ ([] ++ ([] ++ [])) ≡ finished o
 line_done o line m h some none =
     append-nil o
     ∙ elim (eqb_tells (column_of o) 1) [
@@ -71,7 +75,8 @@ line_done o line m h some none =
       | inr f ↦ absurd (f.1 (omega (arith, h)))
     ]
 
-pub line_open : (o : List ℕ) (line m : ℕ) → line ≡ min (last_line o) m → 0 < line → o ++ ([] ++ (10 ∷ [] ++ [])) ≡ finished o
+pub line_open :
+    (o : List ℕ) (line m : ℕ) → line ≡ min (last_line o) m → 0 < line → o ++ ([] ++ (10 ∷ [] ++ [])) ≡ finished o
 line_open o line m h some =
     elim (eqb_tells (column_of o) 1) [
       | inl t ↦ absurd (let e = t.1 in omega (arith, h, e))
@@ -85,7 +90,8 @@ pub text_sent :
 text_sent t kept width e =
     let short : take kept t ≡ take width t = ap (λ n. take n t) (e ∙ swapped (length t) width) ∙ take_min width t in
     let same : width - kept ≡ width - length t = omega (arith, e) in
-    ap (λ l. l ++ blanks (width - kept)) short ∙ (ap (λ n. take width t ++ blanks n) same ∙ field-padded width (length t) t refl)
+    ap (λ l. l ++ blanks (width - kept)) short
+    ∙ (ap (λ n. take width t ++ blanks n) same ∙ field-padded width (length t) t refl)
   where
     swapped : (a b : ℕ) → min a b ≡ min b a
     swapped a b = omega arith
@@ -93,10 +99,13 @@ text_sent t kept width e =
 -- what a drain took in the end
 pub drained :
     (before now : History) (left : List ℕ) (has_failed : Bool) → before.bytes ++ taken_since before now ≡ now.bytes →
-    fruitless now ≡ fruitless before + one_if has_failed → (has_failed ≡ false → left ≡ []) → (has_failed ≡ true → 0 < length left) →
+    fruitless now ≡ fruitless before + one_if has_failed → (has_failed ≡ false → left ≡ []) →
+    (has_failed ≡ true → 0 < length left) →
     IsDrained before (output_of before now left) has_failed now
 drained before now left false grown told none some =
-    (sym grown ∙ ap (λ l. before.bytes ++ l) (sym (append-nil (taken_since before now)) ∙ ap (λ l. taken_since before now ++ l) (sym (none refl))), omega (arith, told))
+    let taken = taken_since before now in
+    let all : taken ≡ taken ++ left = sym (append-nil taken) ∙ ap (λ l. taken ++ l) (sym (none refl)) in
+    (sym grown ∙ ap (λ l. before.bytes ++ l) all, omega (arith, told))
 drained before now left true grown told none some =
     let taken = taken_since before now in
     let more = some refl in (

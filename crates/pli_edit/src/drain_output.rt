@@ -56,7 +56,8 @@ impl<D: Drain, B: Before> DrainOutput<D, B> {
 
     /// The drain back.
     pub fn into_inner(self) -> D
-        ensures { IsDrained B.before (output_of B.before (D.history self.drain) self.left.numbers) self.has_failed (D.history result) }
+        ensures { IsDrained B.before (output_of B.before (D.history self.drain) self.left.numbers) self.has_failed
+            (D.history result) }
     {
         self.drain
     }
@@ -71,8 +72,10 @@ impl<D: Drain, B: Before> DrainOutput<D, B> {
         line: usize,
     ) -> Result<(), EditFault>
         requires fits { before + length text.now + behind < 2 ^ 64 }
-        requires counted { line ≡ min (last_line (output_of B.before (D.history self.old.drain) self.old.left.numbers ++ (replicate before fill ++ (text.now ++ replicate behind fill)))) most_line }
-        ensures written { IsWrittenOn (output_of B.before (D.history self.old.drain) self.old.left.numbers ++ (replicate before fill ++ (text.now ++ replicate behind fill)))
+        requires counted { line ≡ min (last_line (output_of B.before (D.history self.old.drain) self.old.left.numbers
+            ++ (replicate before fill ++ (text.now ++ replicate behind fill)))) most_line }
+        ensures written { IsWrittenOn (output_of B.before (D.history self.old.drain) self.old.left.numbers
+                ++ (replicate before fill ++ (text.now ++ replicate behind fill)))
             (output_of B.before (D.history self.old.drain) self.old.left.numbers) result
             (output_of B.before (D.history self.new.drain) self.new.left.numbers) }
         ensures failed { self.new.has_failed ≡ (self.old.has_failed || is_fault is_write result) }
@@ -93,7 +96,8 @@ impl<D: Drain, B: Before> DrainOutput<D, B> {
 
     // A text behind blanks and before blanks.
     fn put(&mut self, before: u32, text: &[u8], behind: u32) -> Result<(), EditFault>
-        ensures written { IsWrittenOn (output_of B.before (D.history self.old.drain) self.old.left.numbers ++ (blanks before ++ (text.now ++ blanks behind)))
+        ensures written { IsWrittenOn (output_of B.before (D.history self.old.drain) self.old.left.numbers
+                ++ (blanks before ++ (text.now ++ blanks behind)))
             (output_of B.before (D.history self.old.drain) self.old.left.numbers) result
             (output_of B.before (D.history self.new.drain) self.new.left.numbers) }
         ensures failed { self.new.has_failed ≡ (self.old.has_failed || is_fault is_write result) }

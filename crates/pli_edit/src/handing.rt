@@ -60,7 +60,8 @@ pub fn hand_field<D: Drain>(
     behind: usize,
 ) -> Result<(), usize>
     requires { before + length text.now + behind < 2 ^ 64 }
-    ensures { IsHandedOver (replicate before fill ++ (text.now ++ replicate behind fill)) (D.history drain.old) result (D.history drain.new) }
+    ensures { IsHandedOver (replicate before fill ++ (text.now ++ replicate behind fill)) (D.history drain.old)
+        result (D.history drain.new) }
 {
     let size = before + text.len() + behind;
     if size <= PIECE {

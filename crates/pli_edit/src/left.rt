@@ -23,7 +23,8 @@ impl Names<Tag> for Same {
 struct More;
 
 impl<'a> Names<Unwritten<'a>> for More {
-    ghost numbers = { λ u. u.left.numbers ++ drop u.count (replicate u.before u.fill ++ (u.text.now ++ replicate u.behind u.fill)) };
+    ghost numbers = { λ u. u.left.numbers
+        ++ drop u.count (replicate u.before u.fill ++ (u.text.now ++ replicate u.behind u.fill)) };
 }
 
 /// Behind what is left, what a field has behind so many bytes: a text between fill bytes.
@@ -35,7 +36,8 @@ pub fn with_field_left(
     behind: usize,
     count: usize,
 ) -> Tag
-    ensures { result.numbers ≡ left.now.numbers ++ drop count (replicate before fill ++ (text.now ++ replicate behind fill)) }
+    ensures { result.numbers ≡ left.now.numbers
+        ++ drop count (replicate before fill ++ (text.now ++ replicate behind fill)) }
 {
     let left = Tag::of::<Tag, Same>(left);
     Tag::of::<Unwritten<'_>, More>(&Unwritten {

@@ -1,4 +1,5 @@
-// Edit-directed streams: the fields that GET takes from the input and PUT writes behind the output, and the items that move in both.
+// Edit-directed streams: the fields that GET takes from the input and PUT writes behind the output, and the items that
+// move in both.
 #![tactic(auto)]
 
 pub mod drain;

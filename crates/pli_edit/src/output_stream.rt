@@ -30,7 +30,8 @@ pub trait OutputStream {
     ///
     /// `Memory`, `Write`.
     fn put_a(&mut self, text: &[u8], width: Option<u32>) -> Result<(), EditFault>
-        ensures written { IsWrittenOn (stream.with_field (text_field width text.now) (output self.old)) (output self.old) result (output self.new) }
+        ensures written { IsWrittenOn (stream.with_field (text_field width text.now) (output self.old))
+            (output self.old) result (output self.new) }
         ensures failed { has_failed self.new ≡ (has_failed self.old || is_fault is_write result) }
         ensures again { has_failed self.old ≡ true → result ≡ Err EditFault.Write };
 
@@ -41,7 +42,8 @@ pub trait OutputStream {
     /// `TooWide` where the field is too narrow, also after a write that failed, and then nothing changed; `Memory`,
     /// `Write`.
     fn put_f(&mut self, number: i32, width: u32) -> Result<(), EditFault>
-        ensures written { IsFieldWrittenOn (stream.fixed_field width number) (output self.old) result (output self.new) }
+        ensures written { IsFieldWrittenOn (stream.fixed_field width number) (output self.old)
+            result (output self.new) }
         ensures failed { has_failed self.new ≡ (has_failed self.old || is_fault is_write result) }
         ensures again { has_failed self.old ≡ true → IsErr result };
 
@@ -51,7 +53,8 @@ pub trait OutputStream {
     ///
     /// `Memory`, `Write`.
     fn space(&mut self, count: u32) -> Result<(), EditFault>
-        ensures written { IsWrittenOn (stream.spaced count (output self.old)) (output self.old) result (output self.new) }
+        ensures written { IsWrittenOn (stream.spaced count (output self.old)) (output self.old)
+            result (output self.new) }
         ensures failed { has_failed self.new ≡ (has_failed self.old || is_fault is_write result) }
         ensures again { has_failed self.old ≡ true → result ≡ Err EditFault.Write };
 
@@ -61,7 +64,8 @@ pub trait OutputStream {
     ///
     /// `Memory`, `Write`.
     fn skip(&mut self, count: u32) -> Result<(), EditFault>
-        ensures written { IsWrittenOn (stream.skipped count (output self.old)) (output self.old) result (output self.new) }
+        ensures written { IsWrittenOn (stream.skipped count (output self.old)) (output self.old)
+            result (output self.new) }
         ensures failed { has_failed self.new ≡ (has_failed self.old || is_fault is_write result) }
         ensures again { has_failed self.old ≡ true → result ≡ Err EditFault.Write };
 
@@ -71,7 +75,8 @@ pub trait OutputStream {
     ///
     /// `Memory`, `Write`.
     fn column(&mut self, column: u32) -> Result<(), EditFault>
-        ensures written { IsWrittenOn (stream.moved_to_column column (output self.old)) (output self.old) result (output self.new) }
+        ensures written { IsWrittenOn (stream.moved_to_column column (output self.old)) (output self.old)
+            result (output self.new) }
         ensures failed { has_failed self.new ≡ (has_failed self.old || is_fault is_write result) }
         ensures again { has_failed self.old ≡ true → result ≡ Err EditFault.Write };
 
@@ -81,7 +86,8 @@ pub trait OutputStream {
     ///
     /// `Memory`, `Write`.
     fn finish(&mut self) -> Result<(), EditFault>
-        ensures written { IsWrittenOn (stream.finished (output self.old)) (output self.old) result (output self.new) }
+        ensures written { IsWrittenOn (stream.finished (output self.old)) (output self.old)
+            result (output self.new) }
         ensures failed { has_failed self.new ≡ (has_failed self.old || is_fault is_write result) }
         ensures again { has_failed self.old ≡ true → result ≡ Err EditFault.Write };
 }

@@ -1,4 +1,5 @@
-// Output on drains that take little at a time, that fail or that take nothing: what was handed over is the front of what was due.
+// Output on drains that take little at a time, that fail or that take nothing: what was handed over is the front of
+// what was due.
 
 ghost use Rattle.std.specs.Prelude.{◌≡◌, ◌≤◌, IfOk, length, []};
 ghost use Rattle.pli_edit.specs.Pasts.{history_of};

@@ -13,8 +13,10 @@ returns-in-Err g c =
     let count = c.in-Err.count in
     let first = replicate c.args.before c.args.fill in
     let behind = replicate c.args.behind c.args.fill in
-    subst (λ k. IsHandedOver (first ++ (text ++ behind)) start (Err (k + count)) new) (length-replicate c.args.before c.args.fill)
-    (cut_later first (text ++ behind) start mid new count c.in_ok-hand_repeated.ensures (cut_first text behind mid new count c.in-Err.ensures))
+    let part = cut_first text behind mid new count c.in-Err.ensures in
+    subst (λ k. IsHandedOver (first ++ (text ++ behind)) start (Err (k + count)) new)
+    (length-replicate c.args.before c.args.fill)
+    (cut_later first (text ++ behind) start mid new count c.in_ok-hand_repeated.ensures part)
 
 pub returns-in-Err-hand_repeated : goal.returns-in-Err-hand_repeated
 returns-in-Err-hand_repeated g c =
@@ -31,14 +33,19 @@ returns-in-Err-hand_repeated g c =
     in
     subst (λ k. IsHandedOver (first ++ (text ++ behind)) start (Err (k + count)) new) before
     (subst (λ l. IsHandedOver l start (Err (length (first ++ text) + count)) new) (append_assoc first text behind)
-    (cut_later (first ++ text) behind start two new count (joined first text start one two c.in_ok-hand_repeated.ensures c.in_default.ensures) c.in-Err-hand_repeated.ensures))
+    (cut_later (first ++ text) behind start two new count
+    (joined first text start one two c.in_ok-hand_repeated.ensures c.in_default.ensures) c.in-Err-hand_repeated.ensures))
 
 pub returns-then-size-le-PIECE : goal.returns-then-size-le-PIECE
 returns-then-size-le-PIECE g c =
     let start = g.D.Drain.history c.args.drain.now in
     let new = g.D.Drain.history c.hand_over.new.drain in
     let size = c.args.before + length c.args.text.now + c.args.behind in
-    let same : take size c.field_of-field.result ≡ replicate c.args.before c.args.fill ++ (c.args.text.now ++ replicate c.args.behind c.args.fill) =
-    ap (take size) c.field_of-field.ensures ∙ piece_taken c.args.fill c.args.before c.args.text.now c.args.behind c.if-size-le-PIECE.true
+    let text = c.args.text.now in
+    let fill = c.args.fill in
+    let field = replicate c.args.before fill ++ (text ++ replicate c.args.behind fill) in
+    let same : take size c.field_of-field.result ≡ field =
+    ap (take size) c.field_of-field.ensures
+    ∙ piece_taken fill c.args.before text c.args.behind c.if-size-le-PIECE.true
     in
     subst (λ l. IsHandedOver l start c.hand_over.result new) same c.hand_over.ensures

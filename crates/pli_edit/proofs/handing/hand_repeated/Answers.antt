@@ -24,7 +24,8 @@ returns-in-Err g c =
     let part : IsHandedOver piece mid (Err more) new =
     subst (λ l. IsHandedOver l mid (Err more) new) (take-replicate size 256 byte fits) c.in-Err.ensures
     in
-    let long = cut_later first (piece ++ behind) start mid new more c.loop-done.invariant.handed (cut_first piece behind mid new more part) in
+    let rest_left = cut_first piece behind mid new more part in
+    let long = cut_later first (piece ++ behind) start mid new more c.loop-done.invariant.handed rest_left in
     let all : done + (size + rest) ≡ c.args.count = omega (arith, within) in
     let whole : first ++ (piece ++ behind) ≡ replicate c.args.count byte =
     ap (λ l. first ++ l) (replicate-append-replicate size rest byte)

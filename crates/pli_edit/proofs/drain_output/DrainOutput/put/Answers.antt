@@ -8,4 +8,5 @@ send-requires-clause-counted g c =
     let s = c.args.self.now in
     c.min.ensures
     ∙ (ap (λ n. min (n + c.args.behind) most_line) c.line_behind.ensures.length
-    ∙ line_sent (output_of g.B.Before.before (g.D.Drain.history s.drain) s.left.numbers) c.args.text.now s.line c.args.before c.args.behind most_line s.counted)
+    ∙ line_sent (output_of g.B.Before.before (g.D.Drain.history s.drain) s.left.numbers) c.args.text.now s.line
+    c.args.before c.args.behind most_line s.counted)

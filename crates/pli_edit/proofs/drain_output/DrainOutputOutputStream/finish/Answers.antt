@@ -8,12 +8,18 @@ pub returns-then-self-eq0-clause-written : goal.returns-then-self-eq0-clause-wri
 returns-then-self-eq0-clause-written g c =
     let s = c.args.self.now in
     let o : List ℕ = output_of g.B.Before.before (g.D.Drain.history s.drain) s.left.numbers in
-    let new : List ℕ = output_of g.B.Before.before (g.D.Drain.history c.put.new.self.drain) c.put.new.self.left.numbers in
-    subst (λ l. IsWrittenOn l o c.put.result new) (line_done o s.line most_line s.counted (omega arith) c.if-self-eq0.true) c.put.ensures.written
+    let end = c.put.new.self in
+    let new : List ℕ = output_of g.B.Before.before (g.D.Drain.history end.drain) end.left.numbers in
+    subst (λ l. IsWrittenOn l o c.put.result new)
+    (line_done o s.line most_line s.counted (omega arith) c.if-self-eq0.true)
+    c.put.ensures.written
 
 pub returns-clause-written : goal.returns-clause-written
 returns-clause-written g c =
     let s = c.args.self.now in
     let o : List ℕ = output_of g.B.Before.before (g.D.Drain.history s.drain) s.left.numbers in
-    let new : List ℕ = output_of g.B.Before.before (g.D.Drain.history c.put-2.new.self.drain) c.put-2.new.self.left.numbers in
-    subst (λ l. IsWrittenOn l o c.put-2.result new) (line_open o s.line most_line s.counted (omega (arith, c.if-self-eq0.false))) c.put-2.ensures.written
+    let end = c.put-2.new.self in
+    let new : List ℕ = output_of g.B.Before.before (g.D.Drain.history end.drain) end.left.numbers in
+    subst (λ l. IsWrittenOn l o c.put-2.result new)
+    (line_open o s.line most_line s.counted (omega (arith, c.if-self-eq0.false)))
+    c.put-2.ensures.written

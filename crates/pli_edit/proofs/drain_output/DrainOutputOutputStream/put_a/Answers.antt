@@ -9,7 +9,10 @@ pub returns-clause-written : goal.returns-clause-written
 returns-clause-written g c =
     let s = c.args.self.now in
     let o : List ℕ = output_of g.B.Before.before (g.D.Drain.history s.drain) s.left.numbers in
-    let new : List ℕ = output_of g.B.Before.before (g.D.Drain.history c.put-2.new.self.drain) c.put-2.new.self.left.numbers in
+    let end = c.put-2.new.self in
+    let new : List ℕ = output_of g.B.Before.before (g.D.Drain.history end.drain) end.left.numbers in
     subst (λ l. IsWrittenOn l o c.put-2.result new)
-    (ap (λ l. o ++ l) (text_sent c.args.text.now c.min-kept.result c.in-Some.width c.min-kept.ensures ∙ ap (λ w. text_field w c.args.text.now) (sym c.in-Some.is)))
+    (ap (λ l. o ++ l)
+    (text_sent c.args.text.now c.min-kept.result c.in-Some.width c.min-kept.ensures
+    ∙ ap (λ w. text_field w c.args.text.now) (sym c.in-Some.is)))
     c.put-2.ensures.written

@@ -6,4 +6,5 @@ use Rattle.pli_edit.proofs.drain_output.DrainOutputOutputStream.skip.Goals as go
 pub send-requires-clause-counted : goal.send-requires-clause-counted
 send-requires-clause-counted g c =
     let s = c.args.self.now in
-    line_fed (output_of g.B.Before.before (g.D.Drain.history s.drain) s.left.numbers) c.args.count most_line (omega (arith, c.if-count-eq0.false))
+    line_fed (output_of g.B.Before.before (g.D.Drain.history s.drain) s.left.numbers) c.args.count most_line
+    (omega (arith, c.if-count-eq0.false))
