@@ -75,7 +75,7 @@ impl<D: Drain, B: Before> DrainOutput<D, B> {
         requires counted { line ≡ min (last_line (output_of B.before (D.history self.old.drain) self.old.left.numbers
             ++ (replicate before fill ++ (text.now ++ replicate behind fill)))) most_line }
         ensures written { IsWrittenOn (output_of B.before (D.history self.old.drain) self.old.left.numbers
-                ++ (replicate before fill ++ (text.now ++ replicate behind fill)))
+            ++ (replicate before fill ++ (text.now ++ replicate behind fill)))
             (output_of B.before (D.history self.old.drain) self.old.left.numbers) result
             (output_of B.before (D.history self.new.drain) self.new.left.numbers) }
         ensures failed { self.new.has_failed ≡ (self.old.has_failed || is_fault is_write result) }
@@ -97,7 +97,7 @@ impl<D: Drain, B: Before> DrainOutput<D, B> {
     // A text behind blanks and before blanks.
     fn put(&mut self, before: u32, text: &[u8], behind: u32) -> Result<(), EditFault>
         ensures written { IsWrittenOn (output_of B.before (D.history self.old.drain) self.old.left.numbers
-                ++ (blanks before ++ (text.now ++ blanks behind)))
+            ++ (blanks before ++ (text.now ++ blanks behind)))
             (output_of B.before (D.history self.old.drain) self.old.left.numbers) result
             (output_of B.before (D.history self.new.drain) self.new.left.numbers) }
         ensures failed { self.new.has_failed ≡ (self.old.has_failed || is_fault is_write result) }
