@@ -4,7 +4,7 @@ use Rattle.std.specs.Prelude.{slice_index}
 use Rattle.std.specs.List.{refill}
 use Rattle.granule_keeper.specs.Granules.{granules}
 use Rattle.pli_serving.specs.Serving.{serves}
-use Rattle.pli_runtime.specs.declared.runtime.Runtime.{Runtime}
+use Rattle.pli_runtime.specs.Running.{KeptRuntime as Runtime}
 use Rattle.std.proofs.lemmas.Grind.{common_steps}
 use Rattle.rv_meaning.specs.Machine.{written}
 use Rattle.rv_machine.specs.declared.services.Served.{Served}

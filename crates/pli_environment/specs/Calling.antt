@@ -7,7 +7,7 @@ use Rattle.pli_serving.specs.Answers.{Answer, Done, Ends, Bad}
 use Rattle.pli_serving.specs.ServiceState.{Services}
 use Rattle.pli_serving.specs.Serving.{serves}
 use Rattle.pli_runtime.specs.Running.{call_of, running}
-use Rattle.pli_runtime.specs.declared.runtime.Runtime.{Runtime}
+use Rattle.pli_runtime.specs.Running.{KeptRuntime as Runtime}
 
 -- how a call came out, with services, registers and bytes after it, is this answer; a bad call changes nothing, and without memory what
 -- is shown, the registers and the bytes stay, and the run ends

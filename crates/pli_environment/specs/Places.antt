@@ -4,7 +4,7 @@ use Rattle.rv_meaning.specs.Machine.{memory_size}
 use Rattle.granule_keeper.specs.Granules.{granules}
 use Rattle.pli_values.specs.declared.layout.Layout.{Layout}
 use Rattle.pli_runtime.specs.Running.{IsStanding}
-use Rattle.pli_runtime.specs.declared.runtime.Runtime.{Runtime}
+use Rattle.pli_runtime.specs.Running.{KeptRuntime as Runtime}
 
 -- behind 7 MiB that begin with the code and 7 MiB of stacks the heap, an area of 1 MiB, in the last 2 MiB
 abbrev pub image_layout : (code_bytes : ℕ) → Layout

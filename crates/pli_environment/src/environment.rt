@@ -34,7 +34,7 @@ pub struct Environment {
 }
 
 impl Model for Environment {
-    ghost use Rattle.pli_runtime.specs.declared.runtime.Runtime.{Runtime};
+    ghost use Rattle.pli_runtime.specs.Running.{KeptRuntime as Runtime};
     ghost use Rattle.pli_environment.specs.Places.{IsReady};
 
     ghost Value = { Runtime };

@@ -14,6 +14,7 @@ use controlled_gens::controlled::Controlled;
 use pli_answering::reply::{Refusal, Reply};
 use pli_meaning::outcome::{End, Limit};
 use pli_services::blocks::Standing;
+use pli_edit::output::Output;
 use pli_services::flow::Flow;
 use pli_signatures::signatures::Signatures;
 use pli_storage::held::Held;
@@ -86,7 +87,7 @@ fn held(alloc: Global) -> Option<Held>
 
 // What the calls reply, up to the first for which there is no memory.
 fn walk(
-    flow: &mut Flow,
+    flow: &mut Flow<Output>,
     held: &mut Held,
     in_use: &mut InUse,
     alloc: Global,
@@ -109,7 +110,7 @@ fn variables_are_made(rt: HostRuntime) {
     };
     let mut memory = [0; 512];
     put_words(&mut memory, 32, &[1, 0, 12, 1, 3, 1, 5]);
-    let mut flow = Flow::new(rt.alloc());
+    let mut flow = Flow::new(rt.alloc(), Output::new(rt.alloc()));
     if flow.enter(0, 4096, 1, 0, NONE_WAIT).is_err() {
         return;
     }

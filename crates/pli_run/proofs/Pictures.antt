@@ -15,7 +15,7 @@ use Rattle.std.proofs.lemmas.List.{length-map}
 use Rattle.rv_machine.specs.Operations.{instr_of}
 use Rattle.rv_machine.specs.Loading.{loaded_of, state_of, moment, IsStarted}
 use Rattle.rv_machine.specs.declared.machine.Machine.{Machine}
-use Rattle.pli_runtime.specs.declared.runtime.Runtime.{Runtime}
+use Rattle.pli_runtime.specs.Running.{KeptRuntime as Runtime}
 use Rattle.pli_runtime.specs.Running.{running}
 use Rattle.pli_run.proofs.Stepping.{whole, none_on}
 use Rattle.rv_isa.proofs.Unique.{same}

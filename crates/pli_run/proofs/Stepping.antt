@@ -14,7 +14,7 @@ use Rattle.pli_serving.specs.ServiceState.{Services}
 use Rattle.pli_serving.specs.Serving.{serves}
 use Rattle.pli_values.specs.declared.layout.Layout.{Layout}
 use Rattle.pli_values.specs.View as View
-use Rattle.pli_runtime.specs.declared.runtime.Runtime.{Runtime}
+use Rattle.pli_runtime.specs.Running.{KeptRuntime as Runtime}
 use Rattle.pli_runtime.specs.Running.{running, call_of}
 use Rattle.pli_environment.specs.Calling.{Serves, IsAnswered}
 use Rattle.pli_environment.specs.Places.{image_layout}

@@ -6,9 +6,10 @@ ghost use Rattle.pli_serving.specs.Blocks as services;
 ghost use Rattle.pli_serving.specs.ElementService.{of_two_words};
 ghost use Rattle.pli_serving.specs.Making.{make_served};
 ghost use Rattle.pli_serving.specs.Serving.{found_served};
-ghost use Rattle.pli_runtime.specs.Running.{IsCarriedOut, IsStanding};
+ghost use Rattle.pli_runtime.specs.Seen.{run_seen, IsCarriedOut, IsStanding};
 
 use crate::runtime::Runtime;
+use pli_edit::output_stream::OutputStream;
 use area_heap::keeper::AreaKeeper;
 use pli_answering::reply::{Refusal, Reply};
 use pli_elements::element::element;
@@ -36,7 +37,7 @@ fn making_of(registers: &[u32; 32]) -> Making
     }
 }
 
-impl Runtime {
+impl<O: OutputStream> Runtime<O> {
     /// 4: a block is entered.
     #[inline(never)]
     pub(crate) fn enter(
@@ -46,7 +47,7 @@ impl Runtime {
         line: u32,
         texts: u32,
     ) -> Result<Reply, Refusal>
-        ensures { (k : Keeper) → (m : List ℕ) → IsStanding k self.old m → IsCarriedOut k (λ c. services.enter_served c kind frame line texts) self.old m result self.new m }
+        ensures { (k : Keeper) → (m : List ℕ) → IsStanding k (run_seen O.output self.old) m → IsCarriedOut k (λ c. services.enter_served c kind frame line texts) (run_seen O.output self.old) m result (run_seen O.output self.new) m }
     {
         let standing = Standing {
             are_texts: self.entries.are_texts(texts as usize),
@@ -63,8 +64,8 @@ impl Runtime {
         memory: &mut [u8],
         registers: &[u32; 32],
     ) -> Result<Reply, Refusal>
-        requires { IsStanding K.keeper self.old memory.old }
-        ensures { IsCarriedOut K.keeper (λ c. found_served c (slice_index registers.now) (slice_index registers.now 14)) self.old memory.old result self.new memory.new }
+        requires { IsStanding K.keeper (run_seen O.output self.old) memory.old }
+        ensures { IsCarriedOut K.keeper (λ c. found_served c (slice_index registers.now) (slice_index registers.now 14)) (run_seen O.output self.old) memory.old result (run_seen O.output self.new) memory.new }
     {
         let (first, second) = (registers[10], registers[11]);
         let (third, fourth) = (registers[12], registers[13]);
@@ -89,8 +90,8 @@ impl Runtime {
         memory: &mut [u8],
         registers: &[u32; 32],
     ) -> Result<Reply, Refusal>
-        requires { IsStanding K.keeper self.old memory.old }
-        ensures { IsCarriedOut K.keeper (λ c. make_served c (slice_index registers.now 10) (slice_index registers.now 11) (slice_index registers.now 12) (slice_index registers.now 13) (slice_index registers.now 14)) self.old memory.old result self.new memory.new }
+        requires { IsStanding K.keeper (run_seen O.output self.old) memory.old }
+        ensures { IsCarriedOut K.keeper (λ c. make_served c (slice_index registers.now 10) (slice_index registers.now 11) (slice_index registers.now 12) (slice_index registers.now 13) (slice_index registers.now 14)) (run_seen O.output self.old) memory.old result (run_seen O.output self.new) memory.new }
     {
         make::<K>(
             &mut self.flow,

@@ -3,9 +3,10 @@
 ghost use Rattle.std.specs.Prelude.{◌≡◌, ◌≢◌, slice_index};
 ghost use Rattle.pli_serving.specs.Serving.{served, serves};
 ghost use Rattle.pli_serving.specs.SignatureService.{signature_served};
-ghost use Rattle.pli_runtime.specs.Running.{IsCarriedOut, IsServed, IsStanding};
+ghost use Rattle.pli_runtime.specs.Seen.{run_seen, IsCarriedOut, IsServed, IsStanding};
 
 use crate::runtime::Runtime;
+use pli_edit::output_stream::OutputStream;
 use area_heap::keeper::AreaKeeper;
 use pli_allocation::popping::pop;
 use pli_allocation::referring::refer;
@@ -16,7 +17,7 @@ use pli_pushing::pushing::push;
 /// The service of acts.
 const ACT: u32 = 1;
 
-impl Runtime {
+impl<O: OutputStream> Runtime<O> {
     /// 3: a signature with an extent that the run tells.
     #[inline(never)]
     fn signature<K: AreaKeeper>(
@@ -27,8 +28,8 @@ impl Runtime {
         lower: u32,
         upper: u32,
     ) -> Result<Reply, Refusal>
-        requires { IsStanding K.keeper self.old memory.now }
-        ensures { IsCarriedOut K.keeper (λ c. signature_served c number places lower upper) self.old memory.now result self.new memory.now }
+        requires { IsStanding K.keeper (run_seen O.output self.old) memory.now }
+        ensures { IsCarriedOut K.keeper (λ c. signature_served c number places lower upper) (run_seen O.output self.old) memory.now result (run_seen O.output self.new) memory.now }
     {
         signatures_are_added();
         self.held
@@ -43,9 +44,9 @@ impl Runtime {
         number: u32,
         registers: &[u32; 32],
     ) -> Result<Reply, Refusal>
-        requires standing { IsStanding K.keeper self.old memory.old }
+        requires standing { IsStanding K.keeper (run_seen O.output self.old) memory.old }
         requires no_act { number ≢ 1 }
-        ensures { IsCarriedOut K.keeper (λ c. served number c (slice_index registers.now)) self.old memory.old result self.new memory.new }
+        ensures { IsCarriedOut K.keeper (λ c. served number c (slice_index registers.now)) (run_seen O.output self.old) memory.old result (run_seen O.output self.new) memory.new }
     {
         let (first, second) = (registers[10], registers[11]);
         let (third, fourth) = (registers[12], registers[13]);
@@ -108,9 +109,9 @@ impl Runtime {
         memory: &mut [u8],
         registers: &[u32; 32],
     ) -> Result<Reply, Refusal>
-        requires { IsStanding K.keeper self.old memory.old }
-        ensures served { IsServed K.keeper (λ c. serves c (slice_index registers.now)) self.old memory.old result self.new memory.new }
-        ensures standing { IsStanding K.keeper self.new memory.new }
+        requires { IsStanding K.keeper (run_seen O.output self.old) memory.old }
+        ensures served { IsServed K.keeper (λ c. serves c (slice_index registers.now)) (run_seen O.output self.old) memory.old result (run_seen O.output self.new) memory.new }
+        ensures standing { IsStanding K.keeper (run_seen O.output self.new) memory.new }
         ensures layout { self.new.held.layout ≡ self.old.held.layout }
     {
         self.act_or::<K>(memory, registers[17], registers)
@@ -123,8 +124,8 @@ impl Runtime {
         number: u32,
         registers: &[u32; 32],
     ) -> Result<Reply, Refusal>
-        requires { IsStanding K.keeper self.old memory.old }
-        ensures { IsCarriedOut K.keeper (λ c. served number c (slice_index registers.now)) self.old memory.old result self.new memory.new }
+        requires { IsStanding K.keeper (run_seen O.output self.old) memory.old }
+        ensures { IsCarriedOut K.keeper (λ c. served number c (slice_index registers.now)) (run_seen O.output self.old) memory.old result (run_seen O.output self.new) memory.new }
     {
         if number == ACT {
             return self.flow.act(registers[10], registers[11]);

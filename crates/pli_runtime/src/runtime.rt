@@ -9,6 +9,7 @@ ghost use Rattle.rv_meaning.specs.Tables.{AreSignatures, TableSignature, table_w
 ghost use Rattle.pli_runtime.specs.Running.{running, world_told, IsStanding};
 
 use controlled_gens::controlled::Controlled;
+use pli_edit::output::Output;
 use pli_entries::entries::Entries;
 use pli_language::condition::Condition;
 use pli_making::in_use::InUse;
@@ -28,9 +29,9 @@ const VARIABLES: u32 = 1 << 16;
 /// What a run shows and the blocks that are entered; its variables, and what the AUTOMATIC ones count for; its input and the places in format
 /// lists; and the entries of expressions.
 #[derive(Drop)]
-pub struct Runtime {
+pub struct Runtime<O = Output> {
     pub alloc: Global,
-    pub flow: Flow,
+    pub flow: Flow<O>,
     pub held: Held,
     pub in_use: InUse,
     pub streams: Streams,
@@ -71,9 +72,10 @@ impl Runtime {
         let Ok(streams) = Streams::new(alloc, input) else {
             return Err(AllocError);
         };
+        let output = Output::new(alloc);
         Ok(Runtime {
             alloc,
-            flow: Flow::new(alloc),
+            flow: Flow::new(alloc, output),
             held,
             in_use: InUse::new(alloc),
             streams,

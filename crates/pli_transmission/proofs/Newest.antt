@@ -2,14 +2,13 @@
 use Rattle.std.proofs.Common.{◌≡◌, ℕ, ◌+◌, ◌-◌, ◌<◌, ◌≤◌, List, [], ◌∷◌, ◌++◌, length, take, drop, get_or, set, Result, refl, sym, ap, subst, ◌∙◌, arith, length-drop}
 use Rattle.std.proofs.lemmas.List.{map-append, reverse-append, take-append-drop, drop_at, length-reverse, length-map, length-set, take_more, take_more_set, take_all}
 use Rattle.pli_meaning.specs.InputLines.{Input}
+use Rattle.pli_meaning.specs.World.{World}
 use Rattle.pli_serving.specs.ServiceState.{EditPlace, Entry}
 use Rattle.pli_serving.specs.Answers.{Answer}
 use Rattle.pli_serving.specs.Finding.{Call}
 use Rattle.pli_answering.specs.Answering.{Answers}
 use Rattle.pli_answering.specs.declared.reply.Reply.{Reply}
 use Rattle.pli_answering.specs.declared.reply.Refusal.{Refusal}
-use Rattle.pli_services.specs.Shown.{world_of}
-use Rattle.pli_services.specs.declared.shown.Shown.{Shown}
 use Rattle.pli_transmission.specs.Edits.{EditKept}
 use Rattle.pli_transmission.specs.Transmitting.{on_edit, on_entries, places_of, with_edits, AnswersTaking}
 
@@ -46,16 +45,16 @@ places_set xs n e h =
     ap places_of (sym whole ∙ take_more_set xs n e (omega arith)) ∙ places_append (take n xs) (e ∷ [])
 
 -- a service on the newest place
-pub newest_answers : (f : Call → Answer) (s s' : Shown) (i i' : Input) (xs : List EditKept) (n : ℕ) (d e : EditKept) (c : Call) (r : Result Reply Refusal) → n + 1 ≡ length xs → d ≡ get_or xs n d
+pub newest_answers : (f : Call → Answer) (s s' : World) (i i' : Input) (xs : List EditKept) (n : ℕ) (d e : EditKept) (c : Call) (r : Result Reply Refusal) → n + 1 ≡ length xs → d ≡ get_or xs n d
     → Answers f (on_edit s i d (places_of (take n xs)) c) r (on_edit s' i' e (places_of (take n xs)) c)
-    → Answers f (with_edits (world_of s) i (places_of xs) c) r (with_edits (world_of s') i' (places_of (set xs n e)) c)
+    → Answers f (with_edits s i (places_of xs) c) r (with_edits s' i' (places_of (set xs n e)) c)
 newest_answers f s s' i i' xs n d e c r h v a =
-    subst (λ (l : List EditPlace). Answers f (with_edits (world_of s) i l c) r (with_edits (world_of s') i' (places_of (set xs n e)) c)) (sym (places_split xs n d h v))
-    (subst (λ (l : List EditPlace). Answers f (on_edit s i d (places_of (take n xs)) c) r (with_edits (world_of s') i' l c)) (sym (places_set xs n e h)) a)
+    subst (λ (l : List EditPlace). Answers f (with_edits s i l c) r (with_edits s' i' (places_of (set xs n e)) c)) (sym (places_split xs n d h v))
+    (subst (λ (l : List EditPlace). Answers f (on_edit s i d (places_of (take n xs)) c) r (with_edits s' i' l c)) (sym (places_set xs n e h)) a)
 
-pub newest_taking : (f : Call → Answer) (s s' : Shown) (i i' : Input) (es es' : List Entry) (xs : List EditKept) (n : ℕ) (d e : EditKept) (c : Call) (r : Result Reply Refusal) → n + 1 ≡ length xs → d ≡ get_or xs n d
+pub newest_taking : (f : Call → Answer) (s s' : World) (i i' : Input) (es es' : List Entry) (xs : List EditKept) (n : ℕ) (d e : EditKept) (c : Call) (r : Result Reply Refusal) → n + 1 ≡ length xs → d ≡ get_or xs n d
     → AnswersTaking f (on_entries es (on_edit s i d (places_of (take n xs)) c)) r (on_entries es' (on_edit s' i' e (places_of (take n xs)) c))
-    → AnswersTaking f (on_entries es (with_edits (world_of s) i (places_of xs) c)) r (on_entries es' (with_edits (world_of s') i' (places_of (set xs n e)) c))
+    → AnswersTaking f (on_entries es (with_edits s i (places_of xs) c)) r (on_entries es' (with_edits s' i' (places_of (set xs n e)) c))
 newest_taking f s s' i i' es es' xs n d e c r h v a =
-    subst (λ (l : List EditPlace). AnswersTaking f (on_entries es (with_edits (world_of s) i l c)) r (on_entries es' (with_edits (world_of s') i' (places_of (set xs n e)) c))) (sym (places_split xs n d h v))
-    (subst (λ (l : List EditPlace). AnswersTaking f (on_entries es (on_edit s i d (places_of (take n xs)) c)) r (on_entries es' (with_edits (world_of s') i' l c))) (sym (places_set xs n e h)) a)
+    subst (λ (l : List EditPlace). AnswersTaking f (on_entries es (with_edits s i l c)) r (on_entries es' (with_edits s' i' (places_of (set xs n e)) c))) (sym (places_split xs n d h v))
+    (subst (λ (l : List EditPlace). AnswersTaking f (on_entries es (on_edit s i d (places_of (take n xs)) c)) r (on_entries es' (with_edits s' i' l c))) (sym (places_set xs n e h)) a)

@@ -13,8 +13,7 @@ use Rattle.pli_answering.specs.declared.reply.Reply.{Reply}
 use Rattle.pli_answering.specs.declared.reply.Reply.TheVariants as R
 use Rattle.pli_answering.specs.declared.reply.Refusal.{Refusal}
 use Rattle.pli_answering.specs.declared.reply.Refusal.TheVariants as F
-use Rattle.pli_services.specs.Shown.{world_of, Acts}
-use Rattle.pli_services.specs.declared.shown.Shown.{Shown}
+use Rattle.pli_services.specs.Shown.{Acts}
 use Rattle.pli_transmission.specs.Edits.{EditKept}
 use Rattle.pli_transmission.specs.Tops.{top_text}
 use Rattle.pli_transmission.specs.declared.streams.Streams.{Streams}
@@ -27,15 +26,15 @@ abbrev pub with_edits : World → Input → List EditPlace → Call → Call
 with_edits world input edits c = record c { services = transmitting world input edits c.services }
 
 -- with the newest place and those below it
-abbrev pub on_edit : Shown → Input → EditKept → (below : List EditPlace) → Call → Call
-on_edit shown input edit below c = with_edits (world_of shown) input (edit.place ∷ below) c
+abbrev pub on_edit : World → Input → EditKept → (below : List EditPlace) → Call → Call
+on_edit world input edit below c = with_edits world input (edit.place ∷ below) c
 
 -- the places, newest first, as they are kept from the oldest on
 abbrev pub places_of : List EditKept → List EditPlace
 places_of edits = reverse (map (λ (e : EditKept). e.place) edits)
 
-abbrev pub with_streams : Shown → Streams → Call → Call
-with_streams shown s c = with_edits (world_of shown) s.input (places_of s.edits.items) c
+abbrev pub with_streams : World → Streams → Call → Call
+with_streams world s c = with_edits world s.input (places_of s.edits.items) c
 
 -- ---- F by its width
 

@@ -19,6 +19,7 @@ use crate::writing::write_control;
 use pli_answering::reply::{Refusal, Reply};
 use pli_edit::format::Format;
 use pli_edit::input::Input;
+use pli_edit::output_stream::OutputStream;
 use pli_services::shown::Shown;
 
 /// A control item of GET.
@@ -33,13 +34,13 @@ fn read_control(input: &mut Input, control: Control)
 }
 
 /// The act of a control item.
-pub fn move_by(
+pub fn move_by<O: OutputStream>(
     direction: Direction,
     control: Control,
     input: &mut Input,
-    shown: &mut Shown,
+    shown: &mut Shown<O>,
 ) -> Result<(), Refusal>
-    ensures world { Acts (world_of shown.old) (moved_world (direction_shown direction) (control_shown control) (world_of shown.old)) result (world_of shown.new) }
+    ensures world { Acts (world_of O.output shown.old) (moved_world (direction_shown direction) (control_shown control) (world_of O.output shown.old)) result (world_of O.output shown.new) }
     ensures input { MatchResult result (λ _. input.new ≡ moved_input (direction_shown direction) (control_shown control) input.old) (λ _. input.new ≡ input.old) }
 {
     match direction {
@@ -53,16 +54,16 @@ pub fn move_by(
 }
 
 /// The next item, which is a control item, is carried out; behind it another one comes.
-fn carry_out_before(
+fn carry_out_before<O: OutputStream>(
     edit: &mut Edit,
     input: &mut Input,
-    shown: &mut Shown,
+    shown: &mut Shown<O>,
     control: Control,
     behind: Format,
     second: u32,
 ) -> Result<Reply, Refusal>
     ensures { (c : Call) → (n m : NextItem) → (below : List EditPlace) → edit.old.next ≡ Some n → n.behind.direction ≡ edit.old.place.direction → next_item n.behind ≡ Some m → m.item ≡ item_of behind →
-        Answers (λ c. edits.control_carried_out c second (ControlFormat (control_shown control)) n.behind below) (on_edit shown.old input.old edit.old below c) result (on_edit shown.new input.new edit.new below c) }
+        Answers (λ c. edits.control_carried_out c second (ControlFormat (control_shown control)) n.behind below) (on_edit (world_of O.output shown.old) input.old edit.old below c) result (on_edit (world_of O.output shown.new) input.new edit.new below c) }
 {
     let direction = edit.direction();
     move_by(direction, control, input, shown)?;
@@ -71,15 +72,15 @@ fn carry_out_before(
 }
 
 /// The next item, which is a control item, is carried out.
-fn carry_out(
+fn carry_out<O: OutputStream>(
     edit: &mut Edit,
     input: &mut Input,
-    shown: &mut Shown,
+    shown: &mut Shown<O>,
     control: Control,
     second: u32,
 ) -> Result<Reply, Refusal>
     ensures { (c : Call) → (n : NextItem) → (below : List EditPlace) → edit.old.next ≡ Some n → n.behind.direction ≡ edit.old.place.direction →
-        Answers (λ c. edits.control_carried_out c second (ControlFormat (control_shown control)) n.behind below) (on_edit shown.old input.old edit.old below c) result (on_edit shown.new input.new edit.new below c) }
+        Answers (λ c. edits.control_carried_out c second (ControlFormat (control_shown control)) n.behind below) (on_edit (world_of O.output shown.old) input.old edit.old below c) result (on_edit (world_of O.output shown.new) input.new edit.new below c) }
 {
     let Ok(found) = edit.beyond() else {
         return Err(Refusal::Memory);
@@ -91,15 +92,15 @@ fn carry_out(
 }
 
 /// The next item is carried out if it is a control item, and what is next then is told.
-fn control_next(
+fn control_next<O: OutputStream>(
     edit: &mut Edit,
     input: &mut Input,
-    shown: &mut Shown,
+    shown: &mut Shown<O>,
     format: Format,
     second: u32,
 ) -> Result<Reply, Refusal>
     ensures { (c : Call) → (n : NextItem) → (below : List EditPlace) → edit.old.next ≡ Some n → next_item edit.old.place ≡ Some n → n.item ≡ item_of format →
-        Answers (λ c. edits.control_carried_out c second n.item n.behind below) (on_edit shown.old input.old edit.old below c) result (on_edit shown.new input.new edit.new below c) }
+        Answers (λ c. edits.control_carried_out c second n.item n.behind below) (on_edit (world_of O.output shown.old) input.old edit.old below c) result (on_edit (world_of O.output shown.new) input.new edit.new below c) }
 {
     match control_of(format) {
         Some(control) => carry_out(edit, input, shown, control, second),
@@ -111,13 +112,13 @@ fn control_next(
 }
 
 /// 35: a control item that is next is carried out; then what is next is told.
-pub fn control(
+pub fn control<O: OutputStream>(
     edit: &mut Edit,
     input: &mut Input,
-    shown: &mut Shown,
+    shown: &mut Shown<O>,
     second: u32,
 ) -> Result<Reply, Refusal>
-    ensures { (c : Call) → (below : List EditPlace) → Answers (λ c. edits.control_served c second) (on_edit shown.old input.old edit.old below c) result (on_edit shown.new input.new edit.new below c) }
+    ensures { (c : Call) → (below : List EditPlace) → Answers (λ c. edits.control_served c second) (on_edit (world_of O.output shown.old) input.old edit.old below c) result (on_edit (world_of O.output shown.new) input.new edit.new below c) }
 {
     let Ok(found) = edit.reach() else {
         return Err(Refusal::Memory);

@@ -9,6 +9,7 @@ ghost use Rattle.pli_serving.specs.Edits as edits;
 ghost use Rattle.pli_serving.specs.Edits.{NextItem, next_item};
 ghost use Rattle.pli_serving.specs.Finding.{Call};
 ghost use Rattle.pli_serving.specs.ServiceState.{EditPlace};
+ghost use Rattle.pli_services.specs.Shown.{world_of};
 ghost use Rattle.pli_transmission.specs.Transmitting.{fixed_of, on_edit};
 
 use crate::edit::{Direction, Edit};
@@ -19,6 +20,7 @@ use pli_answering::reply::{Refusal, Reply};
 use pli_edit::fault::EditFault;
 use pli_edit::format::Format;
 use pli_edit::input::Input;
+use pli_edit::output_stream::OutputStream;
 use pli_services::shown::Shown;
 use pli_text::number::decimal;
 
@@ -38,15 +40,15 @@ fn has_room(width: u32, number: u32) -> bool
 }
 
 /// PUT: the number is written, and the place is behind the item.
-fn write(
+fn write<O: OutputStream>(
     edit: &mut Edit,
     input: &Input,
-    shown: &mut Shown,
+    shown: &mut Shown<O>,
     width: u32,
     number: u32,
 ) -> Result<Reply, Refusal>
     ensures { (c : Call) → (n : NextItem) → (below : List EditPlace) → edit.old.next ≡ Some n →
-        Answers (λ c. edits.number_put c number 1 (fixed_field width (signed number)) (n.behind ∷ below)) (on_edit shown.old input.now edit.old below c) result (on_edit shown.new input.now edit.new below c) }
+        Answers (λ c. edits.number_put c number 1 (fixed_field width (signed number)) (n.behind ∷ below)) (on_edit (world_of O.output shown.old) input.now edit.old below c) result (on_edit (world_of O.output shown.new) input.now edit.new below c) }
 {
     write_number(shown, number.cast_signed(), width)?;
     edit.advance();
@@ -54,16 +56,16 @@ fn write(
 }
 
 /// PUT: whether the field is wide enough with mode 0; with 1 the number is written.
-fn put(
+fn put<O: OutputStream>(
     edit: &mut Edit,
     input: &Input,
-    shown: &mut Shown,
+    shown: &mut Shown<O>,
     width: u32,
     number: u32,
     mode: u32,
 ) -> Result<Reply, Refusal>
     ensures { (c : Call) → (n : NextItem) → (below : List EditPlace) → edit.old.next ≡ Some n →
-        Answers (λ c. edits.number_put c number mode (fixed_field width (signed number)) (n.behind ∷ below)) (on_edit shown.old input.now edit.old below c) result (on_edit shown.new input.now edit.new below c) }
+        Answers (λ c. edits.number_put c number mode (fixed_field width (signed number)) (n.behind ∷ below)) (on_edit (world_of O.output shown.old) input.now edit.old below c) result (on_edit (world_of O.output shown.new) input.now edit.new below c) }
 {
     match mode {
         0 => {
@@ -76,15 +78,15 @@ fn put(
 }
 
 /// GET: the field is taken, and its number told.
-fn get(
+fn get<O: OutputStream>(
     edit: &mut Edit,
     input: &mut Input,
-    shown: &mut Shown,
+    shown: &mut Shown<O>,
     width: u32,
     first: u32,
 ) -> Result<Reply, Refusal>
     ensures { (c : Call) → (n : NextItem) → (below : List EditPlace) → edit.old.next ≡ Some n →
-        Answers (λ c. edits.number_got c width first (n.behind ∷ below)) (on_edit shown.old input.old edit.old below c) result (on_edit shown.new input.new edit.new below c) }
+        Answers (λ c. edits.number_got c width first (n.behind ∷ below)) (on_edit (world_of O.output shown.old) input.old edit.old below c) result (on_edit (world_of O.output shown.new) input.new edit.new below c) }
 {
     let acts = shown.acts;
     shown.count()?;
@@ -109,16 +111,16 @@ fn get(
 }
 
 /// F of a width in either direction.
-fn fixed_field(
+fn fixed_field<O: OutputStream>(
     edit: &mut Edit,
     input: &mut Input,
-    shown: &mut Shown,
+    shown: &mut Shown<O>,
     width: u32,
     first: u32,
     second: u32,
 ) -> Result<Reply, Refusal>
     ensures { (c : Call) → (n : NextItem) → (below : List EditPlace) → edit.old.next ≡ Some n →
-        Answers (λ c. fixed_of c first second edit.old.place.direction width (n.behind ∷ below)) (on_edit shown.old input.old edit.old below c) result (on_edit shown.new input.new edit.new below c) }
+        Answers (λ c. fixed_of c first second edit.old.place.direction width (n.behind ∷ below)) (on_edit (world_of O.output shown.old) input.old edit.old below c) result (on_edit (world_of O.output shown.new) input.new edit.new below c) }
 {
     match edit.direction() {
         Direction::Putting => put(edit, input, shown, width, first, second),
@@ -127,16 +129,16 @@ fn fixed_field(
 }
 
 /// The next item, which is to be F.
-fn fixed_next(
+fn fixed_next<O: OutputStream>(
     edit: &mut Edit,
     input: &mut Input,
-    shown: &mut Shown,
+    shown: &mut Shown<O>,
     format: Format,
     first: u32,
     second: u32,
 ) -> Result<Reply, Refusal>
     ensures { (c : Call) → (n : NextItem) → (below : List EditPlace) → edit.old.next ≡ Some n → n.behind.direction ≡ edit.old.place.direction → n.item ≡ item_of format →
-        Answers (λ c. edits.fixed_by c first second n.behind.direction n.item (n.behind ∷ below)) (on_edit shown.old input.old edit.old below c) result (on_edit shown.new input.new edit.new below c) }
+        Answers (λ c. edits.fixed_by c first second n.behind.direction n.item (n.behind ∷ below)) (on_edit (world_of O.output shown.old) input.old edit.old below c) result (on_edit (world_of O.output shown.new) input.new edit.new below c) }
 {
     match fixed_width(format) {
         Some(width) => fixed_field(edit, input, shown, width, first, second),
@@ -146,14 +148,14 @@ fn fixed_next(
 
 /// 36: F. PUT asks with mode 0 whether the field is wide enough, and writes the number with 1; GET takes the field and tells its
 /// number, or that it is none.
-pub fn fixed(
+pub fn fixed<O: OutputStream>(
     edit: &mut Edit,
     input: &mut Input,
-    shown: &mut Shown,
+    shown: &mut Shown<O>,
     first: u32,
     second: u32,
 ) -> Result<Reply, Refusal>
-    ensures { (c : Call) → (below : List EditPlace) → Answers (λ c. edits.fixed_served c first second) (on_edit shown.old input.old edit.old below c) result (on_edit shown.new input.new edit.new below c) }
+    ensures { (c : Call) → (below : List EditPlace) → Answers (λ c. edits.fixed_served c first second) (on_edit (world_of O.output shown.old) input.old edit.old below c) result (on_edit (world_of O.output shown.new) input.new edit.new below c) }
 {
     let Ok(found) = edit.reach() else {
         return Err(Refusal::Memory);

@@ -4,11 +4,12 @@ ghost use Rattle.std.specs.Prelude.{◌≡◌, ◌∷◌, ◌-◌, ◌≤◌, �
 ghost use Rattle.pli_answering.specs.Answering.{Answers};
 ghost use Rattle.pli_edit.specs.FormatPlaces.{items_of};
 ghost use Rattle.pli_meaning.specs.InputLines.{first_input};
-ghost use Rattle.pli_services.specs.declared.shown.Shown.{Shown as ShownHeld};
+ghost use Rattle.pli_meaning.specs.World.{World};
 ghost use Rattle.pli_serving.specs.Edits as edits;
 ghost use Rattle.pli_serving.specs.Finding.{Call};
 ghost use Rattle.pli_serving.specs.FormatLists.{formats_at};
 ghost use Rattle.pli_serving.specs.Outcomes.{or_bad};
+ghost use Rattle.pli_services.specs.Shown.{world_of};
 ghost use Rattle.pli_transmission.specs.Edits.{direction_shown};
 ghost use Rattle.pli_transmission.specs.Transmitting.{on_entries, places_of, with_streams, AnswersTaking};
 ghost use Rattle.pli_values.specs.View.{layout_of};
@@ -25,6 +26,7 @@ use pli_edit::input::Input;
 use pli_entries::entries::Entries;
 use pli_formats::laws::format_lists_of_memory;
 use pli_formats::list::format_list;
+use pli_edit::output_stream::OutputStream;
 use pli_services::shown::Shown;
 use pli_values::source::Source;
 use std::alloc::Global;
@@ -96,8 +98,8 @@ impl Streams {
         mode: u32,
     ) -> Result<Reply, Refusal>
         requires { MatchOption read ⊤ (λ nodes. length nodes.items < 2 ^ 32) }
-        ensures { (c : Call) → (shown : ShownHeld) → option_map (λ nodes. items_of nodes.items) read ≡ formats_at (with_streams shown self.old c) at →
-            Answers (λ c. or_bad (formats_at c at) (edits.edit_begun c at mode (direction_shown direction))) (with_streams shown self.old c) result (with_streams shown self.new c) }
+        ensures { (c : Call) → (world : World) → option_map (λ nodes. items_of nodes.items) read ≡ formats_at (with_streams world self.old c) at →
+            Answers (λ c. or_bad (formats_at c at) (edits.edit_begun c at mode (direction_shown direction))) (with_streams world self.old c) result (with_streams world self.new c) }
     {
         match read {
             Some(nodes) => {
@@ -110,8 +112,8 @@ impl Streams {
 
     /// 34: a place at the start of a format list, 0 of GET, 1 of PUT.
     pub fn begin(&mut self, source: &Source, at: u32, mode: u32) -> Result<Reply, Refusal>
-        ensures { (c : Call) → (shown : ShownHeld) → c.layout ≡ layout_of source.now.layout → c.memory ≡ source.now.memory.now →
-            Answers (λ c. edits.edit_begin_served c at mode) (with_streams shown self.old c) result (with_streams shown self.new c) }
+        ensures { (c : Call) → (world : World) → c.layout ≡ layout_of source.now.layout → c.memory ≡ source.now.memory.now →
+            Answers (λ c. edits.edit_begin_served c at mode) (with_streams world self.old c) result (with_streams world self.new c) }
     {
         format_lists_of_memory();
         let Some(direction) = direction_of(mode) else {
@@ -126,8 +128,8 @@ impl Streams {
     /// 35: a control item that is next is carried out; then what is next is told: 0 a control item, 1 F, 2 A, 3 a data item of GET
     /// with no character left.
     #[inline(never)]
-    pub fn control(&mut self, shown: &mut Shown, second: u32) -> Result<Reply, Refusal>
-        ensures { (c : Call) → Answers (λ c. edits.control_served c second) (with_streams shown.old self.old c) result (with_streams shown.new self.new c) }
+    pub fn control<O: OutputStream>(&mut self, shown: &mut Shown<O>, second: u32) -> Result<Reply, Refusal>
+        ensures { (c : Call) → Answers (λ c. edits.control_served c second) (with_streams (world_of O.output shown.old) self.old c) result (with_streams (world_of O.output shown.new) self.new c) }
     {
         let Some(newest) = self.edits.len().checked_sub(1) else {
             return Err(Refusal::Bad);
@@ -138,8 +140,8 @@ impl Streams {
     /// 36: F. PUT asks with mode 0 whether the field is wide enough, and writes the number with 1; GET takes the field and tells its
     /// number, or that it is none.
     #[inline(never)]
-    pub fn fixed(&mut self, shown: &mut Shown, first: u32, second: u32) -> Result<Reply, Refusal>
-        ensures { (c : Call) → Answers (λ c. edits.fixed_served c first second) (with_streams shown.old self.old c) result (with_streams shown.new self.new c) }
+    pub fn fixed<O: OutputStream>(&mut self, shown: &mut Shown<O>, first: u32, second: u32) -> Result<Reply, Refusal>
+        ensures { (c : Call) → Answers (λ c. edits.fixed_served c first second) (with_streams (world_of O.output shown.old) self.old c) result (with_streams (world_of O.output shown.new) self.new c) }
     {
         let Some(newest) = self.edits.len().checked_sub(1) else {
             return Err(Refusal::Bad);
@@ -156,14 +158,14 @@ impl Streams {
     /// 37: A. PUT drops and writes the newest text; GET takes the field, which becomes the newest text. Without memory nothing is
     /// shown, but the text or the field may be gone.
     #[inline(never)]
-    pub fn text(
+    pub fn text<O: OutputStream>(
         &mut self,
         entries: &mut Entries,
-        shown: &mut Shown,
+        shown: &mut Shown<O>,
         first: u32,
         second: u32,
     ) -> Result<Reply, Refusal>
-        ensures { (c : Call) → AnswersTaking (λ c. edits.text_served c first second) (on_entries entries.old (with_streams shown.old self.old c)) result (on_entries entries.new (with_streams shown.new self.new c)) }
+        ensures { (c : Call) → AnswersTaking (λ c. edits.text_served c first second) (on_entries entries.old (with_streams (world_of O.output shown.old) self.old c)) result (on_entries entries.new (with_streams (world_of O.output shown.new) self.new c)) }
     {
         let Some(newest) = self.edits.len().checked_sub(1) else {
             return Err(Refusal::Bad);
@@ -182,7 +184,7 @@ impl Streams {
     /// 38: the newest place is dropped.
     #[inline(never)]
     pub fn end(&mut self, first: u32, second: u32) -> Result<Reply, Refusal>
-        ensures { (c : Call) → (shown : ShownHeld) → Answers (λ c. edits.edit_end_served c first second) (with_streams shown self.old c) result (with_streams shown self.new c) }
+        ensures { (c : Call) → (world : World) → Answers (λ c. edits.edit_end_served c first second) (with_streams world self.old c) result (with_streams world self.new c) }
     {
         match self.edits.pop() {
             Some(_) => Ok(Reply::Done(first, second)),
@@ -192,8 +194,8 @@ impl Streams {
 
     /// 39: the SKIP option of GET or PUT: 1 to 1,000 line ends.
     #[inline(never)]
-    pub fn skip(&mut self, shown: &mut Shown, lines: u32, mode: u32) -> Result<Reply, Refusal>
-        ensures { (c : Call) → Answers (λ c. edits.skip_served c lines mode) (with_streams shown.old self.old c) result (with_streams shown.new self.new c) }
+    pub fn skip<O: OutputStream>(&mut self, shown: &mut Shown<O>, lines: u32, mode: u32) -> Result<Reply, Refusal>
+        ensures { (c : Call) → Answers (λ c. edits.skip_served c lines mode) (with_streams (world_of O.output shown.old) self.old c) result (with_streams (world_of O.output shown.new) self.new c) }
     {
         let Some(direction) = direction_of(mode) else {
             return Err(Refusal::Bad);

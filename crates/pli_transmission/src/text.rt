@@ -6,6 +6,7 @@ ghost use Rattle.pli_serving.specs.Edits as edits;
 ghost use Rattle.pli_serving.specs.Edits.{NextItem};
 ghost use Rattle.pli_serving.specs.Finding.{Call};
 ghost use Rattle.pli_serving.specs.ServiceState.{EditPlace, TextEntry};
+ghost use Rattle.pli_services.specs.Shown.{world_of};
 ghost use Rattle.pli_transmission.specs.Transmitting.{on_edit, on_entries, text_of, AnswersTaking, IsTopGot, IsTopWritten};
 
 use crate::edit::{Direction, Edit};
@@ -15,40 +16,37 @@ use pli_answering::reply::{Refusal, Reply};
 use pli_edit::fault::EditFault;
 use pli_edit::format::Format;
 use pli_edit::input::Input;
-use pli_edit::output::Output;
+use pli_edit::output_stream::OutputStream;
 use pli_entries::entries::Entries;
-use pli_services::shown::Shown;
+use pli_services::shown::{Shown, written};
 use std::alloc::Global;
 
 /// The newest text is written behind the output.
-fn put_top(
+fn put_top<O: OutputStream>(
     alloc: Global,
     entries: &mut Entries,
-    output: &mut Output,
+    output: &mut O,
     width: Option<u32>,
 ) -> Result<(), Refusal>
-    ensures { IsTopWritten width entries.old output.old result entries.new output.new }
+    ensures { IsTopWritten width entries.old (O.output output.old) result entries.new (O.output output.new) }
 {
     let text = take_top(alloc, entries)?;
-    match output.put_a(&text, width) {
-        Ok(()) => Ok(()),
-        Err(_) => Err(Refusal::Memory),
-    }
+    written(output.put_a(&text, width))
 }
 
 /// PUT: the newest text is dropped and written, and the place is behind the item.
-fn put(
+fn put<O: OutputStream>(
     alloc: Global,
     edit: &mut Edit,
     entries: &mut Entries,
     input: &Input,
-    shown: &mut Shown,
+    shown: &mut Shown<O>,
     width: Option<u32>,
     first: u32,
     second: u32,
 ) -> Result<Reply, Refusal>
     ensures { (c : Call) → (n : NextItem) → (below : List EditPlace) → edit.old.next ≡ Some n →
-        AnswersTaking (λ c. edits.text_put c first second width (n.behind ∷ below)) (on_entries entries.old (on_edit shown.old input.now edit.old below c)) result (on_entries entries.new (on_edit shown.new input.now edit.new below c)) }
+        AnswersTaking (λ c. edits.text_put c first second width (n.behind ∷ below)) (on_entries entries.old (on_edit (world_of O.output shown.old) input.now edit.old below c)) result (on_entries entries.new (on_edit (world_of O.output shown.new) input.now edit.new below c)) }
 {
     let acts = shown.acts;
     shown.count()?;
@@ -91,17 +89,17 @@ fn get_top(entries: &mut Entries, input: &mut Input, width: u32) -> Result<(), R
 }
 
 /// GET: the field is taken and becomes the newest text, and the place is behind the item.
-fn get_field(
+fn get_field<O: OutputStream>(
     edit: &mut Edit,
     entries: &mut Entries,
     input: &mut Input,
-    shown: &mut Shown,
+    shown: &mut Shown<O>,
     width: u32,
     first: u32,
     second: u32,
 ) -> Result<Reply, Refusal>
     ensures { (c : Call) → (n : NextItem) → (below : List EditPlace) → edit.old.next ≡ Some n →
-        AnswersTaking (λ c. edits.text_got c first second (Some width) (n.behind ∷ below)) (on_entries entries.old (on_edit shown.old input.old edit.old below c)) result (on_entries entries.new (on_edit shown.new input.new edit.new below c)) }
+        AnswersTaking (λ c. edits.text_got c first second (Some width) (n.behind ∷ below)) (on_entries entries.old (on_edit (world_of O.output shown.old) input.old edit.old below c)) result (on_entries entries.new (on_edit (world_of O.output shown.new) input.new edit.new below c)) }
 {
     let acts = shown.acts;
     shown.count()?;
@@ -118,17 +116,17 @@ fn get_field(
 }
 
 /// GET: an item without a width is no right call.
-fn get(
+fn get<O: OutputStream>(
     edit: &mut Edit,
     entries: &mut Entries,
     input: &mut Input,
-    shown: &mut Shown,
+    shown: &mut Shown<O>,
     width: Option<u32>,
     first: u32,
     second: u32,
 ) -> Result<Reply, Refusal>
     ensures { (c : Call) → (n : NextItem) → (below : List EditPlace) → edit.old.next ≡ Some n →
-        AnswersTaking (λ c. edits.text_got c first second width (n.behind ∷ below)) (on_entries entries.old (on_edit shown.old input.old edit.old below c)) result (on_entries entries.new (on_edit shown.new input.new edit.new below c)) }
+        AnswersTaking (λ c. edits.text_got c first second width (n.behind ∷ below)) (on_entries entries.old (on_edit (world_of O.output shown.old) input.old edit.old below c)) result (on_entries entries.new (on_edit (world_of O.output shown.new) input.new edit.new below c)) }
 {
     match width {
         Some(width) => get_field(edit, entries, input, shown, width, first, second),
@@ -137,18 +135,18 @@ fn get(
 }
 
 /// A of a width in either direction.
-fn text_field(
+fn text_field<O: OutputStream>(
     alloc: Global,
     edit: &mut Edit,
     entries: &mut Entries,
     input: &mut Input,
-    shown: &mut Shown,
+    shown: &mut Shown<O>,
     width: Option<u32>,
     first: u32,
     second: u32,
 ) -> Result<Reply, Refusal>
     ensures { (c : Call) → (n : NextItem) → (below : List EditPlace) → edit.old.next ≡ Some n →
-        AnswersTaking (λ c. text_of c first second edit.old.place.direction width (n.behind ∷ below)) (on_entries entries.old (on_edit shown.old input.old edit.old below c)) result (on_entries entries.new (on_edit shown.new input.new edit.new below c)) }
+        AnswersTaking (λ c. text_of c first second edit.old.place.direction width (n.behind ∷ below)) (on_entries entries.old (on_edit (world_of O.output shown.old) input.old edit.old below c)) result (on_entries entries.new (on_edit (world_of O.output shown.new) input.new edit.new below c)) }
 {
     match edit.direction() {
         Direction::Putting => put(alloc, edit, entries, input, shown, width, first, second),
@@ -157,18 +155,18 @@ fn text_field(
 }
 
 /// The next item, which is to be A.
-fn text_next(
+fn text_next<O: OutputStream>(
     alloc: Global,
     edit: &mut Edit,
     entries: &mut Entries,
     input: &mut Input,
-    shown: &mut Shown,
+    shown: &mut Shown<O>,
     format: Format,
     first: u32,
     second: u32,
 ) -> Result<Reply, Refusal>
     ensures { (c : Call) → (n : NextItem) → (below : List EditPlace) → edit.old.next ≡ Some n → n.behind.direction ≡ edit.old.place.direction → n.item ≡ item_of format →
-        AnswersTaking (λ c. edits.text_by c first second n.behind.direction n.item (n.behind ∷ below)) (on_entries entries.old (on_edit shown.old input.old edit.old below c)) result (on_entries entries.new (on_edit shown.new input.new edit.new below c)) }
+        AnswersTaking (λ c. edits.text_by c first second n.behind.direction n.item (n.behind ∷ below)) (on_entries entries.old (on_edit (world_of O.output shown.old) input.old edit.old below c)) result (on_entries entries.new (on_edit (world_of O.output shown.new) input.new edit.new below c)) }
 {
     match text_width(format) {
         Some(width) => text_field(alloc, edit, entries, input, shown, width, first, second),
@@ -178,17 +176,17 @@ fn text_next(
 
 /// 37: A. PUT drops and writes the newest text; GET takes the field, which becomes the newest text. Without memory nothing is shown,
 /// but the text or the field may be gone.
-pub fn text(
+pub fn text<O: OutputStream>(
     alloc: Global,
     edit: &mut Edit,
     entries: &mut Entries,
     input: &mut Input,
-    shown: &mut Shown,
+    shown: &mut Shown<O>,
     first: u32,
     second: u32,
 ) -> Result<Reply, Refusal>
     ensures { (c : Call) → (below : List EditPlace) →
-        AnswersTaking (λ c. edits.text_served c first second) (on_entries entries.old (on_edit shown.old input.old edit.old below c)) result (on_entries entries.new (on_edit shown.new input.new edit.new below c)) }
+        AnswersTaking (λ c. edits.text_served c first second) (on_entries entries.old (on_edit (world_of O.output shown.old) input.old edit.old below c)) result (on_entries entries.new (on_edit (world_of O.output shown.new) input.new edit.new below c)) }
 {
     let Ok(found) = edit.reach() else {
         return Err(Refusal::Memory);

@@ -1,7 +1,8 @@
 use Rattle.std.proofs.Common.{refl, arith, slice_index}
+use Rattle.pli_services.specs.Shown.{world_of}
 use Rattle.pli_runtime.proofs.Carried.{by_controlled, by_held, by_level, by_memory, by_none, by_streams, by_taking}
 use Rattle.pli_runtime.proofs.Passing.{served_none}
-use Rattle.pli_runtime.specs.Running.{call_of}
+use Rattle.pli_runtime.specs.Seen.{run_seen, call_of}
 use Rattle.pli_runtime.proofs.runtime.Runtime.by_number.Goals as goal
 
 pub returns-in-2 : goal.returns-in-2
@@ -124,8 +125,8 @@ returns-in-37 g c = rw c.in-37.is (by_taking _ _ _ _ _ _ _ _ c.requires.standing
 
 pub returns-in-38 : goal.returns-in-38
 returns-in-38 g c =
-    rw c.in-38.is (by_streams _ _ _ _ _ c.args.self.now.flow.shown _ c.requires.standing
-    (λ c'. c.end-in-38.ensures c' c.args.self.now.flow.shown))
+    rw c.in-38.is (by_streams _ _ _ _ _ (world_of g.O.OutputStream.output c.args.self.now.flow.shown) _ c.requires.standing
+    (λ c'. c.end-in-38.ensures c' (world_of g.O.OutputStream.output c.args.self.now.flow.shown)))
 
 pub returns-in-39 : goal.returns-in-39
 returns-in-39 g c = rw c.in-39.is (by_streams _ _ _ _ _ _ _ c.requires.standing c.skip.ensures)
@@ -139,7 +140,7 @@ returns-in-41 g c = rw c.in-41.is (c.store_scalar.ensures)
 pub returns-in_default : goal.returns-in_default
 returns-in_default g c =
     by_none _ _ _ _ c.requires.standing
-    (served_none c.args.number (call_of g.K.AreaKeeper.keeper c.args.self.now c.args.memory.now)
+    (served_none c.args.number (call_of g.K.AreaKeeper.keeper (run_seen g.O.OutputStream.output c.args.self.now) c.args.memory.now)
     (slice_index c.args.registers.now) c.requires.no_act
     (λ e. absurd (omega (arith, e))) (λ e. absurd (omega (arith, e))) (λ e. absurd (omega (arith, e)))
     (λ e. absurd (omega (arith, e)))

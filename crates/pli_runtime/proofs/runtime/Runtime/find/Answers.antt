@@ -5,7 +5,7 @@ use Rattle.pli_answering.specs.Answering.{Answers}
 use Rattle.pli_storage.specs.Held.{with_held}
 use Rattle.pli_runtime.proofs.Carried.{by_memory, by_none}
 use Rattle.pli_runtime.proofs.Passing.{found_none}
-use Rattle.pli_runtime.specs.Running.{call_of}
+use Rattle.pli_runtime.specs.Seen.{run_seen, call_of}
 use Rattle.pli_runtime.proofs.runtime.Runtime.find.Goals as goal
 
 pub returns-in-0 : goal.returns-in-0
@@ -22,5 +22,5 @@ returns-in-1 g c =
 pub returns-in_default : goal.returns-in_default
 returns-in_default g c =
     by_none _ _ _ _ c.requires
-    (found_none (call_of g.K.AreaKeeper.keeper c.args.self.now c.args.memory.now) (slice_index c.args.registers.now) (slice_index c.args.registers.now 14)
+    (found_none (call_of g.K.AreaKeeper.keeper (run_seen g.O.OutputStream.output c.args.self.now) c.args.memory.now) (slice_index c.args.registers.now) (slice_index c.args.registers.now 14)
     (λ e. absurd (omega (arith, e))) (λ e. absurd (omega (arith, e))))

@@ -1,13 +1,14 @@
 use Rattle.std.proofs.Common.{◌≡◌, ◌+◌, length, take, arith}
 use Rattle.pli_serving.specs.Edits.{fixed_served}
+use Rattle.pli_services.specs.Shown.{world_of}
 use Rattle.pli_transmission.specs.Transmitting.{places_of}
 use Rattle.pli_transmission.proofs.Newest.{newest_answers}
 use Rattle.pli_transmission.proofs.streams.Streams.fixed.Goals as goal
 
 pub returns : goal.returns
-returns c = λ c'.
+returns g c = λ c'.
     let edits = c.args.self.now.edits.items in
     let newest = c.in-Some.newest in
     let is_newest : newest + 1 ≡ length edits = omega (arith, c.in-Some.ensures) in
-    newest_answers (λ t. fixed_served t c.args.first c.args.second) c.args.shown.now c.fixed.new.shown c.args.self.now.input c.fixed.new.input edits newest c.index_mut.result.now c.fixed.new.edit c' c.fixed.result
+    newest_answers (λ t. fixed_served t c.args.first c.args.second) (world_of g.O.OutputStream.output c.args.shown.now) (world_of g.O.OutputStream.output c.fixed.new.shown) c.args.self.now.input c.fixed.new.input edits newest c.index_mut.result.now c.fixed.new.edit c' c.fixed.result
     is_newest c.index_mut.ensures.value (c.fixed.ensures c' (places_of (take newest edits)))
