@@ -16,7 +16,6 @@ use Rattle.pli_answering.specs.declared.reply.Refusal.TheVariants as F
 use Rattle.pli_services.specs.Shown.{Acts}
 use Rattle.pli_transmission.specs.Edits.{EditKept}
 use Rattle.pli_transmission.specs.Tops.{top_text}
-use Rattle.pli_transmission.specs.declared.streams.Streams.{Streams}
 
 abbrev pub transmitting : World → Input → List EditPlace → Services → Services
 transmitting world input edits v = record v { world = world; input = input; edits = edits }
@@ -33,8 +32,8 @@ on_edit world input edit below c = with_edits world input (edit.place ∷ below)
 abbrev pub places_of : List EditKept → List EditPlace
 places_of edits = reverse (map (λ (e : EditKept). e.place) edits)
 
-abbrev pub with_streams : World → Streams → Call → Call
-with_streams world s c = with_edits world s.input (places_of s.edits.items) c
+abbrev pub with_streams : World → Input → List EditKept → Call → Call
+with_streams world input edits c = with_edits world input (places_of edits) c
 
 -- ---- F by its width
 

@@ -1,7 +1,8 @@
 // Control items, which move in the stream: service 35.
 
-ghost use Rattle.std.specs.Prelude.{◌≡◌, Some, MatchResult, List};
+ghost use Rattle.std.specs.Prelude.{◌≡◌, Some, MatchResult, List, ℕ, IfErr, false};
 ghost use Rattle.pli_answering.specs.Answering.{Answers};
+ghost use Rattle.pli_edit.specs.Faults.{is_fault, is_read};
 ghost use Rattle.pli_edit.specs.FormatPlaces.{item_of};
 ghost use Rattle.pli_meaning.specs.Streaming.{control_read, ControlFormat};
 ghost use Rattle.pli_services.specs.Shown.{world_of, Acts};
@@ -17,14 +18,20 @@ use crate::edit::{Direction, Edit};
 use crate::item::{Control, control_of, item_number};
 use crate::writing::write_control;
 use pli_answering::reply::{Refusal, Reply};
+use pli_edit::fault::EditFault;
 use pli_edit::format::Format;
-use pli_edit::input::Input;
+use pli_edit::input_stream::InputStream;
 use pli_edit::output_stream::OutputStream;
 use pli_services::shown::Shown;
 
 /// A control item of GET.
-fn read_control(input: &mut Input, control: Control)
-    ensures { input.new ≡ control_read (control_shown control) input.old }
+fn read_control<I: InputStream>(input: &mut I, control: Control) -> Result<(), EditFault>
+    ensures follows { I.follows input.old input.new }
+    ensures failed { I.has_failed input.new ≡ is_fault is_read result }
+    ensures moved { MatchResult result
+        (λ _. (all : List ℕ) → I.agrees input.new all →
+        I.input input.new all ≡ control_read (control_shown control) (I.input input.old all))
+        (λ e. e ≡ EditFault.Read) }
 {
     match control {
         Control::Space(count) => input.space(count),
@@ -34,53 +41,89 @@ fn read_control(input: &mut Input, control: Control)
 }
 
 /// The act of a control item.
-pub fn move_by<O: OutputStream>(
+pub fn move_by<I: InputStream, O: OutputStream>(
     direction: Direction,
     control: Control,
-    input: &mut Input,
+    input: &mut I,
     shown: &mut Shown<O>,
 ) -> Result<(), Refusal>
-    ensures world { Acts (world_of O.output shown.old) (moved_world (direction_shown direction) (control_shown control) (world_of O.output shown.old)) result (world_of O.output shown.new) }
-    ensures input { MatchResult result (λ _. input.new ≡ moved_input (direction_shown direction) (control_shown control) input.old) (λ _. input.new ≡ input.old) }
+    ensures world { Acts (world_of O.output shown.old)
+        (moved_world (direction_shown direction) (control_shown control) (world_of O.output shown.old)) result
+        (world_of O.output shown.new) }
+    ensures follows { I.follows input.old input.new }
+    ensures input { MatchResult result
+        (λ _. (all : List ℕ) → I.agrees input.new all →
+        I.input input.new all ≡ moved_input (direction_shown direction) (control_shown control)
+        (I.input input.old all))
+        (λ _. (all : List ℕ) → I.agrees input.new all → I.has_failed input.new ≡ false →
+        I.input input.new all ≡ I.input input.old all) }
 {
     match direction {
         Direction::Getting => {
+            let acts = shown.acts;
             shown.count()?;
-            read_control(input, control);
-            Ok(())
+            match read_control(input, control) {
+                Ok(()) => Ok(()),
+                Err(_) => {
+                    shown.acts = acts;
+                    Err(Refusal::Memory)
+                }
+            }
         }
         Direction::Putting => write_control(shown, control),
     }
 }
 
 /// The next item, which is a control item, is carried out; behind it another one comes.
-fn carry_out_before<O: OutputStream>(
+fn carry_out_before<I: InputStream, O: OutputStream>(
     edit: &mut Edit,
-    input: &mut Input,
+    input: &mut I,
     shown: &mut Shown<O>,
     control: Control,
     behind: Format,
     second: u32,
 ) -> Result<Reply, Refusal>
-    ensures { (c : Call) → (n m : NextItem) → (below : List EditPlace) → edit.old.next ≡ Some n → n.behind.direction ≡ edit.old.place.direction → next_item n.behind ≡ Some m → m.item ≡ item_of behind →
-        Answers (λ c. edits.control_carried_out c second (ControlFormat (control_shown control)) n.behind below) (on_edit (world_of O.output shown.old) input.old edit.old below c) result (on_edit (world_of O.output shown.new) input.new edit.new below c) }
+    ensures answers { (c : Call) → (all : List
+        ℕ) → I.agrees input.new all → I.has_failed input.new ≡ false → (n m : NextItem) → (below : List EditPlace) →
+        edit.old.next ≡ Some n → n.behind.direction ≡ edit.old.place.direction → next_item n.behind ≡ Some m →
+        m.item ≡ item_of behind →
+        Answers (λ c. edits.control_carried_out c second (ControlFormat (control_shown control)) n.behind below)
+        (on_edit (world_of O.output shown.old) (I.input input.old all) edit.old below c) result
+        (on_edit (world_of O.output shown.new) (I.input input.new all) edit.new below c) }
+    ensures follows { I.follows input.old input.new }
+    ensures kept { IfErr result (λ _. world_of O.output shown.new ≡ world_of O.output shown.old) }
 {
     let direction = edit.direction();
+    let acts = shown.acts;
     move_by(direction, control, input, shown)?;
-    edit.advance();
-    Ok(Reply::Done(item_number(direction, input, behind), second))
+    match item_number(direction, input, behind) {
+        Ok(number) => {
+            edit.advance();
+            Ok(Reply::Done(number, second))
+        }
+        Err(refusal) => {
+            shown.acts = acts;
+            Err(refusal)
+        }
+    }
 }
 
 /// The next item, which is a control item, is carried out.
-fn carry_out<O: OutputStream>(
+fn carry_out<I: InputStream, O: OutputStream>(
     edit: &mut Edit,
-    input: &mut Input,
+    input: &mut I,
     shown: &mut Shown<O>,
     control: Control,
     second: u32,
 ) -> Result<Reply, Refusal>
-    ensures { (c : Call) → (n : NextItem) → (below : List EditPlace) → edit.old.next ≡ Some n → n.behind.direction ≡ edit.old.place.direction →
-        Answers (λ c. edits.control_carried_out c second (ControlFormat (control_shown control)) n.behind below) (on_edit (world_of O.output shown.old) input.old edit.old below c) result (on_edit (world_of O.output shown.new) input.new edit.new below c) }
+    ensures answers { (c : Call) → (all : List
+        ℕ) → I.agrees input.new all → I.has_failed input.new ≡ false → (n : NextItem) → (below : List EditPlace) →
+        edit.old.next ≡ Some n → n.behind.direction ≡ edit.old.place.direction →
+        Answers (λ c. edits.control_carried_out c second (ControlFormat (control_shown control)) n.behind below)
+        (on_edit (world_of O.output shown.old) (I.input input.old all) edit.old below c) result
+        (on_edit (world_of O.output shown.new) (I.input input.new all) edit.new below c) }
+    ensures follows { I.follows input.old input.new }
+    ensures kept { IfErr result (λ _. world_of O.output shown.new ≡ world_of O.output shown.old) }
 {
     let Ok(found) = edit.beyond() else {
         return Err(Refusal::Memory);
@@ -92,33 +135,45 @@ fn carry_out<O: OutputStream>(
 }
 
 /// The next item is carried out if it is a control item, and what is next then is told.
-fn control_next<O: OutputStream>(
+fn control_next<I: InputStream, O: OutputStream>(
     edit: &mut Edit,
-    input: &mut Input,
+    input: &mut I,
     shown: &mut Shown<O>,
     format: Format,
     second: u32,
 ) -> Result<Reply, Refusal>
-    ensures { (c : Call) → (n : NextItem) → (below : List EditPlace) → edit.old.next ≡ Some n → next_item edit.old.place ≡ Some n → n.item ≡ item_of format →
-        Answers (λ c. edits.control_carried_out c second n.item n.behind below) (on_edit (world_of O.output shown.old) input.old edit.old below c) result (on_edit (world_of O.output shown.new) input.new edit.new below c) }
+    ensures answers { (c : Call) → (all : List
+        ℕ) → I.agrees input.new all → I.has_failed input.new ≡ false → (n : NextItem) → (below : List EditPlace) →
+        edit.old.next ≡ Some n → next_item edit.old.place ≡ Some n → n.item ≡ item_of format →
+        Answers (λ c. edits.control_carried_out c second n.item n.behind below)
+        (on_edit (world_of O.output shown.old) (I.input input.old all) edit.old below c) result
+        (on_edit (world_of O.output shown.new) (I.input input.new all) edit.new below c) }
+    ensures follows { I.follows input.old input.new }
+    ensures kept { IfErr result (λ _. world_of O.output shown.new ≡ world_of O.output shown.old) }
 {
     match control_of(format) {
         Some(control) => carry_out(edit, input, shown, control, second),
         None => {
-            let number = item_number(edit.direction(), input, format);
+            let number = item_number(edit.direction(), input, format)?;
             Ok(Reply::Done(number, second))
         }
     }
 }
 
 /// 35: a control item that is next is carried out; then what is next is told.
-pub fn control<O: OutputStream>(
+pub fn control<I: InputStream, O: OutputStream>(
     edit: &mut Edit,
-    input: &mut Input,
+    input: &mut I,
     shown: &mut Shown<O>,
     second: u32,
 ) -> Result<Reply, Refusal>
-    ensures { (c : Call) → (below : List EditPlace) → Answers (λ c. edits.control_served c second) (on_edit (world_of O.output shown.old) input.old edit.old below c) result (on_edit (world_of O.output shown.new) input.new edit.new below c) }
+    ensures answers { (c : Call) → (all : List
+        ℕ) → I.agrees input.new all → I.has_failed input.new ≡ false → (below : List EditPlace) →
+        Answers (λ c. edits.control_served c second)
+        (on_edit (world_of O.output shown.old) (I.input input.old all) edit.old below c) result
+        (on_edit (world_of O.output shown.new) (I.input input.new all) edit.new below c) }
+    ensures follows { I.follows input.old input.new }
+    ensures kept { IfErr result (λ _. world_of O.output shown.new ≡ world_of O.output shown.old) }
 {
     let Ok(found) = edit.reach() else {
         return Err(Refusal::Memory);

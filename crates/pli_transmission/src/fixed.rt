@@ -1,6 +1,6 @@
 // F, numbers in fields: service 36.
 
-ghost use Rattle.std.specs.Prelude.{◌≡◌, ◌∷◌, Some, List, is_some};
+ghost use Rattle.std.specs.Prelude.{◌≡◌, ◌∷◌, Some, List, is_some, ℕ, IfErr, false};
 ghost use Rattle.rv_meaning.specs.Words.{signed};
 ghost use Rattle.pli_answering.specs.Answering.{Answers};
 ghost use Rattle.pli_edit.specs.FormatPlaces.{item_of};
@@ -19,7 +19,7 @@ use itoa::Buffer;
 use pli_answering::reply::{Refusal, Reply};
 use pli_edit::fault::EditFault;
 use pli_edit::format::Format;
-use pli_edit::input::Input;
+use pli_edit::input_stream::InputStream;
 use pli_edit::output_stream::OutputStream;
 use pli_services::shown::Shown;
 use pli_text::number::decimal;
@@ -40,15 +40,17 @@ fn has_room(width: u32, number: u32) -> bool
 }
 
 /// PUT: the number is written, and the place is behind the item.
-fn write<O: OutputStream>(
+fn write<I: InputStream, O: OutputStream>(
     edit: &mut Edit,
-    input: &Input,
+    input: &I,
     shown: &mut Shown<O>,
     width: u32,
     number: u32,
 ) -> Result<Reply, Refusal>
-    ensures { (c : Call) → (n : NextItem) → (below : List EditPlace) → edit.old.next ≡ Some n →
-        Answers (λ c. edits.number_put c number 1 (fixed_field width (signed number)) (n.behind ∷ below)) (on_edit (world_of O.output shown.old) input.now edit.old below c) result (on_edit (world_of O.output shown.new) input.now edit.new below c) }
+    ensures { (c : Call) → (all : List ℕ) → (n : NextItem) → (below : List EditPlace) → edit.old.next ≡ Some n →
+        Answers (λ c. edits.number_put c number 1 (fixed_field width (signed number)) (n.behind ∷ below))
+        (on_edit (world_of O.output shown.old) (I.input input.now all) edit.old below c) result
+        (on_edit (world_of O.output shown.new) (I.input input.now all) edit.new below c) }
 {
     write_number(shown, number.cast_signed(), width)?;
     edit.advance();
@@ -56,16 +58,18 @@ fn write<O: OutputStream>(
 }
 
 /// PUT: whether the field is wide enough with mode 0; with 1 the number is written.
-fn put<O: OutputStream>(
+fn put<I: InputStream, O: OutputStream>(
     edit: &mut Edit,
-    input: &Input,
+    input: &I,
     shown: &mut Shown<O>,
     width: u32,
     number: u32,
     mode: u32,
 ) -> Result<Reply, Refusal>
-    ensures { (c : Call) → (n : NextItem) → (below : List EditPlace) → edit.old.next ≡ Some n →
-        Answers (λ c. edits.number_put c number mode (fixed_field width (signed number)) (n.behind ∷ below)) (on_edit (world_of O.output shown.old) input.now edit.old below c) result (on_edit (world_of O.output shown.new) input.now edit.new below c) }
+    ensures { (c : Call) → (all : List ℕ) → (n : NextItem) → (below : List EditPlace) → edit.old.next ≡ Some n →
+        Answers (λ c. edits.number_put c number mode (fixed_field width (signed number)) (n.behind ∷ below))
+        (on_edit (world_of O.output shown.old) (I.input input.now all) edit.old below c) result
+        (on_edit (world_of O.output shown.new) (I.input input.now all) edit.new below c) }
 {
     match mode {
         0 => {
@@ -78,15 +82,21 @@ fn put<O: OutputStream>(
 }
 
 /// GET: the field is taken, and its number told.
-fn get<O: OutputStream>(
+fn get<I: InputStream, O: OutputStream>(
     edit: &mut Edit,
-    input: &mut Input,
+    input: &mut I,
     shown: &mut Shown<O>,
     width: u32,
     first: u32,
 ) -> Result<Reply, Refusal>
-    ensures { (c : Call) → (n : NextItem) → (below : List EditPlace) → edit.old.next ≡ Some n →
-        Answers (λ c. edits.number_got c width first (n.behind ∷ below)) (on_edit (world_of O.output shown.old) input.old edit.old below c) result (on_edit (world_of O.output shown.new) input.new edit.new below c) }
+    ensures answers { (c : Call) → (all : List
+        ℕ) → I.agrees input.new all → I.has_failed input.new ≡ false → (n : NextItem) → (below : List EditPlace) →
+        edit.old.next ≡ Some n →
+        Answers (λ c. edits.number_got c width first (n.behind ∷ below))
+        (on_edit (world_of O.output shown.old) (I.input input.old all) edit.old below c) result
+        (on_edit (world_of O.output shown.new) (I.input input.new all) edit.new below c) }
+    ensures follows { I.follows input.old input.new }
+    ensures kept { IfErr result (λ _. world_of O.output shown.new ≡ world_of O.output shown.old) }
 {
     let acts = shown.acts;
     shown.count()?;
@@ -111,16 +121,22 @@ fn get<O: OutputStream>(
 }
 
 /// F of a width in either direction.
-fn fixed_field<O: OutputStream>(
+fn fixed_field<I: InputStream, O: OutputStream>(
     edit: &mut Edit,
-    input: &mut Input,
+    input: &mut I,
     shown: &mut Shown<O>,
     width: u32,
     first: u32,
     second: u32,
 ) -> Result<Reply, Refusal>
-    ensures { (c : Call) → (n : NextItem) → (below : List EditPlace) → edit.old.next ≡ Some n →
-        Answers (λ c. fixed_of c first second edit.old.place.direction width (n.behind ∷ below)) (on_edit (world_of O.output shown.old) input.old edit.old below c) result (on_edit (world_of O.output shown.new) input.new edit.new below c) }
+    ensures answers { (c : Call) → (all : List
+        ℕ) → I.agrees input.new all → I.has_failed input.new ≡ false → (n : NextItem) → (below : List EditPlace) →
+        edit.old.next ≡ Some n →
+        Answers (λ c. fixed_of c first second edit.old.place.direction width (n.behind ∷ below))
+        (on_edit (world_of O.output shown.old) (I.input input.old all) edit.old below c) result
+        (on_edit (world_of O.output shown.new) (I.input input.new all) edit.new below c) }
+    ensures follows { I.follows input.old input.new }
+    ensures kept { IfErr result (λ _. world_of O.output shown.new ≡ world_of O.output shown.old) }
 {
     match edit.direction() {
         Direction::Putting => put(edit, input, shown, width, first, second),
@@ -129,16 +145,22 @@ fn fixed_field<O: OutputStream>(
 }
 
 /// The next item, which is to be F.
-fn fixed_next<O: OutputStream>(
+fn fixed_next<I: InputStream, O: OutputStream>(
     edit: &mut Edit,
-    input: &mut Input,
+    input: &mut I,
     shown: &mut Shown<O>,
     format: Format,
     first: u32,
     second: u32,
 ) -> Result<Reply, Refusal>
-    ensures { (c : Call) → (n : NextItem) → (below : List EditPlace) → edit.old.next ≡ Some n → n.behind.direction ≡ edit.old.place.direction → n.item ≡ item_of format →
-        Answers (λ c. edits.fixed_by c first second n.behind.direction n.item (n.behind ∷ below)) (on_edit (world_of O.output shown.old) input.old edit.old below c) result (on_edit (world_of O.output shown.new) input.new edit.new below c) }
+    ensures answers { (c : Call) → (all : List
+        ℕ) → I.agrees input.new all → I.has_failed input.new ≡ false → (n : NextItem) → (below : List EditPlace) →
+        edit.old.next ≡ Some n → n.behind.direction ≡ edit.old.place.direction → n.item ≡ item_of format →
+        Answers (λ c. edits.fixed_by c first second n.behind.direction n.item (n.behind ∷ below))
+        (on_edit (world_of O.output shown.old) (I.input input.old all) edit.old below c) result
+        (on_edit (world_of O.output shown.new) (I.input input.new all) edit.new below c) }
+    ensures follows { I.follows input.old input.new }
+    ensures kept { IfErr result (λ _. world_of O.output shown.new ≡ world_of O.output shown.old) }
 {
     match fixed_width(format) {
         Some(width) => fixed_field(edit, input, shown, width, first, second),
@@ -146,16 +168,23 @@ fn fixed_next<O: OutputStream>(
     }
 }
 
-/// 36: F. PUT asks with mode 0 whether the field is wide enough, and writes the number with 1; GET takes the field and tells its
+/// 36: F. PUT asks with mode 0 whether the field is wide enough, and writes the number with 1; GET takes the field and
+/// tells its
 /// number, or that it is none.
-pub fn fixed<O: OutputStream>(
+pub fn fixed<I: InputStream, O: OutputStream>(
     edit: &mut Edit,
-    input: &mut Input,
+    input: &mut I,
     shown: &mut Shown<O>,
     first: u32,
     second: u32,
 ) -> Result<Reply, Refusal>
-    ensures { (c : Call) → (below : List EditPlace) → Answers (λ c. edits.fixed_served c first second) (on_edit (world_of O.output shown.old) input.old edit.old below c) result (on_edit (world_of O.output shown.new) input.new edit.new below c) }
+    ensures answers { (c : Call) → (all : List
+        ℕ) → I.agrees input.new all → I.has_failed input.new ≡ false → (below : List EditPlace) →
+        Answers (λ c. edits.fixed_served c first second)
+        (on_edit (world_of O.output shown.old) (I.input input.old all) edit.old below c) result
+        (on_edit (world_of O.output shown.new) (I.input input.new all) edit.new below c) }
+    ensures follows { I.follows input.old input.new }
+    ensures kept { IfErr result (λ _. world_of O.output shown.new ≡ world_of O.output shown.old) }
 {
     let Ok(found) = edit.reach() else {
         return Err(Refusal::Memory);

@@ -1,6 +1,6 @@
 // What a format item is: an item that moves in the stream, F or A.
 
-ghost use Rattle.std.specs.Prelude.{◌≡◌};
+ghost use Rattle.std.specs.Prelude.{◌≡◌, ℕ, List, MatchResult, true};
 ghost use Rattle.pli_edit.specs.FormatPlaces.{item_of};
 ghost use Rattle.pli_language.specs.View.{option_of};
 ghost use Rattle.pli_meaning.specs.Streaming.{DataFormat, DataItem};
@@ -9,8 +9,9 @@ ghost use Rattle.pli_transmission.specs.Edits.{direction_shown};
 ghost use Rattle.pli_transmission.specs.Items.{control_in, control_shown, fixed_width, text_width};
 
 use crate::edit::Direction;
+use pli_answering::reply::Refusal;
 use pli_edit::format::Format;
-use pli_edit::input::Input;
+use pli_edit::input_stream::InputStream;
 
 /// An item that moves in the stream: so many characters, so many line ends, or to a column.
 #[derive(Clone, Copy, PartialEq, Eq, Debug)]
@@ -59,25 +60,47 @@ pub fn text_width(format: Format) -> Option<Option<u32>>
     }
 }
 
-/// The number of a data item, or 3 where GET has no character left for it.
-fn data_number(direction: Direction, input: &Input, number: u32) -> u32
-    ensures { (d : DataItem) → number ≡ data_number d → result ≡ item_number (direction_shown direction) input.now (DataFormat d) }
+/// The number of a data item, or 3 where GET has no character left for it. `Memory` where a read failed.
+fn data_number<I: InputStream>(
+    direction: Direction,
+    input: &mut I,
+    number: u32,
+) -> Result<u32, Refusal>
+    ensures follows { I.follows input.old input.new }
+    ensures told { MatchResult result
+        (λ told. (d : DataItem) (all : List ℕ) → number ≡ data_number d → I.agrees input.new all →
+        (I.input input.new all ≡ I.input input.old all)
+        × (told ≡ item_number (direction_shown direction) (I.input input.old all) (DataFormat d)))
+        (λ e. (e ≡ Refusal.Memory) × (I.has_failed input.new ≡ true)) }
 {
     match direction {
-        Direction::Getting => { if input.has_character() { number } else { 3 } }
-        Direction::Putting => number,
+        Direction::Getting => match input.has_character() {
+            Ok(true) => Ok(number),
+            Ok(false) => Ok(3),
+            Err(_) => Err(Refusal::Memory),
+        },
+        Direction::Putting => Ok(number),
     }
 }
 
-/// What is next: 0 a control item, 1 F, 2 A, 3 a data item of GET with no character left.
-pub fn item_number(direction: Direction, input: &Input, format: Format) -> u32
-    ensures { result ≡ item_number (direction_shown direction) input.now (item_of format) }
+/// What is next: 0 a control item, 1 F, 2 A, 3 a data item of GET with no character left. `Memory` where a read failed.
+pub fn item_number<I: InputStream>(
+    direction: Direction,
+    input: &mut I,
+    format: Format,
+) -> Result<u32, Refusal>
+    ensures follows { I.follows input.old input.new }
+    ensures told { MatchResult result
+        (λ told. (all : List ℕ) → I.agrees input.new all →
+        (I.input input.new all ≡ I.input input.old all)
+        × (told ≡ item_number (direction_shown direction) (I.input input.old all) (item_of format)))
+        (λ e. (e ≡ Refusal.Memory) × (I.has_failed input.new ≡ true)) }
 {
     match format {
         Format::Fixed(_) => data_number(direction, input, 1),
         Format::Text(_) => data_number(direction, input, 2),
-        Format::Space(_) => 0,
-        Format::Skip(_) => 0,
-        Format::Column(_) => 0,
+        Format::Space(_) => Ok(0),
+        Format::Skip(_) => Ok(0),
+        Format::Column(_) => Ok(0),
     }
 }

@@ -2,6 +2,7 @@
 
 use crate::streams::Streams;
 use pli_answering::reply::{Refusal, Reply};
+use pli_edit::input::Input;
 use pli_edit::output::Output;
 use pli_entries::entries::Entries;
 use pli_services::shown::Shown;
@@ -25,7 +26,7 @@ const LAYOUT: Layout = Layout {
 
 // The replies of PUT: what is next, whether numbers have room, the line ends, and what is next behind each field.
 fn put(
-    streams: &mut Streams,
+    streams: &mut Streams<Input>,
     entries: &mut Entries,
     shown: &mut Shown<Output>,
     source: &Source,
@@ -73,7 +74,7 @@ fn items_are_put_or_memory_is_refused(rt: HostRuntime) {
 
 // The replies of GET, the last behind the end of the input.
 fn get(
-    streams: &mut Streams,
+    streams: &mut Streams<Input>,
     entries: &mut Entries,
     shown: &mut Shown<Output>,
     source: &Source,

@@ -43,7 +43,11 @@ pub fn write_control<O: OutputStream>(shown: &mut Shown<O>, control: Control) ->
 }
 
 /// The act of F of PUT. A number that is too wide for its field is no right call.
-pub fn write_number<O: OutputStream>(shown: &mut Shown<O>, number: i32, width: u32) -> Result<(), Refusal>
+pub fn write_number<O: OutputStream>(
+    shown: &mut Shown<O>,
+    number: i32,
+    width: u32,
+) -> Result<(), Refusal>
     ensures { IsNumberWritten (fixed_field width number) (world_of O.output shown.old) result (world_of O.output shown.new) }
 {
     let acts = shown.acts;
@@ -62,7 +66,11 @@ pub fn write_number<O: OutputStream>(shown: &mut Shown<O>, number: i32, width: u
 }
 
 /// The act of A of PUT.
-pub fn write_text<O: OutputStream>(shown: &mut Shown<O>, text: &[u8], width: Option<u32>) -> Result<(), Refusal>
+pub fn write_text<O: OutputStream>(
+    shown: &mut Shown<O>,
+    text: &[u8],
+    width: Option<u32>,
+) -> Result<(), Refusal>
     ensures { Acts (world_of O.output shown.old) (world.written (with_field (text_field width text.now)) (world_of O.output shown.old)) result (world_of O.output shown.new) }
 {
     let acts = shown.acts;
