@@ -1,13 +1,13 @@
 -- Calls of an input that comes from a feed.
-use Rattle.std.proofs.Common.{◌≡◌, ◌≤◌, ◌<◌, ℕ, zero, suc, ◌+◌, ◌-◌, Bool, true, false, List, [], ◌∷◌, ◌++◌, length}
+use Rattle.std.proofs.Common.{◌≡◌, ◌≤◌, ◌<◌, ℕ, zero, suc, ◌-◌, Bool, true, false, List, [], ◌∷◌, ◌++◌, length}
 use Rattle.std.proofs.Common.{Option, Some, None, Result, Ok, Err, ℤ, nat_le, if◌then◌else◌, take, replicate, refl, sym}
 use Rattle.std.proofs.Common.{ap, subst, ◌∙◌, arith}
 use Rattle.std.specs.Prelude.{MatchOption, ⊤}
 use Rattle.std.proofs.lemmas.Bool.Decides.{nat_tests}
-use Rattle.pli_meaning.specs.InputLines.{Input, Mark, CharacterMark, LineEndMark, characters, next_line, behind_field}
-use Rattle.pli_meaning.specs.InputLines.{behind_lines, further, further_in, at_column, has_character, place_behind}
+use Rattle.pli_meaning.specs.InputLines.{Input, Mark, CharacterMark, LineEndMark, characters, next_line}
+use Rattle.pli_meaning.specs.InputLines.{behind_lines, further, further_in, at_column, has_character}
 use Rattle.pli_edit.specs.Faults.{is_fault, is_read}
-use Rattle.pli_edit.specs.Feeding.{Agrees, Fed, Reads, is_broken}
+use Rattle.pli_edit.specs.Feeding.{Agrees, Fed, is_broken}
 use Rattle.pli_edit.specs.Fields.{IsLineField, IsNumberOf, TakesText}
 use Rattle.std.specs.Prelude.{Vec}
 use Rattle.std.specs.declared.alloc.Global.{Global}
@@ -21,9 +21,8 @@ use Rattle.pli_edit.specs.Streams.{Breaks, Fails, Goes, Held, Moves, PassesLine,
 use Rattle.pli_edit.specs.Streams.{wants_field}
 use Rattle.pli_edit.specs.declared.fault.EditFault.{EditFault}
 use Rattle.pli_edit.specs.declared.fault.EditFault.TheVariants as E
-use Rattle.pli_edit.specs.declared.feed.Standing.TheVariants as S
 use Rattle.pli_edit.proofs.Lines.{field_so}
-use Rattle.pli_edit.proofs.Moving.{breaks_then, breaks_weaken, goes_here, goes_then, moves_weaken}
+use Rattle.pli_edit.proofs.Moving.{breaks_then, goes_here, goes_then, moves_weaken}
 use Rattle.pli_edit.proofs.Passing.{gone_further, lines_from}
 
 -- ---- calls that read nothing

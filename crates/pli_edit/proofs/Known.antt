@@ -1,9 +1,7 @@
 -- The first mark of bytes that go on.
-use Rattle.std.proofs.Common.{◌≡◌, ◌≢◌, ℕ, suc, ◌<◌, ◌≤◌, Bool, true, false, ◌&&◌, ◌==◌, List, [], ◌∷◌, ◌++◌, length}
+use Rattle.std.proofs.Common.{◌≡◌, ◌≢◌, ℕ, ◌<◌, true, false, ◌==◌, List, [], ◌∷◌, length}
 use Rattle.std.proofs.Common.{get_or, Some, None, refl, arith}
 use Rattle.std.proofs.lemmas.Bool.{false_from_ne_true, eqb-true}
-use Rattle.pli_meaning.specs.InputLines.{marks_of, begins_with_line_feed}
-use Rattle.pli_edit.specs.KnownMarks.{known}
 use Rattle.pli_edit.specs.Streams.{IsKnownMark}
 use Rattle.pli_edit.specs.declared.mark.Mark.TheVariants as M
 

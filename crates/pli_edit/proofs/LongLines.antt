@@ -1,15 +1,14 @@
 -- Lines that are counted so far only, and what is written behind them.
-use Rattle.std.proofs.Common.{◌≡◌, ◌⊎◌, inl, inr, ℕ, ◌+◌, ◌-◌, ◌<◌, ◌≤◌, min, Bool, true, false, ◌==◌, List, [], ◌∷◌}
-use Rattle.std.proofs.Common.{◌++◌, length, take, replicate, refl, sym, subst, ap, ◌∙◌, append-nil, arith}
+use Rattle.std.proofs.Common.{◌≡◌, inl, inr, ℕ, ◌+◌, ◌-◌, ◌<◌, ◌≤◌, min, Bool, true, false, ◌==◌, List, [], ◌∷◌}
+use Rattle.std.proofs.Common.{◌++◌, length, take, replicate, refl, sym, ap, ◌∙◌, append-nil, arith}
 use Rattle.std.proofs.Common.{if◌then◌else◌}
-use Rattle.std.specs.Prelude.{nat_le}
 use Rattle.std.proofs.lemmas.Bool.Decides.{leb_tells, eqb_tells}
-use Rattle.std.proofs.lemmas.List.{take_min, length-append, append_assoc}
+use Rattle.std.proofs.lemmas.List.{take_min, length-append}
 use Rattle.std.proofs.Math.Seq.{take-append_seam}
 use Rattle.pli_meaning.specs.Stream.{column_of, blanks, moved_to_column, finished, line_feed}
 use Rattle.pli_meaning.specs.Texts.{fitted}
 use Rattle.pli_edit.specs.Histories.{History}
-use Rattle.pli_edit.specs.Handing.{IsHandedOver, fruitless}
+use Rattle.pli_edit.specs.Handing.{fruitless}
 use Rattle.pli_edit.specs.Drained.{taken_since, output_of, one_if, IsDrained, last_line}
 use Rattle.pli_edit.specs.LastLine.{line_over}
 use Rattle.pli_edit.proofs.Columns.{column-written, column-skipped}

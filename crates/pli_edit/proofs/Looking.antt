@@ -4,17 +4,17 @@ use Rattle.std.proofs.Common.{length, drop, take, replicate, Option, Some, None,
 use Rattle.std.proofs.Common.{append_assoc, arith, length-append, length-drop, if◌then◌else◌}
 use Rattle.std.proofs.lemmas.List.{take-append-le}
 use Rattle.std.proofs.lemmas.List.{append-nil, drop-append-le}
-use Rattle.pli_meaning.specs.InputLines.{Input, Mark, CharacterMark, LineEndMark, marks_of, characters, has_character}
+use Rattle.pli_meaning.specs.InputLines.{Mark, CharacterMark, LineEndMark, marks_of, characters, has_character}
 use Rattle.pli_meaning.specs.InputLines.{place_behind}
-use Rattle.pli_edit.specs.Feeding.{Fed, Buffered, Reading, Gave, Broke, NotMade, MayCome, Reads, Agrees, behind}
-use Rattle.pli_edit.specs.Feeding.{bytes_of, gained, is_broken, is_open, standing_behind, to_come}
+use Rattle.pli_edit.specs.Feeding.{Fed, Reading, Gave, Broke, NotMade, MayCome, Reads, Agrees, behind}
+use Rattle.pli_edit.specs.Feeding.{bytes_of, gained, is_broken, is_open, to_come}
 use Rattle.pli_edit.specs.KnownMarks.{Marked, known, known_from, marks_left, most_left, wants_mark, wants_characters}
 use Rattle.pli_edit.specs.Marks.{begins_line, begins_with_character, has_line_end, mark_of, IsFirstMark, IsInLine}
 use Rattle.pli_edit.specs.Marks.{IsSizedMark}
-use Rattle.pli_edit.specs.Streams.{behind_mark, over_line, Breaks, Goes, IsAtEnd, IsFront, IsKnownMark, LooksAt}
+use Rattle.pli_edit.specs.Streams.{behind_mark, over_line, Breaks, IsFront, IsKnownMark, LooksAt}
 use Rattle.pli_edit.specs.Streams.{LooksInVain, Moves, Takes, TakesInLine, Waits}
-use Rattle.pli_edit.specs.ReadChains.{agree_back, agrees_now, gained_append, nothing_to_come, reads_append, reads_open}
-use Rattle.pli_edit.specs.ReadChains.{reads_shift, reads_weaken}
+use Rattle.pli_edit.specs.ReadChains.{agree_back, agrees_now, gained_append, nothing_to_come, reads_append}
+use Rattle.pli_edit.specs.ReadChains.{reads_weaken}
 use Rattle.pli_edit.proofs.Lines.{behind_line, line_so}
 use Rattle.pli_edit.proofs.Moving.{breaks_then, moves_none, moves_then}
 use Rattle.pli_edit.specs.declared.feed.Standing.{Standing}

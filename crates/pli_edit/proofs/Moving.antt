@@ -1,10 +1,10 @@
 -- Calls behind calls: marks that are taken one behind another, and the reads that are made on the way.
-use Rattle.std.proofs.Common.{◌≡◌, ◌≤◌, ℕ, ◌+◌, ◌-◌, ◌*◌, Bool, true, false, List, [], ◌∷◌, ◌++◌, length, drop, refl}
+use Rattle.std.proofs.Common.{◌≡◌, ℕ, Bool, true, false, List, [], ◌++◌, refl}
 use Rattle.std.proofs.Common.{sym, ap, subst, ◌∙◌, append_assoc, arith, length-append}
 use Rattle.std.proofs.lemmas.List.{append-nil}
 use Rattle.pli_meaning.specs.InputLines.{Mark}
-use Rattle.pli_edit.specs.Feeding.{Fed, Reading, Reads, gained, Agrees, is_broken}
-use Rattle.pli_edit.specs.KnownMarks.{Marked, known_from, marks_left, most_left}
+use Rattle.pli_edit.specs.Feeding.{Reading, Reads, gained, Agrees, is_broken}
+use Rattle.pli_edit.specs.KnownMarks.{Marked, known_from, marks_left}
 use Rattle.pli_edit.specs.Streams.{Goes, Moves, Breaks}
 use Rattle.pli_edit.specs.declared.feed.Standing.TheVariants as S
 use Rattle.pli_edit.specs.ReadChains.{agree_back, reads_append, reads_open, gained_append, reads_shift, reads_weaken}

@@ -1,17 +1,16 @@
 -- Ways through marks that come from a feed, a mark behind another.
-use Rattle.std.proofs.Common.{◌≡◌, ◌≤◌, ◌<◌, ℕ, zero, suc, ◌+◌, ◌-◌, ◌*◌, Bool, true, false, List, [], ◌∷◌, ◌++◌}
-use Rattle.std.proofs.Common.{length, Some, None, refl, sym, ap, subst, ◌∙◌, append_assoc, arith}
+use Rattle.std.proofs.Common.{◌≡◌, ◌<◌, ℕ, zero, suc, ◌+◌, ◌-◌, Bool, true, false, List, [], ◌∷◌, ◌++◌}
+use Rattle.std.proofs.Common.{None, refl, sym, ap, ◌∙◌, append_assoc, arith}
 use Rattle.std.proofs.lemmas.List.{append-nil}
 use Rattle.pli_meaning.specs.InputLines.{Input, Mark, CharacterMark, LineEndMark, characters, next_line, place_behind}
 use Rattle.pli_meaning.specs.InputLines.{behind_lines, further}
 use Rattle.pli_edit.specs.Feeding.{Agrees, is_broken}
 use Rattle.pli_edit.specs.KnownMarks.{Marked, marks_left, wants_mark, wants_characters, wants_lines, wants_further}
-use Rattle.pli_edit.specs.KnownMarks.{wants_next_line}
 use Rattle.pli_edit.specs.Marks.{begins_with_character, ends_line}
-use Rattle.pli_edit.specs.Streams.{Breaks, Goes, IsAtEnd, Moves, PassesLine, Takes, TakesInLine}
+use Rattle.pli_edit.specs.Streams.{Breaks, Goes, Moves, PassesLine, Takes, TakesInLine}
 use Rattle.pli_edit.specs.declared.feed.Standing.{Standing}
 use Rattle.pli_edit.specs.declared.feed.Standing.TheVariants as S
-use Rattle.pli_edit.proofs.Moving.{breaks_then, goes_here, goes_then, moves_none, moves_then}
+use Rattle.pli_edit.proofs.Moving.{breaks_then, goes_here, moves_none, moves_then}
 use Rattle.pli_edit.proofs.Ways.{behind_character, behind_end, behind_line, behind_zero, characters_end}
 use Rattle.pli_edit.proofs.Ways.{characters_line, characters_pushed, characters_zero, further_character, further_zero}
 

@@ -1,5 +1,5 @@
 -- The output that goes to a drain.
-use Rattle.std.specs.Prelude.{◌≡◌, ◌-◌, ◌<◌, ℕ, Bool, true, false, List, ◌++◌, length, take, drop, Ok, Err}
+use Rattle.std.specs.Prelude.{◌-◌, ℕ, Bool, true, false, List, ◌++◌, length, drop, Ok, Err}
 use Rattle.std.specs.Prelude.{if◌then◌else◌}
 use Rattle.pli_meaning.specs.Stream.{column_of}
 use Rattle.pli_edit.specs.Histories.{History}

@@ -1,5 +1,5 @@
 -- Which fault a call answers.
-use Rattle.std.specs.Prelude.{◌≡◌, Bool, true, false, Result, Ok, Err}
+use Rattle.std.specs.Prelude.{Bool, true, false, Result, Ok, Err}
 use Rattle.pli_edit.specs.declared.fault.EditFault.{EditFault}
 use Rattle.pli_edit.specs.declared.fault.EditFault.TheVariants as E
 

@@ -2,7 +2,6 @@
 use Rattle.std.proofs.Common.{◌≡◌, ℕ, Bool, true, false, List, [], ◌∷◌, ◌++◌, refl, sym, ap, subst, ◌∙◌}
 use Rattle.pli_edit.specs.Feeding.{Fed, Reading, Reads, gained, Agrees, is_broken}
 use Rattle.pli_edit.specs.Streams.{Held, Follows, has_failed}
-use Rattle.pli_edit.specs.declared.feed.Standing.TheVariants as S
 use Rattle.pli_edit.specs.ReadChains.{agree_back, reads_append, reads_shift}
 
 pub follows_none : (a : Held) → Follows a a

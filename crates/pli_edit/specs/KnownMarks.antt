@@ -1,5 +1,5 @@
 -- Marks that are known while more bytes may come, and what is still wanted behind them.
-use Rattle.std.specs.Prelude.{◌≡◌, ℕ, zero, suc, ◌+◌, ◌-◌, ◌*◌, Bool, true, false, ◌==◌, nat_le, List, [], ◌∷◌, ◌++◌}
+use Rattle.std.specs.Prelude.{ℕ, zero, suc, ◌+◌, ◌-◌, ◌*◌, Bool, true, false, ◌==◌, nat_le, List, [], ◌∷◌, ◌++◌}
 use Rattle.std.specs.Prelude.{length, replicate, if◌then◌else◌}
 use Rattle.pli_meaning.specs.InputLines.{Mark, CharacterMark, LineEndMark, marks_of}
 use Rattle.pli_edit.specs.Feeding.{Fed, to_come}

@@ -1,8 +1,8 @@
 -- Reads that are made one behind another, and the inputs that agree with them.
-use Rattle.std.proofs.Common.{◌≡◌, ◌≤◌, ℕ, ◌+◌, ◌-◌, ◌*◌, Bool, true, false, List, [], ◌∷◌, ◌++◌, length, drop, refl}
-use Rattle.std.proofs.Common.{sym, ap, subst, ◌∙◌, append_assoc, arith, length-append}
+use Rattle.std.proofs.Common.{◌≡◌, ℕ, Bool, true, List, [], ◌∷◌, ◌++◌, length, drop, refl}
+use Rattle.std.proofs.Common.{sym, ap, subst, ◌∙◌, append_assoc}
 use Rattle.std.proofs.lemmas.List.{append-nil, drop_at}
-use Rattle.pli_edit.specs.Feeding.{Fed, Reading, Gave, Broke, NotMade, bytes_of, behind, MayCome, Reads, gained}
+use Rattle.pli_edit.specs.Feeding.{Fed, Reading, Gave, Broke, NotMade, bytes_of, behind, Reads, gained}
 use Rattle.pli_edit.specs.Feeding.{to_come, Agrees}
 use Rattle.pli_edit.specs.declared.feed.Standing.{Standing}
 use Rattle.pli_edit.specs.declared.feed.Standing.TheVariants as S

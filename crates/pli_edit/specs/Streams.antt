@@ -2,7 +2,7 @@
 use Rattle.std.specs.Prelude.{◌≡◌, ◌≤◌, ◌<◌, ℕ, suc, ◌+◌, ◌-◌, Bool, true, false, List, [], ◌∷◌, ◌++◌, length, drop}
 use Rattle.std.specs.Prelude.{Option, Some, None, Result, Ok, Err}
 use Rattle.pli_meaning.specs.InputLines.{Input, Mark, CharacterMark, marks_of, next_line}
-use Rattle.pli_edit.specs.Feeding.{Fed, Reading, Reads, gained, first_fed, Agrees, to_come, is_broken}
+use Rattle.pli_edit.specs.Feeding.{Reading, Reads, gained, first_fed, Agrees, to_come, is_broken}
 use Rattle.pli_edit.specs.Histories.{History}
 use Rattle.pli_edit.specs.KnownMarks.{Marked, known, known_from, marks_left, most_left, wants_mark, wants_characters}
 use Rattle.pli_edit.specs.KnownMarks.{wants_lines}

@@ -1,4 +1,4 @@
-use Rattle.std.proofs.Common.{◌≡◌, ◌-◌, ◌≤◌, Ok, replicate}
+use Rattle.std.proofs.Common.{◌-◌, ◌≤◌, Ok, replicate}
 use Rattle.pli_edit.specs.Handing.{IsHandedOver}
 use Rattle.pli_edit.proofs.handing.hand_repeated.Given as goal
 

@@ -1,4 +1,4 @@
-use Rattle.std.proofs.Common.{List, ℕ, ◌+◌, ◌-◌, ◌++◌, [], ◌∷◌, subst, ap, ◌∙◌, arith}
+use Rattle.std.proofs.Common.{List, ℕ, ◌-◌, ◌++◌, [], ◌∷◌, subst, ap, ◌∙◌, arith}
 use Rattle.pli_meaning.specs.Stream.{blanks}
 use Rattle.pli_edit.specs.Drained.{output_of, most_line}
 use Rattle.pli_edit.specs.OutputStreams.{IsWrittenOn}

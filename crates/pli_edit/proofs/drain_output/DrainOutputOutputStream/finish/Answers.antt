@@ -1,4 +1,4 @@
-use Rattle.std.proofs.Common.{List, ℕ, ◌<◌, subst, arith}
+use Rattle.std.proofs.Common.{List, ℕ, subst, arith}
 use Rattle.pli_edit.specs.Drained.{output_of, most_line}
 use Rattle.pli_edit.specs.OutputStreams.{IsWrittenOn}
 use Rattle.pli_edit.proofs.LongLines.{line_done, line_open}

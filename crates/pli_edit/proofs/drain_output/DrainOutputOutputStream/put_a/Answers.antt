@@ -1,4 +1,4 @@
-use Rattle.std.proofs.Common.{List, ℕ, ◌++◌, Some, sym, subst, ap, ◌∙◌}
+use Rattle.std.proofs.Common.{List, ℕ, ◌++◌, sym, subst, ap, ◌∙◌}
 use Rattle.pli_edit.specs.Drained.{output_of}
 use Rattle.pli_edit.specs.Fields.{text_field}
 use Rattle.pli_edit.specs.OutputStreams.{IsWrittenOn}

@@ -1,8 +1,8 @@
 use Rattle.std.proofs.Common.{◌≡◌, ◌≤◌, ◌<◌, ℕ, zero, suc, ◌+◌, ◌-◌, List, [], ◌∷◌, ◌++◌, drop, length, take, refl, sym}
-use Rattle.std.proofs.Common.{ap, subst, ◌∙◌, arith, length-take}
+use Rattle.std.proofs.Common.{ap, ◌∙◌, arith}
 use Rattle.std.proofs.lemmas.List.{length-take-le, take-append-le}
 use Rattle.pli_edit.specs.Histories.{History}
-use Rattle.pli_edit.specs.Feeding.{Fed, Buffered, Reading, Gave, Broke, NotMade, MayCome, behind, bytes_of}
+use Rattle.pli_edit.specs.Feeding.{Buffered, Reading, Gave, Broke, behind, bytes_of}
 use Rattle.pli_edit.specs.Feeding.{standing_behind}
 use Rattle.pli_edit.specs.declared.feed.Standing.{Standing}
 use Rattle.pli_edit.specs.declared.feed.Standing.TheVariants as S

@@ -1,9 +1,9 @@
-use Rattle.std.proofs.Common.{◌≡◌, ◌<◌, ◌≤◌, ℕ, ◌+◌, ◌-◌, List, [], ◌++◌, true, false, Some, None, Ok, Err, refl, sym}
+use Rattle.std.proofs.Common.{◌≡◌, ◌<◌, ◌≤◌, ◌-◌, sym}
 use Rattle.std.proofs.Common.{subst, ap, ◌∙◌, arith}
 use Rattle.std.proofs.lemmas.Result.{err_from_is_err_and, MatchResult-weaker}
-use Rattle.pli_meaning.specs.InputLines.{Input, at_column, behind_lines, further_in}
-use Rattle.pli_edit.specs.KnownMarks.{Marked, wants_column, wants_further, wants_next_line}
-use Rattle.pli_edit.specs.Streams.{Breaks, Fails, Goes, Held, Reaches}
+use Rattle.pli_meaning.specs.InputLines.{at_column, behind_lines, further_in}
+use Rattle.pli_edit.specs.KnownMarks.{wants_column, wants_further, wants_next_line}
+use Rattle.pli_edit.specs.Streams.{Breaks, Goes, Held, Reaches}
 use Rattle.pli_edit.proofs.FeedCalls.{at_far, at_near, column_far, column_near, fails_at_once, reaches_at, reaches_gone}
 use Rattle.pli_edit.proofs.Moving.{breaks_weaken}
 use Rattle.pli_edit.proofs.Passing.{gone_further}

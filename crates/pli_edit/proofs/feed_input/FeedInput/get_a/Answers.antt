@@ -1,10 +1,10 @@
-use Rattle.std.proofs.Common.{◌≡◌, ◌<◌, ◌≤◌, ℕ, ◌+◌, ◌-◌, List, [], ◌++◌, true, false, Some, None, Ok, Err, refl, sym}
-use Rattle.std.proofs.Common.{subst, ap, ◌∙◌, arith}
-use Rattle.std.proofs.lemmas.Result.{err_from_is_err_and, MatchResult-weaker}
-use Rattle.pli_meaning.specs.InputLines.{Input, has_character}
+use Rattle.std.proofs.Common.{◌≡◌, [], true, false, Err, refl}
+use Rattle.std.proofs.Common.{subst, ◌∙◌, arith}
+use Rattle.std.proofs.lemmas.Result.{err_from_is_err_and}
+use Rattle.pli_meaning.specs.InputLines.{has_character}
 use Rattle.pli_edit.specs.Fields.{TakesText}
-use Rattle.pli_edit.specs.KnownMarks.{Marked, wants_characters}
-use Rattle.pli_edit.specs.Streams.{Breaks, Held, Moves, Reaches, Tells, wants_field}
+use Rattle.pli_edit.specs.KnownMarks.{wants_characters}
+use Rattle.pli_edit.specs.Streams.{Breaks, Held, Reaches, Tells, wants_field}
 use Rattle.pli_edit.specs.declared.fault.EditFault.TheVariants as E
 use Rattle.pli_edit.proofs.FeedCalls.{fails_at_once, field_wanted, no_field_left, reaches_at, reaches_left, tells_then}
 use Rattle.pli_edit.proofs.FeedCalls.{text_left, width_wanted}

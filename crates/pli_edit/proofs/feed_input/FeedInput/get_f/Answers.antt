@@ -1,12 +1,9 @@
-use Rattle.std.proofs.Common.{◌≡◌, ◌<◌, ◌≤◌, ℕ, ◌+◌, ◌-◌, List, [], ◌++◌, true, false, Some, None, Ok, Err, refl, sym}
-use Rattle.std.proofs.Common.{subst, ap, ◌∙◌, arith}
-use Rattle.std.proofs.lemmas.Result.{err_from_is_err_and, MatchResult-weaker}
+use Rattle.std.proofs.Common.{ℕ, Ok, Err}
 use Rattle.std.specs.Prelude.{Vec, ℤ}
 use Rattle.std.specs.declared.alloc.Global.{Global}
-use Rattle.pli_meaning.specs.InputLines.{Input, has_character}
+use Rattle.pli_meaning.specs.InputLines.{has_character}
 use Rattle.pli_edit.specs.Fields.{TakesNumber, TakesText}
-use Rattle.pli_edit.specs.KnownMarks.{Marked}
-use Rattle.pli_edit.specs.Streams.{Held, Reaches, Tells, input_of, wants_field}
+use Rattle.pli_edit.specs.Streams.{input_of, wants_field}
 use Rattle.pli_edit.proofs.FeedCalls.{number_is_no_read, reaches_map, reaches_tells, reaches_unread, tells_map}
 use Rattle.pli_edit.proofs.Taking.{number-refused, number-taken, number-there}
 use Rattle.pli_edit.proofs.feed_input.FeedInput.get_f.Goals as goal

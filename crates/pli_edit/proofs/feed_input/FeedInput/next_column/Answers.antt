@@ -1,9 +1,9 @@
-use Rattle.std.proofs.Common.{◌≡◌, ℕ, ◌+◌, ◌-◌, List, [], ◌++◌, true, false, Some, None, Ok, Err, refl, sym, subst, ap}
-use Rattle.std.proofs.Common.{◌∙◌, arith}
-use Rattle.std.proofs.lemmas.Result.{err_from_is_err_and, MatchResult-weaker}
-use Rattle.pli_meaning.specs.InputLines.{Input, behind_lines, further, further_in, next_line}
-use Rattle.pli_edit.specs.KnownMarks.{Marked, wants_further, wants_lines, wants_next_line}
-use Rattle.pli_edit.specs.Streams.{Breaks, Fails, Goes, Held, Reaches}
+use Rattle.std.proofs.Common.{◌≡◌, ◌-◌, subst}
+use Rattle.std.proofs.Common.{arith}
+use Rattle.std.proofs.lemmas.Result.{err_from_is_err_and}
+use Rattle.pli_meaning.specs.InputLines.{behind_lines, further, further_in, next_line}
+use Rattle.pli_edit.specs.KnownMarks.{wants_further, wants_lines, wants_next_line}
+use Rattle.pli_edit.specs.Streams.{Breaks, Goes, Held, Reaches}
 use Rattle.pli_edit.proofs.FeedCalls.{line_wanted, next_line_breaks, next_line_further, reaches_gone}
 use Rattle.pli_edit.proofs.Moving.{breaks_weaken}
 use Rattle.pli_edit.proofs.Passing.{gone_further}

@@ -1,7 +1,7 @@
-use Rattle.std.proofs.Common.{◌≡◌, ℕ, ◌+◌, ◌-◌, List, [], ◌++◌, true, false, Some, None, Ok, Err, refl, sym, subst, ap}
+use Rattle.std.proofs.Common.{◌≡◌, subst}
 use Rattle.std.proofs.Common.{◌∙◌, arith}
-use Rattle.std.proofs.lemmas.Result.{err_from_is_err_and, MatchResult-weaker}
-use Rattle.pli_meaning.specs.InputLines.{Input, behind_lines}
+use Rattle.std.proofs.lemmas.Result.{err_from_is_err_and}
+use Rattle.pli_meaning.specs.InputLines.{behind_lines}
 use Rattle.pli_edit.specs.KnownMarks.{wants_lines}
 use Rattle.pli_edit.specs.Streams.{Held, Reaches}
 use Rattle.pli_edit.proofs.FeedCalls.{fails_at_once, from_any_column, reaches_gone}

@@ -1,6 +1,4 @@
-use Rattle.std.proofs.Common.{◌≡◌, ℕ, ◌+◌, ◌-◌, List, [], ◌++◌, true, false, Some, None, Ok, Err, refl, sym, subst, ap}
-use Rattle.std.proofs.Common.{◌∙◌, arith}
-use Rattle.std.proofs.lemmas.Result.{err_from_is_err_and, MatchResult-weaker}
+use Rattle.std.proofs.lemmas.Result.{err_from_is_err_and}
 use Rattle.pli_edit.specs.KnownMarks.{wants_characters}
 use Rattle.pli_edit.proofs.FeedCalls.{fails_at_once}
 use Rattle.pli_edit.proofs.feed_input.FeedInput.space.Goals as goal

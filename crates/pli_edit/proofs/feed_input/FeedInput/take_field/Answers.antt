@@ -1,7 +1,5 @@
-use Rattle.std.proofs.Common.{◌≡◌, ℕ, ◌+◌, ◌-◌, List, [], ◌++◌, true, false, Some, None, Ok, Err, refl, sym, subst, ap}
-use Rattle.std.proofs.Common.{◌∙◌, arith}
-use Rattle.std.proofs.lemmas.Result.{err_from_is_err_and, MatchResult-weaker}
-use Rattle.pli_meaning.specs.InputLines.{Input, characters, place_behind}
+use Rattle.std.proofs.Common.{true, Ok, subst}
+use Rattle.std.proofs.Common.{arith}
 use Rattle.pli_edit.specs.Fields.{TakesText}
 use Rattle.pli_edit.specs.KnownMarks.{wants_characters}
 use Rattle.pli_edit.specs.Streams.{Held, Reaches}

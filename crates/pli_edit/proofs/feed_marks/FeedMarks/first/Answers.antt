@@ -1,10 +1,10 @@
-use Rattle.std.proofs.Common.{◌≡◌, [], sym, subst, ap, ◌∙◌, false, true, arith}
+use Rattle.std.proofs.Common.{◌≡◌, [], sym, subst, ap, ◌∙◌}
 use Rattle.std.proofs.lemmas.Result.{err_from_is_err_and}
-use Rattle.pli_edit.specs.Feeding.{Buffered, is_broken, is_open}
+use Rattle.pli_edit.specs.Feeding.{Buffered, is_open}
 use Rattle.pli_edit.specs.KnownMarks.{Marked, known}
 use Rattle.pli_edit.specs.Streams.{Waits, IsKnownMark}
 use Rattle.pli_edit.specs.declared.feed.Standing.TheVariants as S
-use Rattle.pli_edit.proofs.Looking.{front_ended, front_known, has_ended, none_known, opened, read_on, waits_read}
+use Rattle.pli_edit.proofs.Looking.{none_known, opened, waits_read}
 use Rattle.pli_edit.proofs.feed_marks.FeedMarks.first.Goals as goal
 
 pub loop-self-preserved : goal.loop-self-preserved

@@ -1,4 +1,4 @@
-use Rattle.std.proofs.Common.{◌≡◌, [], Some, None, sym, subst, ap, ◌∙◌, arith, true, false}
+use Rattle.std.proofs.Common.{[], Some, sym, subst, ap, ◌∙◌, true, false}
 use Rattle.std.proofs.lemmas.Result.{err_from_is_err_and}
 use Rattle.pli_edit.specs.KnownMarks.{Marked, wants_characters}
 use Rattle.pli_edit.specs.Streams.{LooksAt, Moves}

@@ -1,4 +1,4 @@
-use Rattle.std.proofs.Common.{[], false, ◌≡◌}
+use Rattle.std.proofs.Common.{[]}
 use Rattle.pli_edit.specs.KnownMarks.{most_left, wants_characters}
 use Rattle.pli_edit.specs.Streams.{Moves}
 use Rattle.pli_edit.proofs.feed_marks.FeedMarks.has_character.Given as goal

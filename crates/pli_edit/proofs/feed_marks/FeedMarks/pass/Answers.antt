@@ -1,4 +1,4 @@
-use Rattle.std.proofs.Common.{◌≡◌, ◌≤◌, ◌<◌, ◌^◌, ◌+◌, ℕ, List, true, sym, subst, arith}
+use Rattle.std.proofs.Common.{◌≡◌, ◌≤◌, ◌<◌, ◌+◌, ℕ, List, true, sym, subst, arith}
 use Rattle.pli_meaning.specs.InputLines.{Input, place_behind}
 use Rattle.pli_edit.specs.Feeding.{Agrees, Buffered}
 use Rattle.pli_edit.specs.KnownMarks.{Marked, marks_left, most_left}
