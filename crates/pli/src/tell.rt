@@ -2,6 +2,7 @@
 
 use crate::command;
 use clap::ArgMatches;
+use pli_activations::block::Block;
 use pli_language::expr::Place;
 use pli_language::fault::SourceFault;
 use pli_lex::tokens;
@@ -10,7 +11,7 @@ use pli_messages::farthest::farthest;
 use pli_messages::message::{Message, Style};
 use pli_messages::place::{Shown, first_line, from_line};
 use pli_messages::topic::{Topic, error, limit};
-use pli_run::report::{Line, Notice, refused_source, unread};
+use pli_run::report::{Active, Line, Notice, refused_source, unread};
 use std::{fmt, io};
 
 /// What is told where memory runs out before there is anything to tell of.
@@ -137,5 +138,13 @@ pub fn tell_run(
             notice.status
         }
         _ => tell(rt, notice),
+    }
+}
+
+/// Tells of each block that is active, newest first.
+pub fn tell_blocks(rt: &HostRuntime, blocks: &[Block]) {
+    for block in blocks {
+        let active = Active(*block);
+        let _ = eprintln!(rt; "{active}");
     }
 }

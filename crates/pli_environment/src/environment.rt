@@ -1,13 +1,16 @@
 // The execution environment of an image: the services that its code calls.
 
-ghost use Rattle.std.specs.Prelude.{◌≡◌, List, IfOk, slice_index};
+ghost use Rattle.std.specs.Prelude.{◌≡◌, List, map, IfOk, slice_index};
 ghost use Rattle.rv_meaning.specs.Machine.{written};
 ghost use Rattle.rv_meaning.specs.Tables.{AreSignatures, TableSignature, table_words};
 ghost use Rattle.pli_serving.specs.ServiceState.{first_services};
+ghost use Rattle.pli_activations.specs.Entered.{block_shown, without_units};
 ghost use Rattle.pli_environment.specs.Places.{image_layout};
 ghost use Rattle.pli_runtime.specs.Running.{running, world_told};
 
+use crate::entered::ended_blocks;
 use granule_heap::granules::Granules;
+use pli_activations::block::Block;
 use pli_answering::reply::{Refusal, Reply};
 use pli_language::condition::Condition;
 use pli_meaning::outcome::{End, Outcome};
@@ -100,11 +103,16 @@ impl Environment {
         self.runtime.end()
     }
 
-    /// What the run has come to, its output copied; without memory an `AllocError`.
-    pub fn into_outcome(self) -> Result<Outcome, AllocError>
-        ensures { IfOk result (λ o. world_told o ≡ (running self).world) }
+    /// What the run has come to, its output copied, with what is kept of each block that is still entered, newest first;
+    /// without memory an `AllocError`.
+    pub fn into_outcome(self) -> Result<(Outcome, Vec<Block>), AllocError>
+        ensures outcome { IfOk result (λ o. world_told o.0 ≡ (running self).world) }
+        ensures blocks { IfOk result (λ o. map block_shown o.1.items ≡ map without_units (running self).activations) }
     {
-        self.runtime.into_outcome()
+        let mut runtime = self.runtime;
+        let blocks = ended_blocks(runtime.alloc, &mut runtime.flow.activations)?;
+        let outcome = runtime.into_outcome()?;
+        Ok((outcome, blocks))
     }
 }
 

@@ -1,5 +1,6 @@
 -- The steps of a machine with these services are those of the definitions.
-use Rattle.std.proofs.Common.{◌≡◌, ℕ, zero, suc, ◌+◌, ◌-◌, ◌*◌, List, length, Some, refl, ap, subst, sym, ◌∙◌, arith, zero-add, add-zero, ◌⊎◌, inl, inr}
+use Rattle.std.proofs.Common.{◌≡◌, ℕ, zero, suc, ◌+◌, ◌-◌, ◌*◌, List, [], map, length, Option, Some, None, refl, ap}
+use Rattle.std.proofs.Common.{subst, sym, ◌∙◌, arith, zero-add, add-zero, ◌⊎◌, inl, inr}
 use Rattle.rv_meaning.specs.declared.instr.Fault.{Fault}
 use Rattle.rv_meaning.specs.Machine.{Loaded, State, Effect, Goes, Faults, Calls, effect}
 use Rattle.rv_machine.specs.declared.services.Served.{Served}
@@ -10,7 +11,8 @@ use Rattle.granule_keeper.specs.Granules.{granules}
 use Rattle.pli_meaning.specs.World.{World}
 use Rattle.pli_meaning.specs.declared.outcome.Outcome.{Outcome}
 use Rattle.pli_serving.specs.Answers.{Answer}
-use Rattle.pli_serving.specs.ServiceState.{Services}
+use Rattle.pli_serving.specs.ServiceState.{Services, Activation}
+use Rattle.pli_activations.specs.Entered.{without_units}
 use Rattle.pli_serving.specs.Serving.{serves}
 use Rattle.pli_values.specs.declared.layout.Layout.{Layout}
 use Rattle.pli_values.specs.View as View
@@ -20,15 +22,40 @@ use Rattle.pli_environment.specs.Calling.{Serves, IsAnswered}
 use Rattle.pli_environment.specs.Places.{image_layout}
 use Rattle.image_runs.specs.Runs.{Whole, Run, Runs, Ended as HasEnded, Stopped, answered, called, of_effect, next, run_on, shown_by}
 use Rattle.pli_run.specs.Running.{world_of, Meets, ShowsWithin}
+use Rattle.pli_run.specs.Tracing.{entered_in}
 
 -- a machine and its services, as the definitions see them
 abbrev pub whole : Moment Runtime → Whole
 whole m = record { machine = m.state; services = running m.services }
 
+-- the services of a run that met no fault: what it shows, and which blocks are entered, are theirs
+abbrev pub services_in : Run → Option Services
+services_in (Runs w) = Some w.services
+services_in (HasEnded w) = Some w.services
+services_in (Stopped fault) = None
+
+abbrev pub shown_of : Option Services → Option World
+shown_of (Some v) = Some v.world
+shown_of None = None
+
+abbrev pub entered_of : Option Services → List Activation
+entered_of (Some v) = map without_units v.activations
+entered_of None = []
+
+shown_there : (r : Run) → shown_by r ≡ shown_of (services_in r)
+shown_there (Runs w) = refl
+shown_there (HasEnded w) = refl
+shown_there (Stopped fault) = refl
+
+entered_there : (r : Run) → entered_in r ≡ entered_of (services_in r)
+entered_there (Runs w) = refl
+entered_there (HasEnded w) = refl
+entered_there (Stopped fault) = refl
+
 -- what a step, or a run that it finishes, comes to
 abbrev pub Comes : Run → Step → Moment Runtime → Type 0
 Comes r Ran to = r ≡ Runs (whole to)
-Comes r Ended to = shown_by r ≡ Some (running to.services).world
+Comes r Ended to = services_in r ≡ Some (running to.services)
 Comes r (Faulted f) to = r ≡ Stopped f
 Comes r Refused to = Unit {0}
 
@@ -130,7 +157,7 @@ runs_are p bound ran from Ended to o run =
     let all = ran_on p ran (suc k) from run.at o run.all_ran in
     let whole_bound : ran + suc k ≡ bound = let h = run.finishes.0 in omega arith in
     let P : ℕ → Type 0 = λ j. run_on j p (Runs (whole from)) ≡ run_on (suc k) p (Runs (whole run.at)) in
-    ap shown_by (subst P whole_bound all.0 ∙ one_on p k (whole run.at) _ (makes_ended p run.at to (effect p run.at.state) all.1 run.finishes.1) ∙ ended_stays p k _)
+    ap services_in (subst P whole_bound all.0 ∙ one_on p k (whole run.at) _ (makes_ended p run.at to (effect p run.at.state) all.1 run.finishes.1) ∙ ended_stays p k _)
 runs_are p bound ran from (Faulted f) to o run =
     let k = bound - (ran + 1) in
     let all = ran_on p ran (suc k) from run.at o run.all_ran in
@@ -189,7 +216,17 @@ run_refused p bound ran from to o code run e = record {
   };
 }
 
--- a run that ran on or ended shows its services' world
-pub shown_where : (r : Run) (last : Step) (to : Moment Runtime) → (last ≡ Ran) ⊎ (last ≡ Ended) → Comes r last to → shown_by r ≡ Some (running to.services).world
-shown_where r last to (inl e) comes = ap shown_by (rw e at comes)
-shown_where r last to (inr e) comes = rw e at comes
+-- a run that ran on or ended has its services
+services_where : (r : Run) (last : Step) (to : Moment Runtime) → (last ≡ Ran) ⊎ (last ≡ Ended) → Comes r last to
+    → services_in r ≡ Some (running to.services)
+services_where r last to (inl e) comes = ap services_in (rw e at comes)
+services_where r last to (inr e) comes = rw e at comes
+
+-- so it shows their world, and their blocks are entered
+pub shown_where : (r : Run) (last : Step) (to : Moment Runtime) → (last ≡ Ran) ⊎ (last ≡ Ended) → Comes r last to
+    → shown_by r ≡ Some (running to.services).world
+shown_where r last to is comes = shown_there r ∙ ap shown_of (services_where r last to is comes)
+
+pub entered_where : (r : Run) (last : Step) (to : Moment Runtime) → (last ≡ Ran) ⊎ (last ≡ Ended) → Comes r last to
+    → entered_in r ≡ map without_units (running to.services).activations
+entered_where r last to is comes = entered_there r ∙ ap entered_of (services_where r last to is comes)

@@ -3,8 +3,10 @@
 ghost use Rattle.std.specs.Prelude.{◌≡◌, Some};
 ghost use Rattle.pli_run.specs.declared.report.Line.TheVariants.{Unread, Unwritten};
 ghost use Rattle.pli_run.specs.Reporting.{status_of, line_of, end_status, end_line, refusal_status, refusal_line, image_line};
+ghost use Rattle.pli_run.specs.Tracing.{behind_end, told_behind};
 
 use crate::run::RunFault;
+use pli_activations::block::{Block, BlockKind};
 use pli_language::fault::{SourceFault, SourceKind};
 use pli_meaning::outcome::{End, Limit, Outcome};
 use rv_meaning::image::ImageFault;
@@ -70,6 +72,45 @@ impl fmt::Display for Line<'_> {
             Line::Unread(name) => write!(f, "CANNOT READ {}", FileName(name)),
             Line::Unwritten(name) => write!(f, "CANNOT WRITE {}", FileName(name)),
         }
+    }
+}
+
+/// A block that is active, told by the line at which it was called, raised or begun. Nothing but the main procedure is
+/// called at line 0.
+#[derive(Clone, Copy, Debug)]
+pub struct Active(pub Block);
+
+impl fmt::Display for Active {
+    fn fmt<W: fmt::Write>(&self, f: &mut fmt::Formatter<W>) -> fmt::Result {
+        let Block { kind, line, .. } = self.0;
+        match kind {
+            BlockKind::Procedure if line == 0 => write!(f, "MAIN PROCEDURE"),
+            BlockKind::Procedure => write!(f, "PROCEDURE CALLED AT LINE {line}"),
+            BlockKind::Begin => write!(f, "BEGIN AT LINE {line}"),
+            BlockKind::OnUnit { code, .. } => write!(f, "ON-UNIT FOR {code} AT LINE {line}"),
+        }
+    }
+}
+
+fn behind_end(end: End, blocks: &[Block]) -> &[Block]
+    ensures { result.now ≡ behind_end end blocks.now }
+{
+    match end {
+        End::Error { .. } => blocks,
+        End::Finished => &[],
+        End::Stopped => &[],
+        End::Running => &[],
+        End::Limit(_) => &[],
+    }
+}
+
+/// The blocks that are told behind the line of a run: behind an error all, newest first; else none.
+pub fn told_behind<'a>(ran: &Result<Outcome, RunFault>, blocks: &'a [Block]) -> &'a [Block]
+    ensures { result.now ≡ told_behind ran.now blocks.now }
+{
+    match ran {
+        Ok(outcome) => behind_end(outcome.end, blocks),
+        Err(_) => &[],
     }
 }
 

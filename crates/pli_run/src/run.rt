@@ -1,12 +1,14 @@
 // Runs of images.
 
-ghost use Rattle.std.specs.Prelude.{◌≡◌, ◌↔◌, ◌*◌, List, length, IsErrOf};
+ghost use Rattle.std.specs.Prelude.{◌≡◌, ◌↔◌, ◌*◌, List, length, IfOk, IsErrOf};
 ghost use Rattle.rv_meaning.specs.Machine.{IsValidBase};
 ghost use Rattle.rv_meaning.specs.Tables.{TableSignature};
 ghost use Rattle.pli_meaning.specs.Pictures.{Picture};
 ghost use Rattle.image_runs.specs.Runs.{run_of};
 ghost use Rattle.pli_run.specs.Running.{number_of, IsUnstarted, IsPicture, IsTabled, Tells};
+ghost use Rattle.pli_run.specs.Tracing.{TracesRun, outcome_of};
 
+use crate::traced::Traced;
 use pli_environment::environment::Environment;
 use pli_language::fault::SourceFault;
 use pli_meaning::outcome::Outcome;
@@ -51,19 +53,20 @@ impl RunFault {
     }
 }
 
-/// Runs an image at a base, on an input, for at most `bound` instructions.
+/// Runs an image at a base, on an input, for at most `bound` instructions, and tells which blocks are active at its end.
 ///
 /// It answers `BadBase` where the base isn't a multiple of 4,096 with 16 MiB of addresses from it on, `Machine` where an
 /// instruction can't be carried out, and `Memory` where there is none for the machine or its services.
-pub fn run(
+pub fn run_traced(
     alloc: Global,
     image: &Image,
     base: u32,
     input: &[u8],
     bound: u64,
-) -> Result<Outcome, RunFault>
+) -> Result<Traced, RunFault>
     ensures bad_base { IsErrOf result RunFault.BadBase ↔ ¬ IsValidBase base }
-    ensures told { IsValidBase base → (p : Picture) (gs : List TableSignature) → IsPicture p image.now → IsTabled gs image.now → Tells (run_of p gs base input.now) bound result }
+    ensures told { IsValidBase base → (p : Picture) (gs : List TableSignature) → IsPicture p image.now → IsTabled gs image.now → Tells (run_of p gs base input.now) bound (outcome_of result) }
+    ensures traced { IsValidBase base → (p : Picture) (gs : List TableSignature) → IsPicture p image.now → IsTabled gs image.now → IfOk result (λ t. TracesRun (run_of p gs base input.now) bound t) }
 {
     if !valid_base(base) {
         return Err(RunFault::BadBase);
@@ -76,11 +79,11 @@ pub fn run(
         return Err(unstarted(alloc));
     };
     let last = machine.run_for(&mut environment, bound).last;
-    let Ok(outcome) = environment.into_outcome() else {
+    let Ok((outcome, blocks)) = environment.into_outcome() else {
         return Err(unstarted(alloc));
     };
     match last {
-        Step::Ran | Step::Ended => Ok(outcome),
+        Step::Ran | Step::Ended => Ok(Traced { outcome, blocks }),
         Step::Fault(fault) => Err(RunFault::Machine {
             fault,
             acts: outcome.acts,
@@ -90,6 +93,23 @@ pub fn run(
             acts: outcome.acts,
             output: outcome.output,
         }),
+    }
+}
+
+/// Runs an image at a base, on an input, for at most `bound` instructions. It answers as `run_traced` does.
+pub fn run(
+    alloc: Global,
+    image: &Image,
+    base: u32,
+    input: &[u8],
+    bound: u64,
+) -> Result<Outcome, RunFault>
+    ensures bad_base { IsErrOf result RunFault.BadBase ↔ ¬ IsValidBase base }
+    ensures told { IsValidBase base → (p : Picture) (gs : List TableSignature) → IsPicture p image.now → IsTabled gs image.now → Tells (run_of p gs base input.now) bound result }
+{
+    match run_traced(alloc, image, base, input, bound) {
+        Ok(traced) => Ok(traced.outcome),
+        Err(fault) => Err(fault),
     }
 }
 
