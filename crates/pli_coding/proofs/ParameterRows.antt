@@ -1,4 +1,5 @@
--- Where parameters are found, and how copies that stand for values take their places in the list of arguments, computed.
+-- Where parameters are found, and how copies that stand for values take their places in the list of arguments,
+-- computed.
 use Rattle.std.proofs.Common.{◌≡◌, ℕ, pos, [], ◌∷◌, ◌++◌, map, None, refl}
 use Rattle.rv_meaning.specs.declared.instr.Instr.TheVariants as I
 use Rattle.rv_meaning.specs.declared.instr.ImmediateOp.TheVariants as Imm
@@ -50,7 +51,8 @@ give r n = immediate Imm.Add r R.zero_register (pos n)
 
 -- ---- the list
 
--- its address behind the display, and its offset: the address as far from the frame's as the offset from the frame's own
+-- its address behind the display, and its offset: the address as far from the frame's as the offset from the frame's
+-- own
 list_is_kept :
     list_kept 1 (0 ∷ 1 ∷ 2 ∷ [])
     ≡ (store R.frame_register R.a1 148 ∷ subtract R.a1 R.a1 R.frame_register ∷ add R.a1 R.a1 R.u1
@@ -100,10 +102,12 @@ number_is_copied = refl
 abbrev made : Copied → Code
 made c = copy_made (within 2 1) c
 
--- the length of T's text is read before the signature's number is written over it, and the text's place goes where the 1 was
+-- the length of T's text is read before the signature's number is written over it, and the text's place goes where the
+-- 1 was
 text_is_placed :
     map made (copies_of (within 2 1) (0 ∷ 1 ∷ [])) ≡ map made (copies_of (within 2 1) (0 ∷ []))
-    ++ (give R.a0 1 ∷ OffsetOf R.a1 (DataPlace (size_datum Y.StarExtent (scalar Y.ParameterClass (Y.CharacterLeaf Y.StarExtent)).leaves))
+    ++ (give R.a0 1 ∷ OffsetOf R.a1
+    (DataPlace (size_datum Y.StarExtent (scalar Y.ParameterClass (Y.CharacterLeaf Y.StarExtent)).leaves))
     ∷ load R.a3 R.u5 40 ∷ give R.a7 3 ∷ Plain I.Ecall ∷ move R.u2 R.a1 ∷ move R.a1 R.a0
     ∷ store R.u5 R.a1 40
     ∷ load R.u1 R.frame_register 40 ∷ subtract R.u1 R.u1 R.u2 ∷ store R.frame_register R.u1 40

@@ -1,18 +1,26 @@
 -- Pieces of the code by which blocks are entered and left.
-use Rattle.std.specs.Prelude.{ℕ, ◌+◌, ◌*◌, min, pos, neg_ℤ, List, [], ◌∷◌, ◌++◌, Option, Some, None, slice_get, if◌then◌else◌}
+use Rattle.std.specs.Prelude.{ℕ, ◌+◌, ◌*◌, min, pos, neg_ℤ, List, [], ◌∷◌, ◌++◌, Option, Some, None, slice_get}
+use Rattle.std.specs.Prelude.{if◌then◌else◌}
 use Rattle.rv_meaning.specs.declared.instr.Register.{Register}
 use Rattle.rv_meaning.specs.declared.instr.BranchTest.TheVariants as Test
 use Rattle.pli_typing.specs.TypedTree as Y
 use Rattle.pli_meaning.specs.DeclaredShapes.{variables_of_block}
-use Rattle.pli_coding.specs.Registers.{zero_register, stack_register, frame_register, return_register, held, a0, a1, a2, a3, a4, u0, u1, u2, u3, u4, u5}
+use Rattle.pli_coding.specs.Registers.{zero_register, stack_register, frame_register, return_register, held, a0, a1, a2}
+use Rattle.pli_coding.specs.Registers.{a3, a4, u0, u1, u2, u3, u4, u5}
 use Rattle.pli_coding.specs.Assembly.{BaseIn, OffsetOf, DataPlace, Datum, Code}
-use Rattle.pli_coding.specs.Instructions.{add, subtract, move, small, number as number_in, plus, load_word, store_word, skip_where, service}
-use Rattle.pli_coding.specs.Frames.{return_address, frame_below, saved_register, own_offset, lower_top, display, list_offset, list_place, argument_at, name_bytes, fixed_size, temporary_bytes, constant_size, has_constant_size, is_automatic, frame_bytes, last_place, automatic_place}
+use Rattle.pli_coding.specs.Instructions.{add, subtract, move, small, number as number_in, plus, load_word, store_word}
+use Rattle.pli_coding.specs.Instructions.{skip_where, service}
+use Rattle.pli_coding.specs.Frames.{return_address, frame_below, saved_register, own_offset, lower_top, display}
+use Rattle.pli_coding.specs.Frames.{list_offset, list_place, argument_at, name_bytes, fixed_size, temporary_bytes}
+use Rattle.pli_coding.specs.Frames.{constant_size, has_constant_size, is_automatic, frame_bytes, last_place}
+use Rattle.pli_coding.specs.Frames.{automatic_place}
 use Rattle.pli_coding.specs.StaticForms.{size_datum}
 use Rattle.pli_coding.specs.Environments.{Environment, declaration_of, none_taken}
 use Rattle.pli_coding.specs.Locating.{own_place, stored, table_number}
 use Rattle.pli_coding.specs.Extents.{bytes_word, extents_words, initial_code, number_word}
-use Rattle.pli_coding.specs.Entries.{Copied, adjustable_made, automatic_made, constant_made, copied_declared, copied_type, copies_made, copy_address, copy_addressed, copy_filled, copy_length, copy_made, copy_signature, extents_act, lower_taken, name_kept, texts_filled}
+use Rattle.pli_coding.specs.Entries.{Copied, adjustable_made, automatic_made, constant_made, copied_declared}
+use Rattle.pli_coding.specs.Entries.{copied_type, copies_made, copy_address, copy_addressed, copy_filled, copy_length}
+use Rattle.pli_coding.specs.Entries.{copy_made, copy_signature, extents_act, lower_taken, name_kept, texts_filled}
 use Rattle.pli_coding.specs.Entries as E
 
 -- ---- frames
