@@ -54,11 +54,12 @@ class Lanes:
 
     def jobs(self, key, others):
         """How many processes a task may start: the two longest chains, which all the rest waits for, have one for
-        each processor; what nothing waits for has those that are idle, with as many others."""
+        each processor; what nothing waits for has those that are idle, with as many others, and one at least. Each
+        process more loads what the others have: four take a quarter more of the processors than one."""
         ahead = [*self.left, *(it for it, _, _ in self.running.values())]
         if sum(self.behind[it] > self.behind[key] for it in ahead) < 2:
             return self.count
-        return max(2 if self.count > 2 else 1, (self.count - len(self.running)) // others)
+        return max(1, (self.count - len(self.running)) // others)
 
     def end(self):
         """Waits until one of the tasks that run ends, and says of each that ended what came of it."""

@@ -82,6 +82,11 @@ def meets_calls(status, said):
     return not status and not re.search(NO_CALL, said, re.M)
 
 
+def has_looked_for_calls(status, said):
+    """Whether rt says that it looked for such contracts, and found none."""
+    return meets_calls(status, said) and bool(re.search("^empty contracts: ", said, re.M))
+
+
 def ran_tests(status, said):
     """Whether rt ran the tests, and all passed."""
     return not status and bool(re.search(r"^test result: ok\. .* 0 failed", said, re.M))

@@ -160,6 +160,9 @@ def lanes(folder):
     a, b, c, tests, edits = ("a", "proof"), ("b", "proof"), ("c", "proof"), ("b", "tests"), ("a", "edits")
     tasks = {a: ([], 1), b: ([], 5), c: ([a], 10), tests: ([b], 1), edits: ([a], 100)}
     tasks = {key: (*task, note(key)) for key, task in tasks.items()}
+    state = parts.lanes.Lanes(tasks, 4)
+    yield "processes of tasks", [state.jobs(it, 4) for it in (a, edits, c, b)], [4, 4, 1, 1]
+    yield "processes of tasks that are left", [state.jobs(c, others) for others in (1, 2)], [4, 2]
     with contextlib.redirect_stdout(io.StringIO()):
         passed, failed = gate.run_side_by_side(tasks, 1)
         wanted = [(a, True), (b, True), (c, False), (tests, False), (edits, False)]

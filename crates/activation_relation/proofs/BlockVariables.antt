@@ -57,7 +57,7 @@ bound_active units b x (a ∷ as') (φ ∷ φs) h = (
   h.1,
 )
 
-bound_length : (b : Binding) (as' : List Activation) → length (with_binding b as') ≡ length as'
+pub bound_length : (b : Binding) (as' : List Activation) → length (with_binding b as') ≡ length as'
 bound_length b [] = refl
 bound_length b (a ∷ as') = refl
 

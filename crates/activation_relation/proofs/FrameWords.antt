@@ -1,6 +1,6 @@
 -- Frames in memory: which changes they stay through, and that a block's beginning makes one.
 use Rattle.std.proofs.Common.{◌≡◌, inl, inr, ℕ, zero, suc, ◌+◌, ◌-◌, ◌*◌, ◌^◌, ◌<◌, ◌≤◌, List, [], ◌∷◌, ◌++◌}
-use Rattle.std.proofs.Common.{Some, length, Bool, true, false, ◌∙◌, subst, arith}
+use Rattle.std.proofs.Common.{Some, None, length, Bool, true, false, sym, ◌∙◌, subst, arith}
 use Rattle.std.specs.Prelude.{drop, cond, ◌==◌}
 use Rattle.rv_meaning.specs.Memory.{load}
 use Rattle.pli_meaning.specs.StorageState.{Activation, ancestor, height_of}
@@ -30,6 +30,10 @@ words_covered words = omega arith
 pub levels_covered : (level parameters : ℕ) → 144 + 4 * level ≤ fixed_size level parameters
 levels_covered level parameters = omega arith
 
+-- the word behind the display, where there are parameters
+pub list_covered : (level parameters : ℕ) → 0 < parameters → 144 + 4 * level + 4 ≤ fixed_size level parameters
+list_covered level parameters some = omega (arith, some)
+
 -- ---- changes beside frames
 
 pub back_same :
@@ -39,7 +43,7 @@ back_same S.ProcedureBlock base back at m new same h = same ∙ h
 back_same S.BeginBlock base back at m new same h = tt
 back_same (S.OnUnitBlock code resume) base back at m new same h = tt
 
-frame_kept :
+pub frame_kept :
     (parts : MemoryParts) (base at count : ℕ) (m new : List ℕ) (a : Activation) (as' : List Activation) (φ : Layer)
     (φs : List Layer) → FrameStands parts base m a as' φ φs → IsLaid parts φ φs →
     Beside at count (frame_start φ) (frame_bytes φ) → IsBeside at count m new →
@@ -56,6 +60,15 @@ frame_kept parts base at count m new a as' φ φs h laid beside is =
           λ n few. word (φ.at + (144 + 4 * n)) (omega arith) (omega (arith, levels, few)) ∙ h.display_words n few;
       waits = λ n v few e. word (word_place φ n) (omega (arith, few, words, over)) (omega (arith, few, words, over))
           ∙ h.waits n v few e;
+      list = λ p e.
+          let l = h.list p e in
+          let some = l.0 in (
+            some,
+            word (φ.at + 44) (omega arith) (omega (arith, levels)) ∙ l.1,
+            word (φ.at + (144 + 4 * φ.level)) (omega arith)
+                (let c = list_covered φ.level φ.parameters some in omega (arith, c))
+                ∙ l.2,
+          );
     }
   where
     levels : 144 + 4 * φ.level ≤ fixed_size φ.level φ.parameters
@@ -293,10 +306,10 @@ module _ (parts : MemoryParts) (base parent : ℕ) (as' : List Activation) (φ :
 
 pub frame_made :
     (parts : MemoryParts) (base : ℕ) (m : List ℕ) (a : Activation) (as' : List Activation) (φ : Layer)
-    (φs : List Layer) → AreLaid parts (φ ∷ φs) → AreWords base φ → φ.lower ≤ length m →
+    (φs : List Layer) → AreLaid parts (φ ∷ φs) → AreWords base φ → φ.lower ≤ length m → φ.list ≡ None →
     ((n v : ℕ) → n < φ.words → φ.waits n ≡ Some v → load 4 m (word_place φ n) ≡ v) →
     FrameStands parts base (stored (frame_stores parts base a.parent as' φ φs) m) a as' φ φs
-frame_made parts base m a as' φ φs laid words room waits =
+frame_made parts base m a as' φ φs laid words room none waits =
     record {
       back = goes_back parts base a.parent as' φ φs words.back few m (omega (arith, levels, inside));
       below =
@@ -320,6 +333,7 @@ frame_made parts base m a as' φ φs laid words room waits =
           (made_beside parts base a.parent as' φ φs laid.0 m)
           (inr (let c = words_covered φ.words in omega (arith, less, c, above)))
           ∙ waits n v less e;
+      list = λ p e. let no : None ≡ Some p = sym none ∙ e in absurd (cc no);
     }
   where
     new : List ℕ
@@ -346,12 +360,13 @@ frame_made parts base m a as' φ φs laid words room waits =
 pub frames_begun :
     (parts : MemoryParts) (base : ℕ) (m : List ℕ) (a : Activation) (as' : List Activation) (φ : Layer)
     (φs : List Layer) → FramesStand parts base m as' φs → AreLaid parts (φ ∷ φs) → AreWords base φ →
-    φ.lower ≤ length m → ((n v : ℕ) → n < φ.words → φ.waits n ≡ Some v → load 4 m (word_place φ n) ≡ v) →
+    φ.lower ≤ length m → φ.list ≡ None →
+    ((n v : ℕ) → n < φ.words → φ.waits n ≡ Some v → load 4 m (word_place φ n) ≡ v) →
     FramesStand parts base (stored (frame_stores parts base a.parent as' φ φs) m) (a ∷ as') (φ ∷ φs)
-frames_begun parts base m a as' φ φs h laid words room waits =
+frames_begun parts base m a as' φ φs h laid words room none waits =
     let n = fixed_size φ.level φ.parameters in
     let over = laid.0.above in (
-      frame_made parts base m a as' φ φs laid words room waits,
+      frame_made parts base m a as' φ φs laid words room none waits,
       frames_kept parts base φ.at n m (stored (frame_stores parts base a.parent as' φ φs) m) as' φs h laid.1
           (beside_above parts φ.at n φs laid.1 (omega (arith, over)))
           (made_beside parts base a.parent as' φ φs laid.0 m),

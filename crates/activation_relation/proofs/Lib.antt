@@ -6,6 +6,7 @@ pub mod StoredWords
 pub mod FrameWords
 pub mod Displays
 pub mod WaitingWords
+pub mod ListWords
 pub mod Landings
 pub mod OwnPlaces
 pub mod Accounts
@@ -13,5 +14,7 @@ pub mod PointSteps
 pub mod Returning
 pub mod Rows
 pub mod BlockVariables
+pub mod InUse
+pub mod Serials
 pub mod Remaining
 pub mod BeginningCode

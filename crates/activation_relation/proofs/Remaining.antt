@@ -1,15 +1,17 @@
--- What lives stays in its place: through acts, blocks, variables that are made, and assignments.
+-- What lives stays in its place, and as much is in use: through acts, blocks, variables that are made, and assignments.
 use Rattle.std.proofs.Common.{◌≡◌, ◌≢◌, ◌⊎◌, inl, inr, ℕ, ◌+◌, ◌≤◌, ◌<◌, List, [], ◌∷◌, Option, Some, None}
 use Rattle.std.proofs.Common.{Bool, true, false, length, refl, sym, ap, ◌∙◌, subst, arith}
 use Rattle.std.proofs.lemmas.Bool.{cases_eq, eqb-true}
 use Rattle.std.specs.Prelude.{cond, ◌==◌}
+use Rattle.activation_relation.proofs.BlockVariables.{bound_length}
+use Rattle.activation_relation.proofs.InUse.{in_use_all, in_use_assigned, in_use_made, in_use_without}
 use Rattle.pli_meaning.specs.BasicValues.{BasicValue, VariableName}
 use Rattle.pli_meaning.specs.Evaluating.{Designated}
 use Rattle.pli_meaning.specs.Making.{living_at}
 use Rattle.pli_meaning.specs.Placing.{with_element}
 use Rattle.pli_meaning.specs.Raising.{Entry}
-use Rattle.pli_meaning.specs.StorageState.{Activation, Living, State, living_of, living_changed, generation_changed}
-use Rattle.pli_meaning.specs.StorageState.{newest_height, without_newest, without_owner}
+use Rattle.pli_meaning.specs.StorageState.{Activation, Binding, Living, State, automatic_in_use, generation_changed}
+use Rattle.pli_meaning.specs.StorageState.{living_changed, living_of, newest_height, without_newest, without_owner}
 use Rattle.pli_meaning.specs.World.{World}
 use Rattle.pli_serving.specs.ServiceState as S
 use Rattle.pli_typing.specs.TypedTree as Y
@@ -18,7 +20,7 @@ use Rattle.storage_relation.proofs.Placing.{none_above}
 use Rattle.storage_relation.specs.Stored.{AreLow, Lives}
 use Rattle.activation_relation.specs.Changes.{popped, popped_from, pushed, with_act, with_line}
 use Rattle.activation_relation.specs.Layers.{Layer, Point}
-use Rattle.activation_relation.specs.Remaining.{LivesOn, Remains, with_assigned}
+use Rattle.activation_relation.specs.Remaining.{LivesOn, Remains, in_use_up_to, with_assigned}
 use Rattle.activation_relation.specs.Variables.{Made, with_made}
 
 lives_same : (l : Living) (o : Option Living) → o ≡ Some l → LivesOn l o
@@ -33,12 +35,17 @@ remains_same p =
       number = λ n few. refl;
       signatures = λ n s e. e;
       statics = refl;
+      low = refl;
+      active = omega arith;
+      in_use = λ height low. refl;
     }
 
 pub remains_then : (p q r : Point) → Remains p q → Remains q r → Remains p r
 remains_then p q r a b =
     let m = a.serials in
     let n = b.serials in
+    let deep = a.active in
+    let deeper = b.active in
     record {
       living = λ i l e.
           let x = a.living i l e in
@@ -54,6 +61,9 @@ remains_then p q r a b =
       number = λ i few. b.number i (omega (arith, m, few)) ∙ a.number i few;
       signatures = λ i s e. b.signatures i s (a.signatures i s e);
       statics = b.statics ∙ a.statics;
+      low = b.low ∙ a.low;
+      active = omega (arith, deep, deeper);
+      in_use = λ height low. b.in_use height (omega (arith, low, deep)) ∙ a.in_use height low;
     }
 
 pub remains_acted : (p : Point) (change : World → World) (line : ℕ) → Remains p (with_act change (with_line line p))
@@ -65,6 +75,9 @@ remains_acted p change line =
       number = λ n few. refl;
       signatures = λ n s e. e;
       statics = refl;
+      low = refl;
+      active = omega arith;
+      in_use = λ height low. refl;
     }
 
 pub remains_entered :
@@ -77,36 +90,68 @@ remains_entered p head entry φ line =
       number = λ n few. refl;
       signatures = λ n s e. e;
       statics = refl;
+      low = refl;
+      active = omega arith;
+      in_use = λ height low. refl;
     }
 
 -- ---- one more variable
 
-pub remains_made : (p : Point) (x : Made) → Lives p.places p.state → Remains p (with_made x p)
-remains_made p x lives =
+-- the holder that is made
+abbrev made_living : Point → Made → Living
+made_living q x = living_at (q.state.serials + 1) (newest_height q.state.activations) x.generation
+
+remains_with :
+    (p q : Point) (x : Made) → Remains p q →
+    ((n : ℕ) (l : Living) → living_of q.state.living n ≡ Some l →
+    living_of (made_living q x ∷ q.state.living) n ≡ Some l) →
+    ((height : ℕ) → height ≤ length p.state.activations →
+    in_use_up_to height (made_living q x ∷ q.state.living) ≡ in_use_up_to height q.state.living) →
+    Remains p (with_made x q)
+remains_with p q x r found same =
+    let fewer = r.serials in
     record {
-      living = λ n l e. lives_same l (living_of (added ∷ p.state.living) n) (found n l e);
-      serials = omega arith;
-      at = λ n few. ap (λ q. cond q x.place (p.places.at n)) (other n few);
-      number = λ n few. ap (λ q. cond q x.number (p.places.number n)) (other n few);
-      signatures = λ n s e. e;
-      statics = refl;
+      living = λ n l e.
+          let y = r.living n l e in
+          record { there = y.there; lives = found n y.there y.lives; owner = y.owner; shape = y.shape };
+      serials = omega (arith, fewer);
+      at = λ n few. ap (λ c. cond c x.place (q.places.at n)) (other n (omega (arith, few, fewer))) ∙ r.at n few;
+      number = λ n few.
+          ap (λ c. cond c x.number (q.places.number n)) (other n (omega (arith, few, fewer))) ∙ r.number n few;
+      signatures = r.signatures;
+      statics = r.statics;
+      low = r.low;
+      active = subst (λ n. length p.state.activations ≤ n) (sym (bound_length binding q.state.activations)) r.active;
+      in_use = λ height low. same height low ∙ r.in_use height low;
     }
   where
+    binding : Binding
+    binding =
+        record {
+          variable = x.variable;
+          name = VariableName (q.state.serials + 1);
+          shape = x.generation.shape;
+        }
+
+    other : (n : ℕ) → n ≤ q.state.serials → (n == q.state.serials + 1) ≡ false
+    other n few = eqb-other n (q.state.serials + 1) (λ e. omega (arith, few, e))
+
+pub remains_made :
+    (p q : Point) (x : Made) → Remains p q → Lives q.places q.state →
+    length p.state.activations < newest_height q.state.activations → Remains p (with_made x q)
+remains_made p q x r lives above =
+    remains_with p q x r
+    (λ n l e.
+    let low = none_above serial q.state.living n l lives.falling e in
+    ap (λ c. cond c (Some added) (living_of q.state.living n))
+    (eqb-other serial n (λ f. omega (arith, low, f))) ∙ e)
+    (λ height low. in_use_made height q.state.living added (omega (arith, low, above)))
+  where
     serial : ℕ
-    serial = p.state.serials + 1
+    serial = q.state.serials + 1
 
     added : Living
-    added = living_at serial (newest_height p.state.activations) x.generation
-
-    other : (n : ℕ) → n ≤ p.state.serials → (n == serial) ≡ false
-    other n few = eqb-other n serial (λ e. omega (arith, few, e))
-
-    found : (n : ℕ) (l : Living) → living_of p.state.living n ≡ Some l →
-        living_of (added ∷ p.state.living) n ≡ Some l
-    found n l e =
-        let low = none_above serial p.state.living n l lives.falling e in
-        ap (λ q. cond q (Some added) (living_of p.state.living n))
-        (eqb-other serial n (λ f. omega (arith, low, f))) ∙ e
+    added = living_at serial (newest_height q.state.activations) x.generation
 
 -- ---- an assignment
 
@@ -142,6 +187,9 @@ remains_assigned p serial d v =
       number = λ n few. refl;
       signatures = λ n s e. e;
       statics = refl;
+      low = refl;
+      active = omega arith;
+      in_use = λ height low. in_use_assigned height serial d v p.state.living;
     }
 
 -- ---- a block ends
@@ -197,9 +245,9 @@ with_state s p = record p { state = s }
 
 ended_remains :
     (p q : Point) (a : Activation) (as' : List Activation) → Remains p q → q.state.activations ≡ a ∷ as' →
-    AreLow (length as') p.state.living → a.height ≡ length as' + 1 →
+    AreLow (length as') p.state.living → a.height ≡ length as' + 1 → length p.state.activations ≤ length as' →
     Remains p (with_state (without_newest (a ∷ as') q.state) q)
-ended_remains p q a as' r e low height =
+ended_remains p q a as' r e low height deep =
     record {
       living = λ n l f.
           without_lives a.height n (length as') l q.state.living (low_owner (length as') n p.state.living l low f)
@@ -209,16 +257,20 @@ ended_remains p q a as' r e low height =
       number = r.number;
       signatures = r.signatures;
       statics = r.statics;
+      low = r.low;
+      active = deep;
+      in_use = λ n few.
+          in_use_without n a.height q.state.living (omega (arith, few, deep, height)) ∙ r.in_use n few;
     }
 
 pub remains_left :
     (p q : Point) (a : Activation) (as' : List Activation) (kept : List S.Entry) → Remains p q →
     q.state.activations ≡ a ∷ as' → AreLow (length as') p.state.living → a.height ≡ length as' + 1 →
-    Remains p (popped kept q)
-remains_left p q a as' kept r e low height =
+    length p.state.activations ≤ length as' → Remains p (popped kept q)
+remains_left p q a as' kept r e low height deep =
     by q.control.layers
     (subst (λ xs. Remains p (with_state (without_newest xs q.state) q)) (sym e)
-    (ended_remains p q a as' r e low height))
+    (ended_remains p q a as' r e low height deep))
   where
     by :
         (ls : List Layer) → Remains p (with_state (without_newest q.state.activations q.state) q) →
@@ -232,4 +284,19 @@ remains_left p q a as' kept r e low height =
           number = o.number;
           signatures = o.signatures;
           statics = o.statics;
+          low = o.low;
+          active = o.active;
+          in_use = o.in_use;
         }
+
+-- ---- all that is in use
+
+pub in_use_remains :
+    (p q : Point) → Remains p q → length q.state.activations ≡ length p.state.activations →
+    AreLow (length p.state.activations) p.state.living → AreLow (length q.state.activations) q.state.living →
+    automatic_in_use q.state.living ≡ automatic_in_use p.state.living
+in_use_remains p q r many low low' =
+    in_use_all (length q.state.activations) q.state.living low'
+    ∙ ap (λ n. in_use_up_to n q.state.living) many
+    ∙ r.in_use (length p.state.activations) (omega arith)
+    ∙ sym (in_use_all (length p.state.activations) p.state.living low)

@@ -5,7 +5,7 @@ use Rattle.std.specs.Prelude.{cond, nat_lt, drop}
 use Rattle.rv_meaning.specs.Machine as V
 use Rattle.rv_meaning.specs.Memory.{load}
 use Rattle.pli_meaning.specs.World.{World}
-use Rattle.pli_meaning.specs.StorageState.{Activation}
+use Rattle.pli_meaning.specs.StorageState.{Activation, automatic_in_use}
 use Rattle.pli_serving.specs.ServiceState as S
 use Rattle.pli_coding.specs.Frames.{return_address, saved_register}
 use Rattle.pli_coding.specs.Registers.{held, held_registers}
@@ -21,7 +21,7 @@ use Rattle.activation_relation.specs.Remaining.{Remains}
 use Rattle.activation_relation.specs.Points.{Surroundings, Stands, IsAt}
 use Rattle.activation_relation.proofs.Blocks.{newest_of}
 use Rattle.activation_relation.proofs.PointSteps.{left_memory}
-use Rattle.activation_relation.proofs.Remaining.{remains_left, remains_same, remains_then}
+use Rattle.activation_relation.proofs.Remaining.{in_use_remains, remains_left, remains_same, remains_then}
 use Rattle.activation_relation.proofs.Unwinding.{activations_ended, kept_behind}
 use Rattle.activation_relation.proofs.WaitingWords.{back_found, top_found, registers_back}
 
@@ -65,7 +65,7 @@ pub left_later :
     Resumes w acts a p.state.activations φ p.control.layers q → Later p (popped kept q)
 left_later w p q acts a φ kept stands few edits idle remains r =
     let left' = remains_left p q (with_units r.own a) p.state.activations kept remains r.activations stands.low
-    (newest_height_is w q acts a p.state.activations φ p.control.layers r) in
+    (newest_height_is w q acts a p.state.activations φ p.control.layers r) (omega arith) in
     subst (λ ls. Remains p (popped_from kept ls q) → Later p (popped_from kept ls q)) (sym r.layers)
     (λ remains'. let k = ap (λ (x : World). x.acts) (kept_behind 1 q.state).world in
     let m = r.more in
@@ -78,6 +78,13 @@ left_later w p q acts a φ kept stands few edits idle remains r =
       remains = remains';
     })
     left'
+
+-- as much is in use as before
+pub in_use_later :
+    (w : Surroundings) (p q : Point) → Stands w p → Stands w q → Later p q →
+    automatic_in_use q.state.living ≡ automatic_in_use p.state.living
+in_use_later w p q before after later =
+    in_use_remains p q later.remains (ap (λ (as' : List Activation). length as') later.activations) before.low after.low
 
 pub left_entries :
     (w : Surroundings) (q : Point) (acts : ℕ) (a : Activation) (as' : List Activation) (φ : Layer)

@@ -8,7 +8,7 @@ use Rattle.rv_meaning.proofs.MemoryLaws.{load-store_same, load-store_other}
 use Rattle.pli_meaning.specs.StorageState.{Activation}
 use Rattle.pli_serving.specs.ServiceState as S
 use Rattle.pli_coding.specs.Frames.{MemoryParts, return_address, saved_register, lower_top}
-use Rattle.pli_coding.specs.Frames.{result, temporary_bytes}
+use Rattle.pli_coding.specs.Frames.{list_place, result, temporary_bytes}
 use Rattle.storage_relation.proofs.Holders.{eqb-refl, eqb-other}
 use Rattle.activation_relation.specs.Layers.{Layer}
 use Rattle.activation_relation.specs.Frames.{FrameStands, FramesStand, GoesBack, AreLaid, upper_top, word_place}
@@ -38,6 +38,9 @@ word_stored parts base n v m a as' φ φs h is =
       lower = word (φ.at + 40) (omega arith) ∙ h.lower;
       display_words = λ i few. word (φ.at + (144 + 4 * i)) (omega arith) ∙ h.display_words i few;
       waits = λ i w few e. own_word i w few e (cases_eq i n);
+      list = λ at e.
+          let l = h.list at e in
+          (l.0, word (φ.at + 44) (omega arith) ∙ l.1, word (φ.at + list_place φ.level) (omega arith) ∙ l.2);
     }
   where
     new : List ℕ
@@ -115,6 +118,12 @@ lower_stored parts base lower m a as' φ φs h is = (
     display_words = λ i few. word (φ.at + (144 + 4 * i)) (inr (omega arith)) ∙ h.0.display_words i few;
     waits = λ i v few e.
         word (word_place φ i) (inl (omega (arith, few, covered, above))) ∙ h.0.waits i v few e;
+    list = λ at e.
+        let l = h.0.list at e in (
+          l.0,
+          word (φ.at + 44) (inr (omega arith)) ∙ l.1,
+          word (φ.at + list_place φ.level) (inr (omega arith)) ∙ l.2,
+        );
   },
   frames_kept parts base (φ.at + 40) 4 m new as' φs h.1 is.0.1
       (beside_above parts (φ.at + 40) 4 φs is.0.1 (omega (arith, above)))
@@ -161,6 +170,12 @@ result_stored parts base v m a as' φ φs h is = (
     display_words = λ i few. word (φ.at + (144 + 4 * i)) (inr (omega arith)) ∙ h.0.display_words i few;
     waits = λ i v' few e.
         word (word_place φ i) (inl (omega (arith, few, covered, above))) ∙ h.0.waits i v' few e;
+    list = λ at e.
+        let l = h.0.list at e in (
+          l.0,
+          word (φ.at + 44) (inl (omega arith)) ∙ l.1,
+          word (φ.at + list_place φ.level) (inr (omega arith)) ∙ l.2,
+        );
   },
   frames_kept parts base (φ.at + 48) 4 m new as' φs h.1 is.0.1
       (beside_above parts (φ.at + 48) 4 φs is.0.1 (omega (arith, above)))
@@ -195,6 +210,7 @@ frame_changed parts base m a as' φ φs x h = (
     lower = h.0.lower;
     display_words = h.0.display_words;
     waits = h.0.waits;
+    list = h.0.list;
   },
   h.1,
 )

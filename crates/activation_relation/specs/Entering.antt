@@ -6,7 +6,7 @@ use Rattle.rv_meaning.specs.Memory.{load}
 use Rattle.rv_meaning.specs.Words.{word, flag}
 use Rattle.pli_meaning.specs.BasicValues.{BasicValue, BasicNumber, BasicText, BasicBit, BasicPointer, BasicOffset}
 use Rattle.pli_meaning.specs.Control.{Flow, Meaning}
-use Rattle.pli_meaning.specs.StorageState.{State, Activation}
+use Rattle.pli_meaning.specs.StorageState.{State, Activation, automatic_in_use}
 use Rattle.pli_serving.specs.Bytes.{offset_word}
 use Rattle.pli_serving.specs.ServiceState as S
 use Rattle.pli_coding.specs.Frames.{return_address, frame_below, saved_register}
@@ -23,7 +23,7 @@ use Rattle.activation_relation.specs.Remaining.{Remains}
 -- ---- later points
 
 -- blocks that were entered in between have been left, and places in format lists are as they were; what lived lives on
--- in its place, whatever came of its values
+-- in its place, whatever came of its values, and each activation has as much of AUTOMATIC storage
 pub record Later (p q : Point) : Type 0 where
   pub activations : q.state.activations ≡ p.state.activations
   pub layers : q.control.layers ≡ p.control.layers
@@ -118,6 +118,10 @@ pub record BlocksReturn : Type 0 where
       (w : Surroundings) (p q : Point) (acts : ℕ) (a : Activation) (φ : Layer) (kept : List S.Entry) → Stands w p →
       p.state.world.acts ≤ acts → φ.edits ≡ p.control.edits → p.control.waiting ≡ None → Remains p q →
       Resumes w acts a p.state.activations φ p.control.layers q → Later p (popped kept q)
+  -- what is AUTOMATIC takes as much as before
+  pub in_use :
+      (w : Surroundings) (p q : Point) → Stands w p → Stands w q → Later p q →
+      automatic_in_use q.state.living ≡ automatic_in_use p.state.living
   pub entries :
       (w : Surroundings) (q : Point) (acts : ℕ) (a : Activation) (as' : List Activation) (φ : Layer)
       (φs : List Layer) (kept : List S.Entry) → Resumes w acts a as' φ φs q →

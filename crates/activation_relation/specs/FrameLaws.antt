@@ -1,13 +1,13 @@
 -- The laws of frames: a block's beginning makes one, all others stay, and what stands there is what code reads.
 use Rattle.std.specs.Prelude.{ℕ, suc, ◌+◌, ◌*◌, ◌^◌, ◌<◌, ◌≤◌, ◌≡◌, ◌==◌, List, ◌∷◌, length, drop, if◌then◌else◌}
-use Rattle.std.specs.Prelude.{Some, Option, nat_lt}
+use Rattle.std.specs.Prelude.{Some, None, Option, nat_lt}
 use Rattle.pli_language.specs.declared.condition.Condition.{Condition}
 use Rattle.pli_meaning.specs.Control.{Label}
 use Rattle.rv_meaning.specs.Memory.{load, store}
 use Rattle.pli_meaning.specs.StorageState.{Activation, ancestor, height_of, newest_height}
 use Rattle.pli_meaning.specs.StorageState.{Binding, OnUnit}
 use Rattle.pli_coding.specs.Frames.{MemoryParts, return_address, frame_below, saved_register, own_offset}
-use Rattle.pli_coding.specs.Frames.{lower_top, display, fixed_size, result}
+use Rattle.pli_coding.specs.Frames.{lower_top, display, fixed_size, list_offset, list_place, result}
 use Rattle.pli_serving.specs.ServiceState as S
 use Rattle.pli_serving.specs.ServiceState.{ProcedureBlock}
 use Rattle.storage_relation.specs.Stored.{IsBeside}
@@ -62,7 +62,8 @@ pub record FramesBegin : Type 0 where
   pub begun :
       (parts : MemoryParts) (base : ℕ) (m : List ℕ) (a : Activation) (as' : List Activation) (φ : Layer)
       (φs : List Layer) → FramesStand parts base m as' φs → AreLaid parts (φ ∷ φs) → AreWords base φ →
-      φ.lower ≤ length m → ((n v : ℕ) → n < φ.words → φ.waits n ≡ Some v → load 4 m (word_place φ n) ≡ v) →
+      φ.lower ≤ length m → φ.list ≡ None →
+      ((n v : ℕ) → n < φ.words → φ.waits n ≡ Some v → load 4 m (word_place φ n) ≡ v) →
       FramesStand parts base (stored (frame_stores parts base a.parent as' φ φs) m) (a ∷ as') (φ ∷ φs)
   -- and nothing changes but the frame's own bytes
   pub within :
@@ -75,6 +76,14 @@ pub record FramesBegin : Type 0 where
 -- a word for temporaries holds something from now on
 abbrev pub waiting : (n v : ℕ) → Layer → Layer
 waiting n v φ = record φ { waits = λ j. if j == n then Some v else φ.waits j }
+
+-- all that is told of its words for temporaries
+abbrev pub with_waits : (ℕ → Option ℕ) → Layer → Layer
+with_waits waits φ = record φ { waits = waits }
+
+-- where the list of its arguments stands is known from now on
+abbrev pub listed : (at : ℕ) → Layer → Layer
+listed at φ = record φ { list = Some at }
 
 -- the lower stack grows
 abbrev pub lowered : (lower : ℕ) → Layer → Layer
@@ -106,6 +115,27 @@ pub record WordsWait : Type 0 where
       (φs : List Layer) → FramesStand parts base m (a ∷ as') (φ ∷ φs) →
       AreLaid parts (φ ∷ φs) × (φ.lower ≤ length m) × (lower < 2 ^ 32) →
       FramesStand parts base (store 4 m (place_from φ.at lower_top) lower) (a ∷ as') (lowered lower φ ∷ φs)
+  -- bytes of words for temporaries may change, of the newest block or of the one below it, whatever is told of them
+  pub rewritten :
+      (parts : MemoryParts) (base at count : ℕ) (m new : List ℕ) (a : Activation) (as' : List Activation) (φ : Layer)
+      (φs : List Layer) (waits : ℕ → Option ℕ) → FramesStand parts base m (a ∷ as') (φ ∷ φs) →
+      AreLaid parts (φ ∷ φs) × (frame_start φ ≤ at) × (at + count ≤ φ.at) × IsBeside at count m new →
+      ((n v : ℕ) → n < φ.words → waits n ≡ Some v → load 4 new (word_place φ n) ≡ v) →
+      FramesStand parts base new (a ∷ as') (with_waits waits φ ∷ φs)
+  pub rewritten_below :
+      (parts : MemoryParts) (base at count : ℕ) (m new : List ℕ) (b a : Activation) (as' : List Activation)
+      (ψ φ : Layer) (φs : List Layer) (waits : ℕ → Option ℕ) → FramesStand parts base m (b ∷ a ∷ as') (ψ ∷ φ ∷ φs) →
+      AreLaid parts (ψ ∷ φ ∷ φs) × (frame_start φ ≤ at) × (at + count ≤ φ.at) × IsBeside at count m new →
+      ((n v : ℕ) → n < φ.words → waits n ≡ Some v → load 4 new (word_place φ n) ≡ v) →
+      FramesStand parts base new (b ∷ a ∷ as') (ψ ∷ with_waits waits φ ∷ φs)
+  -- a procedure keeps where the list of its arguments stands, by its address and by its offset
+  pub listed :
+      (parts : MemoryParts) (base at : ℕ) (m : List ℕ) (a : Activation) (as' : List Activation) (φ : Layer)
+      (φs : List Layer) → FramesStand parts base m (a ∷ as') (φ ∷ φs) →
+      AreLaid parts (φ ∷ φs) × (φ.lower ≤ length m) × (0 < φ.parameters) × (base + at < 2 ^ 32) →
+      FramesStand parts base
+      (store 4 (store 4 m (φ.at + list_place φ.level) (base + at)) (place_from φ.at list_offset) at) (a ∷ as')
+      (listed at φ ∷ φs)
   -- a function's result has a word of its own, of which nothing more is told
   pub returned :
       (parts : MemoryParts) (base v : ℕ) (m : List ℕ) (a : Activation) (as' : List Activation) (φ : Layer)

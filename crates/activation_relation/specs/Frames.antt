@@ -4,7 +4,7 @@ use Rattle.rv_meaning.specs.Memory.{load, store}
 use Rattle.pli_meaning.specs.StorageState.{Activation, ancestor, height_of}
 use Rattle.pli_serving.specs.ServiceState as S
 use Rattle.pli_coding.specs.Frames.{MemoryParts, return_address, frame_below, saved_register, own_offset, lower_top}
-use Rattle.pli_coding.specs.Frames.{display, fixed_size, temporary_bytes}
+use Rattle.pli_coding.specs.Frames.{display, fixed_size, list_offset, list_place, temporary_bytes}
 use Rattle.pli_coding.specs.Images.{first_frame_bytes}
 use Rattle.pli_coding.specs.Registers.{held_registers}
 use Rattle.storage_relation.specs.Stored.{Beside}
@@ -65,6 +65,11 @@ pub record FrameStands (parts : MemoryParts) (base : ℕ) (m : List ℕ) (a : Ac
   pub display_words :
       (n : ℕ) → n < φ.level → load 4 m (place_from φ.at (display n)) ≡ base + ancestor_frame as' φs a.parent n
   pub waits : (n v : ℕ) → n < φ.words → φ.waits n ≡ Some v → load 4 m (word_place φ n) ≡ v
+  -- the list of its arguments, by its offset and by its address
+  pub list :
+      (at : ℕ) → φ.list ≡ Some at →
+      (0 < φ.parameters) × (load 4 m (place_from φ.at list_offset) ≡ at)
+      × (load 4 m (φ.at + list_place φ.level) ≡ base + at)
 
 -- what the start's frame tells
 pub record FirstStands (parts : MemoryParts) (m : List ℕ) : Type 0 where

@@ -1,5 +1,5 @@
 -- The laws of points: what holds at one holds at those to which acts, blocks and on-units lead, with their memories.
-use Rattle.std.specs.Prelude.{ℕ, ◌<◌, ◌≤◌, ◌≡◌, ◌∷◌, List, length, drop, None}
+use Rattle.std.specs.Prelude.{ℕ, ◌+◌, ◌*◌, ◌^◌, ◌<◌, ◌≤◌, ◌≡◌, ◌∷◌, List, length, drop, None}
 use Rattle.pli_language.specs.declared.condition.Condition.{Condition}
 use Rattle.pli_typing.specs.TypedTree as Y
 use Rattle.pli_meaning.specs.World.{counted, raising}
@@ -14,7 +14,7 @@ use Rattle.activation_relation.specs.Changes.{awaiting}
 use Rattle.activation_relation.specs.Changes.{StandsOver}
 use Rattle.activation_relation.specs.Frames.{FramesStand, IsLaid, frame_stores, stored}
 use Rattle.activation_relation.specs.FrameLaws.{AreWords}
-use Rattle.activation_relation.specs.Points.{Surroundings, Stands, AreOver}
+use Rattle.activation_relation.specs.Points.{AreFew, AreOver, Stands, Surroundings}
 use Rattle.activation_relation.specs.ServiceLaws.{IsLayerOf}
 
 -- a block that is entered has its place above all others, and finds on the stacks what its arguments left there
@@ -53,6 +53,22 @@ pub record PointsGo : Type 0 where
       drop count p.control.layers ≡ φ ∷ φs →
       StandsOver φ.entries p.control.entries × StandsOver φ.edits p.control.edits
 
+-- how many serials there are beside acts
+pub record SerialsCount : Type 0 where
+  pub acted : (w : Surroundings) (p : Point) (line : ℕ) → AreFew w p → AreFew w (with_act counted (with_line line p))
+  -- an act behind which so many serials came, or before which, pays for them
+  pub made :
+      (w : Surroundings) (p q : Point) → AreFew w p → q.state.serials ≤ p.state.serials + w.serials →
+      p.state.world.acts < q.state.world.acts → AreFew w q
+  pub left : (w : Surroundings) (p : Point) (kept : List S.Entry) → AreFew w p → AreFew w (popped kept p)
+  pub unwound :
+      (w : Surroundings) (p : Point) (count : ℕ) (φ : Layer) (kept : List S.Entry) → AreFew w p →
+      AreFew w (unwound count kept φ p)
+  -- the next one fits 64 bits if it does where all acts are made
+  pub small :
+      (w : Surroundings) (p : Point) → Stands w p → AreFew w p → w.serials * w.acts + 1 < 2 ^ 64 →
+      p.state.serials + 1 < 2 ^ 64
+
 pub record MemoriesGo : Type 0 where
   -- the stores of a block's beginning leave a memory in which its frame stands with all others, and all that is stored
   pub entered :
@@ -60,7 +76,7 @@ pub record MemoriesGo : Type 0 where
       (line : ℕ) → Stands w p × Holds (now p m)
       × FramesStand w.parts base m p.state.activations p.control.layers →
       IsLaid w.parts φ p.control.layers × AreWords base φ × (φ.lower ≤ length m)
-      × ((n : ℕ) → φ.waits n ≡ None) →
+      × ((n : ℕ) → φ.waits n ≡ None) × (φ.list ≡ None) →
       Holds (now (pushed head entry φ line p)
       (stored (frame_stores w.parts base entry.parent p.state.activations φ p.control.layers) m))
       × FramesStand w.parts base (stored (frame_stores w.parts base entry.parent p.state.activations φ

@@ -15,12 +15,18 @@ use Rattle.activation_relation.specs.Changes.{StandsOver}
 use Rattle.activation_relation.specs.Owned.{AreOwned}
 use Rattle.activation_relation.specs.Frames.{FramesStand, AreLaid, frame_under, upper_top}
 
--- around code: the parts of memory, where symbols and on-units stand, and how many acts are allowed
+-- around code: the parts of memory, where symbols and on-units stand, how many acts are allowed, and how many serials
+-- may come for each
 pub record Surroundings : Type 0 where
   pub parts : MemoryParts
   pub links : Links
   pub units : UnitPlaces
   pub acts : ℕ
+  pub serials : ℕ
+
+-- no more serials came than that
+abbrev pub AreFew : Surroundings → Point → Type 0
+AreFew w p = p.state.serials ≤ w.serials * p.state.world.acts
 
 -- ---- the stacks of texts and of places in format lists
 

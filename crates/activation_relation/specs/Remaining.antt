@@ -1,10 +1,13 @@
 -- What lives at one point and at a later one: it stays where it stands, with its owner and its shape, whatever came of
--- its values.
-use Rattle.std.specs.Prelude.{ℕ, ◌+◌, ◌≤◌, ◌≡◌, List, ◌∷◌, Option, Some, length}
+-- its values; and each activation that was there has as much of AUTOMATIC storage.
+use Rattle.std.specs.Prelude.{ℕ, ◌+◌, ◌≤◌, ◌<◌, ◌≡◌, ◌==◌, List, [], ◌∷◌, Option, Some, length, nat_lt}
+use Rattle.std.specs.Prelude.{if◌then◌else◌}
 use Rattle.pli_meaning.specs.BasicValues.{BasicValue, VariableName}
+use Rattle.pli_meaning.specs.Contents.{footprint_of}
 use Rattle.pli_meaning.specs.Evaluating.{Designated}
 use Rattle.pli_meaning.specs.Placing.{with_element}
-use Rattle.pli_meaning.specs.StorageState.{Activation, Living, living_of, with_generation}
+use Rattle.pli_meaning.specs.StorageState.{Activation, Living, automatic_in_use, living_of, newest_height}
+use Rattle.pli_meaning.specs.StorageState.{with_generation}
 use Rattle.pli_meaning.specs.World.{World}
 use Rattle.pli_serving.specs.ServiceState as S
 use Rattle.storage_relation.specs.Stored.{AreLow, Extends, Lives}
@@ -22,7 +25,16 @@ pub record LivesOn (l : Living) (o : Option Living) : Type 0 where
   pub owner : there.owner ≡ l.owner
   pub shape : there.generation.shape ≡ l.generation.shape
 
--- serials only grow, and none that was given moves; so do signatures
+-- what the activations up to a height have of AUTOMATIC storage
+abbrev pub in_use_up_to : (height : ℕ) → List Living → ℕ
+in_use_up_to height [] = 0
+in_use_up_to height (l ∷ ls) =
+    if l.owner == 0 then in_use_up_to height ls
+    else (if nat_lt height l.owner then in_use_up_to height ls
+    else footprint_of l.generation + in_use_up_to height ls)
+
+-- serials only grow, and none that was given moves; so do signatures; what was active is active, and no activation that
+-- was there has more or less
 pub record Remains (p q : Point) : Type 0 where
   pub living : (n : ℕ) (l : Living) → living_of p.state.living n ≡ Some l → LivesOn l (living_of q.state.living n)
   pub serials : p.state.serials ≤ q.state.serials
@@ -30,6 +42,11 @@ pub record Remains (p q : Point) : Type 0 where
   pub number : (n : ℕ) → n ≤ p.state.serials → q.places.number n ≡ p.places.number n
   pub signatures : Extends p.places.signatures q.places.signatures
   pub statics : q.state.statics ≡ p.state.statics
+  pub low : q.places.low ≡ p.places.low
+  pub active : length p.state.activations ≤ length q.state.activations
+  pub in_use :
+      (height : ℕ) → height ≤ length p.state.activations →
+      in_use_up_to height q.state.living ≡ in_use_up_to height p.state.living
 
 -- an element of a variable's own generation has a value
 abbrev pub with_assigned : (serial : ℕ) → Designated → BasicValue → Point → Point
@@ -45,12 +62,19 @@ pub record StorageRemains : Type 0 where
       (p : Point) (change : World → World) (line : ℕ) → Remains p (with_act change (with_line line p))
   pub entered : (p : Point) (head : Y.BlockHead) (entry : Entry) (φ : Layer) (line : ℕ) →
       Remains p (pushed head entry φ line p)
-  -- one more variable leaves all others
-  pub made : (p : Point) (x : Made) → Lives p.places p.state → Remains p (with_made x p)
+  -- one more variable of a block that wasn't there leaves all others
+  pub made :
+      (p q : Point) (x : Made) → Remains p q → Lives q.places q.state →
+      length p.state.activations < newest_height q.state.activations → Remains p (with_made x q)
   -- and so does an assignment to an element of one
   pub assigned : (p : Point) (serial : ℕ) (d : Designated) (v : BasicValue) → Remains p (with_assigned serial d v p)
   -- with the newest block go its own variables alone: what those below it own lives on
   pub left :
       (p q : Point) (a : Activation) (as' : List Activation) (kept : List S.Entry) → Remains p q →
       q.state.activations ≡ a ∷ as' → AreLow (length as') p.state.living → a.height ≡ length as' + 1 →
-      Remains p (popped kept q)
+      length p.state.activations ≤ length as' → Remains p (popped kept q)
+  -- where no more blocks are active, as much is in use
+  pub in_use :
+      (p q : Point) → Remains p q → length q.state.activations ≡ length p.state.activations →
+      AreLow (length p.state.activations) p.state.living → AreLow (length q.state.activations) q.state.living →
+      automatic_in_use q.state.living ≡ automatic_in_use p.state.living

@@ -4,7 +4,7 @@ ghost use Rattle.activation_relation.specs.ServiceLaws.{ActsServed, BlocksServed
 ghost use Rattle.activation_relation.specs.FrameLaws.{FramesKept, FramesBegin, WordsWait, FramesEnd};
 ghost use Rattle.activation_relation.specs.Owned.{FramesApart};
 ghost use Rattle.activation_relation.specs.Account.{StacksPaid};
-ghost use Rattle.activation_relation.specs.PointLaws.{PointsGo, MemoriesGo};
+ghost use Rattle.activation_relation.specs.PointLaws.{PointsGo, MemoriesGo, SerialsCount};
 ghost use Rattle.activation_relation.specs.LandingLaws.{JumpsLand, ReturnsLeave};
 ghost use Rattle.activation_relation.specs.Entering.{BlocksReturn};
 ghost use Rattle.activation_relation.specs.Rows.{RunsBegin, UnitRuns};
@@ -110,4 +110,9 @@ pub fn code_stores()
 /// What lives at a point lives at a later one, in its place, with its owner and its shape.
 pub fn storage_remains()
     ensures { StorageRemains }
+{}
+
+/// Serials are counted beside acts: each act pays for so many.
+pub fn serials_count()
+    ensures { SerialsCount }
 {}

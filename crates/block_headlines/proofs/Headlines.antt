@@ -26,8 +26,19 @@ use Rattle.program_runs.proofs.Starts.{first_step_of}
 use Rattle.program_runs.proofs.VariableRows.{number_each, number_end, number_is}
 use Rattle.expression_runs.specs.Rows.{double_entry, double_environment, double_main, double_program}
 use Rattle.expression_runs.proofs.Rows.{double_each, double_finish, double_is}
+use Rattle.function_runs.specs.LocalRows.{local_entry, local_environment, local_main, local_procedure, local_program}
+use Rattle.function_runs.proofs.LocalRows.{local_each, local_finish, local_is}
 use Rattle.function_runs.specs.Rows.{fetch_entry, fetch_environment, fetch_main, fetch_program, inner_procedure}
 use Rattle.function_runs.proofs.Rows.{fetch_each, fetch_finish, fetch_is}
+use Rattle.argument_runs.specs.CopyRows.{given_entry, given_environment, given_main, given_procedure, given_program}
+use Rattle.argument_runs.proofs.CopyRows.{given_each, given_finish, given_is}
+use Rattle.argument_runs.specs.FunctionRows.{applied_entry, applied_environment, applied_main, applied_procedure}
+use Rattle.argument_runs.specs.FunctionRows.{applied_program}
+use Rattle.argument_runs.proofs.FunctionRows.{applied_each, applied_finish, applied_is}
+use Rattle.begin_runs.specs.LeaveRows.{leave_entry, leave_environment, leave_main, leave_program}
+use Rattle.begin_runs.specs.Rows.{nest_entry, nest_environment, nest_main, nest_program}
+use Rattle.begin_runs.proofs.LeaveRows.{leave_each, leave_finish, leave_is}
+use Rattle.begin_runs.proofs.Rows.{nest_each, nest_finish, nest_is}
 use Rattle.block_headlines.specs.Headlines.{HeadlinesOfRows, Layout, Runs, whole_of}
 
 comes :
@@ -80,6 +91,7 @@ row_layout =
       entry = main_entry;
       end = row_end main_entry row_main;
       units = [];
+      serials = 1;
       made = λ q. q;
     }
 
@@ -92,6 +104,7 @@ number_layout =
       entry = number_entry;
       end = number_end;
       units = [];
+      serials = 1;
       made = newest_made parts number_declared;
     }
 
@@ -107,6 +120,7 @@ double_layout =
       entry = double_entry;
       end = double_finish;
       units = [];
+      serials = 1;
       made = newest_made parts number_declared;
     }
 
@@ -131,6 +145,7 @@ fetch_layout =
       entry = fetch_entry;
       end = fetch_finish;
       units = [];
+      serials = 1;
       made = newest_made parts number_declared;
     }
 
@@ -141,6 +156,131 @@ fetch_program_runs =
           fetch_is input (first_bytes (picture_of parts fetch_program)) acts few
           (first_length (picture_of parts fetch_program) fetch_fits);
       each = λ input acts few b. fetch_each input acts few b;
+    }
+
+local_fits : FitsMemory (picture_of parts local_program)
+local_fits = small_fits local_program (omega arith) (omega arith)
+
+abbrev local_layout : Layout
+local_layout =
+    record {
+      main = local_main;
+      others = local_procedure ∷ [];
+      environment = local_environment;
+      entry = local_entry;
+      end = local_finish;
+      units = [];
+      serials = 1;
+      made = newest_made parts number_declared;
+    }
+
+local_program_runs : Runs local_program local_layout
+local_program_runs =
+    record {
+      whole = λ input acts few.
+          local_is input (first_bytes (picture_of parts local_program)) acts few
+          (first_length (picture_of parts local_program) local_fits);
+      each = λ input acts few b. local_each input acts few b;
+    }
+
+given_fits : FitsMemory (picture_of parts given_program)
+given_fits = small_fits given_program (omega arith) (omega arith)
+
+abbrev given_layout : Layout
+given_layout =
+    record {
+      main = given_main;
+      others = given_procedure ∷ [];
+      environment = given_environment;
+      entry = given_entry;
+      end = given_finish;
+      units = [];
+      serials = 1;
+      made = newest_made parts number_declared;
+    }
+
+given_program_runs : Runs given_program given_layout
+given_program_runs =
+    record {
+      whole = λ input acts few.
+          given_is input (first_bytes (picture_of parts given_program)) acts few
+          (first_length (picture_of parts given_program) given_fits);
+      each = λ input acts few b. given_each input acts few b;
+    }
+
+applied_fits : FitsMemory (picture_of parts applied_program)
+applied_fits = small_fits applied_program (omega arith) (omega arith)
+
+abbrev applied_layout : Layout
+applied_layout =
+    record {
+      main = applied_main;
+      others = applied_procedure ∷ [];
+      environment = applied_environment;
+      entry = applied_entry;
+      end = applied_finish;
+      units = [];
+      serials = 1;
+      made = newest_made parts number_declared;
+    }
+
+applied_program_runs : Runs applied_program applied_layout
+applied_program_runs =
+    record {
+      whole = λ input acts few.
+          applied_is input (first_bytes (picture_of parts applied_program)) acts few
+          (first_length (picture_of parts applied_program) applied_fits);
+      each = λ input acts few b. applied_each input acts few b;
+    }
+
+nest_fits : FitsMemory (picture_of parts nest_program)
+nest_fits = small_fits nest_program (omega arith) (omega arith)
+
+abbrev nest_layout : Layout
+nest_layout =
+    record {
+      main = nest_main;
+      others = [];
+      environment = nest_environment;
+      entry = nest_entry;
+      end = nest_finish;
+      units = [];
+      serials = 1;
+      made = newest_made parts number_declared;
+    }
+
+nest_program_runs : Runs nest_program nest_layout
+nest_program_runs =
+    record {
+      whole = λ input acts few.
+          nest_is input (first_bytes (picture_of parts nest_program)) acts few
+          (first_length (picture_of parts nest_program) nest_fits);
+      each = λ input acts few b. nest_each input acts few b;
+    }
+
+leave_fits : FitsMemory (picture_of parts leave_program)
+leave_fits = small_fits leave_program (omega arith) (omega arith)
+
+abbrev leave_layout : Layout
+leave_layout =
+    record {
+      main = leave_main;
+      others = [];
+      environment = leave_environment;
+      entry = leave_entry;
+      end = leave_finish;
+      units = [];
+      serials = 1;
+      made = λ q. q;
+    }
+
+leave_program_runs : Runs leave_program leave_layout
+leave_program_runs =
+    record {
+      whole = λ input acts few.
+          leave_is input (first_bytes (picture_of parts leave_program)) acts few
+          (first_length (picture_of parts leave_program) leave_fits);
+      each = λ input acts few b. leave_each input acts few b;
     }
 
 row_runs : Runs row_program row_layout
@@ -167,5 +307,10 @@ rows_kept laws keeps =
       calling = kept laws keeps row_program row_layout row_runs;
       number = kept laws keeps number_program number_layout number_runs;
       doubling = kept laws keeps double_program double_layout double_program_runs;
+      calling_local = kept laws keeps local_program local_layout local_program_runs;
+      giving = kept laws keeps given_program given_layout given_program_runs;
+      applying = kept laws keeps applied_program applied_layout applied_program_runs;
       fetching = kept laws keeps fetch_program fetch_layout fetch_program_runs;
+      nesting = kept laws keeps nest_program nest_layout nest_program_runs;
+      leaving = kept laws keeps leave_program leave_layout leave_program_runs;
     }

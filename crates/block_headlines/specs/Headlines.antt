@@ -16,12 +16,18 @@ use Rattle.program_runs.specs.Programs.{IsWhole, Whole, main_of}
 use Rattle.program_runs.specs.Rows.{row_program}
 use Rattle.program_runs.specs.VariableRows.{number_program}
 use Rattle.expression_runs.specs.Rows.{double_program}
+use Rattle.function_runs.specs.LocalRows.{local_program}
 use Rattle.function_runs.specs.Rows.{fetch_program}
+use Rattle.argument_runs.specs.CopyRows.{given_program}
+use Rattle.argument_runs.specs.FunctionRows.{applied_program}
+use Rattle.begin_runs.specs.LeaveRows.{leave_program}
+use Rattle.begin_runs.specs.Rows.{nest_program}
 use Rattle.program_runs.specs.Starts.{no_numbers, start_point, surroundings_of}
 use Rattle.program_runs.specs.Statements.{EachDoes, IsBegun}
 
 -- what is said of a program's image beside the program: its main procedure and the others, where its code and its end
--- stand, where the code of its on-units stands, and what becomes of the point where its variables are made
+-- stand, where the code of its on-units stands, how many serials may come for each act, and what becomes of the point
+-- where its variables are made
 pub record Layout : Type 0 where
   pub main : Procedure
   pub others : List Y.Procedure
@@ -29,6 +35,7 @@ pub record Layout : Type 0 where
   pub entry : ℕ
   pub end : ℕ
   pub units : UnitPlaces
+  pub serials : ℕ
   pub made : Point → Point
 
 -- the program with the image that pli_coding defines, on an input, with as many acts allowed
@@ -42,6 +49,7 @@ whole_of program x input acts =
         signatures = map template_of (table_of program);
         input = input;
         acts = acts;
+        serials = x.serials;
       };
       program = program;
       main = x.main;
@@ -78,4 +86,9 @@ pub record HeadlinesOfRows : Type 0 where
   pub calling : Headline row_program (picture_of parts row_program) (table_of row_program)
   pub number : Headline number_program (picture_of parts number_program) (table_of number_program)
   pub doubling : Headline double_program (picture_of parts double_program) (table_of double_program)
+  pub calling_local : Headline local_program (picture_of parts local_program) (table_of local_program)
+  pub giving : Headline given_program (picture_of parts given_program) (table_of given_program)
+  pub applying : Headline applied_program (picture_of parts applied_program) (table_of applied_program)
   pub fetching : Headline fetch_program (picture_of parts fetch_program) (table_of fetch_program)
+  pub nesting : Headline nest_program (picture_of parts nest_program) (table_of nest_program)
+  pub leaving : Headline leave_program (picture_of parts leave_program) (table_of leave_program)

@@ -15,8 +15,9 @@ pub fn headlines_kept()
     granules_keep();
 }
 
-/// A main procedure that calls a procedure inside it keeps the headline, and so do one with a variable, and one that
-/// doubles it in a loop by GOTO until it overflows.
+/// A main procedure that calls a procedure inside it keeps the headline, and so do one with a variable, one that
+/// doubles it in a loop by GOTO until it overflows, one that calls a function, one with begin blocks, of which one
+/// assigns its variable and another jumps back out, and one that returns out of two begin blocks.
 pub fn headlines_of_rows()
     ensures { HeadlinesOfRows }
 {

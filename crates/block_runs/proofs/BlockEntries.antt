@@ -40,7 +40,7 @@ use Rattle.block_runs.proofs.Places.{IsFrame, word_in, bounds, even_top}
 use Rattle.block_runs.proofs.PointGrounds.{StandsIn, point_ground, registers_in, in_known, call_is}
 use Rattle.block_runs.proofs.StoredGrounds.{StoredOver, making_ground}
 use Rattle.block_runs.proofs.FrameBeginnings.{Begun, IsBegun, outside, frame_made, all_words, all_stored}
-use Rattle.block_runs.proofs.FrameBeginnings.{new_frame, regs_of}
+use Rattle.block_runs.proofs.FrameBeginnings.{new_frame, own_regs, regs_of}
 use Rattle.block_runs.proofs.FrameBeginnings.{frame_code}
 
 -- ---- what is premised, and what follows
@@ -50,7 +50,7 @@ pub record Premises (w : Surroundings) (code : List Instr) (p : Point) (numbers 
   pub image : IsImage w code p
   pub is : IsBeginning w p numbers x
 
-abbrev begun_at : (w : Surroundings) (p : Point) (x : Beginning) → Family → Begun
+abbrev pub begun_at : (w : Surroundings) (p : Point) (x : Beginning) → Family → Begun
 begun_at w p x f =
     record {
       surroundings = w;
@@ -64,7 +64,7 @@ begun_at w p x f =
       first = λ b. (x.layer.at + 0, address b x.layer.back) ∷ words_from (x.layer.at + 8) x.layer.held 0 x.layer.saved;
     }
 
-is_begun :
+pub is_begun :
     {w : Surroundings} {code : List Instr} {p : Point} {numbers : ℕ → ℕ} {x : Beginning} (f : Family) →
     Premises w code p numbers x → ((b : Base) → IsCalled p x b (f b)) → IsBegun (begun_at w p x f)
 is_begun {p = p} {x = x} f q at =
@@ -103,7 +103,7 @@ are_words {w} {p = p} {x = x} q b =
       base_fits = omega (arith, v, high, last, lower);
     }
 
-new_point_frame :
+pub new_point_frame :
     {w : Surroundings} {code : List Instr} {p : Point} {numbers : ℕ → ℕ} {x : Beginning} (f : Family) →
     Premises w code p numbers x → ((b : Base) → IsCalled p x b (f b)) →
     IsFrame (frame_under w.parts (begun_point x p).control.layers)
@@ -124,20 +124,20 @@ memory_new {w} {p = p} {x = x} f q b m o =
     let lower = q.is.lower in
     let bytes = o.bytes in
     let r = entered_memory w p b.at o.first x.head x.entry x.layer x.head.line (q.stands, o.storage, o.frames)
-    (q.is.next.laid, are_words q b, omega (arith, high, last, lower, bytes), q.is.waits) in
+    (q.is.next.laid, are_words q b, omega (arith, high, last, lower, bytes), q.is.waits, q.is.list) in
     subst (StandsIn w (begun_point x p) b) (sym e) (record { storage = r.0; frames = r.1 })
 
 -- ---- the frame is made
 
-frame_comes :
+pub frame_stands :
     {w : Surroundings} {code : List Instr} {p : Point} {numbers : ℕ → ℕ} {x : Beginning} (c index : ℕ) (f : Family)
     (q : Premises w code p numbers x) (at : (b : Base) → IsCalled p x b (f b)) →
     Linked w.links code index (frame_code (begun_at w p x f)) → ((b : Base) → IsIn w p numbers index b (f b)) →
     Reach code c f (services_of p) (c + size_of (frame_code (begun_at w p x f))) (services_of p)
     (λ b y. At b (index + size_of (frame_code (begun_at w p x f)))
     (Known (point_ground w (begun_point x p) (new_point_frame f q at)) (services_of p) numbers (λ n. 0)
-    (regs_of (begun_at w p x f)) b) y)
-frame_comes {w} {p = p} {numbers = numbers} {x = x} c index f q at l there =
+    (own_regs (begun_at w p x f)) b) y)
+frame_stands {w} {p = p} {numbers = numbers} {x = x} c index f q at l there =
     let k = begun_at w p x f in
     let h = is_begun f q at in
     let r = frame_made k h {t = λ n. 0} c f (λ b. refl) l
@@ -174,6 +174,18 @@ frame_comes {w} {p = p} {numbers = numbers} {x = x} c index f q at l there =
         regs = o.holds.regs;
       };
     })
+
+frame_comes :
+    {w : Surroundings} {code : List Instr} {p : Point} {numbers : ℕ → ℕ} {x : Beginning} (c index : ℕ) (f : Family)
+    (q : Premises w code p numbers x) (at : (b : Base) → IsCalled p x b (f b)) →
+    Linked w.links code index (frame_code (begun_at w p x f)) → ((b : Base) → IsIn w p numbers index b (f b)) →
+    Reach code c f (services_of p) (c + size_of (frame_code (begun_at w p x f))) (services_of p)
+    (λ b y. At b (index + size_of (frame_code (begun_at w p x f)))
+    (Known (point_ground w (begun_point x p) (new_point_frame f q at)) (services_of p) numbers (λ n. 0)
+    (regs_of (begun_at w p x f)) b) y)
+frame_comes c index f q at l there =
+    reach_map _ (frame_stands c index f q at l there)
+    (λ b y o. record { pc = o.pc; holds = record { body = o.holds.body; regs = o.holds.regs.1 } })
 
 -- ---- the call of service 4
 

@@ -20,8 +20,9 @@ use Rattle.activation_relation.specs.Landing.{resumed}
 use Rattle.activation_relation.specs.Layers.{services_of}
 use Rattle.activation_relation.proofs.PointSteps.{stacks_over}
 use Rattle.activation_relation.proofs.Returning.{left_later, left_entries}
+use Rattle.activation_relation.proofs.Serials.{few_left}
 use Rattle.block_runs.specs.Beginnings.{IsCalling, begun_point, beginning_code}
-use Rattle.block_runs.specs.Bodies.{Called, IsCall, AtEnd, body_aims, behind_aims, place_in}
+use Rattle.block_runs.specs.Bodies.{Called, IsCall, IsEnding, AtEnd, body_aims, behind_aims, place_in}
 use Rattle.block_runs.specs.Endings.{ending_code}
 use Rattle.block_runs.specs.Machines.{IsIn, AreIn}
 use Rattle.block_runs.proofs.BlockEntries.{Premises}
@@ -37,8 +38,18 @@ none_waits :
 none_waits line None e h = refl
 none_waits line (Some w) e h = absurd (cc h)
 
-idle : (k : Called) → IsCall k → k.point.control.waiting ≡ None
-idle k h = none_waits k.point.control.line k.point.control.waiting _ h.beginning.entering.entered
+pub ending_of : (k : Called) → IsCall k → IsEnding k
+ending_of k h =
+    record {
+      stands = h.stands;
+      kind = h.beginning.kind;
+      held = h.beginning.held;
+      back = h.beginning.back;
+      edits = h.beginning.next.edits;
+      idle = none_waits k.point.control.line k.point.control.waiting _ h.beginning.entering.entered;
+      ending = h.ending;
+      word = h.word;
+    }
 
 -- ---- the end of the block
 
@@ -68,7 +79,7 @@ leaving_of k left' c f v r s o =
 
 is_leaving :
     (k : Called) (left' c : ℕ) (f : Family) (v : Services) (r : Option BasicValue) (s : State)
-    (o : AtEnd k left' c f v r s) → IsCall k →
+    (o : AtEnd k left' c f v r s) → IsEnding k →
     IsLeaving (leaving_of k left' c f v r s o)
 is_leaving k left' c f v r s o h =
     let φ = resumed o.resumes.changed k.beginning.layer in
@@ -77,13 +88,13 @@ is_leaving k left' c f v r s o h =
       image = o.image;
       is = record {
         newest = o.resumes.layers;
-        kind = h.beginning.kind;
+        kind = h.kind;
         back = refl;
-        holds = record { saved = λ n less. ap (λ x. x n) h.beginning.held; others = o.others };
+        holds = record { saved = λ n less. ap (λ x. x n) h.held; others = o.others };
         texts = KeepsNone k.beginning.layer.entries o.point.control.entries
             (stacks_over k.surroundings o.point 0 φ k.point.control.layers o.resumes.stands o.resumes.layers).0;
       };
-      back = h.beginning.back;
+      back = h.back;
       there = λ b. (reached_holds o.reach b).0;
     }
 
@@ -109,6 +120,7 @@ behind_closed k wanted =
         stands = o.stands;
         image = o.image;
         later = o.later;
+        few = o.few;
         entries = o.entries;
         line = o.line;
         state = o.state;
@@ -120,8 +132,8 @@ behind_closed k wanted =
       returned = λ r v s o. absurd o;
     }
 
-at_end_owing :
-    (k : Called) (left' wanted c : ℕ) (f : Family) (v : Services) (r : Option BasicValue) (s : State) → IsCall k →
+pub at_end_owing :
+    (k : Called) (left' wanted c : ℕ) (f : Family) (v : Services) (r : Option BasicValue) (s : State) → IsEnding k →
     AtEnd k left' c f v r s →
     (owing k.code (left' + size_of (ending_code k.beginning.layer (place_in k.function))) (behind_aims k wanted)).done c
     f v r (with_world s.world (newest_ended s))
@@ -140,7 +152,8 @@ at_end_owing k left' wanted c f v r s h o =
       stands = known.0;
       image = known.1;
       later = left_later k.surroundings k.point o.point k.point.state.world.acts o.activation k.beginning.layer []
-          h.stands (omega arith) h.beginning.next.edits (idle k h) o.remains o.resumes;
+          h.stands (omega arith) h.edits h.idle o.remains o.resumes;
+      few = few_left k.surroundings o.point [] o.few;
       entries = left_entries k.surroundings o.point k.point.state.world.acts o.activation k.point.state.activations
           k.beginning.layer k.point.control.layers [] o.resumes;
       line = ap (λ ls. (popped_from [] ls o.point).control.line) o.resumes.layers;
@@ -183,7 +196,7 @@ calls_return k part credits left' wanted f h body there gives =
     (calls (credits + debt) k.call k.entry f q h.code there gives)
     (λ g at.
     comes_map (body_aims k left') (left_aims newest_ended owed) flow
-    (λ c g' v u s o. at_end_owing k left' wanted c g' v None s h o)
+    (λ c g' v u s o. at_end_owing k left' wanted c g' v None s (ending_of k h) o)
     (λ c g' v height label s o. absurd o)
-    (λ c g' v r s o. at_end_owing k left' wanted c g' v r s h o)
+    (λ c g' v r s o. at_end_owing k left' wanted c g' v r s (ending_of k h) o)
     (body g at))))

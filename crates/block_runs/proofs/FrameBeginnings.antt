@@ -169,6 +169,10 @@ given_to k = record { texts = k.texts; parent = k.given; list = k.list; back = b
 abbrev pub regs_of : Begun → Base → List (ℕ × ℕ)
 regs_of k = begun_regs k.layer.at (given_to k)
 
+-- with the frame's own place, which is told last
+abbrev pub own_regs : Begun → Base → List (ℕ × ℕ)
+own_regs k = with' 6 (λ b. k.layer.at) (regs_of k)
+
 -- ---- what is stored, step by step
 
 abbrev pub return_word : Begun → Base → Stores
@@ -489,12 +493,12 @@ own_stored :
     ((b : Base) → makes (inside k h) (with_display k) v k.layer.held t (with' 6 (λ b'. k.layer.at) (regs_of k)) i b
     (f b)) →
     Reach code c f v (c + size_of (store_word frame_register u1 own_offset)) v
-    (λ b y. makes (inside k h) (all_words k) v k.layer.held t (regs_of k)
+    (λ b y. makes (inside k h) (all_words k) v k.layer.held t (own_regs k)
     (i + size_of (store_word frame_register u1 own_offset)) b y)
 own_stored k h c f l there =
     let m = inside k h in
     let x : Storing = record { place = 36; by = frame_register; from = u1; value = λ b. k.layer.at } in
-    let r = register_stored m x (with_display k) c f
+    register_stored m x (with_display k) c f
     (record {
       even = refl;
       few = omega arith;
@@ -504,17 +508,16 @@ own_stored k h c f l there =
       value = λ b t' y o. o.regs.0;
       far = record { reserved_stay = λ y u. refl; known_stay = λ b y u o. o; set = λ y u. refl };
     })
-    l there in
-    reach_map _ r (λ b y o. record { pc = o.pc; holds = record { body = o.holds.body; regs = o.holds.regs.1 } })
+    l there
 
 stack_taken :
     (k : Begun) (h : IsBegun k) {links : Links} {code : List Instr} {i : ℕ} {v : Services} {t : ℕ → ℕ} (c : ℕ)
     (f : Family) →
     Linked links code i (plus stack_register frame_register (pos (fixed_size k.layer.level k.layer.parameters))) →
-    ((b : Base) → makes (inside k h) (all_words k) v k.layer.held t (regs_of k) i b (f b)) →
+    ((b : Base) → makes (inside k h) (all_words k) v k.layer.held t (own_regs k) i b (f b)) →
     Reach code c f v
     (c + size_of (plus stack_register frame_register (pos (fixed_size k.layer.level k.layer.parameters)))) v
-    (λ b y. makes (whole k h) (all_words k) v k.layer.held t (regs_of k)
+    (λ b y. makes (whole k h) (all_words k) v k.layer.held t (own_regs k)
     (i + size_of (plus stack_register frame_register (pos (fixed_size k.layer.level k.layer.parameters)))) b y)
 stack_taken k h {v = v} {t = t} c f l there =
     let n = fixed_size k.layer.level k.layer.parameters in
@@ -526,7 +529,7 @@ stack_taken k h {v = v} {t = t} c f l there =
     let g' = making_ground (whole k h) (all_words k) in
     let few = small_top k h in
     displaced_by (is_immediate z) c f (λ s d. I.Immediate Imm.Add stack_register s d) frame_register z (λ b. b.at + at)
-    (Known g v k.layer.held t (regs_of k)) (Known g' v k.layer.held t (regs_of k))
+    (Known g v k.layer.held t (own_regs k)) (Known g' v k.layer.held t (own_regs k))
     (above_small n (omega (arith, few, top)))
     (λ b. fits b at (omega (arith, few, top))) (λ y u. refl) (λ b. frame_is (there b).holds.body) (omega arith)
     (record {
@@ -569,7 +572,7 @@ from_own :
     (f : Family) → Linked links code i (own_code k) →
     ((b : Base) → makes (inside k h) (with_display k) v k.layer.held t (regs_of k) i b (f b)) →
     Reach code c f v (c + size_of (own_code k)) v
-    (λ b y. makes (whole k h) (all_words k) v k.layer.held t (regs_of k) (i + size_of (own_code k)) b y)
+    (λ b y. makes (whole k h) (all_words k) v k.layer.held t (own_regs k) (i + size_of (own_code k)) b y)
 from_own k h c f l there =
     let two = BaseIn u1 ∷ subtract u1 frame_register u1 ∷ [] in
     let store' = store_word frame_register u1 own_offset in
@@ -592,7 +595,7 @@ from_lower :
     (f : Family) → Linked links code i (lower_code k) →
     ((b : Base) → makes (outside k h) (with_below k) v k.layer.held t (regs_of k) i b (f b)) →
     Reach code c f v (c + size_of (lower_code k)) v
-    (λ b y. makes (whole k h) (all_words k) v k.layer.held t (regs_of k) (i + size_of (lower_code k)) b y)
+    (λ b y. makes (whole k h) (all_words k) v k.layer.held t (own_regs k) (i + size_of (lower_code k)) b y)
 from_lower k h c f l there =
     let load' = load_word u1 frame_register lower_top in
     let one = move frame_register u0 ∷ [] in
@@ -625,7 +628,7 @@ from_below :
     (f : Family) → Linked links code i (below_code k) →
     ((b : Base) → makes (outside k h) k.first v k.layer.held t (regs_of k) i b (f b)) →
     Reach code c f v (c + size_of (below_code k)) v
-    (λ b y. makes (whole k h) (all_words k) v k.layer.held t (regs_of k) (i + size_of (below_code k)) b y)
+    (λ b y. makes (whole k h) (all_words k) v k.layer.held t (own_regs k) (i + size_of (below_code k)) b y)
 from_below k h c f l there =
     let below = store_word u0 frame_register frame_below in
     let last = lower_code k in
@@ -643,7 +646,7 @@ pub frame_made :
     (f : Family) → ((b : Base) → saved_words k b ≡ k.first b) → Linked links code i (frame_code k) →
     ((b : Base) → makes (outside k h) (λ b'. []) v k.layer.held t (given_regs k) i b (f b)) →
     Reach code c f v (c + size_of (frame_code k)) v
-    (λ b y. makes (whole k h) (all_words k) v k.layer.held t (regs_of k) (i + size_of (frame_code k)) b y)
+    (λ b y. makes (whole k h) (all_words k) v k.layer.held t (own_regs k) (i + size_of (frame_code k)) b y)
 frame_made k h c f same l there =
     let up = plus u0 stack_register (pos (temporary_bytes k.layer.words)) in
     let saves = all_saved u0 k.layer.saved in
@@ -665,7 +668,7 @@ pub inner_frame_made :
     (f : Family) → ((b : Base) → [] ≡ k.first b) → Linked links code i (inner_frame_code k) →
     ((b : Base) → makes (outside k h) (λ b'. []) v k.layer.held t (given_regs k) i b (f b)) →
     Reach code c f v (c + size_of (inner_frame_code k)) v
-    (λ b y. makes (whole k h) (all_words k) v k.layer.held t (regs_of k) (i + size_of (inner_frame_code k)) b y)
+    (λ b y. makes (whole k h) (all_words k) v k.layer.held t (own_regs k) (i + size_of (inner_frame_code k)) b y)
 inner_frame_made k h c f none l there =
     let up = plus u0 stack_register (pos (temporary_bytes k.layer.words)) in
     let last = below_code k in

@@ -46,6 +46,7 @@ row_begins π =
       held = refl;
       words = λ n less. omega (arith, less);
       waits = λ n. refl;
+      list = refl;
       top = refl;
       lower = refl;
     }

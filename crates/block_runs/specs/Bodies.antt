@@ -10,15 +10,16 @@ use Rattle.pli_coding.specs.Registers.{a0}
 use Rattle.pli_meaning.specs.Control.{Meaning, left}
 use Rattle.pli_meaning.specs.Numbers.{is_of_precision}
 use Rattle.pli_meaning.specs.StorageState.{State, Activation, newest_ended}
+use Rattle.pli_serving.specs.ServiceState as S
 use Rattle.pli_serving.specs.ServiceState.{Services}
 use Rattle.pli_coding.specs.Assembly.{size_of}
-use Rattle.run_steps.specs.Engine.{Base}
+use Rattle.run_steps.specs.Engine.{Base, most_code}
 use Rattle.run_steps.specs.Items.{Linked}
 use Rattle.run_steps.specs.Reach.{Family, Reach, Aims, Comes}
 use Rattle.activation_relation.specs.Entering.{Later}
 use Rattle.activation_relation.specs.Landing.{Resumes}
 use Rattle.activation_relation.specs.Layers.{Point, services_of}
-use Rattle.activation_relation.specs.Points.{Surroundings, Stands}
+use Rattle.activation_relation.specs.Points.{AreFew, Stands, Surroundings}
 use Rattle.activation_relation.specs.Remaining.{Remains}
 use Rattle.block_runs.specs.Beginnings.{Beginning, IsBeginning, IsCalling, CallStands, begun_point, beginning_code}
 use Rattle.block_runs.specs.Endings.{IsWord, HasGiven, ending_code}
@@ -54,6 +55,17 @@ pub record IsCall (k : Called) : Type 0 where
   pub ending : Linked k.surroundings.links k.code k.end (ending_code k.beginning.layer (place_in k.function))
   pub word : IsWord (place_in k.function)
 
+-- what the end of its block asks of it alone
+pub record IsEnding (k : Called) : Type 0 where
+  pub stands : Stands k.surroundings k.point
+  pub kind : k.beginning.layer.kind ≡ S.ProcedureBlock
+  pub held : k.beginning.layer.held ≡ k.numbers
+  pub back : k.beginning.layer.back ≤ most_code
+  pub edits : k.beginning.layer.edits ≡ k.point.control.edits
+  pub idle : k.point.control.waiting ≡ None
+  pub ending : Linked k.surroundings.links k.code k.end (ending_code k.beginning.layer (place_in k.function))
+  pub word : IsWord (place_in k.function)
+
 -- a function's result as the word that it leaves, by its kind: a number, a bit or an offset
 abbrev pub IsOfKind : LeafKind → Option BasicValue → (given : ℕ) → Type 0
 IsOfKind (Fixed p) (Some (BasicNumber z)) given = (given ≡ word z) × (is_of_precision p z ≡ true)
@@ -82,6 +94,7 @@ pub record AtEnd (k : Called) (left' credits : ℕ) (f : Family) (v : Services) 
     pub image : IsImage k.surroundings k.code point
     -- what lived where it was called lives on
     pub remains : Remains k.point point
+    pub few : AreFew k.surroundings point
     pub others : (n : ℕ) → k.beginning.layer.saved ≤ n → after n ≡ k.numbers n
     pub state : s ≡ point.state
     pub given : ℕ
@@ -107,6 +120,7 @@ pub record IsBehind (k : Called) (wanted credits : ℕ) (f : Family) (v : Servic
   pub stands : Stands k.surroundings point
   pub image : IsImage k.surroundings k.code point
   pub later : Later k.point point
+  pub few : AreFew k.surroundings point
   -- the stack of texts is that which stood below the call
   pub entries : point.control.entries ≡ k.beginning.layer.entries
   -- and the line is that of the call

@@ -35,6 +35,7 @@ row_layer block level at words saved top held =
       saved = saved;
       held = held;
       waits = λ n. None;
+      list = None;
       top = top;
       lower = row_parts.stack_end;
       entries = [];
@@ -89,7 +90,7 @@ abbrev pub row_links : Links
 row_links = links_of row_code
 
 abbrev pub row_surroundings : Surroundings
-row_surroundings = record { parts = row_parts; links = row_links; units = []; acts = 5 }
+row_surroundings = record { parts = row_parts; links = row_links; units = []; acts = 5; serials = 1 }
 
 pub record EmptyCalled : Type 0 where
   -- the layer is what its call makes

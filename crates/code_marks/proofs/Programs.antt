@@ -24,7 +24,8 @@ use Rattle.code_marks.proofs.Statements.{Marking, nothing, behind, before, both,
 use Rattle.code_marks.proofs.Statements.{frame_ended_none, entered_none, variables_none, statements}
 use Rattle.std.specs.Prelude.{◌+◌, ◌*◌}
 use Rattle.pli_coding.specs.Registers.{stack_register, frame_register, a1, a3, u2, u4, u5}
-use Rattle.pli_coding.specs.Frames.{own_offset, lower_top, name_bytes, constant_size, list_place, list_offset, argument_at}
+use Rattle.pli_coding.specs.Frames.{own_offset, lower_top, name_bytes, constant_size, list_place, list_offset}
+use Rattle.pli_coding.specs.Frames.{argument_at}
 use Rattle.pli_coding.specs.Locating.{table_number}
 use Rattle.pli_coding.specs.Extents.{number_word}
 use Rattle.pli_coding.specs.Statements.{block_words, block_held, stmts_words}

@@ -234,6 +234,7 @@ assigned_among {k} {p = p} a o =
         even = o.image.even;
       };
       later = later_then k.first p (behind_assigned p a) o.later (assigned_later p a);
+      few = o.few;
       entries = o.entries;
       others = o.others;
       words = o.words;

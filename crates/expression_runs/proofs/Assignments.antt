@@ -40,8 +40,8 @@ use Rattle.block_runs.specs.Machines.{IsIn, acted}
 use Rattle.block_runs.proofs.CallStatements.{comes_map}
 use Rattle.block_runs.proofs.PointActs.{act_comes}
 use Rattle.block_runs.proofs.PointGrounds.{StandsIn, in_known, point_frame, point_ground}
-use Rattle.program_runs.specs.Statements.{Block, Does, IsAmong, IsBegun, LandsAt, size_in, statement_aims}
-use Rattle.program_runs.proofs.Lists.{lands_since}
+use Rattle.program_runs.specs.Statements.{Block, Does, IsAmong, IsBegun, size_in, statement_aims}
+use Rattle.program_runs.proofs.JumpsOut.{jumps_repaid, jumps_since}
 use Rattle.program_runs.proofs.Statements.{acted_among, goes_here, statement_closed}
 use Rattle.expression_runs.specs.Assignments.{IsAssignment, assignment, setting_of}
 use Rattle.expression_runs.specs.Laws as L
@@ -53,29 +53,6 @@ use Rattle.expression_runs.proofs.VariableCode.{stored_is, stores}
 use Rattle.expression_runs.proofs.VariableMeaning.{assigned_is}
 use Rattle.expression_runs.proofs.VariablePoints.{NumberAt, first_base, number_at, place_at, reaches_by}
 use Rattle.expression_runs.proofs.Words.{known_word}
-
--- ---- a landing is paid back
-
-pub lands_repaid :
-    {k : Block} {labels : List Label} {acts c : ℕ} {f : Family} {v : Services} {height : ℕ} {label : Label} {s : State}
-    (debt : ℕ) (aims : Aims (Unit {0})) →
-    ((i : ℕ) (g : Family) (u : Services) → LandsAt k labels acts i g u height label s →
-    aims.jumped i g u height label s) →
-    LandsAt k labels acts c f v height label s → (owing k.call.code debt aims).jumped c f v height label s
-lands_repaid debt aims goal o i0 f0 v0 from =
-    goal i0 f0 v0
-    (record {
-      own = o.own;
-      carried = o.carried;
-      point = o.point;
-      numbers = o.numbers;
-      among = o.among;
-      more = o.more;
-      state = o.state;
-      index = o.index;
-      place = o.place;
-      reach = repaid debt 0 (omega arith) o.reach from;
-    })
 
 -- ---- the store
 
@@ -238,7 +215,7 @@ assign_does k labels x source line index left' need most h ev p numbers c wanted
           (linked_at (index + size_of one + size_of value') (stores e x) (omega (arith, n2)) ls);
     }))
     (λ c' f' v' height label s q.
-    lands_repaid debt aims (λ i g' u q'. lands_since (omega arith) q') q)
+    λ i0 f0 v0 from. jumps_repaid debt from (jumps_since (omega arith) q))
     (λ c' f' v' r s q. absurd q)
-    (ev p' numbers 0 0 (index + size_of one) g o' refl (let room = h.registers in omega (arith, room), h.saved) lv
+    (ev p' numbers 0 0 (index + size_of one) g o' refl (let room = h.registers in omega (arith, room), h.held) lv
     (omega (arith, all, n0, n1, n2)) at))))))

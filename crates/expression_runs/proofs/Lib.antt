@@ -1,6 +1,7 @@
 pub mod Words
 pub mod VariableCode
 pub mod VariableMeaning
+pub mod OwnVariables
 pub mod VariablePoints
 pub mod Wrapping
 pub mod Saving

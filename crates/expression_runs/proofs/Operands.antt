@@ -27,7 +27,7 @@ use Rattle.block_runs.specs.Machines.{AreIn, IsIn}
 use Rattle.block_runs.proofs.CallStatements.{comes_map}
 use Rattle.block_runs.proofs.PointGrounds.{in_known, known_in, point_frame, point_ground}
 use Rattle.program_runs.specs.Statements.{IsAmong}
-use Rattle.program_runs.proofs.Lists.{lands_since}
+use Rattle.program_runs.proofs.JumpsOut.{jumps_since}
 use Rattle.expression_runs.specs.Values.{Evaluates, HasRegisters, Setting, behind, in_registers, number_aims}
 use Rattle.expression_runs.proofs.Saving.{fetched_reach, held_after, held_among, held_is_given, held_stays, next_taken}
 use Rattle.expression_runs.proofs.Saving.{register_left, saved_reach}
@@ -47,7 +47,7 @@ unfolding V.number give
 constant_does k n few p numbers taken c index f o line registers l paid there =
     let wide = constant_wide n few in
     let h = point_frame o.stands o.image in
-    let part = number_code k.block.environment (in_registers taken) (Y.NumberConstant n) in
+    let part = number_code k.block.environment (in_registers k.words taken) (Y.NumberConstant n) in
     let r = constant_piece {t = λ i. 0} {rs = nothing} c f a0 (pos n) (word_small (pos n) wide)
     (record { reserved_stay = λ y u. refl; known_stay = λ b y u q. q; set = λ y u. refl }) l
     (λ b. known_in h (there b) tt) in
@@ -60,12 +60,12 @@ abbrev pub Operates : Setting → (part : Taken → Code) → (ℤ → ℤ → M
 Operates k part meaning =
     (p : Point) (numbers : ℕ → ℕ) (taken c index : ℕ) (f : Family) (x y : ℤ) (h : frame_of k.block p) →
     IsAmong k.block numbers p → p.control.line ≡ k.around.line → HasRegisters k taken 1 → IsWide x → IsWide y →
-    Linked k.block.call.surroundings.links k.block.call.code index (part (in_registers taken)) →
-    c + size_of (part (in_registers taken)) + k.most ≤ cost k.block.call.code →
+    Linked k.block.call.surroundings.links k.block.call.code index (part (in_registers k.words taken)) →
+    c + size_of (part (in_registers k.words taken)) + k.most ≤ cost k.block.call.code →
     ((b : Base) → At b index (Known (point_ground k.block.call.surroundings p h) (services_of p) numbers (λ j. 0)
     (paired (word x) (word y)) b) (f b)) →
     Comes k.block.call.code c f (services_of p)
-    (number_aims k.block k.labels (behind p numbers taken c index (part (in_registers taken))))
+    (number_aims k.block k.labels (behind p numbers taken c index (part (in_registers k.words taken))))
     (meaning x y k.block.call.surroundings.acts p.state)
 
 abbrev pub both_parts : (left right last : Taken → Code) → Taken → Code
@@ -99,9 +99,9 @@ unfolding ◌>>=◌
 both_do k m n left right last first second next' el er op p numbers taken c index f o line registers l paid there =
     let w = k.block.call.surroundings in
     let code = k.block.call.code in
-    let t = in_registers taken in
+    let t = in_registers k.words taken in
     let one = enough_one k taken m n registers in
-    let next = next_taken taken (register_left k taken 1 one (omega arith)) in
+    let next = next_taken k.words taken (register_left k taken 1 one (omega arith)) in
     let a = left t in
     let put' = save a0 t in
     let b' = right (with_number t) in
@@ -140,7 +140,7 @@ both_do k m n left right last first second next' el er op p numbers taken c inde
     (λ b. known_word k.block h1 (at1 b)))
     (λ g2 at2.
     let among2 = held_among k taken 1 (word x) one (omega arith) small' o1.among in
-    let part2 = right (in_registers (taken + 1)) in
+    let part2 = right (in_registers k.words (taken + 1)) in
     let c2 = c + size_of a + size_of put' in
     let i2 = index + size_of a + size_of put' in
     comes_on w.acts (second w.acts p1.state) (λ y. next' x y)
@@ -177,7 +177,7 @@ both_do k m n left right last first second next' el er op p numbers taken c inde
     })
     (op p3 o3.numbers taken c4 i4 g4 x y h3 o3.among (o3.line ∙ o1.line ∙ line) one q1.0 q3.0 l5
     (omega (arith, paid, n1, n2, n3, n4, same)) at4)))))
-    (λ c3 f3 v3 height label s3 q3. lands_since since1 q3)
+    (λ c3 f3 v3 height label s3 q3. jumps_since since1 q3)
     (λ c3 f3 v3 r s3 q3. absurd q3)
     (er p1 held (taken + 1) c2 i2 g2 among2 (o1.line ∙ line) (enough_right k taken m n registers) lb
     (omega (arith, paid, n1, n2, n3, n4, same)) (λ b. in_known h1 o1.among.image.parts (at2 b))))))))

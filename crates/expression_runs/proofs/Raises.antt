@@ -350,7 +350,7 @@ pub overflow_ends : (k : Setting) → IsUnraised k → OverflowComes k
 overflow_ends k is p numbers taken c index given f o line registers small' l paid at =
     let w = k.block.call.surroundings in
     let code = k.block.call.code in
-    let t = in_registers taken in
+    let t = in_registers k.words taken in
     let known : Stands w p × IsImage w code p = (o.stands, o.image) in
     let h = point_frame o.stands o.image in
     let g = point_ground w p h in

@@ -24,7 +24,7 @@ use Rattle.pli_coding.specs.Allocating.{act_code}
 use Rattle.pli_coding.specs.Assembly.{CallTo, LabelPlace, Mark, ProcedureEntry, ReturnPlace, size_of}
 use Rattle.pli_coding.specs.Environments.{none_taken}
 use Rattle.pli_coding.specs.Images.{first_frame, linked_code, raise_code}
-use Rattle.pli_coding.specs.Linking.{links_of, place_of}
+use Rattle.pli_coding.specs.Linking.{Links, links_of, place_of}
 use Rattle.pli_coding.specs.SignatureTable.{table_of}
 use Rattle.pli_coding.specs.Statements.{stmt_code, stmts_code}
 use Rattle.storage_relation.specs.Served.{AllDiffer}
@@ -139,6 +139,7 @@ double_only input acts =
       made = refl;
       table = refl;
       parts = refl;
+      few = omega arith;
       declared = record {
         newest = refl;
         here = refl;
@@ -210,7 +211,7 @@ first_is input acts few b =
       begun = b;
       number = double_number input acts;
       registers = omega arith;
-      saved = omega arith;
+      held = omega arith;
       statement = front_of (stmt_code double_environment none_taken double_first)
           (stmts_code double_environment none_taken double_rest) body_linked;
       paid = omega (arith, n);
@@ -244,7 +245,7 @@ again_is input acts few b =
       begun = b;
       number = double_number input acts;
       registers = omega arith;
-      saved = omega arith;
+      held = omega arith;
       statement = front_of (stmt_code double_environment none_taken double_again)
           (stmts_code double_environment none_taken double_end) again_linked;
       paid = omega (arith, n);
@@ -300,9 +301,14 @@ label_is (x ∷ y ∷ ys) e = by (x == 76) e
     by true e = absurd (cc e)
     by false e = absurd (cc e)
 
+pub one_label_stands :
+    (links : Links) (index : ℕ) → place_of links (LabelPlace 0 double_label) ≡ 4 * index →
+    StandAt links 0 (double_label ∷ []) index
+one_label_stands links index place label e =
+    subst (λ l. place_of links (LabelPlace 0 l) ≡ 4 * index) (sym (label_is label e)) place
+
 labels_stand : StandAt (links_of double_code) 0 (double_label ∷ []) again_index
-labels_stand label e =
-    subst (λ l. place_of (links_of double_code) (LabelPlace 0 l) ≡ 4 * again_index) (sym (label_is label e)) refl
+labels_stand = one_label_stands (links_of double_code) again_index refl
 
 -- ---- the whole
 

@@ -39,16 +39,17 @@ no_words k p h =
 -- ---- registers
 
 pub register_left : (k : Setting) (taken need : ℕ) → HasRegisters k taken need → 1 ≤ need →
-    is_register_left (in_registers taken) ≡ true
+    is_register_left (in_registers k.words taken) ≡ true
 register_left k taken need h some =
     let a = h.0 in
     let b = h.1 in
     lt-ltb taken held_registers (omega (arith, a, b, some))
 
-pub next_taken : (taken : ℕ) → is_register_left (in_registers taken) ≡ true →
-    with_number (in_registers taken) ≡ in_registers (taken + 1)
-next_taken taken left =
-    ap (λ q. cond q (record (in_registers taken) { registers = taken + 1 }) (with_words 1 (in_registers taken))) left
+pub next_taken : (words taken : ℕ) → is_register_left (in_registers words taken) ≡ true →
+    with_number (in_registers words taken) ≡ in_registers words (taken + 1)
+next_taken words taken left =
+    ap (λ q. cond q (record (in_registers words taken) { registers = taken + 1 })
+    (with_words 1 (in_registers words taken))) left
 
 abbrev pub held_after : (numbers : ℕ → ℕ) → (taken given : ℕ) → ℕ → ℕ
 held_after numbers taken given = put numbers taken given
@@ -76,6 +77,7 @@ held_among k {numbers} taken need given registers some small' o =
       stands = o.stands;
       image = o.image;
       later = o.later;
+      few = o.few;
       entries = o.entries;
       others = λ n more. put_above numbers taken given n (omega (arith, room, more, some)) ∙ o.others n more;
       words = λ n. put_word numbers taken given n small' (o.words n);
@@ -92,21 +94,22 @@ held_is_given numbers taken given = put_same numbers taken given
 pub saved_reach :
     (k : Setting) (taken need : ℕ) {p : Point} {numbers : ℕ → ℕ} {index : ℕ} (h : frame_of k.block p) →
     HasRegisters k taken (need + 1) → (c : ℕ) (f : Family) (given : ℕ) → given < 2 ^ 32 →
-    Linked k.block.call.surroundings.links k.block.call.code index (save a0 (in_registers taken)) →
+    Linked k.block.call.surroundings.links k.block.call.code index (save a0 (in_registers k.words taken)) →
     ((b : Base) → At b index (Known (point_ground k.block.call.surroundings p h) (services_of p) numbers (λ j. 0)
     (valued given) b) (f b)) →
-    Reach k.block.call.code c f (services_of p) (c + size_of (save a0 (in_registers taken))) (services_of p)
-    (λ b y. At b (index + size_of (save a0 (in_registers taken))) (Known (point_ground k.block.call.surroundings p h)
-    (services_of p) (held_after numbers taken given) (λ j. 0) nothing b) y)
+    Reach k.block.call.code c f (services_of p) (c + size_of (save a0 (in_registers k.words taken))) (services_of p)
+    (λ b y. At b (index + size_of (save a0 (in_registers k.words taken)))
+    (Known (point_ground k.block.call.surroundings p h) (services_of p) (held_after numbers taken given) (λ j. 0)
+    nothing b) y)
 saved_reach k taken need {p} {numbers} {index} h registers c f given small' l at =
-    let t = in_registers taken in
+    let t = in_registers k.words taken in
     let left = register_left k taken (need + 1) registers (omega arith) in
     let w = k.block.call.surroundings in
     let g = point_ground w p h in
     let end = index + size_of (save a0 t) in
     subst (λ q. Reach k.block.call.code c f (services_of p) (c + size_of (save a0 t)) (services_of p)
     (λ b y. At b end (Known g (services_of p) (cond q (put numbers taken given) numbers)
-    (cond q (λ j. 0) (put (λ j. 0) 0 given)) nothing b) y)) left
+    (cond q (λ j. 0) (put (λ j. 0) k.words given)) nothing b) y)) left
     (save_piece (no_words k.block p h) c f a0 t given (λ none. absurd (cc (sym left ∙ none))) small' (λ y u. refl)
     (λ b w' o. o.regs.0)
     (record { reserved_stay = λ y u. refl; known_stay = λ b y u q. q; set = λ y u. refl }) l at)
@@ -116,14 +119,15 @@ pub fetched_reach :
     (k : Setting) (taken need : ℕ) {p : Point} {numbers : ℕ → ℕ} {index : ℕ} {rs : Base → List (ℕ × ℕ)}
     (h : frame_of k.block p) → HasRegisters k taken (need + 1) → (c : ℕ) (f : Family) (r : Register) (given : ℕ) →
     given < 2 ^ 32 → numbers taken ≡ given → Free rs r.index → Free rs 31 →
-    Linked k.block.call.surroundings.links k.block.call.code index (fetch r (in_registers taken)) →
+    Linked k.block.call.surroundings.links k.block.call.code index (fetch r (in_registers k.words taken)) →
     ((b : Base) → At b index (Known (point_ground k.block.call.surroundings p h) (services_of p) numbers (λ j. 0) rs b)
     (f b)) →
-    Reach k.block.call.code c f (services_of p) (c + size_of (fetch r (in_registers taken))) (services_of p)
-    (λ b y. At b (index + size_of (fetch r (in_registers taken))) (Known (point_ground k.block.call.surroundings p h)
-    (services_of p) numbers (λ j. 0) (with' r.index (λ b'. given) rs) b) y)
+    Reach k.block.call.code c f (services_of p) (c + size_of (fetch r (in_registers k.words taken))) (services_of p)
+    (λ b y. At b (index + size_of (fetch r (in_registers k.words taken)))
+    (Known (point_ground k.block.call.surroundings p h) (services_of p) numbers (λ j. 0)
+    (with' r.index (λ b'. given) rs) b) y)
 fetched_reach k taken need {p} {numbers} h registers c f r given small' waits free far l at =
-    let t = in_registers taken in
+    let t = in_registers k.words taken in
     let left = register_left k taken (need + 1) registers (omega arith) in
     fetch_piece (no_words k.block p h) c f r t given (λ none. absurd (cc (sym left ∙ none))) small'
     (ap (λ q. cond q (numbers taken) 0) left ∙ waits) free far l at

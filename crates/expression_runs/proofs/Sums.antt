@@ -33,7 +33,6 @@ use Rattle.block_runs.specs.Machines.{IsIn}
 use Rattle.block_runs.proofs.CallStatements.{comes_map}
 use Rattle.block_runs.proofs.PointGrounds.{in_known, point_ground}
 use Rattle.program_runs.specs.Statements.{IsAmong}
-use Rattle.program_runs.proofs.Lists.{lands_since}
 use Rattle.expression_runs.specs.Values.{Evaluates, HasRegisters, HasWord, OverflowComes, Setting, Stretch, behind}
 use Rattle.expression_runs.specs.Values.{in_registers, number_aims, word_aims}
 use Rattle.expression_runs.proofs.Operands.{Operates, both_do}
@@ -59,21 +58,21 @@ checked_does :
     (x c d : ℕ) (h : frame_of k.block p) → IsAmong k.block numbers p → p.control.line ≡ k.around.line →
     HasRegisters k taken 1 → Checks z x c d →
     Linked k.block.call.surroundings.links k.block.call.code index
-    (skip_where Test.Equal u3 u4 (overflow_raised (in_registers taken))) →
-    credits + size_of (skip_where Test.Equal u3 u4 (overflow_raised (in_registers taken))) + k.most
+    (skip_where Test.Equal u3 u4 (overflow_raised (in_registers k.words taken))) →
+    credits + size_of (skip_where Test.Equal u3 u4 (overflow_raised (in_registers k.words taken))) + k.most
     ≤ cost k.block.call.code →
     ((b : Base) → At b index (Known (point_ground k.block.call.surroundings p h) (services_of p) numbers (λ j. 0)
     (compared x c d) b) (f b)) →
     Comes k.block.call.code credits f (services_of p)
     (number_aims k.block k.labels
-    (behind p numbers taken credits index (skip_where Test.Equal u3 u4 (overflow_raised (in_registers taken)))))
+    (behind p numbers taken credits index (skip_where Test.Equal u3 u4 (overflow_raised (in_registers k.words taken)))))
     (R.value_of k.around (checked 31 z) k.block.call.surroundings.acts p.state)
 unfolding R.value_of give ◌>>◌
 checked_does k over p numbers taken credits index f z x c d h o line registers is l paid at =
     by (is_of_precision 31 z) refl
   where
     t : Taken
-    t = in_registers taken
+    t = in_registers k.words taken
 
     raise' : Code
     raise' = overflow_raised t
@@ -190,7 +189,7 @@ sum_checks x y wx wy =
 sum_operates : (k : Setting) → OverflowComes k → Operates k (λ t. sum_code t) (λ x y. R.value_of k.around
     (checked 31 (x +ℤ y)))
 sum_operates k over p numbers taken c index f x y h o line registers' wx wy l paid at =
-    let t = in_registers taken in
+    let t = in_registers k.words taken in
     let v = services_of p in
     let g = point_ground k.block.call.surroundings p h in
     let front = add u2 u1 a0 ∷ registers Op.SetLess u3 u2 u1 ∷ immediate Imm.SetLess u4 a0 (pos 0) ∷ move a0 u2 ∷ [] in
@@ -263,7 +262,7 @@ difference_checks x y wx wy =
 difference_operates : (k : Setting) → OverflowComes k → Operates k (λ t. difference_code t) (λ x y. R.value_of k.around
     (checked 31 (x -ℤ y)))
 difference_operates k over p numbers taken c index f x y h o line registers' wx wy l paid at =
-    let t = in_registers taken in
+    let t = in_registers k.words taken in
     let v = services_of p in
     let g = point_ground k.block.call.surroundings p h in
     let front = subtract u2 u1 a0 ∷ registers Op.SetLess u3 u1 u2 ∷ immediate Imm.SetLess u4 a0 (pos 0) ∷ move a0 u2

@@ -1,5 +1,7 @@
--- A FIXED BINARY(31) variable at a point of a block: what it holds there, where that stands, and the code that loads it.
-use Rattle.std.proofs.Common.{◌≡◌, ℕ, ◌+◌, ◌*◌, ◌%◌, ◌^◌, ◌<◌, ◌≤◌, ◌⊎◌, inl, inr, List, [], ◌∷◌, Some, Bool, true, false}
+-- A FIXED BINARY(31) variable at a point of a block: what it holds there, where that stands, and the code that loads
+-- it.
+use Rattle.std.proofs.Common.{◌≡◌, ℕ, ◌+◌, ◌*◌, ◌%◌, ◌^◌, ◌<◌, ◌≤◌, ◌⊎◌, inl, inr, List, [], ◌∷◌, Some, Bool, true}
+use Rattle.std.proofs.Common.{false}
 use Rattle.std.proofs.Common.{refl, sym, ap, ◌∙◌, subst, arith}
 use Rattle.std.specs.Prelude.{ℤ, pos, ◌==◌}
 use Rattle.rv_meaning.specs.declared.instr.LoadKind.TheVariants as Load
@@ -207,7 +209,7 @@ pub variable_does :
 variable_does k x begun is p numbers taken c index f o line registers l paid there =
     let e = k.block.environment in
     let w = k.block.call.surroundings in
-    let t = in_registers taken in
+    let t = in_registers k.words taken in
     let n = number_at x is begun o f there in
     let h = point_frame o.stands o.image in
     let base = first_base in

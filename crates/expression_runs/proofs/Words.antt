@@ -22,8 +22,7 @@ use Rattle.block_runs.proofs.CallStatements.{comes_map}
 use Rattle.block_runs.proofs.Places.{IsFrame}
 use Rattle.block_runs.proofs.PointGrounds.{in_known, known_in, point_ground}
 use Rattle.program_runs.specs.Statements.{Block, IsAmong, LandsAt}
-use Rattle.program_runs.proofs.Lists.{lands_since}
-use Rattle.program_runs.proofs.Statements.{lands_later}
+use Rattle.program_runs.proofs.JumpsOut.{jumps_later, jumps_since}
 use Rattle.expression_runs.specs.Values.{HasWord, Stretch, number_aims, word_aims}
 
 -- a word in a0
@@ -56,7 +55,7 @@ pub number_closed : (k : Block) (labels : List Label) (x : Stretch) → Closed k
 number_closed k labels x =
     record {
       done = λ r z s o. (o.0, word_later r o.1);
-      jumped = λ r height label s o. lands_later r o;
+      jumped = λ r height label s o. jumps_later r o;
       returned = λ r z s o. absurd o;
     }
 
@@ -65,7 +64,7 @@ pub word_closed :
 word_closed k labels x given =
     record {
       done = λ r z s o. word_later r o;
-      jumped = λ r height label s o. lands_later r o;
+      jumped = λ r height label s o. jumps_later r o;
       returned = λ r z s o. absurd o;
     }
 
@@ -109,7 +108,7 @@ pub number_further :
 number_further {k} {labels} {x} {y} {flow = flow} i o =
     comes_map (number_aims k labels x) (number_aims k labels y) flow
     (λ c f v z s q. (q.0, word_further i q.1))
-    (λ c f v height label s q. lands_since i.acts q)
+    (λ c f v height label s q. jumps_since i.acts q)
     (λ c f v r s q. absurd q)
     o
 

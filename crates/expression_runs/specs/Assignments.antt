@@ -16,7 +16,7 @@ use Rattle.expression_runs.specs.Variables.{IsNumber, Spot, whole}
 -- around the expressions of a statement
 abbrev pub setting_of : Block → List Label → (line most : ℕ) → Setting
 setting_of k labels line most =
-    record { block = k; labels = labels; around = at_line k.around line; most = most }
+    record { block = k; labels = labels; around = at_line k.around line; most = most; words = 0 }
 
 abbrev pub assignment : Spot → Y.Number → (line : ℕ) → Y.Stmt
 assignment x source line = Y.Assign (whole x) (Y.StoredNumber 31 source) line
@@ -26,8 +26,8 @@ pub record IsAssignment (k : Block) (x : Spot) (source : Y.Number) (line index n
   pub act : HasAct k line
   pub begun : IsBegun k
   pub number : IsNumber k x
-  pub registers : need ≤ k.call.beginning.layer.saved
-  pub saved : k.call.beginning.layer.saved ≤ held_registers
+  pub registers : need ≤ k.registers
+  pub held : k.registers ≤ held_registers
   pub statement :
       Linked k.call.surroundings.links k.call.code index
       (stmt_code k.environment none_taken (assignment x source line))

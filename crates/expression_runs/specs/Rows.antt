@@ -94,6 +94,7 @@ double_image input acts =
       signatures = map template_of (table_of double_program);
       input = input;
       acts = acts;
+      serials = 1;
     }
 
 pub record DoubleRan : Type 0 where

@@ -19,13 +19,13 @@ use Rattle.run_steps.specs.Items.{Linked}
 use Rattle.run_steps.specs.Numbers.{IsWide}
 use Rattle.run_steps.specs.Reach.{Aims, Comes, Family, Reach, cost}
 use Rattle.block_runs.specs.Machines.{AreIn, IsIn}
-use Rattle.program_runs.specs.Statements.{Block, IsAmong, LandsAt}
+use Rattle.program_runs.specs.Statements.{Block, IsAmong, JumpsTo}
 
 -- ---- a value
 
--- temporaries wait in so many registers, and in no words
-abbrev pub in_registers : (count : ℕ) → Taken
-in_registers count = record { registers = count; words = 0 }
+-- temporaries wait in so many registers; so many words of the frame are set aside, and none is taken by a temporary
+abbrev pub in_registers : (words count : ℕ) → Taken
+in_registers words count = record { registers = count; words = words }
 
 -- where the code of an expression begins and ends, the line of its statement, how many registers hold temporaries, and
 -- what they hold
@@ -56,7 +56,7 @@ abbrev pub number_aims : Block → List Label → Stretch → Aims ℤ
 number_aims k labels x =
     record {
       done = λ c f v z s. IsWide z × HasWord k x (word z) c f v s;
-      jumped = λ c f v height label s. LandsAt k labels x.acts c f v height label s;
+      jumped = λ c f v height label s. JumpsTo k labels x.acts c f v height label s;
       returned = λ c f v r s. ⊥;
     }
 
@@ -65,19 +65,21 @@ abbrev pub word_aims : Block → List Label → Stretch → (given : ℕ) → Ai
 word_aims k labels x given =
     record {
       done = λ c f v r s. HasWord k x given c f v s;
-      jumped = λ c f v height label s. LandsAt k labels x.acts c f v height label s;
+      jumped = λ c f v height label s. JumpsTo k labels x.acts c f v height label s;
       returned = λ c f v r s. ⊥;
     }
 
 -- ---- expressions of numbers
 
 -- what is known around the code of an expression in a block: the labels that a jump out of it may name, what stands
--- around its meaning, and how many instructions come at most between a call in it and the first act of what is called
+-- around its meaning, how many instructions come at most between a call in it and the first act of what is called, and
+-- how many words of the frame are set aside around it, for lists of arguments
 pub record Setting : Type 0 where
   pub block : Block
   pub labels : List Label
   pub around : Around
   pub most : ℕ
+  pub words : ℕ
 
 abbrev pub behind : Point → (numbers : ℕ → ℕ) → (taken credits index : ℕ) → (part : Code) → Stretch
 behind p numbers taken credits index part =
@@ -90,21 +92,20 @@ behind p numbers taken credits index part =
       numbers = numbers;
     }
 
--- so many registers more are saved by the block
+-- so many registers more may be written by the block
 abbrev pub HasRegisters : Setting → (taken need : ℕ) → Type 0
-HasRegisters k taken need =
-    (taken + need ≤ k.block.call.beginning.layer.saved) × (k.block.call.beginning.layer.saved ≤ held_registers)
+HasRegisters k taken need = (taken + need ≤ k.block.registers) × (k.block.registers ≤ held_registers)
 
 -- the code of a part, with the registers that it needs beside those in use, leaves the value that is meant
 abbrev pub Evaluates : Setting → (need : ℕ) → (part : Taken → Code) → Meaning ℤ → Type 0
 Evaluates k need part meaning =
     (p : Point) (numbers : ℕ → ℕ) (taken credits index : ℕ) (f : Family) → IsAmong k.block numbers p →
     p.control.line ≡ k.around.line → HasRegisters k taken need →
-    Linked k.block.call.surroundings.links k.block.call.code index (part (in_registers taken)) →
-    credits + size_of (part (in_registers taken)) + k.most ≤ cost k.block.call.code →
+    Linked k.block.call.surroundings.links k.block.call.code index (part (in_registers k.words taken)) →
+    credits + size_of (part (in_registers k.words taken)) + k.most ≤ cost k.block.call.code →
     AreIn k.block.call.surroundings p numbers index f →
     Comes k.block.call.code credits f (services_of p)
-    (number_aims k.block k.labels (behind p numbers taken credits index (part (in_registers taken))))
+    (number_aims k.block k.labels (behind p numbers taken credits index (part (in_registers k.words taken))))
     (meaning k.block.call.surroundings.acts p.state)
 
 -- ---- FIXEDOVERFLOW
@@ -115,9 +116,10 @@ abbrev pub OverflowComes : Setting → Type 0
 OverflowComes k =
     (p : Point) (numbers : ℕ → ℕ) (taken credits index given : ℕ) (f : Family) → IsAmong k.block numbers p →
     p.control.line ≡ k.around.line → HasRegisters k taken 1 → given < 2 ^ 32 →
-    Linked k.block.call.surroundings.links k.block.call.code index (overflow_raised (in_registers taken)) →
-    credits + size_of (overflow_raised (in_registers taken)) + k.most ≤ cost k.block.call.code →
+    Linked k.block.call.surroundings.links k.block.call.code index (overflow_raised (in_registers k.words taken)) →
+    credits + size_of (overflow_raised (in_registers k.words taken)) + k.most ≤ cost k.block.call.code →
     ((b : Base) → IsIn k.block.call.surroundings p numbers index b (f b) × (value (f b).machine a0 ≡ given)) →
     Comes k.block.call.code credits f (services_of p)
-    (word_aims k.block k.labels (behind p numbers taken credits index (overflow_raised (in_registers taken))) given)
+    (word_aims k.block k.labels
+    (behind p numbers taken credits index (overflow_raised (in_registers k.words taken))) given)
     (raised k.around C.FixedOverflow fixed_overflow_code k.block.call.surroundings.acts p.state)

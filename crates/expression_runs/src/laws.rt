@@ -2,6 +2,7 @@
 
 ghost use Rattle.expression_runs.specs.Assignments.{AssignmentsDo};
 ghost use Rattle.expression_runs.specs.Laws.{NumbersDo, OverflowEnds};
+ghost use Rattle.expression_runs.specs.OwnVariables.{OwnNumbers};
 ghost use Rattle.expression_runs.specs.Rows.{DoubleRan};
 
 use granule_keeper::laws::granules_keep;
@@ -9,6 +10,11 @@ use granule_keeper::laws::granules_keep;
 /// Constants, variables, sums and differences of numbers leave what they mean in a register, at each point of a block.
 pub fn numbers_do()
     ensures { NumbersDo }
+{}
+
+/// The one variable of a procedure is a number of its block, wherever that is called.
+pub fn own_numbers()
+    ensures { OwnNumbers }
 {}
 
 /// FIXEDOVERFLOW without a unit in force ends the run.

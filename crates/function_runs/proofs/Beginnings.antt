@@ -4,8 +4,8 @@ use Rattle.rv_meaning.specs.declared.instr.Instr.{Instr}
 use Rattle.pli_meaning.specs.World.{World, counted}
 use Rattle.pli_serving.specs.Blocks as B
 use Rattle.activation_relation.specs.Layers.{Point}
-use Rattle.activation_relation.specs.Points.{Stands, Surroundings}
-use Rattle.activation_relation.proofs.Remaining.{remains_acted, remains_entered, remains_then}
+use Rattle.activation_relation.specs.Points.{AreFew, Stands, Surroundings}
+use Rattle.activation_relation.proofs.Remaining.{remains_acted, remains_then}
 use Rattle.activation_relation.proofs.Returning.{later_same}
 use Rattle.run_steps.specs.Engine.{most_code}
 use Rattle.block_runs.specs.Beginnings.{IsBeginning}
@@ -53,6 +53,7 @@ function_begins w code p numbers c known fits near words =
       held = refl;
       words = λ n less. words n;
       waits = λ n. refl;
+      list = refl;
       top = refl;
       lower = refl;
     }
@@ -61,13 +62,15 @@ pub first_among :
     (w : Surroundings) (code : List Instr) (c : Callee) (p : Point) (numbers : ℕ → ℕ) →
     Stands w (c.made (begun_at w c p numbers)) × IsImage w code (c.made (begun_at w c p numbers)) →
     ((n : ℕ) → numbers n < 2 ^ 32) → (c.made (begun_at w c p numbers)).state.world.acts < w.acts →
+    AreFew w (function_block w code c p numbers).first →
     IsAmong (function_block w code c p numbers) numbers (function_block w code c p numbers).first
-first_among w code c p numbers made' words less =
+first_among w code c p numbers made' words less few =
     let known = stands_acted c.procedure.head.line made'.0 made'.1 less in
     record {
       stands = known.0;
       image = known.1;
       later = later_same (function_block w code c p numbers).first;
+      few = few;
       entries = refl;
       others = λ n more. refl;
       words = words;
@@ -79,9 +82,7 @@ pub first_begun :
     IsBegun (function_block w code c p numbers)
 first_begun w code c p numbers made' begun' stands =
     let same = ap (λ (u : World). u.acts) made'.world in
-    let x = function_beginning w p numbers c.procedure c.calling in
-    let start = begun_at w c p numbers in
-    let then' = c.made start in
+    let then' = c.made (begun_at w c p numbers) in
     let first = acted c.procedure.head.line then' in
     record {
       activation = made'.activation;
@@ -95,6 +96,6 @@ first_begun w code c p numbers made' begun' stands =
         more = omega (arith, same);
       };
       acts = omega (arith, same);
-      remains = remains_then p start first (remains_entered p x.head x.entry x.layer x.head.line)
-          (remains_then start then' first (made'.remains begun') (remains_acted then' counted c.procedure.head.line));
+      remains = remains_then p then' first (made'.remains begun') (remains_acted then' counted c.procedure.head.line);
+      outer = tt;
     }

@@ -54,7 +54,7 @@ call_at k c taken index p numbers =
       surroundings = k.block.call.surroundings;
       code = k.block.call.code;
       environment = k.block.environment;
-      taken = in_registers taken;
+      taken = in_registers k.words taken;
       around = k.around;
       line = 0;
       index = index;
@@ -64,7 +64,7 @@ call_at k c taken index p numbers =
 
 own_code :
     (k : Setting) (c : Callee) (taken index : ℕ) (p : Point) (numbers : ℕ → ℕ) →
-    number_code k.block.environment (in_registers taken) (call_of k c)
+    number_code k.block.environment (in_registers k.words taken) (call_of k c)
     ≡ given_code (call_at k c taken index p numbers) ++ call_code_of (call_at k c taken index p numbers)
 own_code k c taken index p numbers =
     let z = call_at k c taken index p numbers in
@@ -177,6 +177,7 @@ behind_goes k c more taken index credits {numbers} {p} h o part call at c' f v (
             stands = q.stands;
             image = q.image;
             later = later_then k.block.first p q.point o.later q.later;
+            few = q.few;
             entries = q.entries ∙ o.entries;
             others = o.others;
             words = o.words;
@@ -219,7 +220,7 @@ function_does k c more h made' each p numbers taken credits index f o line regis
     let given' = given_code z in
     let call' = call_code_of z in
     let eq = own_code k c taken index p numbers in
-    let part = number_code k.block.environment (in_registers taken) (call_of k c) in
+    let part = number_code k.block.environment (in_registers k.words taken) (call_of k c) in
     let size = ap (λ u. size_of u) eq in
     let n = size_append given' call' in
     let l' = subst (Linked w.links code index) eq l in
@@ -238,7 +239,7 @@ function_does k c more h made' each p numbers taken credits index f o line regis
     comes_on w.acts (V.called k.around tree w.acts p.state) as_number
     (subst (Comes code credits f (services_of p) (before code goal w.acts as_number)) (sym (called_means k c more h o))
     (onward (before_closed w.acts as_number closed)
-    (arguments_given z p numbers index credits f o.stands o.image (omega arith, refl) (newest_frame_at k c more h o)
+    (arguments_given z p numbers index credits f o.stands o.image (h.words, refl) (newest_frame_at k c more h o)
     (front_of given' call' l') there)
     (λ g at.
     comes_map (behind_aims (function_at w code c' p numbers) (credits + size_of part))
@@ -247,7 +248,7 @@ function_does k c more h made' each p numbers taken credits index f o line regis
     (λ c1 f1 v1 height label s q. absurd q)
     (λ c1 f1 v1 r s q. absurd q)
     (function_runs w code c' p numbers (credits + size_of given') (credits + size_of part) g (o.stands, o.image)
-    (function_from k c call h.function, room_from k c call p (room_among k c more h o)) (back_of given' call' l')
+    o.few (function_from k c call h.function, room_from k c call p (room_among k c more h o)) (back_of given' call' l')
     (made' call p numbers o).0 o.words
     (each call p numbers o) (made' call p numbers o).1 (omega (arith, enough, turns, later))
     (omega (arith, paid, most, size, n)) (λ b. (at b).0)

@@ -22,7 +22,8 @@ use Rattle.pli_coding.specs.Environments.{none_taken}
 use Rattle.pli_coding.specs.Procedures.{no_value}
 use Rattle.pli_coding.specs.Statements.{stmts_code}
 use Rattle.activation_relation.specs.Layers.{Point, services_of}
-use Rattle.activation_relation.specs.Points.{Stands, Surroundings}
+use Rattle.activation_relation.specs.Points.{AreFew, Stands, Surroundings}
+use Rattle.activation_relation.proofs.Serials.{few_made}
 use Rattle.activation_relation.specs.ServiceLaws.{IsSystem}
 use Rattle.run_steps.specs.Engine.{Base}
 use Rattle.run_steps.specs.Items.{Linked}
@@ -44,6 +45,7 @@ use Rattle.program_runs.specs.Calls.{AreMade, Callee, begun_at, body_index, labe
 use Rattle.program_runs.specs.Procedures.{HasRoom, begin_of, block_of}
 use Rattle.program_runs.specs.Statements.{EachDoes, GoesOn, IsAmong, IsBegun, statement_aims}
 use Rattle.program_runs.proofs.Calls.{body_closed, on_same}
+use Rattle.program_runs.proofs.JumpsOut.{no_jump}
 use Rattle.program_runs.proofs.Lists.{list_does}
 use Rattle.function_runs.specs.Functions.{IsFunction, function_at, function_block, function_code, function_end}
 use Rattle.function_runs.specs.Functions.{function_entry, function_tail}
@@ -189,14 +191,15 @@ body_goes w code c p numbers f h b o each only few there =
     (point_frame q.among.stands q.among.image) (q.among.stands, q.among.image) h.line
     (omega (arith, last, proc), h.acts)
     h.raises (subst (λ xs. IsSystem (force xs C.Error)) (sym q.among.later.activations) only) l4 at)))
-    (λ c' f' v' height label s q. absurd (cc q.carried))
-    (λ c' f' v' r s q. q)
+    (λ c' f' v' height label s q. no_jump refl q)
+    (λ c' f' v' r s q. q.to)
     (list_does k [] x.body (body_index c) left_over k.first numbers 0 left_over f b few each h.labels o l2
     (omega arith, omega (arith, inside)) there))
 
 pub function_runs :
     (w : Surroundings) (code : List Instr) (c : Callee) (p : Point) (numbers : ℕ → ℕ) (credits wanted : ℕ)
-    (f : Family) → Stands w p × IsImage w code p → IsFunction w code c × HasRoom w p c.procedure c.calling →
+    (f : Family) → Stands w p × IsImage w code p → AreFew w p →
+    IsFunction w code c × HasRoom w p c.procedure c.calling →
     Linked w.links code c.calling.call (CallTo (ProcedureEntry c.procedure.head.number) ∷ []) →
     AreMade w code c p numbers → ((n : ℕ) → numbers n < 2 ^ 32) →
     (IsBegun (function_block w code c p numbers) →
@@ -209,7 +212,7 @@ pub function_runs :
     Comes code credits f (services_of p) (behind_aims (function_at w code c p numbers) wanted)
     (M.block_run c.around (block_of c.procedure) (function_entry c.procedure c.calling.parent) w.acts p.state)
 unfolding ◌>>◌
-function_runs w code c p numbers credits wanted f known h calls made' words each only few paid there gives =
+function_runs w code c p numbers credits wanted f known serials h calls made' words each only few paid there gives =
     let k = function_at w code c p numbers in
     let x = c.procedure in
     let one = act_code x.head.line in
@@ -249,7 +252,8 @@ function_runs w code c p numbers credits wanted f known h calls made' words each
     (act_comes (before_closed w.acts next' closed) x.head.line (c0 + size_of x.variables) 0 g' stands'
     (h.0.line, h.0.acts, omega (arith, n0, n1, n2, n3, n4, paid)) (front_of one (body ++ tail) l1) at'
     (λ g'' less at''.
-    let o = first_among w code c p numbers stands' words less in
-    let b = first_begun w code c p numbers made' new.0 o.stands in
     let same = ap (λ (u : World). u.acts) made'.world in
+    let o = first_among w code c p numbers stands' words less
+    (few_made w p (function_block w code c p numbers).first serials made'.few (omega (arith, same))) in
+    let b = first_begun w code c p numbers made' new.0 o.stands in
     body_goes w code c p numbers g'' h.0 b o (each b) only (omega (arith, few, same)) at''))))) there gives)

@@ -4,4 +4,6 @@ pub mod NoValues
 pub mod Functions
 pub mod FunctionCalls
 pub mod OuterVariables
+pub mod OwnVariables
 pub mod Rows
+pub mod LocalRows

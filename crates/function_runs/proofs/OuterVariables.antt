@@ -29,18 +29,22 @@ use Rattle.function_runs.specs.OuterVariables.{IsInside}
 
 -- ---- a block over one that declares it
 
-record Over (k : Block) (inner : Block) (p : Point) : Type 0 where
-  activation : Activation
-  layer : Layer
-  active : inner.first.state.activations ≡ activation ∷ p.state.activations
-  layers : inner.first.control.layers ≡ layer ∷ p.control.layers
-  height : activation.height ≡ suc (length p.state.activations)
-  level : activation.level ≡ inner.call.beginning.layer.level
-  parent : activation.parent ≡ own_height k
-  remains : Remains p inner.first
-  own : k.environment.level ≡ k.call.beginning.layer.level
-  code : inner.environment.level ≡ inner.call.beginning.layer.level
-  few : inner.call.beginning.layer.level < most_levels
+pub record Over (k : Block) (inner : Block) (p : Point) : Type 0 where
+  pub activation : Activation
+  pub layer : Layer
+  pub active : inner.first.state.activations ≡ activation ∷ p.state.activations
+  -- the frames below its own are those at the point, whatever is told of words in them
+  pub below : List Layer
+  pub layers : inner.first.control.layers ≡ layer ∷ below
+  pub frames : (n : ℕ) → frame_at below n ≡ frame_at p.control.layers n
+  pub many : length below ≡ length p.control.layers
+  pub height : activation.height ≡ suc (length p.state.activations)
+  pub level : activation.level ≡ inner.call.beginning.layer.level
+  pub parent : activation.parent ≡ own_height k
+  pub remains : Remains p inner.first
+  pub own : k.environment.level ≡ k.call.beginning.layer.level
+  pub code : inner.environment.level ≡ inner.call.beginning.layer.level
+  pub few : inner.call.beginning.layer.level < most_levels
 
 ancestor_own :
     (a : Activation) (as' : List Activation) (level : ℕ) → (a.level == level) ≡ false →
@@ -50,7 +54,7 @@ ancestor_own a as' level other =
     (eqb-refl a.height)
     ∙ ap (λ q. cond q (Some a) (ancestor as' a.parent level)) other
 
-same_ancestor :
+pub same_ancestor :
     {k inner : Block} {numbers : ℕ → ℕ} {p : Point} (level : ℕ) → Over k inner p → IsBegun k → IsAmong k numbers p →
     level < inner.call.beginning.layer.level →
     ancestor_at inner.first.state level ≡ ancestor_at k.first.state level
@@ -88,7 +92,7 @@ below_frame {k} {p = p} level base i b o (inl own) =
     )
 below_frame level base i b o (inr outer) = (outer.2, outer.4)
 
-over_number :
+pub over_number :
     {k inner : Block} {numbers : ℕ → ℕ} {p : Point} (x : Spot) → Over k inner p → IsBegun k → IsAmong k numbers p →
     x.level < inner.call.beginning.layer.level → inner.environment.program ≡ k.environment.program →
     inner.environment.parts ≡ k.environment.parts → IsNumber k x → IsNumber inner x
@@ -155,7 +159,9 @@ over_number {k} {inner} {p = p} x i b o less program parts is =
     frame =
         below.1
         ∙ ap (λ ls. frame_at ls (height_of (ancestor_at k.first.state x.level))) (sym o.later.layers)
-        ∙ sym (frame_below i.layer φs (height_of (ancestor_at k.first.state x.level)) high)
+        ∙ sym (i.frames (height_of (ancestor_at k.first.state x.level)))
+        ∙ sym (frame_below i.layer i.below (height_of (ancestor_at k.first.state x.level))
+        (let many = i.many in omega (arith, high, many)))
         ∙ ap (λ ls. frame_at ls (height_of (ancestor_at k.first.state x.level))) (sym i.layers)
         ∙ ap (λ a. frame_at inner.first.control.layers (height_of a)) (sym same)
 
@@ -179,7 +185,10 @@ procedure_number k c x h is p numbers o made b =
       activation = a;
       layer = φ;
       active = made.activations;
+      below = p.control.layers;
       layers = made.layers;
+      frames = λ n. refl;
+      many = refl;
       height = active.0.height;
       level = active.0.level;
       parent = made.parent ∙ h.parent;
@@ -207,7 +216,10 @@ function_number k c x h is p numbers o made b =
       activation = a;
       layer = φ;
       active = made.activations;
+      below = p.control.layers;
       layers = made.layers;
+      frames = λ n. refl;
+      many = refl;
       height = active.0.height;
       level = active.0.level;
       parent = made.parent ∙ h.parent;

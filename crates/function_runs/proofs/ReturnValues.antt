@@ -62,14 +62,14 @@ use Rattle.block_runs.proofs.Places.{bounds, ground_at, word_in}
 use Rattle.block_runs.proofs.PointActs.{act_comes}
 use Rattle.block_runs.proofs.PointGrounds.{StandsIn, in_known, point_frame, point_ground}
 use Rattle.program_runs.specs.Statements.{Block, Does, IsAmong, IsBegun, size_in, statement_aims}
-use Rattle.program_runs.proofs.Lists.{lands_since}
+use Rattle.program_runs.proofs.JumpsOut.{end_later, jumps_repaid, jumps_since, own_end}
 use Rattle.program_runs.proofs.NewestBlocks.{Newest, newest_at}
-use Rattle.program_runs.proofs.Statements.{acted_among, end_later, resumes_among}
+use Rattle.program_runs.proofs.Statements.{acted_among, resumes_among}
 use Rattle.activation_relation.proofs.Remaining.{remains_then}
 use Rattle.expression_runs.specs.Assignments.{setting_of}
 use Rattle.expression_runs.specs.Laws as L
 use Rattle.expression_runs.specs.Values.{HasWord, Stretch, behind, number_aims}
-use Rattle.expression_runs.proofs.Assignments.{fit_is, lands_repaid}
+use Rattle.expression_runs.proofs.Assignments.{fit_is}
 use Rattle.expression_runs.proofs.Words.{frame_of, known_word}
 use Rattle.function_runs.specs.Returns.{IsReturn, return_of}
 
@@ -227,7 +227,8 @@ at_result k source line i left' need most h debt c' f' v' z s y wide q paid l i0
       resumes = resumes_among b q.among;
       image = q.among.image;
       remains = remains_then k.call.point k.first p b.remains q.among.later.remains;
-      others = q.among.others;
+      few = q.among.few;
+      others = λ n more. let few = h.saved in q.among.others n (omega (arith, few, more));
       state = q.state;
       given = word z;
       result = subst (λ o. IsResult o (Some (BasicNumber z)) (word z)) (sym h.function) (refl, wide);
@@ -299,12 +300,13 @@ return_does k labels source line index left' need most h ev p numbers c wanted f
     (sym (fit_is around' z w.acts s q.0))
     (record {
       to = record {
-        to = at_result k source line index left' need most h debt c' f' v' z s y q.0 q.1 (omega arith)
-            (linked_at (index + size_of one + size_of value') (put' ++ jump) (omega (arith, n2)) ls);
+        to = λ i0 f0 v0 from. own_end h.kind
+            (at_result k source line index left' need most h debt c' f' v' z s y q.0 q.1 (omega arith)
+            (linked_at (index + size_of one + size_of value') (put' ++ jump) (omega (arith, n2)) ls) i0 f0 v0 from);
       };
     }))
     (λ c' f' v' height label s q.
-    lands_repaid debt aims (λ i g' u q'. lands_since (omega arith) q') q)
+    λ i0 f0 v0 from. jumps_repaid debt from (jumps_since (omega arith) q))
     (λ c' f' v' r s q. absurd q)
-    (ev p' numbers 0 0 (index + size_of one) g o' refl (let room = h.registers in omega (arith, room), h.saved) lv
+    (ev p' numbers 0 0 (index + size_of one) g o' refl (let room = h.registers in omega (arith, room), h.held) lv
     (omega (arith, all, n0, n1, n2)) at))))))

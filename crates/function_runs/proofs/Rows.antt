@@ -174,6 +174,7 @@ fetch_only input acts =
       made = refl;
       table = refl;
       parts = refl;
+      few = omega arith;
       declared = record {
         newest = refl;
         here = refl;
@@ -317,6 +318,8 @@ inner_each input acts more call p numbers few b o b' =
             enough = omega arith;
             function = refl;
             registers = omega arith;
+            held = omega arith;
+            kind = refl;
             saved = omega arith;
             statement = front_of (stmt_code inner_environment none_taken fetch_return) [] inner_body_linked;
             paid = omega (arith, n);
@@ -343,7 +346,7 @@ first_is input acts few b =
       begun = b;
       number = fetch_number input acts;
       registers = omega arith;
-      saved = omega arith;
+      held = omega arith;
       statement = front_of (stmt_code fetch_environment none_taken fetch_first)
           (stmts_code fetch_environment none_taken fetch_rest) body_linked;
       paid = omega (arith, n);
@@ -362,7 +365,7 @@ again_is input acts few b =
       begun = b;
       number = fetch_number input acts;
       registers = omega arith;
-      saved = omega arith;
+      held = omega arith;
       statement = front_of (stmt_code fetch_environment none_taken fetch_again) []
           (back_of (stmt_code fetch_environment none_taken fetch_first)
           (stmts_code fetch_environment none_taken fetch_rest) body_linked);
@@ -386,6 +389,7 @@ fetched_is input more few b =
       around = refl;
       enough = omega arith;
       most = omega arith;
+      words = omega arith;
     })
     (λ call p numbers o. inner_made input (suc more) more call p numbers o)
     (λ call p numbers o b'. inner_each input (suc more) more call p numbers few b o b')

@@ -1,5 +1,5 @@
 -- Calls of functions in expressions of the block that declares them.
-use Rattle.std.specs.Prelude.{ℕ, suc, ◌+◌, ◌<◌, ◌≤◌, ◌≡◌, [], length, Some}
+use Rattle.std.specs.Prelude.{ℕ, suc, ◌+◌, ◌^◌, ◌<◌, ◌≤◌, ◌≡◌, [], length, Some}
 use Rattle.pli_language.specs.declared.condition.Condition.TheVariants as C
 use Rattle.pli_typing.specs.TypedTree as Y
 use Rattle.pli_meaning.specs.DeclaredShapes.{procedure_numbered}
@@ -50,6 +50,7 @@ pub record IsFunctionCall (k : Setting) (c : Callee) (more : ℕ) : Type 0 where
       ≡ record { program = k.around.program; enter = entered k.around.program more; turns = suc more; line = 0 }
   pub enough : k.block.call.surroundings.acts < suc more + k.block.first.state.world.acts
   pub most : 4 + size_of (function_code c.environment c.procedure) ≤ k.most
+  pub words : k.words < 2 ^ 20
 
 -- a call leaves the function's value if its statements do what they mean, wherever it is called
 abbrev pub FunctionCallsDo : Type 0

@@ -19,7 +19,7 @@ use Rattle.pli_coding.specs.Registers.{a0, frame_register, held_registers}
 use Rattle.pli_coding.specs.Statements.{stmts_code}
 use Rattle.activation_relation.specs.CodeStores.{most_levels}
 use Rattle.activation_relation.specs.Layers.{Point, services_of}
-use Rattle.activation_relation.specs.Points.{Stands, Surroundings}
+use Rattle.activation_relation.specs.Points.{AreFew, Stands, Surroundings}
 use Rattle.activation_relation.specs.ServiceLaws.{IsSystem}
 use Rattle.run_steps.specs.Engine.{Base}
 use Rattle.run_steps.specs.Items.{Linked}
@@ -91,6 +91,8 @@ function_block w code c p numbers =
       first = acted c.procedure.head.line (c.made (begun_at w c p numbers));
       environment = c.environment;
       around = at_line c.around c.procedure.head.line;
+      registers = c.procedure.saved;
+      outers = [];
     }
 
 -- wherever it is called
@@ -116,7 +118,8 @@ pub record IsFunction (w : Surroundings) (code : List Instr) (c : Callee) : Type
 abbrev pub FunctionsRun : Type 0
 FunctionsRun =
     (w : Surroundings) (code : List Instr) (c : Callee) (p : Point) (numbers : ℕ → ℕ) (credits wanted : ℕ)
-    (f : Family) → Stands w p × IsImage w code p → IsFunction w code c × HasRoom w p c.procedure c.calling →
+    (f : Family) → Stands w p × IsImage w code p → AreFew w p →
+    IsFunction w code c × HasRoom w p c.procedure c.calling →
     Linked w.links code c.calling.call (CallTo (ProcedureEntry c.procedure.head.number) ∷ []) →
     AreMade w code c p numbers → ((n : ℕ) → numbers n < 2 ^ 32) →
     (IsBegun (function_block w code c p numbers) →

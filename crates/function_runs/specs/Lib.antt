@@ -3,3 +3,4 @@ pub mod Returns
 pub mod FunctionCalls
 pub mod OuterVariables
 pub mod Rows
+pub mod LocalRows

@@ -1,9 +1,14 @@
 -- Variables of a block in the procedures and functions that it declares.
-use Rattle.std.specs.Prelude.{ℕ, ◌+◌, ◌<◌, ◌≡◌, length}
+use Rattle.std.specs.Prelude.{ℕ, ◌+◌, ◌<◌, ◌≡◌, List, length}
+use Rattle.rv_meaning.specs.declared.instr.Instr.{Instr}
 use Rattle.activation_relation.specs.CodeStores.{most_levels}
 use Rattle.activation_relation.specs.Layers.{Point}
+use Rattle.activation_relation.specs.Points.{Surroundings}
+use Rattle.block_runs.specs.Machines.{HasParts}
 use Rattle.program_runs.specs.Calls.{AreMade, Callee, block_at}
 use Rattle.program_runs.specs.Statements.{Block, IsAmong, IsBegun}
+use Rattle.program_runs.specs.Variables.{Declared, IsOnly}
+use Rattle.expression_runs.specs.OwnVariables.{IsOwn}
 use Rattle.expression_runs.specs.Variables.{IsNumber, Spot}
 use Rattle.function_runs.specs.Functions.{function_block}
 
@@ -30,3 +35,10 @@ pub record OuterNumbers : Type 0 where
       IsAmong k numbers p → AreMade k.call.surroundings k.call.code c p numbers →
       IsBegun (function_block k.call.surroundings k.call.code c p numbers) →
       IsNumber (function_block k.call.surroundings k.call.code c p numbers) x
+
+-- and the one variable that a function has itself is a number of its block, as a procedure's is
+abbrev pub OwnNumbers : Type 0
+OwnNumbers =
+    (w : Surroundings) (code : List Instr) (c : Callee) (p : Point) (numbers : ℕ → ℕ) (d : Declared) (x : Spot) →
+    HasParts w.parts → IsOnly w c p numbers d → IsOwn c d x → IsBegun (function_block w code c p numbers) →
+    IsNumber (function_block w code c p numbers) x

@@ -1,5 +1,5 @@
 -- RETURN with a number, in a function's own block.
-use Rattle.std.specs.Prelude.{ℕ, ◌+◌, ◌*◌, ◌≤◌, ◌≡◌, List, Some}
+use Rattle.std.specs.Prelude.{ℕ, ◌+◌, ◌*◌, ◌≤◌, ◌≡◌, List, Some, false}
 use Rattle.pli_typing.specs.Signatures.{Fixed}
 use Rattle.pli_typing.specs.TypedTree as Y
 use Rattle.pli_meaning.specs.Control.{Label}
@@ -9,6 +9,7 @@ use Rattle.pli_coding.specs.Frames.{result}
 use Rattle.pli_coding.specs.Linking.{place_of}
 use Rattle.pli_coding.specs.Registers.{held_registers}
 use Rattle.pli_coding.specs.Statements.{stmt_code}
+use Rattle.activation_relation.specs.Landing.{is_begin}
 use Rattle.run_steps.specs.Engine.{most_code}
 use Rattle.run_steps.specs.Items.{Linked}
 use Rattle.run_steps.specs.Reach.{cost}
@@ -30,8 +31,10 @@ pub record IsReturn (k : Block) (source : Y.Number) (line index left' need most 
   pub near : k.call.end ≤ most_code
   pub enough : 2 ≤ left'
   pub function : k.call.function ≡ Some (record { place = result; kind = Fixed 31 })
-  pub registers : need ≤ k.call.beginning.layer.saved
-  pub saved : k.call.beginning.layer.saved ≤ held_registers
+  pub registers : need ≤ k.registers
+  pub held : k.registers ≤ held_registers
+  pub kind : is_begin k.call.beginning.layer.kind ≡ false
+  pub saved : k.registers ≤ k.call.beginning.layer.saved
   pub statement :
       Linked k.call.surroundings.links k.call.code index (stmt_code k.environment none_taken (return_of source line))
   pub paid : size_in k (return_of source line) + most ≤ cost k.call.code

@@ -123,6 +123,7 @@ fetch_image input acts =
       signatures = map template_of (table_of fetch_program);
       input = input;
       acts = acts;
+      serials = 1;
     }
 
 pub record FetchRan : Type 0 where

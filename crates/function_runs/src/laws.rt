@@ -2,7 +2,8 @@
 
 ghost use Rattle.function_runs.specs.FunctionCalls.{FunctionCallsDo};
 ghost use Rattle.function_runs.specs.Functions.{FunctionsRun};
-ghost use Rattle.function_runs.specs.OuterVariables.{OuterNumbers};
+ghost use Rattle.function_runs.specs.LocalRows.{LocalRan};
+ghost use Rattle.function_runs.specs.OuterVariables.{OuterNumbers, OwnNumbers};
 ghost use Rattle.function_runs.specs.Returns.{ReturnsDo};
 ghost use Rattle.function_runs.specs.Rows.{FetchRan};
 
@@ -30,9 +31,21 @@ pub fn outer_numbers()
     ensures { OuterNumbers }
 {}
 
+/// And the one variable of a function is a number of its block, wherever that is called.
+pub fn own_numbers()
+    ensures { OwnNumbers }
+{}
+
 /// A worked row: a main procedure that adds what a function returns to a variable, until it overflows.
 pub fn fetch_ran()
     ensures { FetchRan }
+{
+    granules_keep();
+}
+
+/// A worked row: a main procedure that calls another in a loop, which has a variable of its own, until it overflows.
+pub fn local_ran()
+    ensures { LocalRan }
 {
     granules_keep();
 }

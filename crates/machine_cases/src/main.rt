@@ -7,6 +7,7 @@ mod numbers;
 mod programs;
 mod random;
 mod runs;
+mod streams;
 mod words;
 
 use anyhow::Result;
@@ -39,6 +40,8 @@ fn main(rt: HostRuntime) -> Result<()> {
     }
     println!(rt; "== random")?;
     random::tell_random(&rt)?;
+    println!(rt; "== streams")?;
+    streams::tell_streams(&rt)?;
     println!(rt; "== others")?;
     images::tell_small_tables(&rt)?;
     runs::tell_other_notices(&rt)

@@ -34,7 +34,7 @@ pub fn tell_runs(rt: &HostRuntime, name: &str, given: &str) -> Result<()> {
         for bound in BOUNDS {
             let ran = run(rt.alloc(), &image, base, b"", bound);
             println!(rt; "{name} at {base:08x} for {bound}: {ran:?}")?;
-            tell_notice(rt, report(&ran))?;
+            tell_notice(rt, report(&ran, "stdin", "stdout"))?;
         }
     }
     Ok(())
@@ -46,14 +46,14 @@ pub fn tell_other_notices(rt: &HostRuntime) -> Result<()> {
         acts: 0,
         output: Vec::new(rt.alloc()),
     };
-    tell_notice(rt, report(&Err(full)))?;
+    tell_notice(rt, report(&Err(full), "stdin", "stdout"))?;
     for kind in [SourceKind::Undeclared, SourceKind::Memory] {
         let fault = SourceFault {
             line: 1,
             column: 24,
             kind,
         };
-        tell_notice(rt, report(&Err(RunFault::Source(fault))))?;
+        tell_notice(rt, report(&Err(RunFault::Source(fault)), "stdin", "stdout"))?;
     }
     for limit in [Limit::Depth, Limit::Automatic] {
         let outcome = Outcome {
@@ -62,7 +62,7 @@ pub fn tell_other_notices(rt: &HostRuntime) -> Result<()> {
             raised: Vec::new(rt.alloc()),
             end: End::Limit(limit),
         };
-        tell_notice(rt, report(&Ok(outcome)))?;
+        tell_notice(rt, report(&Ok(outcome), "stdin", "stdout"))?;
     }
     tell_notice(rt, refused_image(ImageFault::Length))?;
     tell_notice(rt, refused_image(ImageFault::Memory))?;

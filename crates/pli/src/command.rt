@@ -19,6 +19,8 @@ pub const BOUND: &str = "bound";
 
 pub const BASE: &str = "base";
 
+pub const TRACE: &str = "trace";
+
 pub const MESSAGES: &str = "messages";
 
 pub const MARGINS: &str = "margins";
@@ -102,7 +104,11 @@ fn with_run<'a>(command: Command<'a>, alloc: Global) -> Result<Command<'a>, Allo
         .value_parser(value_parser!(u32))
         .default_value("65536")
         .help("Where the program stands in the machine's memory");
-    command.arg(input)?.arg(bound)?.arg(base)
+    let trace = Arg::new(alloc, TRACE)
+        .long(TRACE)
+        .action(ArgAction::SetTrue)
+        .help("Tells behind an error of each active block, newest first");
+    command.arg(input)?.arg(bound)?.arg(base)?.arg(trace)
 }
 
 fn compile<'a>(alloc: Global) -> Result<Command<'a>, AllocError> {

@@ -3,8 +3,8 @@
 use crate::margins::margins_of;
 use clap::ArgMatches;
 use std::fs::File;
+use std::io;
 use std::io::Read;
-use std::{fs, io};
 
 /// How many bytes of a source are read at most: one more than a source may have, which tells that it is too long.
 const MOST_OF_A_SOURCE: u64 = 1_048_577;
@@ -20,16 +20,4 @@ pub fn source_of(rt: &HostRuntime, matches: &ArgMatches<'_>, name: &str) -> io::
         margins.blank_outside(&mut bytes);
     }
     Ok(bytes)
-}
-
-/// The whole input: of the file that is named, or standard input.
-pub fn input_of(rt: &HostRuntime, file: Option<&str>) -> io::Result<Vec<u8>> {
-    match file {
-        Some(name) => fs::read(rt, name),
-        None => {
-            let mut bytes = Vec::new(rt.alloc());
-            rt.reader().read_to_end(&mut bytes)?;
-            Ok(bytes)
-        }
-    }
 }

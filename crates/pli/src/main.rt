@@ -7,6 +7,7 @@ mod files;
 mod man;
 pub mod margins;
 mod running;
+mod streams;
 mod tell;
 mod telling;
 #[cfg(test)]

@@ -16,7 +16,8 @@ pub struct Margins {
 impl Margins {
     /// The margins that two columns are; nothing where the first is behind the last.
     pub fn new(first: usize, last: usize) -> Option<Margins>
-        ensures { MatchOption result (last < first) (λ m. (first ≤ last) × (m ≡ record { first = first; last = last })) }
+        ensures { MatchOption result (last < first)
+            (λ m. (first ≤ last) × (m ≡ record { first = first; last = last })) }
     {
         (first <= last).then_some(Margins { first, last })
     }

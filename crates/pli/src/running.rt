@@ -1,37 +1,54 @@
 // `pli run`, `pli compile` and `pli exec`.
 
 use crate::command;
-use crate::files::{input_of, source_of};
-use crate::tell::{message_of, tell, tell_refusal, tell_run, unread_for};
+use crate::files::source_of;
+use crate::streams::{InputFeed, OutputDrain};
+use crate::tell::{message_of, tell, tell_entered, tell_refusal, tell_run, unread_for};
 use clap::ArgMatches;
+use pli_activations::activations::Activations;
 use pli_meaning::outcome::Outcome;
-use pli_run::image_file::{compiled_bytes, run_bytes};
-use pli_run::report::{refused_image, report, unwritten};
-use pli_run::run::RunFault;
-use pli_run::source_run::compile_and_run;
+use pli_run::image_file::{compiled_bytes, stream_bytes};
+use pli_run::report::{is_error, refused_image, report, unwritten};
+use pli_run::run::{RunFault, Traced};
+use pli_run::source_run::compile_and_stream;
 use std::fs;
 
-fn output_of(ran: &Result<Outcome, RunFault>) -> &[u8] {
+// How the input is called.
+fn input_name<'a>(matches: &'a ArgMatches<'_>) -> &'a str {
+    matches.get_str(command::INPUT).unwrap_or("stdin")
+}
+
+fn bound_and_base(matches: &ArgMatches<'_>) -> (u64, u32) {
+    let bound = matches.get_one::<u64>(command::BOUND).unwrap_or(0);
+    let base = matches.get_one::<u32>(command::BASE).unwrap_or(0);
+    (bound, base)
+}
+
+// An outcome by itself, and the blocks that are entered at its end.
+fn parted(
+    rt: &HostRuntime,
+    ran: Result<Traced, RunFault>,
+) -> (Result<Outcome, RunFault>, Activations) {
     match ran {
-        Ok(outcome) => &outcome.output,
-        Err(RunFault::Memory { output, .. } | RunFault::Machine { output, .. }) => output,
-        Err(_) => &[],
+        Ok(traced) => (Ok(traced.outcome), traced.entered),
+        Err(fault) => (Err(fault), Activations::new(rt.alloc())),
     }
 }
 
-// Writes what a run has shown and tells how it ended; what is told of the run comes first.
-fn shown(
+// Tells how a run ended, and, where the words ask for them, the blocks that are entered at an error.
+fn told(
     rt: &HostRuntime,
     matches: &ArgMatches<'_>,
-    ran: &Result<Outcome, RunFault>,
+    ran: Result<Traced, RunFault>,
     source: &[u8],
 ) -> u8 {
-    let written = rt.write_all(output_of(ran));
-    let notice = report(ran);
-    if written.is_err() && notice.line.is_none() {
-        return tell(rt, unwritten("stdout"));
+    let (ran, entered) = parted(rt, ran);
+    let notice = report(&ran, input_name(matches), "stdout");
+    let status = tell_run(rt, matches, notice, source);
+    if matches.get_flag(command::TRACE) && is_error(&ran) {
+        tell_entered(rt, entered);
     }
-    tell_run(rt, matches, notice, source)
+    status
 }
 
 /// `pli run`.
@@ -41,18 +58,18 @@ pub fn run(rt: &HostRuntime, matches: &ArgMatches<'_>) -> u8 {
         Ok(source) => source,
         Err(error) => return tell(rt, unread_for(name, &error)),
     };
-    let file = matches.get_str(command::INPUT);
-    let input = match input_of(rt, file) {
-        Ok(input) => input,
-        Err(error) => return tell(rt, unread_for(file.unwrap_or("stdin"), &error)),
+    let feed = match InputFeed::open(rt, matches.get_str(command::INPUT)) {
+        Ok(feed) => feed,
+        Err(error) => return tell(rt, unread_for(input_name(matches), &error)),
     };
-    let bound = matches.get_one::<u64>(command::BOUND).unwrap_or(0);
-    let base = matches.get_one::<u32>(command::BASE).unwrap_or(0);
-    match compile_and_run(rt.alloc(), &source, base, &input, bound) {
+    let (bound, base) = bound_and_base(matches);
+    let drain = OutputDrain::new(rt);
+    let (ran, _, _) = compile_and_stream(rt.alloc(), &source, base, feed, drain, bound);
+    match ran {
         Err(RunFault::Source(fault)) => {
             tell_refusal(rt, message_of(rt, matches, name, &source, fault))
         }
-        ran => shown(rt, matches, &ran, &source),
+        ran => told(rt, matches, ran, &source),
     }
 }
 
@@ -81,15 +98,15 @@ pub fn exec(rt: &HostRuntime, matches: &ArgMatches<'_>) -> u8 {
         Ok(image) => image,
         Err(error) => return tell(rt, unread_for(name, &error)),
     };
-    let file = matches.get_str(command::INPUT);
-    let input = match input_of(rt, file) {
-        Ok(input) => input,
-        Err(error) => return tell(rt, unread_for(file.unwrap_or("stdin"), &error)),
+    let feed = match InputFeed::open(rt, matches.get_str(command::INPUT)) {
+        Ok(feed) => feed,
+        Err(error) => return tell(rt, unread_for(input_name(matches), &error)),
     };
-    let bound = matches.get_one::<u64>(command::BOUND).unwrap_or(0);
-    let base = matches.get_one::<u32>(command::BASE).unwrap_or(0);
-    match run_bytes(rt.alloc(), &image, base, &input, bound) {
-        Ok(ran) => shown(rt, matches, &ran, &[]),
+    let (bound, base) = bound_and_base(matches);
+    let drain = OutputDrain::new(rt);
+    let (ran, _, _) = stream_bytes(rt.alloc(), &image, base, feed, drain, bound);
+    match ran {
+        Ok(ran) => told(rt, matches, ran, &[]),
         Err(fault) => tell(rt, refused_image(fault)),
     }
 }

@@ -2,6 +2,7 @@
 
 use crate::command;
 use clap::ArgMatches;
+use pli_activations::activations::Activations;
 use pli_language::expr::Place;
 use pli_language::fault::SourceFault;
 use pli_lex::tokens;
@@ -10,7 +11,7 @@ use pli_messages::farthest::farthest;
 use pli_messages::message::{Message, Style};
 use pli_messages::place::{Shown, first_line, from_line};
 use pli_messages::topic::{Topic, error, limit};
-use pli_run::report::{Line, Notice, refused_source, unread};
+use pli_run::report::{Active, Line, Notice, refused_source, unread};
 use std::{fmt, io};
 
 /// What is told where memory runs out before there is anything to tell of.
@@ -137,5 +138,18 @@ pub fn tell_run(
             notice.status
         }
         _ => tell(rt, notice),
+    }
+}
+
+/// Tells of each block that is entered, newest first.
+pub fn tell_entered(rt: &HostRuntime, mut entered: Activations) {
+    for below in (0..entered.height()).rev() {
+        if let Some(block) = entered.newest() {
+            let active = Active(block);
+            let _ = eprintln!(rt; "{active}");
+        }
+        if below < entered.height() {
+            entered.unwind(below);
+        }
     }
 }

@@ -24,6 +24,9 @@ use std::io;
 /// The status where the words ask for nothing that the program does.
 pub const USAGE: u8 = 64;
 
+const UNKNOWN: &str =
+    "error: no number or name of a refusal, an error or a limit, nor a form that is left out";
+
 // The status of a text that is written to standard output.
 fn printed(rt: &HostRuntime, text: &str) -> u8 {
     match rt.write_all(text.as_bytes()) {
@@ -156,7 +159,7 @@ pub fn explain(rt: &HostRuntime, matches: &ArgMatches<'_>) -> io::Result<u8> {
     let word = matches.get_str(command::WORD).unwrap_or("");
     let text = explanation(rt.alloc(), word)?;
     if text.is_empty() {
-        let _ = eprintln!(rt; "error: no number or name of a refusal, an error or a limit: {word}");
+        let _ = eprintln!(rt; "{UNKNOWN}: {word}");
         return Ok(USAGE);
     }
     Ok(printed(rt, &text))

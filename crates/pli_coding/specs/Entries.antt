@@ -5,10 +5,15 @@ use Rattle.rv_meaning.specs.declared.instr.Register.{Register}
 use Rattle.rv_meaning.specs.declared.instr.BranchTest.TheVariants as Test
 use Rattle.pli_typing.specs.TypedTree as Y
 use Rattle.pli_meaning.specs.DeclaredShapes.{variables_of_block}
-use Rattle.pli_coding.specs.Registers.{zero_register, return_register, stack_register, frame_register, held, a0, a1, a2, a3, a4, u0, u1, u2, u3, u4, u5}
+use Rattle.pli_coding.specs.Registers.{zero_register, return_register, stack_register, frame_register, held, a0, a1, a2}
+use Rattle.pli_coding.specs.Registers.{a3, a4, u0, u1, u2, u3, u4, u5}
 use Rattle.pli_coding.specs.Assembly.{BaseIn, OffsetOf, DataPlace, Code}
-use Rattle.pli_coding.specs.Instructions.{add, subtract, move, small, number, plus, load_word, store_word, skip_where, service}
-use Rattle.pli_coding.specs.Frames.{return_address, frame_below, saved_register, own_offset, lower_top, display, list_offset, list_place, argument_at, name_bytes, fixed_size, has_constant_size, constant_size, is_automatic, frame_bytes, last_place, automatic_place, temporary_bytes}
+use Rattle.pli_coding.specs.Instructions.{add, subtract, move, small, number, plus, load_word, store_word, skip_where}
+use Rattle.pli_coding.specs.Instructions.{service}
+use Rattle.pli_coding.specs.Frames.{return_address, frame_below, saved_register, own_offset, lower_top, display}
+use Rattle.pli_coding.specs.Frames.{list_offset, list_place, argument_at, name_bytes, fixed_size, has_constant_size}
+use Rattle.pli_coding.specs.Frames.{constant_size, is_automatic, frame_bytes, last_place, automatic_place}
+use Rattle.pli_coding.specs.Frames.{temporary_bytes}
 use Rattle.pli_coding.specs.StaticForms.{size_datum}
 use Rattle.pli_coding.specs.Environments.{Environment, none_taken}
 use Rattle.pli_coding.specs.Locating.{own_place, table_number, Address, stored, is_star_type}
@@ -158,7 +163,8 @@ abbrev pub copy_address : Address
 copy_address = record { register = a0; displacement = pos 0 }
 
 abbrev pub name_kept : Code
-name_kept = store_word a0 u0 (pos 0) ++ (store_word a0 u2 (pos 4) ++ (store_word a0 u3 (pos 8) ++ store_word a0 u4 (pos 12)))
+name_kept =
+    store_word a0 u0 (pos 0) ++ (store_word a0 u2 (pos 4) ++ (store_word a0 u3 (pos 8) ++ store_word a0 u4 (pos 12)))
 
 -- the value; the place of a text, which isn't 0, goes into the list in place of the 1 until the texts are stored
 abbrev pub copy_filled : (n : ℕ) → Y.LeafType → Code
@@ -203,7 +209,8 @@ copies_of e parameters = copied_parameters (variables_of_block e.program e.block
 abbrev pub arguments_copied : Environment → List ℕ → Code
 arguments_copied e parameters = copies_made e (copies_of e parameters) ++ texts_filled (copies_of e parameters)
 
--- ---- AUTOMATIC variables, whose names stand at a place; where the place behind one isn't counted any more, service 7 has ended the run
+-- ---- AUTOMATIC variables, whose names stand at a place; where the place behind one isn't counted any more, service 7
+-- has ended the run
 
 abbrev pub constant_made : Environment → (place : ℕ) → Y.DeclaredVariable → Code
 constant_made e place d =

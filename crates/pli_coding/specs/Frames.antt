@@ -1,6 +1,7 @@
--- Where a block's frame has what, in bytes from the frame's address: temporaries below it; above it what is saved, the display,
--- where the list of arguments is, and then one variable after the other.
-use Rattle.std.specs.Prelude.{ℕ, zero, suc, ◌+◌, ◌*◌, ◌^◌, ◌-◌, ℤ, pos, neg_ℤ, Bool, true, false, ◌&&◌, nat_le, min, List, [], ◌∷◌, length, Option, Some, None, if◌then◌else◌}
+-- Where a block's frame has what, in bytes from the frame's address: temporaries below it; above it what is saved, the
+-- display, where the list of arguments is, and then one variable after the other.
+use Rattle.std.specs.Prelude.{ℕ, zero, suc, ◌+◌, ◌*◌, ◌^◌, ◌-◌, ℤ, pos, neg_ℤ, Bool, true, false, ◌&&◌, nat_le, min}
+use Rattle.std.specs.Prelude.{List, [], ◌∷◌, length, Option, Some, None, if◌then◌else◌}
 use Rattle.std.specs.List.{list_all}
 use Rattle.pli_typing.specs.Signatures.{rounded_up, rounded_down, data_size, natural}
 use Rattle.pli_typing.specs.TypedTree as Y
@@ -8,8 +9,8 @@ use Rattle.pli_meaning.specs.DeclaredShapes.{variables_of_block, procedure_numbe
 
 -- ---- parts of memory
 
--- where the two stacks begin, the upper one at the part's start and the lower one at its end, and the bytes that an area of a
--- capacity takes
+-- where the two stacks begin, the upper one at the part's start and the lower one at its end, and the bytes that an
+-- area of a capacity takes
 pub record MemoryParts : Type 0 where
   pub stack_start : ℕ
   pub stack_end : ℕ
@@ -81,8 +82,8 @@ fixed_size level parameters = rounded_up 16 (list_place level + 4 * min 1 parame
 abbrev pub argument_bytes : ℕ
 argument_bytes = 24
 
--- a word of the nth argument: a name or a value from 0 on, the number of a signature or a text's length in 4, and in 5 whether it is a
--- copy
+-- a word of the nth argument: a name or a value from 0 on, the number of a signature or a text's length in 4, and in 5
+-- whether it is a copy
 abbrev pub argument_at : (n word : ℕ) → ℤ
 argument_at n word = pos (argument_bytes * n + 4 * word)
 

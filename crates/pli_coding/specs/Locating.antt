@@ -1,5 +1,5 @@
--- Where the elements of variables are: a name and a signature's number, the leaf that lives there, and the element at subscripts.
--- What is AUTOMATIC or STATIC and of constant size is reached without a service.
+-- Where the elements of variables are: a name and a signature's number, the leaf that lives there, and the element at
+-- subscripts. What is AUTOMATIC or STATIC and of constant size is reached without a service.
 use Rattle.std.specs.Prelude.{ℕ, zero, suc, ◌+◌, ◌*◌, ◌^◌, ◌-◌, ℤ, pos, negsuc, neg_ℤ, ◌+ℤ◌, ◌-ℤ◌, Bool, true, false}
 use Rattle.std.specs.Prelude.{not, ◌&&◌, ◌||◌, ◌==◌, nat_le, List, [], ◌∷◌, ◌++◌, length, take, Option, Some, None}
 use Rattle.std.specs.Prelude.{is_some, slice_get, unwrap_or, if◌then◌else◌}
@@ -19,8 +19,12 @@ use Rattle.pli_meaning.specs.Contents.{same_int}
 use Rattle.pli_meaning.specs.DeclaredShapes.{kind_of, shape_of}
 use Rattle.pli_coding.specs.Registers.{frame_register, a0, a1, a2, a3, a4, u0, u1, u2, u3, u4}
 use Rattle.pli_coding.specs.Assembly.{Datum, NumberWord, StaticStorage, DataPlace, BaseIn, OffsetOf, Code}
-use Rattle.pli_coding.specs.Instructions.{immediate, shift, registers, add, subtract, move, small, constant, number, displaced, plus, load_word, store_word, skip_where, service, tested_service, status_tested, error_raised}
-use Rattle.pli_coding.specs.Frames.{own_offset, buffer, buffer_size, buffer_lower, buffer_upper, display, list_offset, list_place, argument_at, name_bytes, is_constant, is_constant_type, are_constant, has_constant_size, constant_size, parameters_of_block, automatic_place, words_place}
+use Rattle.pli_coding.specs.Instructions.{immediate, shift, registers, add, subtract, move, small, constant, number}
+use Rattle.pli_coding.specs.Instructions.{displaced, plus, load_word, store_word, skip_where, service, tested_service}
+use Rattle.pli_coding.specs.Instructions.{status_tested, error_raised}
+use Rattle.pli_coding.specs.Frames.{own_offset, buffer, buffer_size, buffer_lower, buffer_upper, display, list_offset}
+use Rattle.pli_coding.specs.Frames.{list_place, argument_at, name_bytes, is_constant, is_constant_type, are_constant}
+use Rattle.pli_coding.specs.Frames.{has_constant_size, constant_size, parameters_of_block, automatic_place, words_place}
 use Rattle.pli_coding.specs.SignatureTable.{signature_of, is_open, number_in_table}
 use Rattle.pli_coding.specs.Environments.{Environment, declaration_of, Taken, with_words, with_number, fetch}
 
@@ -43,8 +47,8 @@ own_place e r place = frame_offset e e.level r place
 
 -- ---- names, and numbers of signatures
 
--- where a name stands: in the frame at a level, so far into the list of arguments that this frame has, in static data, or so many
--- bytes behind the place of a datum
+-- where a name stands: in the frame at a level, so far into the list of arguments that this frame has, in static data,
+-- or so many bytes behind the place of a datum
 abbrev pub place_behind : ℕ → ℤ → ℤ
 place_behind n z = z +ℤ pos n
 
@@ -148,7 +152,8 @@ based_located e v name = record { name = name; number = based_number e v (declar
 
 -- the offset of a place of the list of arguments that a frame has
 abbrev pub argument_offset : Environment → (level : ℕ) → Register → (place : ℤ) → Code
-argument_offset e level r place = frame_found e level r ++ (load_word r (frame_in e level r) list_offset ++ plus r r place)
+argument_offset e level r place =
+    frame_found e level r ++ (load_word r (frame_in e level r) list_offset ++ plus r r place)
 
 -- the word at a place of it, by its address
 abbrev pub argument_word : Environment → (level : ℕ) → Register → (place : ℤ) → Code
@@ -190,7 +195,8 @@ controlled_from (ds ∷ rest) (suc block) index = controlled_among ds + controll
 abbrev pub controlled_number : Environment → Y.Variable → ℕ
 controlled_number e v = controlled_from e.program.variables v.block v.index
 
--- the newest generation of a CONTROLLED variable: its name and its signature's number wait in words. The status is in a0.
+-- the newest generation of a CONTROLLED variable: its name and its signature's number wait in words. The status is in
+-- a0.
 abbrev pub newest_found : Environment → Taken → Y.Variable → Code
 newest_found e t v =
     own_place e a1 (waiting_name t)

@@ -13,7 +13,8 @@ use Rattle.pli_coding.specs.Frames.{result}
 use Rattle.pli_coding.specs.Environments.{BlockPlace, BlockOwner, Environment, in_frame, owned_by, none_taken}
 use Rattle.pli_coding.specs.Extents.{number_word, extents_code, refer_amount, extents_words}
 use Rattle.pli_coding.specs.Allocating.{act_code}
-use Rattle.pli_coding.specs.Entries.{all_restored, frame_begun, frame_ended, block_entered, block_left, list_kept, arguments_copied, variables_code}
+use Rattle.pli_coding.specs.Entries.{all_restored, frame_begun, frame_ended, block_entered, block_left, list_kept}
+use Rattle.pli_coding.specs.Entries.{arguments_copied, variables_code}
 use Rattle.pli_coding.specs.Statements.{block_words, block_held, stmts_words, stmts_code}
 
 -- back to the caller
@@ -25,8 +26,8 @@ frame_returned words held =
 abbrev pub finish_code : Code
 finish_code = small a0 0 ∷ small a1 0 ∷ service 2
 
--- ---- procedures: called with the frame of the block that declares them in a0, a list of arguments in a1, and in a2 how many
--- texts go with it
+-- ---- procedures: called with the frame of the block that declares them in a0, a list of arguments in a1, and in a2
+-- how many texts go with it
 
 -- the first procedure is the main one, which the start of the image calls
 abbrev pub is_main : Y.Program → (block : ℕ) → Bool
@@ -89,8 +90,9 @@ abbrev pub procedures_code : Environment → List Y.Procedure → Code
 procedures_code e [] = []
 procedures_code e (p ∷ ps) = procedure_of_block e p.block p.parameters p.result ++ procedures_code e ps
 
--- ---- extents of the next generation of a variable: called with the frame of the block that declares it in a0, and giving the
--- signature's number in a0 and the extent for REFER in a1. It has a frame, one level further in, but is no block.
+-- ---- extents of the next generation of a variable: called with the frame of the block that declares it in a0, and
+-- giving the signature's number in a0 and the extent for REFER in a1. It has a frame, one level further in, but is no
+-- block.
 
 abbrev pub routine_words : Y.DeclaredVariable → ℕ
 routine_words d = extents_words d

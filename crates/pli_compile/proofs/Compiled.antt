@@ -27,7 +27,9 @@ use Rattle.pli_headline.specs.FirstPathTrees.{IsFirstPath}
 use Rattle.pli_headline.specs.FirstPath.{FirstPathProved, FirstPathSmall}
 use Rattle.small_frames.specs.Small.{AcceptedSmall}
 use Rattle.pli_compile.specs.Stacks.{most_fixed_bytes, most_routine_bytes, HasSmallFrames}
-use Rattle.pli_compile.specs.Compiling.{most_words, most_step_cost, FirstPathShort, IsImageFor, IsParsed, IsProgramOf, IsRefused, IsTreeCoded, out_of_memory, no_tokens, no_tree, bad_declarations, bad_types, RefusedNever}
+use Rattle.pli_compile.specs.Compiling.{most_words, most_step_cost, FirstPathShort, IsImageFor, IsParsed, IsProgramOf}
+use Rattle.pli_compile.specs.Compiling.{IsRefused, IsTreeCoded, out_of_memory, no_tokens, no_tree, bad_declarations}
+use Rattle.pli_compile.specs.Compiling.{bad_types, RefusedNever}
 use Rattle.pli_compile.proofs.Measures.{tree_weighs, lines_small, tokens_small}
 
 -- ---- images
@@ -71,12 +73,17 @@ program_known {tree = tree} parsed declares resolved =
     }
 
 -- the frames of an accepted source's program are small
-small_of : {s : List ℕ} {count : ℕ} {tree : T.Tree} {program : Y.Program} → AcceptedSmall → IsParsed s count tree → declaring_faults tree ≡ [] → Resolves tree program → HasSmallFrames program
+small_of :
+    {s : List ℕ} {count : ℕ} {tree : T.Tree} {program : Y.Program} → AcceptedSmall → IsParsed s count tree →
+    declaring_faults tree ≡ [] → Resolves tree program → HasSmallFrames program
 small_of {s = s} {tree = tree} small parsed declares (resolves kept) =
-    small most_fixed_bytes most_routine_bytes (omega arith) (omega arith) s parsed.tokens tree parsed.read parsed.spelled declares kept
+    small most_fixed_bytes most_routine_bytes (omega arith) (omega arith) s parsed.tokens tree parsed.read
+    parsed.spelled declares kept
 
 -- the image of a source's tree, where it is short
-pub compiled : {s : List ℕ} {count : ℕ} {tree : T.Tree} {coded image : Images.Image} → HeadlineSoFar → FirstPathProved → AcceptedSmall → IsParsed s count tree → declaring_faults tree ≡ [] → IsTreeCoded tree coded
+pub compiled :
+    {s : List ℕ} {count : ℕ} {tree : T.Tree} {coded image : Images.Image} → HeadlineSoFar → FirstPathProved →
+    AcceptedSmall → IsParsed s count tree → declaring_faults tree ≡ [] → IsTreeCoded tree coded
     → (image ≡ coded) × (length image.code ≤ most_words count) → IsImageFor s image
 compiled {count = count} {coded = coded} {image = image} headline proved frames parsed declares made is =
     let code : IsCodeOf made.0 image = subst (λ (i : Images.Image). IsCodeOf made.0 i) (sym is.0) made.2 in

@@ -4,14 +4,17 @@ use Rattle.std.specs.Prelude.{Some, None, Option}
 use Rattle.std.specs.List.{sum}
 use Rattle.std.proofs.lemmas.List.Sums.{sum_by-cons}
 use Rattle.granule_keeper.specs.Granules.{bytes_for, granules}
-use Rattle.pli_typing.specs.Signatures.{footprint, data_size, rounded_up, leaf_bytes, leaves_size, element_count, LeafKind, Fixed, Character, Varying, Bit, Pointer, Offset, Area, Bounds, Leaf}
+use Rattle.pli_typing.specs.Signatures.{footprint, data_size, rounded_up, leaf_bytes, leaves_size, element_count}
+use Rattle.pli_typing.specs.Signatures.{LeafKind, Fixed, Character, Varying, Bit, Pointer, Offset, Area, Bounds, Leaf}
 use Rattle.pli_meaning.specs.Contents.{Shape}
 use Rattle.pli_frames.specs.Plans.{BlockFrame}
 use Rattle.pli_serving.specs.Arguments.{bytes_taken as data_taken_by, capacity_of_kind, capacity_of_leaves}
 use Rattle.well_formed_trees.specs.Every.{Every}
-use Rattle.pli_compile.specs.Stacks.{most_fixed_bytes, most_routine_bytes, IsSmall, IsRoutineSmall, all_fixed_bytes, IsOneArea, HasOneArea, HaveOneArea, bytes_taken, all_taken, all_counted, StacksFit}
+use Rattle.pli_compile.specs.Stacks.{most_fixed_bytes, most_routine_bytes, IsSmall, IsRoutineSmall, all_fixed_bytes}
+use Rattle.pli_compile.specs.Stacks.{IsOneArea, HasOneArea, HaveOneArea, bytes_taken, all_taken, all_counted, StacksFit}
 
-fixed_few : (frames : List BlockFrame) → Every IsSmall frames → all_fixed_bytes frames ≤ most_fixed_bytes * length frames
+fixed_few :
+    (frames : List BlockFrame) → Every IsSmall frames → all_fixed_bytes frames ≤ most_fixed_bytes * length frames
 fixed_few [] small = omega arith
 fixed_few (f ∷ fs) small =
     let here = small.0 in

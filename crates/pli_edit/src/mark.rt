@@ -2,7 +2,8 @@
 
 ghost use Rattle.std.specs.Prelude.{◌≡◌, ◌+◌, ◌<◌, ℕ, IfOk, MatchOption, drop, false, length, ⊤};
 ghost use Rattle.pli_meaning.specs.InputLines as lines;
-ghost use Rattle.pli_edit.specs.Marks.{begins_line_end, has_line_end, IsFirstMark, IsInLine, IsSizedMark, IsTaken, IsShown, ReachUpTo};
+ghost use Rattle.pli_edit.specs.Marks.{begins_line_end, has_line_end, IsFirstMark, IsInLine, IsSizedMark, IsTaken};
+ghost use Rattle.pli_edit.specs.Marks.{IsShown, ReachUpTo};
 
 use std::alloc::{AllocError, Global};
 use std::marker::Model;
@@ -14,8 +15,8 @@ pub enum Mark {
     LineEnd,
 }
 
-/// The marks that are left of the input, and how many of its bytes go up to its last character: behind these only empty lines follow.
-/// Only here is it known where the next mark comes from. Contracts see the list of the marks.
+/// The marks that are left of the input, and how many of its bytes go up to its last character: behind these only empty
+/// lines follow. Only here is it known where the next mark comes from. Contracts see the list of the marks.
 #[derive(Drop)]
 pub struct Marks {
     bytes: Vec<u8>,
@@ -133,7 +134,8 @@ fn characters_end(bytes: &[u8]) -> usize
     end
 }
 
-// The first mark and how many bytes it takes. CR directly before LF belongs to the line's end; a last line without LF ends too.
+// The first mark and how many bytes it takes. CR directly before LF belongs to the line's end; a last line without LF
+// ends too.
 #[tactic(auto, using(crate::proofs::Markings::first_ended, crate::proofs::Markings::first_none, crate::proofs::Markings::first_feed, crate::proofs::Markings::first_return, crate::proofs::Markings::first_character))]
 pub fn first_mark(rest: &[u8], is_begun: bool) -> Option<(Mark, usize)>
     ensures mark { IsFirstMark is_begun rest.now result }

@@ -3,7 +3,7 @@ use Rattle.std.specs.Prelude.{◌≡◌, ℕ, ◌*◌, ◌^◌, List, length}
 use Rattle.rv_meaning.specs.Machine.{memory_size}
 use Rattle.granule_keeper.specs.Granules.{granules}
 use Rattle.pli_values.specs.declared.layout.Layout.{Layout}
-use Rattle.pli_runtime.specs.Running.{IsStanding}
+use Rattle.pli_runtime.specs.Seen.{CanServe}
 use Rattle.pli_runtime.specs.declared.runtime.Runtime.{Runtime}
 
 -- behind 7 MiB that begin with the code and 7 MiB of stacks the heap, an area of 1 MiB, in the last 2 MiB
@@ -12,5 +12,5 @@ image_layout code_bytes =
     record { code_bytes = code_bytes; heap_at = 14 * 2 ^ 20; heap_capacity = 2 ^ 20; end = memory_size }
 
 -- the services can be called with any memory of 16 MiB
-abbrev pub IsReady : Runtime → Type 0
-IsReady r = (m : List ℕ) → length m ≡ memory_size → IsStanding granules r m
+abbrev pub IsReady : {I O : Type 0} → Runtime I O → Type 0
+IsReady r = (m : List ℕ) → length m ≡ memory_size → CanServe granules r m

@@ -1,14 +1,23 @@
 // The execution environment of an image: the services that its code calls.
 
-ghost use Rattle.std.specs.Prelude.{◌≡◌, List, IfOk, slice_index};
+ghost use Rattle.std.specs.Prelude.{◌≡◌, ℕ, List, [], IfErr, IfOk, slice_index};
 ghost use Rattle.rv_meaning.specs.Machine.{written};
 ghost use Rattle.rv_meaning.specs.Tables.{AreSignatures, TableSignature, table_words};
+ghost use Rattle.pli_meaning.specs.InputLines.{first_input};
 ghost use Rattle.pli_serving.specs.ServiceState.{first_services};
 ghost use Rattle.pli_environment.specs.Places.{image_layout};
+ghost use Rattle.pli_environment.specs.Replies.{Tells};
 ghost use Rattle.pli_runtime.specs.Running.{running, world_told};
+ghost use Rattle.pli_runtime.specs.Seen as seen;
+ghost use Rattle.pli_runtime.specs.Seen.{fault_of, run_seen};
 
 use granule_heap::granules::Granules;
+use pli_activations::activations::Activations;
 use pli_answering::reply::{Refusal, Reply};
+use pli_edit::input::Input;
+use pli_edit::input_stream::InputStream;
+use pli_edit::output::Output;
+use pli_edit::output_stream::OutputStream;
 use pli_language::condition::Condition;
 use pli_meaning::outcome::{End, Outcome};
 use pli_runtime::runtime::Runtime;
@@ -27,17 +36,18 @@ const HEAP_CAPACITY: u32 = 1 << 20;
 /// The bytes of an image's memory.
 const MEMORY_SIZE: u32 = 16 << 20;
 
-/// All 41 services over one run's state, with the areas by granules. Contracts see that state.
+/// All 41 services over one run's state, with the areas by granules, over any input and output. Contracts see that
+/// state.
 #[derive(Drop)]
-pub struct Environment {
-    runtime: Runtime,
+pub struct Environment<I: InputStream = Input, O: OutputStream = Output> {
+    runtime: Runtime<I, O>,
 }
 
-impl Model for Environment {
+impl<I: InputStream, O: OutputStream> Model for Environment<I, O> {
     ghost use Rattle.pli_runtime.specs.declared.runtime.Runtime.{Runtime};
     ghost use Rattle.pli_environment.specs.Places.{IsReady};
 
-    ghost Value = { Runtime };
+    ghost Value = { Runtime I O };
 
     ghost view = { λ e. e.runtime };
 
@@ -56,27 +66,91 @@ fn layout_of_image(code_bytes: u32) -> Layout
     }
 }
 
+impl<I: InputStream, O: OutputStream> Environment<I, O> {
+    /// Before the first call of an image with so many bytes of code, whose table's words are those of signatures, over
+    /// an input and an output on which nothing is written. Without memory both come back.
+    pub fn over(
+        alloc: Global,
+        code_bytes: u32,
+        table: &[u32],
+        input: I,
+        output: O,
+    ) -> Result<Environment<I, O>, (I, O)>
+        requires { O.output output ≡ [] }
+        ensures services { (gs : List TableSignature) → AreSignatures gs → table.now ≡ table_words gs →
+            IfOk result (λ e. (bytes : List ℕ) → seen.running (run_seen O.output e (first_input bytes))
+            ≡ first_services gs bytes) }
+        ensures layout { IfOk result (λ e. e.held.layout ≡ image_layout code_bytes) }
+        ensures streams { IfOk result (λ e. (e.streams.input ≡ input) × (e.flow.shown.output ≡ output)) }
+        ensures back { IfErr result (λ b. (b.0 ≡ input) × (b.1 ≡ output)) }
+    {
+        let runtime = Runtime::over(alloc, layout_of_image(code_bytes), table, input, output)?;
+        Ok(Environment { runtime })
+    }
+
+    /// How many acts were carried out.
+    pub fn acts(&self) -> u64
+        ensures { result ≡ self.now.flow.shown.acts }
+    {
+        self.runtime.acts()
+    }
+
+    /// The conditions raised with their codes, in order.
+    pub fn raised(&self) -> &[(Condition, u16)]
+        ensures { result.now ≡ self.now.flow.shown.raised.items }
+    {
+        self.runtime.raised()
+    }
+
+    /// How the run stands.
+    pub fn end(&self) -> End
+        ensures { result ≡ self.now.flow.shown.end }
+    {
+        self.runtime.end()
+    }
+
+    /// The number of the fault of a stream, if one failed: 5 where a write failed, else 4 where a read failed.
+    pub fn stream_fault(&self) -> Option<u8>
+        ensures { result ≡ fault_of (I.has_failed self.now.streams.input) (O.has_failed self.now.flow.shown.output) }
+    {
+        self.runtime.stream_fault()
+    }
+
+    /// What the run has come to, but for its output, which is empty; the blocks that are entered; and the input and the
+    /// output.
+    pub fn into_parts(self) -> (Outcome, Activations, I, O)
+        ensures outcome { seen.world_told result.0 ≡ record {
+          acts = self.flow.shown.acts;
+          output = [];
+          raised = self.flow.shown.raised.items;
+          end = self.flow.shown.end;
+        } }
+        ensures entered { result.1 ≡ self.flow.activations }
+        ensures streams { (result.2 ≡ self.streams.input) × (result.3 ≡ self.flow.shown.output) }
+    {
+        let mut runtime = self.runtime;
+        let none = Activations::new(runtime.alloc);
+        let entered = std::mem::replace(&mut runtime.flow.activations, none);
+        let (outcome, input, output) = runtime.into_parts();
+        (outcome, entered, input, output)
+    }
+}
+
 impl Environment {
-    /// Before the first call of an image with so many bytes of code, whose table's words are those of signatures; without memory an
-    /// `AllocError`.
+    /// Before the first call of an image with so many bytes of code, whose table's words are those of signatures, with
+    /// a whole input; without memory an `AllocError`.
     pub fn new(
         alloc: Global,
         code_bytes: u32,
         table: &[u32],
         input: &[u8],
     ) -> Result<Environment, AllocError>
-        ensures services { (gs : List TableSignature) → AreSignatures gs → table.now ≡ table_words gs → IfOk result (λ e. running e ≡ first_services gs input.now) }
+        ensures services { (gs : List TableSignature) → AreSignatures gs → table.now ≡ table_words gs →
+            IfOk result (λ e. running e ≡ first_services gs input.now) }
         ensures layout { IfOk result (λ e. e.held.layout ≡ image_layout code_bytes) }
     {
         let runtime = Runtime::new(alloc, layout_of_image(code_bytes), table, input)?;
         Ok(Environment { runtime })
-    }
-
-    /// How many acts were carried out.
-    pub fn acts(&self) -> u64
-        ensures { result ≡ (running self.now).world.acts }
-    {
-        self.runtime.acts()
     }
 
     /// The bytes written.
@@ -84,20 +158,6 @@ impl Environment {
         ensures { result.now ≡ (running self.now).world.output }
     {
         self.runtime.output()
-    }
-
-    /// The conditions raised with their codes, in order.
-    pub fn raised(&self) -> &[(Condition, u16)]
-        ensures { result.now ≡ (running self.now).world.raised }
-    {
-        self.runtime.raised()
-    }
-
-    /// How the run stands.
-    pub fn end(&self) -> End
-        ensures { result ≡ (running self.now).world.end }
-    {
-        self.runtime.end()
     }
 
     /// What the run has come to, its output copied; without memory an `AllocError`.
@@ -108,22 +168,41 @@ impl Environment {
     }
 }
 
-impl Services for Environment {
+impl<I: InputStream, O: OutputStream> Services for Environment<I, O> {
     ghost use Rattle.pli_environment.specs.Calling.{Serves};
 
-    ghost serves = { Serves };
+    ghost serves = { Serves (record {
+      agrees = I.agrees;
+      input = I.input;
+      follows = I.follows;
+      read_failed = I.has_failed;
+      output = O.output;
+      write_failed = O.has_failed;
+    }) };
 
     fn call(&mut self, registers: &mut [u32; 32], storage: &mut Storage) -> Served {
         let memory = storage.as_mut_slice();
-        match self.runtime.serve::<Granules>(memory, registers) {
-            Ok(Reply::Done(first, second)) => {
-                set_results(registers, first, second);
-                Served::Done
-            }
-            Ok(Reply::Ended) => Served::Ended,
-            Err(Refusal::Bad) => Served::Bad,
-            Err(Refusal::Memory) => Served::Memory,
+        let reply = self.runtime.serve::<Granules>(memory, registers);
+        if self.runtime.stream_fault().is_some() {
+            return Served::Ended;
         }
+        told(registers, reply)
+    }
+}
+
+/// How the machine is told of a reply.
+fn told(registers: &mut [u32; 32], reply: Result<Reply, Refusal>) -> Served
+    ensures told { Tells reply registers.old result registers.new }
+    ensures zero { slice_index registers.new 0 ≡ slice_index registers.old 0 }
+{
+    match reply {
+        Ok(Reply::Done(first, second)) => {
+            set_results(registers, first, second);
+            Served::Done
+        }
+        Ok(Reply::Ended) => Served::Ended,
+        Err(Refusal::Bad) => Served::Bad,
+        Err(Refusal::Memory) => Served::Memory,
     }
 }
 

@@ -22,14 +22,15 @@ pub struct BlockFrame {
     pub words: u32,
     /// How many parameters it has.
     pub parameters: usize,
-    /// For each variable of the block the place of its name, or where it would be: only AUTOMATIC ones lie in the frame.
+    /// For each variable of the block the place of its name, or where it would be: only AUTOMATIC ones lie in the
+    /// frame.
     pub places: Vec<u32>,
     /// The place behind all variables.
     pub end: u32,
 }
 
-/// The bytes of a frame's fixed part: what is saved, the display, and where the list of arguments is. More than 32 bits hold is want of
-/// memory.
+/// The bytes of a frame's fixed part: what is saved, the display, and where the list of arguments is. More than 32 bits
+/// hold is want of memory.
 pub fn fixed_size(level: usize, parameters: usize) -> Result<u32, AllocError>
     ensures { IfOk result (λ n. n ≡ form.fixed_size level parameters) }
 {

@@ -14,8 +14,7 @@ use Rattle.pli_serving.specs.ServiceState.{Activation, BeginBlock, Entry, TextEn
 use Rattle.pli_activations.specs.declared.block.Block.{Block}
 use Rattle.pli_activations.specs.declared.block.BlockKind.TheVariants as K
 use Rattle.pli_activations.specs.Entered.{block_shown, kind_shown, without_units}
-use Rattle.pli_services.specs.declared.flow.Flow.{Flow}
-use Rattle.pli_services.specs.Flowing.{flowing}
+use Rattle.pli_services.specs.Flowing.{FlowSeen, flowing}
 use Rattle.pli_storage.specs.declared.held.Held.{Held}
 use Rattle.pli_storage.specs.Held.{holding}
 use Rattle.pli_leaving.specs.Leaving.{IsNewest, back_to, with_both}
@@ -133,21 +132,36 @@ returned_so c block code resume height (a ∷ as') newest unit h =
 
 -- ---- by what a run holds
 
-both_after : (f : Flow) (h : Held) (v : Services) (block : Block) (keep height : ℕ) (activations : List Activation) (variables : Rooted) → activations ≡ drop (length f.activations - height) f.activations → variables ≡ up_to_owner height h.variables → without_newest (flowing f (holding h v)) block keep height f.activations ≡ back_to block.texts block.edits keep (flowing (record f { line = block.line; activations = activations }) (holding (record h { variables = variables }) v))
+both_after : (f : FlowSeen) (h : Held) (v : Services) (block : Block) (keep height : ℕ)
+    (activations : List Activation) (variables : Rooted) → activations ≡ drop (length f.activations - height)
+    f.activations → variables ≡ up_to_owner height h.variables → without_newest (flowing f (holding h v)) block keep
+    height f.activations ≡ back_to block.texts block.edits keep (flowing (record f {
+      line = block.line;
+      activations =
+          activations;
+    }) (holding (record h { variables = variables }) v))
 both_after f h v block keep height activations variables e g =
     ap (λ (ls : List Living). record (flowing f (holding h v)) { line = block.line; activations = drop (length f.activations - height) f.activations; living = ls; entries = unwrap_or (entries_left block.texts keep v.entries) []; edits = oldest block.edits v.edits }) (sym (living_left height h.variables.roots))
     ∙ ap₂ (λ (as' : List Activation) (r : Rooted). back_to block.texts block.edits keep (flowing (record f { line = block.line; activations = as' }) (holding (record h { variables = r }) v))) (sym e) (sym g)
 
-pub newest_left : (k : Keeper) (f : Flow) (h : Held) (m : List ℕ) (c : Call) (block : Block) (keep a1 height : ℕ) (activations : List Activation) (variables : Rooted) → IsNewest block f.activations → true ≡ is_some (entries_left block.texts keep c.services.entries) → height ≡ length f.activations - 1 → activations ≡ drop (length f.activations - height) f.activations → variables ≡ up_to_owner height h.variables
+pub newest_left : (k : Keeper) (f : FlowSeen) (h : Held) (m : List ℕ) (c : Call) (block : Block) (keep a1 height : ℕ)
+    (activations : List Activation) (variables : Rooted) → IsNewest block f.activations →
+    true ≡ is_some (entries_left block.texts keep c.services.entries) → height ≡ length f.activations - 1 →
+    activations ≡ drop (length f.activations - height) f.activations → variables ≡ up_to_owner height h.variables
     → leave_served (with_both k f h m c) keep a1 ≡ Done (back_to block.texts block.edits keep (flowing (record f { line = block.line; activations = activations }) (holding (record h { variables = variables }) c.services))) m keep a1
 newest_left k f h m c block keep a1 height activations variables newest some n e g =
     left_so (with_both k f h m c) block keep a1 height f.activations newest some n
     ∙ ap (λ (v : Services). Done v m keep a1) (both_after f h c.services block keep height activations variables e g)
 
-pub newest_stays : (k : Keeper) (f : Flow) (h : Held) (m : List ℕ) (c : Call) (block : Block) (keep a1 : ℕ) → IsNewest block f.activations → false ≡ is_some (entries_left block.texts keep c.services.entries) → leave_served (with_both k f h m c) keep a1 ≡ Bad
+pub newest_stays : (k : Keeper) (f : FlowSeen) (h : Held) (m : List ℕ) (c : Call) (block : Block) (keep a1 : ℕ) →
+    IsNewest block f.activations → false ≡ is_some (entries_left block.texts keep c.services.entries) →
+    leave_served (with_both k f h m c) keep a1 ≡ Bad
 newest_stays k f h m c block keep a1 newest none = left_not (with_both k f h m c) block keep a1 f.activations newest none
 
-pub unit_returned : (k : Keeper) (f : Flow) (h : Held) (m : List ℕ) (c : Call) (block : Block) (code resume height : ℕ) (activations : List Activation) (variables : Rooted) → IsNewest block f.activations → block.kind ≡ K.OnUnit code resume → height ≡ length f.activations - 1 → activations ≡ drop (length f.activations - height) f.activations → variables ≡ up_to_owner height h.variables
+pub unit_returned : (k : Keeper) (f : FlowSeen) (h : Held) (m : List ℕ) (c : Call) (block : Block)
+    (code resume height : ℕ) (activations : List Activation) (variables : Rooted) → IsNewest block f.activations →
+    block.kind ≡ K.OnUnit code resume → height ≡ length f.activations - 1 →
+    activations ≡ drop (length f.activations - height) f.activations → variables ≡ up_to_owner height h.variables
     → return_served (with_both k f h m c) ≡ Done (back_to block.texts block.edits 0 (flowing (record f { line = block.line; activations = activations }) (holding (record h { variables = variables }) c.services))) m resume code
 unit_returned k f h m c block code resume height activations variables newest unit n e g =
     returned_so (with_both k f h m c) block code resume height f.activations newest unit n
@@ -159,14 +173,16 @@ none_in : (c : Call) (keep a1 : ℕ) (as' : List Activation) → None ≡ option
 none_in c keep a1 [] e = refl
 none_in c keep a1 (a ∷ as') e = cc
 
-pub none_left : (k : Keeper) (f : Flow) (h : Held) (m : List ℕ) (c : Call) (keep a1 : ℕ) → None ≡ option_map without_units (slice_get f.activations 0) → leave_served (with_both k f h m c) keep a1 ≡ Bad
+pub none_left : (k : Keeper) (f : FlowSeen) (h : Held) (m : List ℕ) (c : Call) (keep a1 : ℕ) →
+    None ≡ option_map without_units (slice_get f.activations 0) → leave_served (with_both k f h m c) keep a1 ≡ Bad
 none_left k f h m c keep a1 e = none_in (with_both k f h m c) keep a1 f.activations e
 
 none_out : (c : Call) (as' : List Activation) → None ≡ option_map without_units (slice_get as' 0) → returned_by c as' ≡ Bad
 none_out c [] e = refl
 none_out c (a ∷ as') e = cc
 
-pub none_returned : (k : Keeper) (f : Flow) (h : Held) (m : List ℕ) (c : Call) → None ≡ option_map without_units (slice_get f.activations 0) → return_served (with_both k f h m c) ≡ Bad
+pub none_returned : (k : Keeper) (f : FlowSeen) (h : Held) (m : List ℕ) (c : Call) → None ≡ option_map without_units
+    (slice_get f.activations 0) → return_served (with_both k f h m c) ≡ Bad
 none_returned k f h m c e = none_out (with_both k f h m c) f.activations e
 
 other_out : (c : Call) (block : Block) (as' : List Activation) → IsNewest block as' → (kind_shown block.kind ≡ ProcedureBlock) ⊎ (kind_shown block.kind ≡ BeginBlock) → returned_by c as' ≡ Bad
@@ -174,10 +190,12 @@ other_out c block [] newest other = cc
 other_out c block (a ∷ as') newest (inl e) = ap (λ k. unit_left c k (ended_with (record c.services { line = a.line }) as' a.edits (entries_left a.texts 0 c.services.entries))) (sym (ap (λ (x : Activation). x.kind) (same_block block a as' newest)) ∙ e)
 other_out c block (a ∷ as') newest (inr e) = ap (λ k. unit_left c k (ended_with (record c.services { line = a.line }) as' a.edits (entries_left a.texts 0 c.services.entries))) (sym (ap (λ (x : Activation). x.kind) (same_block block a as' newest)) ∙ e)
 
-pub procedure_stays : (k : Keeper) (f : Flow) (h : Held) (m : List ℕ) (c : Call) (block : Block) → IsNewest block f.activations → block.kind ≡ K.Procedure → return_served (with_both k f h m c) ≡ Bad
+pub procedure_stays : (k : Keeper) (f : FlowSeen) (h : Held) (m : List ℕ) (c : Call) (block : Block) →
+    IsNewest block f.activations → block.kind ≡ K.Procedure → return_served (with_both k f h m c) ≡ Bad
 procedure_stays k f h m c block newest e = other_out (with_both k f h m c) block f.activations newest (inl (ap kind_shown e))
 
-pub begin_stays : (k : Keeper) (f : Flow) (h : Held) (m : List ℕ) (c : Call) (block : Block) → IsNewest block f.activations → block.kind ≡ K.Begin → return_served (with_both k f h m c) ≡ Bad
+pub begin_stays : (k : Keeper) (f : FlowSeen) (h : Held) (m : List ℕ) (c : Call) (block : Block) →
+    IsNewest block f.activations → block.kind ≡ K.Begin → return_served (with_both k f h m c) ≡ Bad
 begin_stays k f h m c block newest e = other_out (with_both k f h m c) block f.activations newest (inr (ap kind_shown e))
 
 -- ---- all blocks above one end
@@ -216,12 +234,20 @@ unwound_not c block frame keep (a ∷ as') newest none =
 left_many : (height : ℕ) (as' : List Activation) → height ≤ length as' → length (drop (length as' - height) as') ≡ height
 left_many height as' h = simp length-drop (omega (arith, h))
 
-unwound_after : (f : Flow) (h : Held) (v : Services) (block : Block) (keep height : ℕ) (activations : List Activation) (variables : Rooted) → variables ≡ up_to_owner height h.variables → with_left (flowing f (holding h v)) block keep height activations ≡ back_to block.texts block.edits keep (flowing (record f { activations = activations }) (holding (record h { variables = variables }) v))
+unwound_after : (f : FlowSeen) (h : Held) (v : Services) (block : Block) (keep height : ℕ)
+    (activations : List Activation) (variables : Rooted) → variables ≡ up_to_owner height h.variables →
+    with_left (flowing f (holding h v)) block keep height activations ≡ back_to block.texts block.edits keep
+    (flowing (record f { activations = activations }) (holding (record h { variables = variables }) v))
 unwound_after f h v block keep height activations variables g =
     ap (λ (ls : List Living). record (flowing f (holding h v)) { activations = activations; living = ls; entries = unwrap_or (entries_left block.texts keep v.entries) []; edits = oldest block.edits v.edits }) (sym (living_left height h.variables.roots))
     ∙ ap (λ (r : Rooted). back_to block.texts block.edits keep (flowing (record f { activations = activations }) (holding (record h { variables = r }) v))) (sym g)
 
-pub above_left : (k : Keeper) (f : Flow) (h : Held) (m : List ℕ) (c : Call) (block : Block) (frame keep height : ℕ) (activations : List Activation) (variables : Rooted) → IsNewest block (from_frame frame f.activations) → true ≡ is_some (entries_left block.texts keep c.services.entries) → height ≤ length f.activations → drop (length f.activations - height) f.activations ≡ from_frame frame f.activations → activations ≡ drop (length f.activations - height) f.activations → variables ≡ up_to_owner height h.variables
+pub above_left : (k : Keeper) (f : FlowSeen) (h : Held) (m : List ℕ) (c : Call) (block : Block)
+    (frame keep height : ℕ) (activations : List Activation) (variables : Rooted) →
+    IsNewest block (from_frame frame f.activations) → true ≡ is_some (entries_left block.texts keep
+    c.services.entries) → height ≤ length f.activations → drop (length f.activations - height) f.activations ≡
+    from_frame frame f.activations → activations ≡ drop (length f.activations - height) f.activations →
+    variables ≡ up_to_owner height h.variables
     → unwind_served (with_both k f h m c) frame keep ≡ Done (back_to block.texts block.edits keep (flowing (record f { activations = activations }) (holding (record h { variables = variables }) c.services))) m frame keep
 above_left k f h m c block frame keep height activations variables newest some inside there e g =
     let many : length (from_frame frame f.activations) ≡ height = ap length (sym there) ∙ left_many height f.activations inside in
@@ -229,17 +255,22 @@ above_left k f h m c block frame keep height activations variables newest some i
     ∙ ap (λ (left : List Activation). Done (with_left (flowing f (holding h c.services)) block keep height left) m frame keep) (sym there ∙ sym e)
     ∙ ap (λ (v : Services). Done v m frame keep) (unwound_after f h c.services block keep height activations variables g)
 
-pub above_stays : (k : Keeper) (f : Flow) (h : Held) (m : List ℕ) (c : Call) (block : Block) (frame keep : ℕ) → IsNewest block (from_frame frame f.activations) → false ≡ is_some (entries_left block.texts keep c.services.entries) → unwind_served (with_both k f h m c) frame keep ≡ Bad
+pub above_stays : (k : Keeper) (f : FlowSeen) (h : Held) (m : List ℕ) (c : Call) (block : Block) (frame keep : ℕ) →
+    IsNewest block (from_frame frame f.activations) → false ≡ is_some (entries_left block.texts keep
+    c.services.entries) → unwind_served (with_both k f h m c) frame keep ≡ Bad
 above_stays k f h m c block frame keep newest none = unwound_not (with_both k f h m c) block frame keep (from_frame frame f.activations) newest none
 
 none_framed : (c : Call) (frame keep : ℕ) (left : List Activation) → None ≡ option_map without_units (slice_get left 0) → unwound c frame keep left ≡ Bad
 none_framed c frame keep [] e = refl
 none_framed c frame keep (a ∷ as') e = cc
 
-pub none_above : (k : Keeper) (f : Flow) (h : Held) (m : List ℕ) (c : Call) (frame keep : ℕ) → None ≡ option_map without_units (slice_get (from_frame frame f.activations) 0) → unwind_served (with_both k f h m c) frame keep ≡ Bad
+pub none_above : (k : Keeper) (f : FlowSeen) (h : Held) (m : List ℕ) (c : Call) (frame keep : ℕ) →
+    None ≡ option_map without_units (slice_get (from_frame frame f.activations) 0) →
+    unwind_served (with_both k f h m c) frame keep ≡ Bad
 none_above k f h m c frame keep e = none_framed (with_both k f h m c) frame keep (from_frame frame f.activations) e
 
-pub no_height : (k : Keeper) (f : Flow) (h : Held) (m : List ℕ) (c : Call) (frame keep : ℕ) → [] ≡ from_frame frame f.activations → unwind_served (with_both k f h m c) frame keep ≡ Bad
+pub no_height : (k : Keeper) (f : FlowSeen) (h : Held) (m : List ℕ) (c : Call) (frame keep : ℕ) →
+    [] ≡ from_frame frame f.activations → unwind_served (with_both k f h m c) frame keep ≡ Bad
 no_height k f h m c frame keep e = ap (unwound (with_both k f h m c) frame keep) (sym e)
 
 -- no height is above that of the newest block

@@ -9,15 +9,14 @@ use Rattle.pli_activations.specs.declared.block.Block.{Block}
 use Rattle.pli_activations.specs.Entered.{block_shown, without_units}
 use Rattle.pli_answering.specs.Answering.{Replies}
 use Rattle.pli_answering.specs.declared.reply.Refusal.{Refusal}
-use Rattle.pli_services.specs.declared.flow.Flow.{Flow}
-use Rattle.pli_services.specs.Flowing.{with_flow}
+use Rattle.pli_services.specs.Flowing.{FlowSeen, with_flow}
 use Rattle.pli_storage.specs.declared.held.Held.{Held}
 use Rattle.pli_storage.specs.Held.{with_held}
 use Rattle.pli_leaving.specs.declared.leaving.Left.{Left}
 use Rattle.pli_leaving.specs.declared.leaving.Top.{Top}
 
 -- a call whose services hold what a run's flow and its variables do
-abbrev pub with_both : Keeper → Flow → Held → (memory : List ℕ) → Call → Call
+abbrev pub with_both : Keeper → FlowSeen → Held → (memory : List ℕ) → Call → Call
 with_both k f h m c = with_flow f (with_held k h m c)
 
 -- what is known of the entries is so

@@ -5,6 +5,7 @@ ghost use Rattle.area_keeper.specs.Keeper.{Keeper};
 ghost use Rattle.controlled_gens.specs.Rooted.{up_to_owner};
 ghost use Rattle.pli_activations.specs.Entered.{block_shown, without_units};
 ghost use Rattle.pli_leaving.specs.Leaving.{with_both, IsNewest, IsTop, Leaves};
+ghost use Rattle.pli_services.specs.Flowing.{flow_seen};
 ghost use Rattle.pli_serving.specs.Blocks as blocks;
 ghost use Rattle.pli_serving.specs.Finding.{Call};
 ghost use Rattle.pli_serving.specs.ServiceState.{Entry};
@@ -12,6 +13,7 @@ ghost use Rattle.pli_serving.specs.ServiceState.{Entry};
 use pli_activations::activations::Activations;
 use pli_activations::block::{Block, BlockKind};
 use pli_answering::reply::{Refusal, Reply};
+use pli_edit::output_stream::OutputStream;
 use pli_services::flow::Flow;
 use pli_storage::held::Held;
 use pli_storage::variables::Variables;
@@ -67,8 +69,8 @@ fn end_above(activations: &mut Activations, variables: &mut Variables, height: u
 }
 
 /// The newest block ends, and the line that was current before it is current again.
-fn leave_block(
-    flow: &mut Flow,
+fn leave_block<O: OutputStream>(
+    flow: &mut Flow<O>,
     held: &mut Held,
     block: Block,
     keep: u32,
@@ -77,7 +79,9 @@ fn leave_block(
 ) -> Result<Left, Refusal>
     requires { IsNewest block flow.old.activations }
     ensures answers { (k : Keeper) → (m : List ℕ) → (c : Call) → IsTop top c.services.entries →
-        Leaves (blocks.leave_served (with_both k flow.old held.old m c) keep second) keep (with_both k flow.old held.old m c) result (with_both k flow.new held.new m c) }
+        Leaves (blocks.leave_served (with_both k (flow_seen O.output flow.old) held.old m c) keep second) keep
+        (with_both k (flow_seen O.output flow.old) held.old m c) result (with_both k (flow_seen O.output flow.new)
+        held.new m c) }
     ensures kept { held.new ≡ record held.old { variables = held.new.variables } }
 {
     if !can_keep(keep, block.texts, top) {
@@ -95,15 +99,17 @@ fn leave_block(
 
 /// 5: the newest block ends, with its storage and on-units; with keep 1 the newest text stays above the entries of its caller.
 #[tactic(auto, using(crate::proofs::Ends::none_left))]
-pub fn leave(
-    flow: &mut Flow,
+pub fn leave<O: OutputStream>(
+    flow: &mut Flow<O>,
     held: &mut Held,
     keep: u32,
     second: u32,
     top: Top,
 ) -> Result<Left, Refusal>
     ensures answers { (k : Keeper) → (m : List ℕ) → (c : Call) → IsTop top c.services.entries →
-        Leaves (blocks.leave_served (with_both k flow.old held.old m c) keep second) keep (with_both k flow.old held.old m c) result (with_both k flow.new held.new m c) }
+        Leaves (blocks.leave_served (with_both k (flow_seen O.output flow.old) held.old m c) keep second) keep
+        (with_both k (flow_seen O.output flow.old) held.old m c) result (with_both k (flow_seen O.output flow.new)
+        held.new m c) }
     ensures kept { held.new ≡ record held.old { variables = held.new.variables } }
 {
     match flow.activations.newest() {
@@ -113,8 +119,8 @@ pub fn leave(
 }
 
 /// All blocks above one end; the line stays.
-fn unwind_block(
-    flow: &mut Flow,
+fn unwind_block<O: OutputStream>(
+    flow: &mut Flow<O>,
     held: &mut Held,
     frame: u32,
     keep: u32,
@@ -126,7 +132,9 @@ fn unwind_block(
     requires inside { height ≤ length flow.old.activations }
     requires there { drop (length flow.old.activations - height) flow.old.activations ≡ blocks.from_frame frame flow.old.activations }
     ensures answers { (k : Keeper) → (m : List ℕ) → (c : Call) → IsTop top c.services.entries →
-        Leaves (blocks.unwind_served (with_both k flow.old held.old m c) frame keep) keep (with_both k flow.old held.old m c) result (with_both k flow.new held.new m c) }
+        Leaves (blocks.unwind_served (with_both k (flow_seen O.output flow.old) held.old m c) frame keep) keep
+        (with_both k (flow_seen O.output flow.old) held.old m c) result (with_both k (flow_seen O.output flow.new)
+        held.new m c) }
     ensures kept { held.new ≡ record held.old { variables = held.new.variables } }
 {
     if !can_keep(keep, block.texts, top) {
@@ -143,8 +151,8 @@ fn unwind_block(
 /// 6: all blocks above the newest one with a frame end, with their storage and on-units; with keep 1 the newest text stays above the
 /// entries of that block. What is kept of that block is told, none where there is none.
 #[tactic(auto, using(crate::proofs::Ends::none_above, crate::proofs::Ends::no_height, crate::proofs::Ends::least_height))]
-pub fn unwind(
-    flow: &mut Flow,
+pub fn unwind<O: OutputStream>(
+    flow: &mut Flow<O>,
     held: &mut Held,
     frame: u32,
     keep: u32,
@@ -153,7 +161,9 @@ pub fn unwind(
 ) -> Result<Left, Refusal>
     requires { option_map block_shown block ≡ option_map without_units (slice_get (blocks.from_frame frame flow.old.activations) 0) }
     ensures answers { (k : Keeper) → (m : List ℕ) → (c : Call) → IsTop top c.services.entries →
-        Leaves (blocks.unwind_served (with_both k flow.old held.old m c) frame keep) keep (with_both k flow.old held.old m c) result (with_both k flow.new held.new m c) }
+        Leaves (blocks.unwind_served (with_both k (flow_seen O.output flow.old) held.old m c) frame keep) keep
+        (with_both k (flow_seen O.output flow.old) held.old m c) result (with_both k (flow_seen O.output flow.new)
+        held.new m c) }
     ensures kept { held.new ≡ record held.old { variables = held.new.variables } }
 {
     let Some(block) = block else {
@@ -169,11 +179,19 @@ pub fn unwind(
 }
 
 /// An on-unit, the newest block, ends.
-fn leave_unit(flow: &mut Flow, held: &mut Held, block: Block, code: u16, resume: u32) -> Left
+fn leave_unit<O: OutputStream>(
+    flow: &mut Flow<O>,
+    held: &mut Held,
+    block: Block,
+    code: u16,
+    resume: u32,
+) -> Left
     requires newest { IsNewest block flow.old.activations }
     requires unit { block.kind ≡ BlockKind.OnUnit code resume }
     ensures answers { (k : Keeper) → (m : List ℕ) → (c : Call) →
-        Leaves (blocks.return_served (with_both k flow.old held.old m c)) 0 (with_both k flow.old held.old m c) (Ok result) (with_both k flow.new held.new m c) }
+        Leaves (blocks.return_served (with_both k (flow_seen O.output flow.old) held.old m c)) 0
+        (with_both k (flow_seen O.output flow.old) held.old m c) (Ok result)
+        (with_both k (flow_seen O.output flow.new) held.new m c) }
     ensures kept { held.new ≡ record held.old { variables = held.new.variables } }
 {
     flow.line = block.line;
@@ -188,10 +206,16 @@ fn leave_unit(flow: &mut Flow, held: &mut Held, block: Block, code: u16, resume:
 
 /// The newest block ends, if it is an on-unit.
 #[tactic(auto, using(crate::proofs::Ends::procedure_stays, crate::proofs::Ends::begin_stays))]
-fn return_block(flow: &mut Flow, held: &mut Held, block: Block) -> Result<Left, Refusal>
+fn return_block<O: OutputStream>(
+    flow: &mut Flow<O>,
+    held: &mut Held,
+    block: Block,
+) -> Result<Left, Refusal>
     requires { IsNewest block flow.old.activations }
     ensures answers { (k : Keeper) → (m : List ℕ) → (c : Call) →
-        Leaves (blocks.return_served (with_both k flow.old held.old m c)) 0 (with_both k flow.old held.old m c) result (with_both k flow.new held.new m c) }
+        Leaves (blocks.return_served (with_both k (flow_seen O.output flow.old) held.old m c)) 0
+        (with_both k (flow_seen O.output flow.old) held.old m c) result (with_both k (flow_seen O.output flow.new)
+        held.new m c) }
     ensures kept { held.new ≡ record held.old { variables = held.new.variables } }
 {
     match block.kind {
@@ -204,9 +228,11 @@ fn return_block(flow: &mut Flow, held: &mut Held, block: Block) -> Result<Left, 
 /// 31: the newest block, an on-unit, ends, and the line of the raise is current again. The reply tells where the program goes on, and
 /// the unit's code.
 #[tactic(auto, using(crate::proofs::Ends::none_returned))]
-pub fn return_from(flow: &mut Flow, held: &mut Held) -> Result<Left, Refusal>
+pub fn return_from<O: OutputStream>(flow: &mut Flow<O>, held: &mut Held) -> Result<Left, Refusal>
     ensures answers { (k : Keeper) → (m : List ℕ) → (c : Call) →
-        Leaves (blocks.return_served (with_both k flow.old held.old m c)) 0 (with_both k flow.old held.old m c) result (with_both k flow.new held.new m c) }
+        Leaves (blocks.return_served (with_both k (flow_seen O.output flow.old) held.old m c)) 0
+        (with_both k (flow_seen O.output flow.old) held.old m c) result (with_both k (flow_seen O.output flow.new)
+        held.new m c) }
     ensures kept { held.new ≡ record held.old { variables = held.new.variables } }
 {
     match flow.activations.newest() {

@@ -18,8 +18,7 @@ use Rattle.controlled_gens.specs.Rooted.{living, livings, root_with}
 use Rattle.pli_answering.specs.Answering.{Replies}
 use Rattle.pli_answering.specs.declared.reply.Refusal.{Refusal}
 use Rattle.pli_answering.specs.declared.reply.Refusal.TheVariants as F
-use Rattle.pli_services.specs.declared.flow.Flow.{Flow}
-use Rattle.pli_services.specs.Flowing.{flowing}
+use Rattle.pli_services.specs.Flowing.{FlowSeen, flowing}
 use Rattle.pli_storage.specs.declared.held.Held.{Held}
 use Rattle.pli_storage.specs.Held.{holding, with_held}
 use Rattle.pli_making.specs.InUse.{IsCounted}
@@ -84,7 +83,9 @@ not_made k h new m c w owner len content F.Bad e =
 not_made k h new m c w owner len content F.Memory e = (ap (λ (h : Held). holding h c.services) e, refl)
 
 -- what isn't started
-pub not_started : (k : Keeper) (f : Flow) (h : Held) (m : List ℕ) (c : Call) (w : Making) (owner : ℕ) (answer : Answer) (refusal : Refusal) → Starts answer (with_both k f h m c) w owner (Err refusal) → Replies answer (flowing f (holding h c.services)) m (Err refusal) (flowing f (holding h c.services)) m
+pub not_started : (k : Keeper) (f : FlowSeen) (h : Held) (m : List ℕ) (c : Call) (w : Making) (owner : ℕ)
+    (answer : Answer) (refusal : Refusal) → Starts answer (with_both k f h m c) w owner (Err refusal) →
+    Replies answer (flowing f (holding h c.services)) m (Err refusal) (flowing f (holding h c.services)) m
 not_started k f h m c w owner answer F.Bad e = (e, refl, refl)
 not_started k f h m c w owner answer F.Memory e = (refl, refl)
 

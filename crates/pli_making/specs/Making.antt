@@ -26,8 +26,7 @@ use Rattle.pli_answering.specs.declared.reply.Refusal.{Refusal}
 use Rattle.pli_answering.specs.declared.reply.Refusal.TheVariants as F
 use Rattle.pli_storage.specs.declared.held.Held.{Held}
 use Rattle.pli_storage.specs.Held.{with_held}
-use Rattle.pli_services.specs.declared.flow.Flow.{Flow}
-use Rattle.pli_services.specs.Flowing.{with_flow}
+use Rattle.pli_services.specs.Flowing.{FlowSeen, with_flow}
 use Rattle.pli_making.specs.InUse.{newest_total}
 use Rattle.pli_making.specs.declared.wanted.Making.{Making}
 use Rattle.pli_making.specs.declared.content.Content.{Content}
@@ -37,7 +36,7 @@ use Rattle.pli_making.specs.declared.starting.Started.{Started}
 use Rattle.pli_making.specs.declared.starting.Started.TheVariants as S
 
 -- a call whose services hold what a run's flow and its variables do
-abbrev pub with_both : Keeper → Flow → Held → (memory : List ℕ) → Call → Call
+abbrev pub with_both : Keeper → FlowSeen → Held → (memory : List ℕ) → Call → Call
 with_both k f h m c = with_flow f (with_held k h m c)
 
 -- ---- the service

@@ -11,7 +11,7 @@ ghost use Rattle.pli_serving.specs.Answers.{Answer};
 ghost use Rattle.pli_serving.specs.Bytes.{name_bytes, with_bytes};
 ghost use Rattle.pli_serving.specs.Finding.{Call};
 ghost use Rattle.pli_serving.specs.Making as served;
-ghost use Rattle.pli_services.specs.Flowing.{with_flow};
+ghost use Rattle.pli_services.specs.Flowing.{flow_seen, with_flow};
 ghost use Rattle.pli_storage.specs.Held.{with_held, IsLaid};
 ghost use Rattle.pli_making.specs.InUse.{IsCounted};
 ghost use Rattle.pli_making.specs.Making.{content_made, entered_with, owner_made, refusal_of, with_both, Enters, IsReady, IsStarted, IsWeighed, Starts};
@@ -24,6 +24,7 @@ use area_heap::keeper::AreaKeeper;
 use controlled_gens::fault::GenFault;
 use controlled_gens::roots::Place;
 use pli_answering::reply::{Refusal, Reply};
+use pli_edit::output_stream::OutputStream;
 use pli_meaning::outcome::{End, Limit};
 use pli_services::flow::Flow;
 use pli_storage::held::Held;
@@ -121,8 +122,9 @@ fn make_fresh<K: AreaKeeper>(
 }
 
 /// The run ends, since AUTOMATIC variables would count for too much.
-fn end_limited(flow: &mut Flow) -> Result<Reply, Refusal>
-    ensures answers { (c : Call) → Answers (λ c. run_ended (E.Limit L.Automatic) c.services) (with_flow flow.old c) result (with_flow flow.new c) }
+fn end_limited<O: OutputStream>(flow: &mut Flow<O>) -> Result<Reply, Refusal>
+    ensures answers { (c : Call) → Answers (λ c. run_ended (E.Limit L.Automatic) c.services)
+        (with_flow (flow_seen O.output flow.old) c) result (with_flow (flow_seen O.output flow.new) c) }
     ensures kept { flow.new ≡ record flow.old { shown = flow.new.shown } }
 {
     flow.shown.finish(End::Limit(Limit::Automatic))?;
@@ -130,8 +132,8 @@ fn end_limited(flow: &mut Flow) -> Result<Reply, Refusal>
 }
 
 /// Makes a variable that was started, or ends the run.
-fn make_started<K: AreaKeeper>(
-    flow: &mut Flow,
+fn make_started<K: AreaKeeper, O: OutputStream>(
+    flow: &mut Flow<O>,
     held: &mut Held,
     in_use: &mut InUse,
     memory: &mut [u8],
@@ -143,8 +145,10 @@ fn make_started<K: AreaKeeper>(
     requires started { IsStarted K.keeper held.old in_use.old wanted owner started }
     requires counted { IsCounted held.old.signatures (livings held.old.variables.roots) in_use.old }
     requires newest { owner ≢ 0 → length in_use.old ≤ owner }
-    ensures answers { (c : Call) → (answer : Answer) → Starts answer (with_both K.keeper flow.old held.old memory.old c) wanted owner (Ok started) →
-        Answers (λ c. answer) (with_both K.keeper flow.old held.old memory.old c) result (with_both K.keeper flow.new held.new memory.new c) }
+    ensures answers { (c : Call) → (answer : Answer) → Starts answer (with_both K.keeper (flow_seen O.output flow.old)
+        held.old memory.old c) wanted owner (Ok started) →
+        Answers (λ c. answer) (with_both K.keeper (flow_seen O.output flow.old) held.old memory.old c) result
+        (with_both K.keeper (flow_seen O.output flow.new) held.new memory.new c) }
     ensures counted { IsCounted held.new.signatures (livings held.new.variables.roots) in_use.new }
     ensures long { length in_use.new ≤ max owner (length in_use.old) }
     ensures held_kept { held.new ≡ record held.old { variables = held.new.variables } }
@@ -159,8 +163,8 @@ fn make_started<K: AreaKeeper>(
 }
 
 /// Makes a variable of an owner.
-fn make_owned<K: AreaKeeper>(
-    flow: &mut Flow,
+fn make_owned<K: AreaKeeper, O: OutputStream>(
+    flow: &mut Flow<O>,
     held: &mut Held,
     in_use: &mut InUse,
     alloc: Global,
@@ -171,14 +175,16 @@ fn make_owned<K: AreaKeeper>(
     requires laid { IsLaid K.keeper held.old.layout memory.old }
     requires counted { IsCounted held.old.signatures (livings held.old.variables.roots) in_use.old }
     requires newest { owner ≢ 0 → length in_use.old ≤ owner }
-    ensures answers { (c : Call) → Answers (λ c. owner_made c wanted owner) (with_both K.keeper flow.old held.old memory.old c) result (with_both K.keeper flow.new held.new memory.new c) }
+    ensures answers { (c : Call) → Answers (λ c. owner_made c wanted owner)
+        (with_both K.keeper (flow_seen O.output flow.old) held.old memory.old c) result
+        (with_both K.keeper (flow_seen O.output flow.new) held.new memory.new c) }
     ensures counted { IsCounted held.new.signatures (livings held.new.variables.roots) in_use.new }
     ensures long { length in_use.new ≤ max owner (length in_use.old) }
     ensures held_kept { held.new ≡ record held.old { variables = held.new.variables } }
     ensures flow_kept { flow.new ≡ record flow.old { shown = flow.new.shown } }
 {
     match start::<K>(held, in_use, alloc, memory, wanted, owner) {
-        Ok(started) => make_started::<K>(flow, held, in_use, memory, wanted, owner, started),
+        Ok(started) => make_started::<K, O>(flow, held, in_use, memory, wanted, owner, started),
         Err(refusal) => Err(refusal),
     }
 }
@@ -187,8 +193,8 @@ fn make_owned<K: AreaKeeper>(
 /// written. An AUTOMATIC variable or a copy ends with the newest block; where all of these would count for more than 1 MiB, the run
 /// ends. Want of memory changes nothing but how many heights have totals; data that would end behind the data of memory, where a REFER
 /// extent of 0 is more than the signature counts, and an area of a capacity that no keeper makes count as that.
-pub fn make<K: AreaKeeper>(
-    flow: &mut Flow,
+pub fn make<K: AreaKeeper, O: OutputStream>(
+    flow: &mut Flow<O>,
     held: &mut Held,
     in_use: &mut InUse,
     alloc: Global,
@@ -198,14 +204,16 @@ pub fn make<K: AreaKeeper>(
     requires laid { IsLaid K.keeper held.old.layout memory.old }
     requires counted { IsCounted held.old.signatures (livings held.old.variables.roots) in_use.old }
     requires height { length in_use.old ≤ length flow.old.activations }
-    ensures answers { (c : Call) → Answers (λ c. served.make_served c wanted.name wanted.signature wanted.initial wanted.place wanted.class) (with_both K.keeper flow.old held.old memory.old c) result (with_both K.keeper flow.new held.new memory.new c) }
+    ensures answers { (c : Call) → Answers (λ c. served.make_served c wanted.name wanted.signature wanted.initial
+        wanted.place wanted.class) (with_both K.keeper (flow_seen O.output flow.old) held.old memory.old c) result
+        (with_both K.keeper (flow_seen O.output flow.new) held.new memory.new c) }
     ensures counted { IsCounted held.new.signatures (livings held.new.variables.roots) in_use.new }
     ensures height { length in_use.new ≤ length flow.new.activations }
     ensures held_kept { held.new ≡ record held.old { variables = held.new.variables } }
     ensures flow_kept { flow.new ≡ record flow.old { shown = flow.new.shown } }
 {
     match owner_of(wanted.class, flow.activations.height()) {
-        Some(owner) => make_owned::<K>(flow, held, in_use, alloc, memory, wanted, owner),
+        Some(owner) => make_owned::<K, O>(flow, held, in_use, alloc, memory, wanted, owner),
         None => Err(Refusal::Bad),
     }
 }

@@ -12,6 +12,7 @@ use crate::wanted::Making;
 use area_heap::chain::Chain;
 use controlled_gens::controlled::Controlled;
 use pli_answering::reply::{Refusal, Reply};
+use pli_edit::output::Output;
 use pli_meaning::outcome::{End, Limit};
 use pli_services::blocks::Standing;
 use pli_services::flow::Flow;
@@ -86,7 +87,7 @@ fn held(alloc: Global) -> Option<Held>
 
 // What the calls reply, up to the first for which there is no memory.
 fn walk(
-    flow: &mut Flow,
+    flow: &mut Flow<Output>,
     held: &mut Held,
     in_use: &mut InUse,
     alloc: Global,
@@ -96,9 +97,9 @@ fn walk(
     requires counted { IsCounted held.old.signatures (livings held.old.variables.roots) in_use.old }
     requires height { length in_use.old ≤ length flow.old.activations }
 {
-    let array = make::<Chain>(flow, held, in_use, alloc, memory, ARRAY)?;
-    let area = make::<Chain>(flow, held, in_use, alloc, memory, AREA)?;
-    let limit = make::<Chain>(flow, held, in_use, alloc, memory, LARGE)?;
+    let array = make::<Chain, Output>(flow, held, in_use, alloc, memory, ARRAY)?;
+    let area = make::<Chain, Output>(flow, held, in_use, alloc, memory, AREA)?;
+    let limit = make::<Chain, Output>(flow, held, in_use, alloc, memory, LARGE)?;
     Ok([array, area, limit])
 }
 
@@ -109,7 +110,7 @@ fn variables_are_made(rt: HostRuntime) {
     };
     let mut memory = [0; 512];
     put_words(&mut memory, 32, &[1, 0, 12, 1, 3, 1, 5]);
-    let mut flow = Flow::new(rt.alloc());
+    let mut flow = Flow::new(rt.alloc(), Output::new(rt.alloc()));
     if flow.enter(0, 4096, 1, 0, NONE_WAIT).is_err() {
         return;
     }

@@ -32,8 +32,8 @@ impl Style {
     }
 }
 
-/// A refusal of a source that stands in a file, and where a statement that isn't spelled can be read no further. Want of
-/// memory has no place.
+/// A refusal of a source that stands in a file, and where a statement that isn't spelled can be read no further. Want
+/// of memory has no place.
 #[derive(Clone, Copy, Debug)]
 pub struct Message<'a> {
     pub style: Style,

@@ -2,16 +2,26 @@
 
 use crate::place::at_column;
 use pli_language::fault::SourceKind;
+use std::alloc::AllocError;
 
 /// A form by the word that a refusal of it stands at, a word that the statement has behind it, or none, and what to
 /// write instead.
+#[derive(Clone, Copy)]
 struct Form {
     at: &'static str,
     has: &'static str,
     instead: &'static str,
 }
 
-const FORMS: [Form; 69] = [
+impl Form {
+    // Whether a word is one of the form's, in letters of either case.
+    fn is_of(&self, word: &str) -> bool {
+        let is_behind = !self.has.is_empty() && self.has.eq_ignore_ascii_case(word);
+        is_behind || self.at.eq_ignore_ascii_case(word)
+    }
+}
+
+const FORMS: [Form; 77] = [
     Form {
         at: "PUT",
         has: "PAGE",
@@ -348,6 +358,46 @@ const FORMS: [Form; 69] = [
         instead: "variables of their own",
     },
     Form {
+        at: "SUM",
+        has: "",
+        instead: "a DO loop that adds",
+    },
+    Form {
+        at: "PROD",
+        has: "",
+        instead: "a DO loop that multiplies",
+    },
+    Form {
+        at: "ROUND",
+        has: "",
+        instead: "nothing: numbers are whole; (X + 5) / 10 rounds tenths",
+    },
+    Form {
+        at: "FLOOR",
+        has: "",
+        instead: "nothing: numbers are whole",
+    },
+    Form {
+        at: "CEIL",
+        has: "",
+        instead: "nothing: numbers are whole",
+    },
+    Form {
+        at: "TRUNC",
+        has: "",
+        instead: "nothing: a quotient has no fraction",
+    },
+    Form {
+        at: "COPY",
+        has: "",
+        instead: "a DO loop with ||",
+    },
+    Form {
+        at: "REVERSE",
+        has: "",
+        instead: "a DO loop with SUBSTR",
+    },
+    Form {
         at: "*",
         has: "PROCESS",
         instead: "nothing: take the line out, there are no options of the compiler",
@@ -426,6 +476,18 @@ fn instead_of(rest: &[u8]) -> Option<&'static str> {
     None
 }
 
+/// Adds what to write instead of each form that a word is of.
+pub(crate) fn push_forms(text: &mut String, word: &str) -> Result<(), AllocError> {
+    for form in FORMS.iter() {
+        if form.is_of(word) {
+            let Form { at, has, instead } = *form;
+            let between = if has.is_empty() { "" } else { " " };
+            writeln!(text, "Left out: {at}{between}{has}\nInstead: {instead}.")?;
+        }
+    }
+    Ok(())
+}
+
 // What to write instead of a byte that begins no token.
 fn instead_of_byte(byte: u8) -> Option<&'static str> {
     match byte {
@@ -457,8 +519,8 @@ pub fn advice(kind: SourceKind, column: u32, rest: &[u8]) -> Option<&'static str
     }
 }
 
-/// What to write instead where a statement can be read no further than to the rest of the source from a column of a line
-/// on.
+/// What to write instead where a statement can be read no further than to the rest of the source from a column of a
+/// line on.
 pub fn advice_further(line: &[u8], column: u32, rest: &[u8]) -> Option<&'static str> {
     if column >= 73 {
         return Some(NO_NUMBERS);
@@ -466,6 +528,7 @@ pub fn advice_further(line: &[u8], column: u32, rest: &[u8]) -> Option<&'static 
     let mut words = Words { rest };
     match (words.take()?, words.take()) {
         ([b'*'], Some([b')'])) => return Some("the array's name alone, as in A = 0, or a loop"),
+        ([b'+' | b'-' | b'*' | b'/'], Some([b'='])) => return Some("the target again: X = X + 1"),
         ([b'.'], _) => return Some("whole numbers, counted in the smallest unit"),
         _ => {}
     }

@@ -113,6 +113,15 @@ fn words_are_explained(rt: HostRuntime) -> Result<(), Fail> {
     let ten = explanation(rt.alloc(), "10")?;
     assert!(rt; ten.as_str().contains("10 BadAttributes") && ten.as_str().contains("10 AREA"));
     assert!(rt; explanation(rt.alloc(), "NOTHING")?.is_empty());
+    let decimal = explanation(rt.alloc(), "decimal")?;
+    assert_eq!(rt;
+        decimal.as_str(),
+        "Left out: DECIMAL\nInstead: FIXED BINARY(31), counted in the smallest unit.\n"
+    );
+    let list = explanation(rt.alloc(), "LIST")?;
+    for form in ["PUT LIST", "GET LIST", "LIST"] {
+        assert!(rt; list.as_str().contains(form));
+    }
     for (style, word) in [Style::Short, Style::Long, Style::Gcc].iter().zip(&STYLES) {
         assert!(rt; Style::named(word) == *style);
     }
@@ -168,6 +177,7 @@ fn what_stands_further_on_has_other_words(rt: HostRuntime) -> Result<(), Fail> {
             3,
             Some("a semicolon at the end of the line before"),
         ),
+        ("X += 1;", 3, Some("the target again: X = X + 1")),
         ("X = 1 Y = 2;", 7, None),
         (
             "PUT SKIP LIST (X);",

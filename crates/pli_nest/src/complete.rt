@@ -25,13 +25,18 @@ fn with_statement(
 ) -> Result<Frame, AllocError>
     ensures { IfOk result (λ f. frame_of f ≡ N.InList (opener_of opener) (map name_of labels.items) (map item_of items.items ++ item_of item ∷ []) []) }
 {
-    items.push(item)?;
-    Ok(Frame::List {
-        opener,
-        labels,
-        items,
-        pending: Vec::new(alloc),
-    })
+    match items.push(item) {
+        Ok(()) => Ok(Frame::List {
+            opener,
+            labels,
+            items,
+            pending: Vec::new(alloc),
+        }),
+        Err(fault) => {
+            drop(opener);
+            Err(fault.into())
+        }
+    }
 }
 
 /// A whole statement in a list.
@@ -122,7 +127,10 @@ fn completing(
             place,
         } => behind_else(alloc, condition, unit, statement, place),
         Frame::UnitDue { condition, place } => behind_on(alloc, condition, statement, place),
-        Frame::ThenWhole { .. } => Ok(Step::Stays(frame)),
+        Frame::ThenWhole { .. } => {
+            drop(statement);
+            Ok(Step::Stays(frame))
+        }
     }
 }
 
@@ -147,5 +155,6 @@ pub fn finished(
             Step::Ends(whole) => statement = whole,
         }
     }
+    drop(statement);
     Ok(frames)
 }

@@ -48,16 +48,21 @@ fn in_list(
 ) -> Result<Option<Vec<Frame>>, AllocError>
     ensures { IfOk result (λ o. option_of (λ v. frames_of v.items) o ≡ Some (N.InList (opener_of opener) (map name_of labels.items) (map item_of items.items ++ item_of item ∷ []) (map name_of pending.items) ∷ frames_of around.items)) }
 {
-    let items = with_last(items, item)?;
-    some_pushed(
-        around,
-        Frame::List {
-            opener,
-            labels,
-            items,
-            pending,
-        },
-    )
+    match with_last(items, item) {
+        Ok(items) => some_pushed(
+            around,
+            Frame::List {
+                opener,
+                labels,
+                items,
+                pending,
+            },
+        ),
+        Err(fault) => {
+            drop(opener);
+            Err(fault)
+        }
+    }
 }
 
 /// An item in the innermost list, from the innermost frame and those around it.
@@ -83,9 +88,10 @@ fn item_in_frame(
 }
 
 /// No list takes the item.
-fn no_list(_frames: Vec<Frame>, _item: Item) -> Result<Option<Vec<Frame>>, AllocError>
+fn no_list(_frames: Vec<Frame>, item: Item) -> Result<Option<Vec<Frame>>, AllocError>
     ensures { IfOk result (λ o. option_of (λ v. frames_of v.items) o ≡ None) }
 {
+    drop(item);
     Ok(None)
 }
 
@@ -335,8 +341,21 @@ fn list_ended(
 ) -> Result<Option<Nest>, AllocError>
     ensures { IfOk result (λ o. option_of nest_of o ≡ N.ended (nest_of around).outer (opener_of opener) (N.items_of_list (map item_of items.items ++ N.end_labels (map name_of labels.items) place)) (nest_of around).frames) }
 {
-    let body = body(alloc, items, labels, place)?;
-    ended(alloc, around.outer, opener, body, around.frames)
+    match body(alloc, items, labels, place) {
+        Ok(body) => ended(alloc, around.outer, opener, body, around.frames),
+        Err(fault) => {
+            drop(opener);
+            Err(fault)
+        }
+    }
+}
+
+/// END ends nothing where another frame is the innermost.
+fn none_ended_in(frame: Frame) -> Result<Option<Nest>, AllocError>
+    ensures { IfOk result (λ o. option_of nest_of o ≡ None) }
+{
+    drop(frame);
+    Ok(None)
 }
 
 /// END, from the innermost frame and the nest around it.
@@ -353,10 +372,10 @@ fn frame_ended(
         Frame::List { opener, items, .. } => {
             list_ended(alloc, around, opener, items, labels, place)
         }
-        Frame::ThenDue { .. } => Ok(None),
-        Frame::ThenWhole { .. } => Ok(None),
-        Frame::ElseDue { .. } => Ok(None),
-        Frame::UnitDue { .. } => Ok(None),
+        Frame::ThenDue { .. } => none_ended_in(frame),
+        Frame::ThenWhole { .. } => none_ended_in(frame),
+        Frame::ElseDue { .. } => none_ended_in(frame),
+        Frame::UnitDue { .. } => none_ended_in(frame),
     }
 }
 
@@ -401,6 +420,14 @@ fn system_unit(
     Ok(Some(finished(alloc, true, on_system(condition, place), frames)?))
 }
 
+/// SYSTEM where another frame is the innermost.
+fn no_unit_in(frame: Frame) -> Result<Option<Vec<Frame>>, AllocError>
+    ensures { IfOk result (λ o. option_of (λ v. frames_of v.items) o ≡ None) }
+{
+    drop(frame);
+    Ok(None)
+}
+
 /// SYSTEM, from the innermost frame and those around it.
 fn system_in_frame(
     alloc: Global,
@@ -410,11 +437,14 @@ fn system_in_frame(
     ensures { IfOk result (λ o. option_of (λ v. frames_of v.items) o ≡ N.with_system (frame_of frame ∷ frames_of around.items) []) }
 {
     match frame {
-        Frame::UnitDue { condition, place } => system_unit(alloc, around, condition, place),
-        Frame::List { .. } => Ok(None),
-        Frame::ThenDue { .. } => Ok(None),
-        Frame::ThenWhole { .. } => Ok(None),
-        Frame::ElseDue { .. } => Ok(None),
+        Frame::UnitDue { condition, place } => {
+            drop(frame);
+            system_unit(alloc, around, condition, place)
+        }
+        Frame::List { .. } => no_unit_in(frame),
+        Frame::ThenDue { .. } => no_unit_in(frame),
+        Frame::ThenWhole { .. } => no_unit_in(frame),
+        Frame::ElseDue { .. } => no_unit_in(frame),
     }
 }
 

@@ -31,18 +31,38 @@ fn due(frames: Option<Vec<Frame>>, frame: Frame) -> Result<Option<Vec<Frame>>, A
     ensures { IfOk result (λ o. option_of (λ v. frames_of v.items) o ≡ N.due (option_of (λ v. frames_of v.items) frames) (frame_of frame)) }
 {
     let Some(mut frames) = frames else {
+        drop(frame);
         return Ok(None);
     };
     frames.push(frame)?;
     Ok(Some(frames))
 }
 
+/// A further frame in a nest, where a statement begins.
+fn due_in(
+    outer: Vec<Item>,
+    frames: Option<Vec<Frame>>,
+    frame: Frame,
+) -> Result<Option<Nest>, AllocError>
+    ensures { IfOk result (λ o. option_of nest_of o
+        ≡ N.with_frames (map item_of outer.items)
+        (N.due (option_of (λ v. frames_of v.items) frames) (frame_of frame))) }
+{
+    let frames = due(frames, frame)?;
+    Ok(with_frames(outer, frames))
+}
+
 /// IF or ON, whose unit is due.
 pub fn unit_due(nest: Nest, labels: Vec<Name>, frame: Frame) -> Result<Option<Nest>, AllocError>
     ensures { IfOk result (λ o. option_of nest_of o ≡ S.due_in (nest_of nest) (map name_of labels.items) (frame_of frame)) }
 {
-    let begun = begun(nest.frames, labels, false)?;
-    Ok(with_frames(nest.outer, due(begun, frame)?))
+    match begun(nest.frames, labels, false) {
+        Ok(begun) => due_in(nest.outer, begun, frame),
+        Err(fault) => {
+            drop(frame);
+            Err(fault)
+        }
+    }
 }
 
 /// A list that belongs to what these labels stand before.
@@ -69,6 +89,43 @@ fn opened(
     due(frames, open_list(alloc, opener, labels))
 }
 
+/// A further list in a nest, where a statement begins.
+fn opened_in(
+    alloc: Global,
+    outer: Vec<Item>,
+    frames: Option<Vec<Frame>>,
+    opener: Opener,
+    labels: Vec<Name>,
+) -> Result<Option<Nest>, AllocError>
+    ensures { IfOk result (λ o. option_of nest_of o ≡ N.with_frames (map item_of outer.items)
+        (N.opened (option_of (λ v. frames_of v.items) frames) (opener_of opener) (map name_of labels.items))) }
+{
+    let frames = opened(alloc, frames, opener, labels)?;
+    Ok(with_frames(outer, frames))
+}
+
+/// A list that belongs to what these labels stand before, which it has a copy of.
+fn list_with(
+    alloc: Global,
+    nest: Nest,
+    labels: Vec<Name>,
+    opener: Opener,
+    own: Vec<Name>,
+    may: bool,
+) -> Result<Option<Nest>, AllocError>
+    ensures { IfOk result (λ o. option_of nest_of o ≡ N.with_frames (nest_of nest).outer
+        (N.opened (S.begun_as (nest_of nest).frames (map name_of labels.items) may) (opener_of opener)
+        (map name_of own.items))) }
+{
+    match begun(nest.frames, labels, may) {
+        Ok(begun) => opened_in(alloc, nest.outer, begun, opener, own),
+        Err(fault) => {
+            drop(opener);
+            Err(fault)
+        }
+    }
+}
+
 /// A group or a begin block; it may be an on-unit, or not.
 pub fn list(
     alloc: Global,
@@ -79,9 +136,13 @@ pub fn list(
 ) -> Result<Option<Nest>, AllocError>
     ensures { IfOk result (λ o. option_of nest_of o ≡ S.list_in (nest_of nest) (map name_of labels.items) (opener_of opener) may) }
 {
-    let own = copied(alloc, &labels)?;
-    let begun = begun(nest.frames, labels, may)?;
-    Ok(with_frames(nest.outer, opened(alloc, begun, opener, own)?))
+    match copied(alloc, &labels) {
+        Ok(own) => list_with(alloc, nest, labels, opener, own, may),
+        Err(fault) => {
+            drop(opener);
+            Err(fault)
+        }
+    }
 }
 
 /// A simple statement other than RETURN and REVERT.
@@ -109,7 +170,10 @@ fn whole(
 {
     match frames {
         Some(frames) => Ok(Some(finished(alloc, true, statement, frames)?)),
-        None => Ok(None),
+        None => {
+            drop(statement);
+            Ok(None)
+        }
     }
 }
 
@@ -143,8 +207,13 @@ fn allowed(
     ensures { IfOk result (λ o. option_of nest_of o ≡ S.allowed_in (nest_of nest) (map name_of labels.items) (stmt_of statement)) }
 {
     let may = is_unit_stmt(&statement);
-    let begun = begun(nest.frames, labels, may)?;
-    whole_in(alloc, nest.outer, begun, statement)
+    match begun(nest.frames, labels, may) {
+        Ok(begun) => whole_in(alloc, nest.outer, begun, statement),
+        Err(fault) => {
+            drop(statement);
+            Err(fault)
+        }
+    }
 }
 
 /// A simple statement.
@@ -157,6 +226,7 @@ pub fn simple(
     ensures { IfOk result (λ o. option_of nest_of o ≡ S.simple_in (nest_of nest) (map name_of labels.items) (stmt_of statement)) }
 {
     if is_misplaced_return(&statement, &nest.frames) {
+        drop(statement);
         return Ok(None);
     }
     allowed(alloc, nest, labels, statement)

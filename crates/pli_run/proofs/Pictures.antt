@@ -1,13 +1,15 @@
 -- An image in instructions has one list of them, and is loaded as a machine loads it.
-use Rattle.std.proofs.Common.{◌≡◌, ℕ, suc, ◌*◌, List, [], ◌∷◌, Err, length, map, refl, ap, subst, sym, ◌∙◌, arith, append_assoc}
+use Rattle.std.proofs.Common.{◌≡◌, ℕ, suc, ◌*◌, List, [], ◌∷◌, Err, length, map, refl, ap, subst, sym, ◌∙◌, arith}
+use Rattle.std.proofs.Common.{append_assoc}
 use Rattle.rv_meaning.specs.declared.instr.Instr.{Instr}
 use Rattle.rv_meaning.specs.Encoding.{word_of}
 use Rattle.rv_meaning.specs.Memory.{bytes_of_words}
 use Rattle.rv_meaning.specs.Machine.{memory_size}
 use Rattle.pli_meaning.specs.Pictures.{Picture, first_bytes}
 use Rattle.rv_meaning.specs.Images.{Image}
+use Rattle.pli_meaning.specs.InputLines.{first_input, Input}
 use Rattle.pli_meaning.specs.Pictures.{loaded_at, first_machine}
-use Rattle.image_runs.specs.Runs.{Run, Runs, run_on, run_of, shown_by}
+use Rattle.image_runs.specs.Runs.{Runs, run_on, run_of, shown_by}
 use Rattle.rv_meaning.specs.Tables.{TableSignature}
 use Rattle.rv_meaning.specs.Machine.{Loaded, State}
 use Rattle.pli_serving.specs.ServiceState.{Services, first_services}
@@ -15,23 +17,27 @@ use Rattle.std.proofs.lemmas.List.{length-map}
 use Rattle.rv_machine.specs.Operations.{instr_of}
 use Rattle.rv_machine.specs.Loading.{loaded_of, state_of, moment, IsStarted}
 use Rattle.rv_machine.specs.declared.machine.Machine.{Machine}
+use Rattle.rv_machine.specs.declared.machine.Step.{Step}
+use Rattle.pli_runtime.specs.Seen.{run_seen, running}
 use Rattle.pli_runtime.specs.declared.runtime.Runtime.{Runtime}
-use Rattle.pli_runtime.specs.Running.{running}
-use Rattle.pli_run.proofs.Stepping.{whole, none_on}
+use Rattle.pli_environment.specs.Calling.{services_of, Streams}
+use Rattle.pli_run.proofs.Stepping.{none_on}
+use Rattle.pli_run.proofs.Stopped.{run_from}
+use Rattle.pli_run.specs.Stopping.{IsStopped}
 use Rattle.rv_isa.proofs.Unique.{same}
 use Rattle.rv_machine.specs.Fitting.{AllFit}
 use Rattle.rv_machine.specs.Placing.{first_memory, AreDecoded}
 use Rattle.pli_meaning.specs.World.{first_world}
-use Rattle.rv_meaning.specs.declared.instr.Fault.{Fault}
 use Rattle.pli_run.specs.declared.run.RunFault.{RunFault}
-use Rattle.pli_run.specs.declared.run.RunFault.TheVariants.{Memory, BadBase, Source, Machine as Fails}
-use Rattle.pli_run.specs.Running.{IsPicture, IsUnstarted, Tells, Meets, ShowsWithin}
+use Rattle.pli_run.specs.declared.run.RunFault.TheVariants.{Memory, BadBase, Source, Read, Write, Machine as Fails}
+use Rattle.pli_run.specs.Running.{IsPicture, IsTabled, IsUnstarted, Shows, Tells}
 
 length-words : (ws : List ℕ) → length (bytes_of_words ws) ≡ 4 * length ws
 length-words [] = refl
 length-words (w ∷ ws) = omega (arith, length-words ws)
 
-pub same_code : (code other : List Instr) → AllFit code → AllFit other → map word_of code ≡ map word_of other → code ≡ other
+pub same_code : (code other : List Instr) → AllFit code → AllFit other → map word_of code ≡ map word_of other →
+    code ≡ other
 same_code [] [] f g e = refl
 same_code [] (j ∷ js) f g e = absurd (cc)
 same_code (i ∷ is) [] f g e = absurd (cc)
@@ -42,46 +48,87 @@ same_code (i ∷ is) (j ∷ js) f g e =
     let behind = same_code is js (λ k. f (suc k)) (λ k. g (suc k)) rest in
     cc
 
-pub picture_code : (p : Picture) (image : Image) (code : List Instr) → IsPicture p image → AreDecoded image.code code → p.code ≡ code
+pub picture_code : (p : Picture) (image : Image) (code : List Instr) → IsPicture p image → AreDecoded image.code code →
+    p.code ≡ code
 picture_code p image code h d = same_code p.code code h.fit d.fit (h.words_are ∙ sym d.words_are)
 
 pub picture_bytes : (p : Picture) (image : Image) → IsPicture p image → first_memory memory_size image ≡ first_bytes p
 picture_bytes p image h = rw (h.words_are, h.statics_are, length-words image.code) (simp append_assoc)
 
-pub started_code : (image : Image) (base : ℕ) (m : Machine) → IsStarted image base m → 4 * length image.code ≡ 4 * length (loaded_of m).code
+pub started_code : (image : Image) (base : ℕ) (m : Machine) → IsStarted image base m →
+    4 * length image.code ≡ 4 * length (loaded_of m).code
 started_code image base m h =
     let words = ap length (sym h.decoded.words_are) ∙ length-map (map instr_of m.code.items) word_of in
     ap (λ (n : ℕ). 4 * n) words
 
-pub started_run : (p : Picture) (gs : List TableSignature) (image : Image) (base : ℕ) (input : List ℕ) (bound : ℕ) (m : Machine) (r : Runtime) → IsPicture p image → IsStarted image base m → running r ≡ first_services gs input → run_of p gs base input bound ≡ run_on bound (loaded_of m) (Runs (whole (moment r m)))
-started_run p gs image base input bound m r h started service =
-    let code : p.code ≡ map instr_of m.code.items = picture_code p image _ h started.decoded in
-    let place : loaded_at p base ≡ loaded_of m = rw (code, started.based) refl in
-    let state : first_machine p base ≡ state_of m = sym (started.state_is ∙ rw (picture_bytes p image h, h.entry_is) refl) in
-    ap (λ (l : Loaded). run_on bound l (Runs (record { machine = first_machine p base; services = first_services gs input }))) place
-    ∙ ap (λ (s : State). run_on bound (loaded_of m) (Runs (record { machine = s; services = first_services gs input }))) state
-    ∙ ap (λ (v : Services). run_on bound (loaded_of m) (Runs (record { machine = state_of m; services = v }))) (sym service)
+-- the services before the first call are those of the definitions
+services_first : {I O : Type 0} (s : Streams I O) (r : Runtime I O) (input : I) (all bytes : List ℕ) (v : Services) →
+    r.streams.input ≡ input → s.input input all ≡ first_input bytes →
+    running (run_seen s.output r (first_input bytes)) ≡ v → services_of s r all ≡ v
+services_first {I = I} s r input all bytes v here begins is =
+    ap (λ (i : Input). running (run_seen s.output r i)) (ap (λ (i : I). s.input i all) here ∙ begins) ∙ is
 
-pub unstarted_told : (p : Picture) (gs : List TableSignature) (base : ℕ) (input : List ℕ) (bound : ℕ) (f : RunFault) → IsUnstarted f → Tells (run_of p gs base input) bound (Err f)
-unstarted_told p gs base input bound (Memory acts output) h = record {
-  done = 0;
-  within = omega arith;
-  shows = record { world = first_world; shown = ap shown_by (none_on (loaded_at p base) _); acts_are = h.0; output_is = h.1 };
-}
-unstarted_told p gs base input bound BadBase h = absurd h
-unstarted_told p gs base input bound (Source fault) h = absurd h
-unstarted_told p gs base input bound (Fails fault acts output) h = absurd h
+-- a program stands where a machine runs it
+pub started_place : (p : Picture) (image : Image) (base : ℕ) (m : Machine) → IsPicture p image →
+    IsStarted image base m →
+    loaded_at p base ≡ loaded_of m
+started_place p image base m h started =
+    let code : p.code ≡ map instr_of m.code.items = picture_code p image _ h started.decoded in
+    rw (code, started.based) refl
+
+pub started_run : {I O : Type 0} (s : Streams I O) (p : Picture) (gs : List TableSignature) (image : Image) (base : ℕ)
+    (bytes all : List ℕ) (bound : ℕ) (m : Machine) (r : Runtime I O) → IsPicture p image → IsStarted image base m →
+    services_of s r all ≡ first_services gs bytes →
+    run_of p gs base bytes bound ≡ run_from s (loaded_of m) (moment r m) all bound
+started_run s p gs image base bytes all bound m r h started service =
+    let code : p.code ≡ map instr_of m.code.items = picture_code p image _ h started.decoded in
+    let place : loaded_at p base ≡ loaded_of m = started_place p image base m h started in
+    let state : first_machine p base ≡ state_of m = sym (started.state_is ∙ rw (picture_bytes p image h, h.entry_is)
+    refl) in
+    ap (λ (l : Loaded). run_on bound l
+    (Runs (record { machine = first_machine p base; services = first_services gs bytes }))) place
+    ∙ ap (λ (s : State). run_on bound (loaded_of m)
+    (Runs (record { machine = s; services = first_services gs bytes }))) state
+    ∙ ap (λ (v : Services). run_on bound (loaded_of m) (Runs (record { machine = state_of m; services = v })))
+    (sym service)
 
 -- a run as the definitions name it, by the bound
-runs_alike : (p : Picture) (gs : List TableSignature) (image : Image) (base : ℕ) (input : List ℕ) (m : Machine) (r : Runtime) → IsPicture p image → IsStarted image base m → running r ≡ first_services gs input → run_of p gs base input ≡ (λ (n : ℕ). run_on n (loaded_of m) (Runs (whole (moment r m))))
-runs_alike p gs image base input m r h started service = λ i n. started_run p gs image base input n m r h started service i
+pub image_run : {I O : Type 0} (s : Streams I O) (image : Image) (base : ℕ) (input : I) (output : O) (bound : ℕ)
+    (last : Step)
+    (r : Runtime I O) (stop : IsStopped s image base input output bound last r) (p : Picture) (gs : List TableSignature)
+    (bytes all : List ℕ) → IsPicture p image → IsTabled gs image → s.input input all ≡ first_input bytes →
+    run_of p gs base bytes ≡ run_from s (loaded_of stop.machine) (moment stop.first stop.machine) all
+image_run s image base input output bound last r stop p gs bytes all h tabled begins = λ i n.
+    started_run s p gs image base bytes all n stop.machine stop.first h stop.started
+    (services_first s stop.first input all bytes _ stop.input_is begins
+    (stop.services_are gs tabled.fit tabled.spelled bytes)) i
 
-pub started_meets : (p : Picture) (gs : List TableSignature) (image : Image) (base : ℕ) (input : List ℕ) (m : Machine) (r : Runtime) (bound : ℕ) (f : Fault) (acts : ℕ) (output : List ℕ) → IsPicture p image → IsStarted image base m → running r ≡ first_services gs input → Meets (λ (n : ℕ). run_on n (loaded_of m) (Runs (whole (moment r m)))) bound f acts output → Meets (run_of p gs base input) bound f acts output
-started_meets p gs image base input m r bound f acts output h started service meets =
-    let P : (ℕ → Run) → Type 0 = λ run. Meets run bound f acts output in
-    subst P (sym (runs_alike p gs image base input m r h started service)) meets
+-- want of memory before the first instruction
+pub unstarted_shows : (p : Picture) (gs : List TableSignature) (base : ℕ) (input : List ℕ) (bound : ℕ) (output : List ℕ)
+    (f : RunFault) → IsUnstarted f → output ≡ [] → Shows (run_of p gs base input) bound output (Err f)
+unstarted_shows p gs base input bound output (Memory acts own) h none = record {
+  done = 0;
+  within = omega arith;
+  shows = record {
+    world = first_world;
+    shown = ap shown_by (none_on (loaded_at p base) _);
+    acts_are = h.0;
+    output_is =
+        none;
+  };
+}
+unstarted_shows p gs base input bound output BadBase h none = absurd h
+unstarted_shows p gs base input bound output (Source fault) h none = absurd h
+unstarted_shows p gs base input bound output (Read acts own) h none = absurd h
+unstarted_shows p gs base input bound output (Write acts own) h none = absurd h
+unstarted_shows p gs base input bound output (Fails fault acts own) h none = absurd h
 
-pub started_shows : (p : Picture) (gs : List TableSignature) (image : Image) (base : ℕ) (input : List ℕ) (m : Machine) (r : Runtime) (bound : ℕ) (acts : ℕ) (output : List ℕ) → IsPicture p image → IsStarted image base m → running r ≡ first_services gs input → ShowsWithin (λ (n : ℕ). run_on n (loaded_of m) (Runs (whole (moment r m)))) bound acts output → ShowsWithin (run_of p gs base input) bound acts output
-started_shows p gs image base input m r bound acts output h started service shows =
-    let P : (ℕ → Run) → Type 0 = λ run. ShowsWithin run bound acts output in
-    subst P (sym (runs_alike p gs image base input m r h started service)) shows
+pub unstarted_tells : (p : Picture) (gs : List TableSignature) (base : ℕ) (input : List ℕ) (bound : ℕ) (f : RunFault) →
+    IsUnstarted f → Tells (run_of p gs base input) bound (Err f)
+unstarted_tells p gs base input bound (Memory acts own) h =
+    unstarted_shows p gs base input bound own.items (Memory acts own) h h.1
+unstarted_tells p gs base input bound BadBase h = absurd h
+unstarted_tells p gs base input bound (Source fault) h = absurd h
+unstarted_tells p gs base input bound (Read acts own) h = absurd h
+unstarted_tells p gs base input bound (Write acts own) h = absurd h
+unstarted_tells p gs base input bound (Fails fault acts own) h = absurd h

@@ -1,5 +1,8 @@
--- The steps of a machine with these services are those of the definitions.
-use Rattle.std.proofs.Common.{◌≡◌, ℕ, zero, suc, ◌+◌, ◌-◌, ◌*◌, List, length, Some, refl, ap, subst, sym, ◌∙◌, arith, zero-add, add-zero, ◌⊎◌, inl, inr}
+-- The steps of a machine with these services are those of the definitions, for each whole input that agrees with what
+-- was
+-- read by their end, up to a stream that fails.
+use Rattle.std.proofs.Common.{◌≡◌, ◌≢◌, ℕ, zero, suc, ◌+◌, ◌-◌, ◌*◌, ◌<◌, ◌≤◌, Bool, true, false, List, length, Option}
+use Rattle.std.proofs.Common.{Some, None, refl, ap, subst, sym, ◌∙◌, arith, zero-add, add-zero, ◌⊎◌, inl, inr}
 use Rattle.rv_meaning.specs.declared.instr.Fault.{Fault}
 use Rattle.rv_meaning.specs.Machine.{Loaded, State, Effect, Goes, Faults, Calls, effect}
 use Rattle.rv_machine.specs.declared.services.Served.{Served}
@@ -8,188 +11,280 @@ use Rattle.rv_machine.specs.declared.machine.Step.TheVariants.{Ran, Ended, Fault
 use Rattle.rv_machine.specs.Steps.{Moment, Makes, RanFor, RunsFor, Answers, start, then}
 use Rattle.granule_keeper.specs.Granules.{granules}
 use Rattle.pli_meaning.specs.World.{World}
-use Rattle.pli_meaning.specs.declared.outcome.Outcome.{Outcome}
-use Rattle.pli_serving.specs.Answers.{Answer}
+use Rattle.pli_serving.specs.Answers.{Answer, Done, Ends, Bad}
 use Rattle.pli_serving.specs.ServiceState.{Services}
 use Rattle.pli_serving.specs.Serving.{serves}
 use Rattle.pli_values.specs.declared.layout.Layout.{Layout}
 use Rattle.pli_values.specs.View as View
+use Rattle.pli_runtime.specs.Seen.{asks_input, call_of, fault_of}
+use Rattle.pli_transmission.specs.Transmitting.{places_of}
 use Rattle.pli_runtime.specs.declared.runtime.Runtime.{Runtime}
-use Rattle.pli_runtime.specs.Running.{running, call_of}
-use Rattle.pli_environment.specs.Calling.{Serves, IsAnswered}
+use Rattle.pli_environment.specs.Calling.{Streams, Serves, IsAnswered, IsAnsweredUnless, fault_in, seen_for}
+use Rattle.pli_environment.specs.Calling.{services_of}
+use Rattle.pli_environment.specs.Calling.{world_behind}
 use Rattle.pli_environment.specs.Places.{image_layout}
-use Rattle.image_runs.specs.Runs.{Whole, Run, Runs, Ended as HasEnded, Stopped, answered, called, of_effect, next, run_on, shown_by}
-use Rattle.pli_run.specs.Running.{world_of, Meets, ShowsWithin}
+use Rattle.image_runs.specs.Runs.{Whole, Run, Runs, Ended as HasEnded, Stopped, answered, called, of_effect, next}
+use Rattle.image_runs.specs.Runs.{run_on}
+use Rattle.image_runs.specs.Runs.{shown_by}
+use Rattle.pli_run.specs.Running.{ShowsAfter, ShowsWithin, Meets}
 
--- a machine and its services, as the definitions see them
-abbrev pub whole : Moment Runtime → Whole
-whole m = record { machine = m.state; services = running m.services }
+-- what streams promise: inputs that agree with what was read agree with less of it
+pub record StreamLaws {I O : Type 0} (s : Streams I O) : Type 0 where
+  pub agreed : (a b : I) (all : List ℕ) → s.follows a b → s.agrees b all → s.agrees a all
+  pub stays : (a : I) → s.follows a a
+  pub goes_on : (a b c : I) → s.follows a b → s.follows b c → s.follows a c
 
--- what a step, or a run that it finishes, comes to
-abbrev pub Comes : Run → Step → Moment Runtime → Type 0
-Comes r Ran to = r ≡ Runs (whole to)
-Comes r Ended to = shown_by r ≡ Some (running to.services).world
-Comes r (Faulted f) to = r ≡ Stopped f
-Comes r Refused to = Unit {0}
+-- a machine and its services, as the definitions see them for a whole input
+abbrev pub whole : {I O : Type 0} → Streams I O → Moment (Runtime I O) → (all : List ℕ) → Whole
+whole s m all = record { machine = m.state; services = services_of s m.services all }
 
--- a state by its parts
-of_parts : (t : State) (x : ℕ → ℕ) (pc : ℕ) → t.registers ≡ x → t.pc ≡ pc → t ≡ record { registers = x; memory = t.memory; pc = pc }
-of_parts t x pc a e = λ i. record { registers = a i; memory = t.memory; pc = e i }
+abbrev pub Agrees : {I O : Type 0} → Streams I O → Moment (Runtime I O) → (all : List ℕ) → Type 0
+Agrees s m all = s.agrees m.services.streams.input all
 
--- a call is answered between two moments so
-abbrev pub AnsweredSo : Answer → Moment Runtime → Served → Moment Runtime → Type 0
-AnsweredSo a from answer to =
-    IsAnswered a (running from.services) from.state.registers from.state.memory answer (running to.services) to.state.registers to.state.memory
+-- no stream failed
+abbrev pub IsUnfailed : {I O : Type 0} → Streams I O → Moment (Runtime I O) → Type 0
+IsUnfailed s m = fault_in s m.services ≡ None
 
--- the answer to a call, by how it came out
-called_ran : (from to : Moment Runtime) (answer : Served) (a : Answer) → AnsweredSo a from answer to → Answers answer from.state Ran to.state → answered from.state a ≡ Runs (whole to)
-called_ran from to Served.Done a (x, y, e, r) (ran, pc) =
-    rw e (ap (λ (s : State). Runs (record { machine = s; services = running to.services })) (sym (of_parts to.state _ _ r pc)))
-called_ran from to Served.Ended a h (ran, pc) = absurd (cc)
-called_ran from to Served.Bad a h (ran, pc) = absurd (cc)
-called_ran from to Served.Memory a h (ran, pc) = absurd (cc)
-
-called_ended : (from to : Moment Runtime) (answer : Served) (a : Answer) → AnsweredSo a from answer to → Answers answer from.state Ended to.state → answered from.state a ≡ HasEnded (record { machine = from.state; services = running to.services })
-called_ended from to Served.Done a h (ran, pc) = absurd (cc)
-called_ended from to Served.Ended a (e, r, m) (ran, pc) = rw e refl
-called_ended from to Served.Bad a h (ran, pc) = absurd (cc)
-called_ended from to Served.Memory a h (ran, pc) = absurd (cc)
-
-called_faulted : (from to : Moment Runtime) (f : Fault) (answer : Served) (a : Answer) → AnsweredSo a from answer to → Answers answer from.state (Faulted f) to.state → answered from.state a ≡ Stopped f
-called_faulted from to f Served.Done a h (ran, pc) = absurd (cc)
-called_faulted from to f Served.Ended a h (ran, pc) = absurd (cc)
-called_faulted from to f Served.Bad a (e, v, r, m) (faulted, pc) = rw e (cc)
-called_faulted from to f Served.Memory a h (ran, pc) = absurd (cc)
+unread_failed : (reads writes : Bool) → fault_of reads writes ≡ None → reads ≡ false
+unread_failed false writes e = refl
+unread_failed true false e = absurd cc
+unread_failed true true e = absurd cc
 
 -- services of the program's code
-abbrev pub OfCode : Loaded → Moment Runtime → Type 0
+abbrev pub OfCode : {I O : Type 0} → Loaded → Moment (Runtime I O) → Type 0
 OfCode p m = m.services.held.layout ≡ image_layout (4 * length p.code)
 
-serves_here : (p : Loaded) (from : Moment Runtime) → OfCode p from → called p (whole from) ≡ serves (call_of granules from.services from.state.memory) from.state.registers
-serves_here p from h =
+serves_here : {I O : Type 0} (s : Streams I O) (p : Loaded) (from : Moment (Runtime I O)) (all : List ℕ) →
+    OfCode p from →
+    called p (whole s from all) ≡ serves (call_of granules (seen_for s from.services all) from.state.memory)
+    from.state.registers
+serves_here s p from all h =
     ap
-    (λ (l : Layout). serves (record { keeper = granules; layout = View.layout_of l; services = running from.services; memory = from.state.memory }) from.state.registers)
+    (λ (l : Layout). serves (record {
+      keeper = granules;
+      layout = View.layout_of l;
+      services = services_of s from.services all;
+      memory = from.state.memory;
+    }) from.state.registers)
     (sym h)
 
-makes_ran : (p : Loaded) (from to : Moment Runtime) (e : Effect) → OfCode p from → Makes Serves e from Ran to → (of_effect p (whole from) e ≡ Runs (whole to)) × OfCode p to
-makes_ran p from to (Goes s) o (ran, state, services) = (rw (state, services) refl, rw services o)
-makes_ran p from to (Faults f) o (ran, state, services) = absurd (cc)
-makes_ran p from to Calls o (answer, serve, zero_kept, sized, answers) =
-    (ap (answered from.state) (serves_here p from o) ∙ called_ran from to answer _ serve.answered answers, serve.layout_kept ∙ o)
+-- ---- how a call comes out
 
-makes_ended : (p : Loaded) (from to : Moment Runtime) (e : Effect) → OfCode p from → Makes Serves e from Ended to → of_effect p (whole from) e ≡ HasEnded (record { machine = from.state; services = running to.services })
-makes_ended p from to (Goes s) o (ran, state, services) = absurd (cc)
-makes_ended p from to (Faults f) o (ran, state, services) = absurd (cc)
-makes_ended p from to Calls o (answer, serve, zero_kept, sized, answers) =
-    ap (answered from.state) (serves_here p from o) ∙ called_ended from to answer _ serve.answered answers
+-- a state by its parts
+of_parts : (t : State) (x : ℕ → ℕ) (pc : ℕ) → t.registers ≡ x → t.pc ≡ pc →
+    t ≡ record { registers = x; memory = t.memory; pc = pc }
+of_parts t x pc a e = λ i. record { registers = a i; memory = t.memory; pc = e i }
 
-makes_faulted : (p : Loaded) (from to : Moment Runtime) (f : Fault) (e : Effect) → OfCode p from → Makes Serves e from (Faulted f) to → of_effect p (whole from) e ≡ Stopped f
-makes_faulted p from to f (Goes s) o (ran, state, services) = absurd (cc)
-makes_faulted p from to f (Faults g) o (faulted, state, services) = cc
-makes_faulted p from to f Calls o (answer, serve, zero_kept, sized, answers) =
-    ap (answered from.state) (serves_here p from o) ∙ called_faulted from to f answer _ serve.answered answers
+-- a call is answered between two states and services so
+abbrev pub AnsweredSo : Answer → State → Services → Served → State → Services → Type 0
+AnsweredSo a from v answer to v' = IsAnswered a v from.registers from.memory answer v' to.registers to.memory
 
--- steps that ran are taken off a run, and keep the services those of the code
-ran_on : (p : Loaded) (n k : ℕ) (from at : Moment Runtime) → OfCode p from → RanFor Serves p n from at → (run_on (n + k) p (Runs (whole from)) ≡ run_on k p (Runs (whole at))) × OfCode p at
+called_ran : (from to : State) (v v' : Services) (answer : Served) (a : Answer) → AnsweredSo a from v answer to v' →
+    Answers answer from Ran to → answered from a ≡ Runs (record { machine = to; services = v' })
+called_ran from to v v' Served.Done a (x, y, e, r) (ran, pc) =
+    rw e (ap (λ (s : State). Runs (record { machine = s; services = v' })) (sym (of_parts to _ _ r pc)))
+called_ran from to v v' Served.Ended a h (ran, pc) = absurd (cc)
+called_ran from to v v' Served.Bad a h (ran, pc) = absurd (cc)
+called_ran from to v v' Served.Memory a h (ran, pc) = absurd (cc)
+
+called_ended : (from to : State) (v v' : Services) (answer : Served) (a : Answer) → AnsweredSo a from v answer to v' →
+    Answers answer from Ended to → answered from a ≡ HasEnded (record { machine = from; services = v' })
+called_ended from to v v' Served.Done a h (ran, pc) = absurd (cc)
+called_ended from to v v' Served.Ended a (e, r, m) (ran, pc) = rw e refl
+called_ended from to v v' Served.Bad a h (ran, pc) = absurd (cc)
+called_ended from to v v' Served.Memory a h (ran, pc) = absurd (cc)
+
+called_faulted : (from to : State) (v v' : Services) (f : Fault) (answer : Served) (a : Answer) →
+    AnsweredSo a from v answer to v' → Answers answer from (Faulted f) to →
+    (answered from a ≡ Stopped f) × (v'.world ≡ v.world)
+called_faulted from to v v' f Served.Done a h (ran, pc) = absurd (cc)
+called_faulted from to v v' f Served.Ended a h (ran, pc) = absurd (cc)
+called_faulted from to v v' f Served.Bad a (e, same, r, m) (faulted, pc) =
+    (rw e (cc), ap (λ (it : Services). it.world) same)
+called_faulted from to v v' f Served.Memory a h (ran, pc) = absurd (cc)
+
+called_refused : (from to : State) (v v' : Services) (answer : Served) (a : Answer) → AnsweredSo a from v answer to v' →
+    Answers answer from Refused to → v'.world ≡ v.world
+called_refused from to v v' Served.Done a h (ran, pc) = absurd (cc)
+called_refused from to v v' Served.Ended a h (ran, pc) = absurd (cc)
+called_refused from to v v' Served.Bad a h (ran, pc) = absurd (cc)
+called_refused from to v v' Served.Memory a (same, r, m) (ran, pc) = same
+
+-- what is shown by what an answer makes of a run
+shown_behind : (from : State) (a : Answer) → shown_by (answered from a) ≡ world_behind a
+shown_behind from (Done v m x y) = refl
+shown_behind from (Ends v) = refl
+shown_behind from Bad = refl
+
+ended_by : (answer : Served) (from to : State) (step : Step) → Answers answer from step to → answer ≡ Served.Ended →
+    step ≡ Ended
+ended_by Served.Done from to step (e, pc) same = absurd (cc)
+ended_by Served.Ended from to step (e, pc) same = e
+ended_by Served.Bad from to step (e, pc) same = absurd (cc)
+ended_by Served.Memory from to step (e, pc) same = absurd (cc)
+
+-- a step that isn't the end of a run tells that no stream failed
+whole_unless : (fault : Option ℕ) (a : Answer) (from to : State) (v v' : Services) (answer : Served) (step : Step) →
+    IsAnsweredUnless fault a v from.registers from.memory answer v' to.registers to.memory →
+    Answers answer from step to → (step ≡ Ended → ⊥) → (fault ≡ None) × AnsweredSo a from v answer to v'
+whole_unless None a from to v v' answer step h answers going = (refl, h)
+whole_unless (Some fault) a from to v v' answer step h answers going =
+    absurd (going (ended_by answer from to step answers h.0))
+
+-- what the end of a run comes to: it ended; or, where a stream failed, it shows what it showed before or behind the
+-- step
+abbrev pub ComesToEnd : (fault : Option ℕ) → Run → State → Services → Services → Type 0
+ComesToEnd None r from v v' = r ≡ HasEnded (record { machine = from; services = v' })
+ComesToEnd (Some fault) r from v v' = (v'.world ≡ v.world) ⊎ (shown_by r ≡ Some v'.world)
+
+ended_unless : (fault : Option ℕ) (a : Answer) (from to : State) (v v' : Services) (answer : Served) →
+    IsAnsweredUnless fault a v from.registers from.memory answer v' to.registers to.memory →
+    Answers answer from Ended to → ComesToEnd fault (answered from a) from v v'
+ended_unless None a from to v v' answer h answers = called_ended from to v v' answer a h answers
+ended_unless (Some fault) a from to v v' answer (ended, inl same) answers = inl same
+ended_unless (Some fault) a from to v v' answer (ended, inr behind) answers = inr (shown_behind from a ∙ behind)
+
+-- ---- one step
+
+pub agreed_before : {I O : Type 0} (s : Streams I O) → StreamLaws s → (from to : Moment (Runtime I O)) (step : Step)
+    (e : Effect)
+    (all : List ℕ) → Makes (Serves s) e from step to → Agrees s to all → Agrees s from all
+agreed_before {I = I} {O = O} s laws from to step (Goes t) all (ran, state, services) h =
+    subst (λ (r : Runtime I O). s.agrees r.streams.input all) services h
+agreed_before {I = I} {O = O} s laws from to step (Faults f) all (faulted, state, services) h =
+    subst (λ (r : Runtime I O). s.agrees r.streams.input all) services h
+agreed_before s laws from to step Calls all (answer, serve, zero_kept, sized, answers) h =
+    laws.agreed _ _ all serve.follows h
+
+pub follows_on : {I O : Type 0} (s : Streams I O) → StreamLaws s → (from to : Moment (Runtime I O)) (step : Step)
+    (e : Effect) →
+    Makes (Serves s) e from step to → s.follows from.services.streams.input to.services.streams.input
+follows_on {I = I} {O = O} s laws from to step (Goes t) (ran, state, services) =
+    subst (λ (r : Runtime I O). s.follows from.services.streams.input r.streams.input) (sym services) (laws.stays _)
+follows_on {I = I} {O = O} s laws from to step (Faults f) (faulted, state, services) =
+    subst (λ (r : Runtime I O). s.follows from.services.streams.input r.streams.input) (sym services) (laws.stays _)
+follows_on s laws from to step Calls (answer, serve, zero_kept, sized, answers) = serve.follows
+
+pub unread_on : {I O : Type 0} (s : Streams I O) (from to : Moment (Runtime I O)) (step : Step) (e : Effect) →
+    (e ≡ Calls → asks_input (places_of from.services.streams.edits.items) (from.state.registers 17)
+    (from.state.registers 11) ≡ false) → Makes (Serves s) e from step to →
+    to.services.streams.input ≡ from.services.streams.input
+unread_on {I = I} {O = O} s from to step (Goes t) silent (ran, state, services) =
+    ap (λ (r : Runtime I O). r.streams.input) services
+unread_on {I = I} {O = O} s from to step (Faults f) silent (faulted, state, services) =
+    ap (λ (r : Runtime I O). r.streams.input) services
+unread_on s from to step Calls silent (answer, serve, zero_kept, sized, answers) = serve.unread (silent refl)
+
+pub makes_ran : {I O : Type 0} (s : Streams I O) (p : Loaded) (from to : Moment (Runtime I O)) (e : Effect)
+    (all : List ℕ) →
+    OfCode p from → IsUnfailed s from → Agrees s to all → Makes (Serves s) e from Ran to →
+    (of_effect p (whole s from all) e ≡ Runs (whole s to all)) × OfCode p to × IsUnfailed s to
+makes_ran s p from to (Goes t) all o u h (ran, state, services) =
+    (rw (state, services) refl, rw services o, rw services u)
+makes_ran s p from to (Faults f) all o u h (ran, state, services) = absurd (cc)
+makes_ran s p from to Calls all o u h (answer, serve, zero_kept, sized, answers) =
+    let went = whole_unless (fault_in s to.services) _ from.state to.state (services_of s from.services all)
+    (services_of s to.services all) answer Ran (serve.answered (unread_failed _ _ u) all h) answers
+    (λ e. absurd (cc e)) in (
+      ap (answered from.state) (serves_here s p from all o)
+          ∙ called_ran from.state to.state _ (services_of s to.services all) answer _ went.1 answers,
+      serve.layout_kept ∙ o,
+      went.0,
+    )
+
+pub makes_ended : {I O : Type 0} (s : Streams I O) (p : Loaded) (from to : Moment (Runtime I O)) (e : Effect)
+    (all : List ℕ) →
+    OfCode p from → IsUnfailed s from → Agrees s to all → Makes (Serves s) e from Ended to →
+    ComesToEnd (fault_in s to.services) (of_effect p (whole s from all) e) from.state (services_of s from.services all)
+    (services_of s to.services all)
+makes_ended s p from to (Goes t) all o u h (ran, state, services) = absurd (cc)
+makes_ended s p from to (Faults f) all o u h (ran, state, services) = absurd (cc)
+makes_ended s p from to Calls all o u h (answer, serve, zero_kept, sized, answers) =
+    subst
+    (λ (r : Run). ComesToEnd (fault_in s to.services) r from.state (services_of s from.services all)
+    (services_of s to.services all))
+    (sym (ap (answered from.state) (serves_here s p from all o)))
+    (ended_unless (fault_in s to.services) _ from.state to.state (services_of s from.services all)
+    (services_of s to.services all) answer (serve.answered (unread_failed _ _ u) all h) answers)
+
+pub makes_faulted : {I O : Type 0} (s : Streams I O) (p : Loaded) (from to : Moment (Runtime I O)) (f : Fault)
+    (e : Effect)
+    (all : List ℕ) → OfCode p from → IsUnfailed s from → Agrees s to all → Makes (Serves s) e from (Faulted f) to →
+    (of_effect p (whole s from all) e ≡ Stopped f) × IsUnfailed s to
+    × ((services_of s to.services all).world ≡ (services_of s from.services all).world)
+makes_faulted s p from to f (Goes t) all o u h (ran, state, services) = absurd (cc)
+makes_faulted {I = I} {O = O} s p from to f (Faults g) all o u h (faulted, state, services) =
+    (cc, rw services u, ap (λ (r : Runtime I O). (services_of s r all).world) services)
+makes_faulted s p from to f Calls all o u h (answer, serve, zero_kept, sized, answers) =
+    let went = whole_unless (fault_in s to.services) _ from.state to.state (services_of s from.services all)
+    (services_of s to.services all) answer (Faulted f) (serve.answered (unread_failed _ _ u) all h) answers
+    (λ e. absurd (cc e)) in
+    let called = called_faulted from.state to.state (services_of s from.services all) (services_of s to.services all) f
+    answer _ went.1 answers in
+    (ap (answered from.state) (serves_here s p from all o) ∙ called.0, went.0, called.1)
+
+pub makes_refused : {I O : Type 0} (s : Streams I O) (from to : Moment (Runtime I O)) (e : Effect) (all : List ℕ) →
+    IsUnfailed s from → Agrees s to all → Makes (Serves s) e from Refused to →
+    IsUnfailed s to × ((services_of s to.services all).world ≡ (services_of s from.services all).world)
+makes_refused s from to (Goes t) all u h (ran, state, services) = absurd (cc)
+makes_refused s from to (Faults f) all u h (ran, state, services) = absurd (cc)
+makes_refused s from to Calls all u h (answer, serve, zero_kept, sized, answers) =
+    let went = whole_unless (fault_in s to.services) _ from.state to.state (services_of s from.services all)
+    (services_of s to.services all) answer Refused (serve.answered (unread_failed _ _ u) all h) answers
+    (λ e. absurd (cc e)) in (
+      went.0,
+      called_refused from.state to.state (services_of s from.services all) (services_of s to.services all)
+          answer _ went.1 answers,
+    )
+
+-- ---- runs
+
+-- steps that ran are taken off a run, and keep the services those of the code, with no stream failed
+pub record RanOn {I O : Type 0} (s : Streams I O) (p : Loaded) (n k : ℕ) (from at : Moment (Runtime I O))
+    (all : List ℕ) : Type 0 where
+  pub on : run_on (n + k) p (Runs (whole s from all)) ≡ run_on k p (Runs (whole s at all))
+  pub code : OfCode p at
+  pub unfailed : IsUnfailed s at
+
+pub ran_on : {I O : Type 0} (s : Streams I O) → StreamLaws s → (p : Loaded) (n k : ℕ) (from at : Moment (Runtime I O))
+    (all : List ℕ) →
+    OfCode p from → IsUnfailed s from → Agrees s at all → RanFor (Serves s) p n from at → RanOn s p n k from at all
 unfolding run_on
-ran_on p zero k from at o start = (rw zero-add refl, o)
-ran_on p (suc n) k from at o (then {u = u} h s) =
-    let before = ran_on p n (suc k) from u o h in
-    let step = makes_ran p u at (effect p u.state) before.1 s in
+ran_on s laws p zero k from at all o u h start = record { on = rw zero-add refl; code = o; unfailed = u }
+ran_on s laws p (suc n) k from at all o u h (then {u = between} before step) =
+    let earlier = agreed_before s laws between at Ran (effect p between.state) all step h in
+    let ran = ran_on s laws p n (suc k) from between all o u earlier before in
+    let made = makes_ran s p between at (effect p between.state) all ran.code ran.unfailed h step in
     let shift : suc n + k ≡ n + suc k = omega arith in
-    let P : ℕ → Type 0 = λ j. run_on j p (Runs (whole from)) ≡ run_on k p (Runs (whole at)) in
-    (subst P (sym shift) (before.0 ∙ ap (run_on k p) step.0), step.1)
+    let P : ℕ → Type 0 = λ j. run_on j p (Runs (whole s from all)) ≡ run_on k p (Runs (whole s at all)) in
+    record {
+      on = subst P (sym shift) (ran.on ∙ ap (run_on k p) made.0);
+      code = made.1;
+      unfailed = made.2;
+    }
 
-ended_stays : (p : Loaded) (n : ℕ) (w : Whole) → run_on n p (HasEnded w) ≡ HasEnded w
+pub ran_follows : {I O : Type 0} (s : Streams I O) → StreamLaws s →
+    (p : Loaded) (n : ℕ) (from at : Moment (Runtime I O)) →
+    RanFor (Serves s) p n from at → s.follows from.services.streams.input at.services.streams.input
+ran_follows s laws p zero from at start = laws.stays _
+ran_follows s laws p (suc n) from at (then {u = between} before step) =
+    laws.goes_on _ _ _ (ran_follows s laws p n from between before)
+    (follows_on s laws between at Ran (effect p between.state) step)
+
+pub ended_stays : (p : Loaded) (n : ℕ) (w : Whole) → run_on n p (HasEnded w) ≡ HasEnded w
 unfolding run_on
 ended_stays p zero w = refl
 ended_stays p (suc n) w = refl
 
-stopped_stays : (p : Loaded) (n : ℕ) (f : Fault) → run_on n p (Stopped f) ≡ Stopped f
+pub stopped_stays : (p : Loaded) (n : ℕ) (f : Fault) → run_on n p (Stopped f) ≡ Stopped f
 unfolding run_on
 stopped_stays p zero f = refl
 stopped_stays p (suc n) f = refl
 
-one_on : (p : Loaded) (n : ℕ) (w : Whole) (r : Run) → next p w ≡ r → run_on (suc n) p (Runs w) ≡ run_on n p r
+pub one_on : (p : Loaded) (n : ℕ) (w : Whole) (r : Run) → next p w ≡ r → run_on (suc n) p (Runs w) ≡ run_on n p r
 unfolding run_on
 one_on p n w r e = ap (run_on n p) e
 
 pub none_on : (p : Loaded) (r : Run) → run_on 0 p r ≡ r
 unfolding run_on
 none_on p r = refl
-
--- a run of the machine with these services is that of the definitions
-pub runs_are : (p : Loaded) (bound ran : ℕ) (from : Moment Runtime) (last : Step) (to : Moment Runtime) → OfCode p from → RunsFor Serves p bound ran from last to → Comes (run_on bound p (Runs (whole from))) last to
-runs_are p bound ran from Ran to o run =
-    let all = ran_on p ran 0 from run.at o run.all_ran in
-    let whole_bound : ran + 0 ≡ bound = let e = run.finishes.0 in omega arith in
-    let P : ℕ → Type 0 = λ j. run_on j p (Runs (whole from)) ≡ run_on 0 p (Runs (whole run.at)) in
-    subst P whole_bound all.0 ∙ none_on p _ ∙ ap (λ (m : Moment Runtime). Runs (whole m)) (sym run.finishes.1)
-runs_are p bound ran from Ended to o run =
-    let k = bound - (ran + 1) in
-    let all = ran_on p ran (suc k) from run.at o run.all_ran in
-    let whole_bound : ran + suc k ≡ bound = let h = run.finishes.0 in omega arith in
-    let P : ℕ → Type 0 = λ j. run_on j p (Runs (whole from)) ≡ run_on (suc k) p (Runs (whole run.at)) in
-    ap shown_by (subst P whole_bound all.0 ∙ one_on p k (whole run.at) _ (makes_ended p run.at to (effect p run.at.state) all.1 run.finishes.1) ∙ ended_stays p k _)
-runs_are p bound ran from (Faulted f) to o run =
-    let k = bound - (ran + 1) in
-    let all = ran_on p ran (suc k) from run.at o run.all_ran in
-    let whole_bound : ran + suc k ≡ bound = let h = run.finishes.0 in omega arith in
-    let P : ℕ → Type 0 = λ j. run_on j p (Runs (whole from)) ≡ run_on (suc k) p (Runs (whole run.at)) in
-    subst P whole_bound all.0 ∙ one_on p k (whole run.at) _ (makes_faulted p run.at to f (effect p run.at.state) all.1 run.finishes.1) ∙ stopped_stays p k f
-runs_are p bound ran from Refused to o run = tt
-
--- a step that is none leaves what is shown as it was
-faulted_kept : (from to : Moment Runtime) (f : Fault) (e : Effect) → Makes Serves e from (Faulted f) to → (running to.services).world ≡ (running from.services).world
-faulted_kept from to f (Goes s) (ran, state, services) = absurd (cc)
-faulted_kept from to f (Faults g) (faulted, state, services) = ap (λ (r : Runtime). (running r).world) services
-faulted_kept from to f Calls (Served.Done, serve, zero_kept, sized, (ran, pc)) = absurd (cc)
-faulted_kept from to f Calls (Served.Ended, serve, zero_kept, sized, (ended, pc)) = absurd (cc)
-faulted_kept from to f Calls (Served.Bad, serve, zero_kept, sized, answers) = ap (λ (v : Services). v.world) serve.answered.1
-faulted_kept from to f Calls (Served.Memory, serve, zero_kept, sized, (refused, pc)) = absurd (cc)
-
-refused_kept : (from to : Moment Runtime) (e : Effect) → Makes Serves e from Refused to → (running to.services).world ≡ (running from.services).world
-refused_kept from to (Goes s) (ran, state, services) = absurd (cc)
-refused_kept from to (Faults g) (faulted, state, services) = absurd (cc)
-refused_kept from to Calls (Served.Done, serve, zero_kept, sized, (ran, pc)) = absurd (cc)
-refused_kept from to Calls (Served.Ended, serve, zero_kept, sized, (ended, pc)) = absurd (cc)
-refused_kept from to Calls (Served.Bad, serve, zero_kept, sized, (faulted, pc)) = absurd (cc)
-refused_kept from to Calls (Served.Memory, serve, zero_kept, sized, answers) = serve.answered.0
-
--- what the steps that ran show
-ran_shows : (p : Loaded) (ran : ℕ) (from at : Moment Runtime) (w : World) → OfCode p from → RanFor Serves p ran from at → w ≡ (running at.services).world → shown_by (run_on ran p (Runs (whole from))) ≡ Some w
-ran_shows p ran from at w o h e =
-    let all = ran_on p ran 0 from at o h in
-    let P : ℕ → Type 0 = λ j. run_on j p (Runs (whole from)) ≡ run_on 0 p (Runs (whole at)) in
-    ap shown_by (subst P (add-zero ran) all.0 ∙ none_on p _) ∙ ap (λ (s : World). Some s) (sym e)
-
-pub run_meets : (p : Loaded) (bound ran : ℕ) (from to : Moment Runtime) (f : Fault) (o : Outcome) → OfCode p from → RunsFor Serves p bound ran from (Faulted f) to → world_of o ≡ (running to.services).world → Meets (λ n. run_on n p (Runs (whole from))) bound f o.acts o.output.items
-run_meets p bound ran from to f o code run e = record {
-  done = ran;
-  within = run.finishes.0;
-  shows = record {
-    world = (running to.services).world;
-    shown = ran_shows p ran from run.at (running to.services).world code run.all_ran (faulted_kept run.at to f (effect p run.at.state) run.finishes.1);
-    acts_are = ap (λ (w : World). w.acts) e;
-    output_is = ap (λ (w : World). w.output) e;
-  };
-  stops = (ran_on p ran 1 from run.at code run.all_ran).0 ∙ one_on p 0 (whole run.at) _ (makes_faulted p run.at to f (effect p run.at.state) (ran_on p ran 1 from run.at code run.all_ran).1 run.finishes.1) ∙ none_on p _;
-  stopped = runs_are p bound ran from (Faulted f) to code run;
-}
-
-pub run_refused : (p : Loaded) (bound ran : ℕ) (from to : Moment Runtime) (o : Outcome) → OfCode p from → RunsFor Serves p bound ran from Refused to → world_of o ≡ (running to.services).world → ShowsWithin (λ n. run_on n p (Runs (whole from))) bound o.acts o.output.items
-run_refused p bound ran from to o code run e = record {
-  done = ran;
-  within = let h = run.finishes.0 in omega arith;
-  shows = record {
-    world = (running to.services).world;
-    shown = ran_shows p ran from run.at (running to.services).world code run.all_ran (refused_kept run.at to (effect p run.at.state) run.finishes.1);
-    acts_are = ap (λ (w : World). w.acts) e;
-    output_is = ap (λ (w : World). w.output) e;
-  };
-}
-
--- a run that ran on or ended shows its services' world
-pub shown_where : (r : Run) (last : Step) (to : Moment Runtime) → (last ≡ Ran) ⊎ (last ≡ Ended) → Comes r last to → shown_by r ≡ Some (running to.services).world
-shown_where r last to (inl e) comes = ap shown_by (rw e at comes)
-shown_where r last to (inr e) comes = rw e at comes

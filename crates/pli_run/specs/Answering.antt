@@ -13,21 +13,24 @@ use Rattle.pli_meaning.specs.Pictures.{Picture}
 use Rattle.pli_coding.specs.Images.{picture_of}
 use Rattle.pli_coding.specs.SignatureTable.{table_of}
 use Rattle.image_runs.specs.Runs.{run_of, shown_by}
-use Rattle.pli_run.specs.Running.{world_of, IsPicture, IsTabled, Tells}
+use Rattle.pli_run.specs.Running.{own_output, world_with, IsPicture, IsTabled, Shows}
 use Rattle.pli_run.specs.declared.run.RunFault.{RunFault}
-use Rattle.pli_run.specs.declared.run.RunFault.TheVariants.{Memory, Source}
+use Rattle.pli_run.specs.declared.run.RunFault.TheVariants.{Memory, Read, Write, Source}
 use Rattle.pli_headline.specs.ProvedSoFar.{IsProvedSoFar}
 use Rattle.pli_headline.specs.Headline.{parts, Keeps}
 use Rattle.pli_compile.specs.Compiling.{IsImageFor, IsRefused}
 
 -- ---- what is shown is what the program means
 
--- The world w is what a run of a program's image shows at a base, and at every other valid base. It is the storage machine's at
--- just its acts; an image still running has done at least the bound divided by the step cost acts; and a program that ends
+-- The world w is what a run of a program's image shows at a base, and at every other valid base. It is the storage
+-- machine's at
+-- just its acts; an image still running has done at least the bound divided by the step cost acts; and a program that
+-- ends
 -- is seen to end where the bound allows for its acts.
 pub record Means (program : Y.Program) (input : List ℕ) (bound : ℕ) (w : World) : Type 0 where
   pub keeps : Keeps program (picture_of parts program) input bound w
-  pub anywhere : (base : ℕ) → IsValidBase base → shown_by (run_of (picture_of parts program) (table_of program) base input bound) ≡ Some w
+  pub anywhere : (base : ℕ) → IsValidBase base →
+      shown_by (run_of (picture_of parts program) (table_of program) base input bound) ≡ Some w
 
 -- these are the acts and the output of a program up to some act
 pub record ShowsPart (program : Y.Program) (input : List ℕ) (acts : ℕ) (output : List ℕ) : Type 0 where
@@ -37,34 +40,41 @@ pub record ShowsPart (program : Y.Program) (input : List ℕ) (acts : ℕ) (outp
   pub output_is : output ≡ world.output
 
 -- no instruction is one that can't be carried out
-abbrev pub AnswersMeant : (program : Y.Program) (input : List ℕ) → (bound : ℕ) → Result Outcome RunFault → Type 0
-AnswersMeant program input bound (Ok o) = Means program input bound (world_of o)
-AnswersMeant program input bound (Err (Memory acts output)) = ShowsPart program input acts output.items
-AnswersMeant program input bound (Err _) = ⊥
+abbrev pub AnswersMeant : (program : Y.Program) (input : List ℕ) → (bound : ℕ) → (output : List ℕ) →
+    Result Outcome RunFault → Type 0
+AnswersMeant program input bound output (Ok o) = Means program input bound (world_with o output)
+AnswersMeant program input bound output (Err (Memory acts own)) = ShowsPart program input acts output
+AnswersMeant program input bound output (Err (Read acts own)) = ShowsPart program input acts output
+AnswersMeant program input bound output (Err (Write acts own)) = ShowsPart program input acts output
+AnswersMeant program input bound output (Err _) = ⊥
 
 -- ---- what is shown is what the code comes to
 
--- What a run of a source's image at a base tells: what the code of its program comes to, on the machine with all services of the
--- definitions; and where the headline is proved for the program, what the program means.
-pub record TellsRun (s input : List ℕ) (base bound : ℕ) (ran : Result Outcome RunFault) : Type 0 where
+-- What a run of a source's image at a base tells, with this output: what the code of its program comes to, on the
+-- machine
+-- with all services of the definitions; and where the headline is proved for the program, what the program means.
+pub record TellsRun (s input : List ℕ) (base bound : ℕ) (output : List ℕ) (ran : Result Outcome RunFault) : Type 0 where
   pub image : Image
   pub compiled : IsImageFor s image
   pub picture : Picture
   pub pictured : IsPicture picture image
   pub signatures : List TableSignature
   pub tabled : IsTabled signatures image
-  pub told : Tells (run_of picture signatures base input) bound ran
-  pub meant : IsProvedSoFar compiled.program → AnswersMeant compiled.program input bound ran
+  pub told : Shows (run_of picture signatures base input) bound output ran
+  pub meant : IsProvedSoFar compiled.program → AnswersMeant compiled.program input bound output ran
 
 -- want of memory of the compiler: nothing was done, and nothing shown
-abbrev pub IsUnstarted : Result Outcome RunFault → Type 0
-IsUnstarted (Err (Memory acts output)) = (acts ≡ 0) × (output.items ≡ [])
-IsUnstarted _ = ⊥
+abbrev pub IsUnstarted : (output : List ℕ) → Result Outcome RunFault → Type 0
+IsUnstarted output (Err (Memory acts own)) = (acts ≡ 0) × (output ≡ [])
+IsUnstarted output _ = ⊥
 
 -- what is answered at a valid base. Want of memory is no refusal of the source
+abbrev pub AnswersWith : (s input : List ℕ) → (base bound : ℕ) → (output : List ℕ) → Result Outcome RunFault → Type 0
+AnswersWith s input base bound output (Err (Source fault)) = IsRefused s fault × (fault.kind ≢ SourceKind.Memory)
+AnswersWith s input base bound output ran = IsUnstarted output ran ⊎ TellsRun s input base bound output ran
+
 abbrev pub Answers : (s input : List ℕ) → (base bound : ℕ) → Result Outcome RunFault → Type 0
-Answers s input base bound (Err (Source fault)) = IsRefused s fault × (fault.kind ≢ SourceKind.Memory)
-Answers s input base bound ran = IsUnstarted ran ⊎ TellsRun s input base bound ran
+Answers s input base bound ran = AnswersWith s input base bound (own_output ran) ran
 
 -- what is answered for a source without an image, by why it has none
 abbrev pub IsUncompiledFor : SourceFault → RunFault → Type 0

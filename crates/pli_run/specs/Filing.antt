@@ -1,16 +1,20 @@
 -- Images in files: what bytes a source is compiled to, and what a run of bytes is promised to show.
-use Rattle.std.specs.Prelude.{ℕ, List, Result, IsErrOf, ◌↔◌}
+use Rattle.std.specs.Prelude.{◌≡◌, ◌↔◌, ℕ, List, Result, IsErrOf}
+use Rattle.pli_edit.specs.Histories.{History}
 use Rattle.pli_meaning.specs.declared.outcome.Outcome.{Outcome}
 use Rattle.rv_meaning.specs.Machine.{IsValidBase}
 use Rattle.rv_meaning.specs.Images.{Image, HasBytes}
 use Rattle.rv_meaning.specs.Tables.{TableSignature}
 use Rattle.pli_meaning.specs.Pictures.{Picture}
 use Rattle.image_runs.specs.Runs.{run_of}
-use Rattle.pli_run.specs.Running.{IsPicture, IsTabled, Tells}
+use Rattle.pli_run.specs.Running.{IsPicture, IsTabled, ShowsImage, Tells}
 use Rattle.pli_run.specs.declared.run.RunFault.{RunFault}
 use Rattle.pli_run.specs.declared.run.RunFault.TheVariants as R
 use Rattle.pli_compile.specs.Compiling.{IsImageFor}
-use Rattle.pli_run.specs.Answering.{Answers}
+use Rattle.pli_run.specs.Answering.{Answers, AnswersWith}
+use Rattle.pli_run.specs.Streaming.{IsStreamed}
+use Rattle.pli_run.specs.Tracing.{outcome_of, TracesImage}
+use Rattle.pli_run.specs.declared.run.Traced.{Traced}
 
 -- the bytes of a source's image
 pub record IsCompiledTo (s : List ℕ) (bytes : List ℕ) : Type 0 where
@@ -30,6 +34,24 @@ pub record IsRunOf (bytes input : List ℕ) (base bound : ℕ) (ran : Result Out
   pub bad_base : IsErrOf ran R.BadBase ↔ ¬ IsValidBase base
   pub told : IsValidBase base → Tells (run_of picture signatures base input) bound ran
 
+-- the same between a feed and a drain, for each input that agrees with what was read
+pub record IsRunBetween (bytes : List ℕ) (base bound : ℕ) (feed drain : History) (ran : Result Traced RunFault)
+    (feed' drain' : History) : Type 0 where
+  pub image : Image
+  pub spelled : HasBytes image bytes
+  pub bad_base : IsErrOf (outcome_of ran) R.BadBase ↔ ¬ IsValidBase base
+  pub untouched : ¬ IsValidBase base → (feed' ≡ feed) × (drain' ≡ drain)
+  pub told : IsValidBase base → IsStreamed feed drain (outcome_of ran) feed' drain'
+      (λ input output. ShowsImage image base input bound output (outcome_of ran) × TracesImage image base input bound
+      ran)
+
 -- and where they are those of a source's image, what is answered for the source
 abbrev pub IsRunFor : (bytes input : List ℕ) → (base bound : ℕ) → Result Outcome RunFault → Type 0
-IsRunFor bytes input base bound ran = (s : List ℕ) → IsCompiledTo s bytes → IsValidBase base → Answers s input base bound ran
+IsRunFor bytes input base bound ran = (s : List ℕ) → IsCompiledTo s bytes → IsValidBase base →
+    Answers s input base bound ran
+
+abbrev pub IsRunBetweenFor : (bytes : List ℕ) → (base bound : ℕ) → (feed drain : History) → Result Traced RunFault →
+    (feed' drain' : History) → Type 0
+IsRunBetweenFor bytes base bound feed drain ran feed' drain' =
+    (s : List ℕ) → IsCompiledTo s bytes → IsValidBase base → IsStreamed feed drain (outcome_of ran) feed' drain'
+    (λ input output. AnswersWith s input base bound output (outcome_of ran))

@@ -1,5 +1,5 @@
 -- The exit status and the line that a run is told by.
-use Rattle.std.specs.Prelude.{ℕ, Option, Some, None, Result, Ok, Err}
+use Rattle.std.specs.Prelude.{ℕ, Bool, true, false, Option, Some, None, Result, Ok, Err}
 use Rattle.pli_meaning.specs.declared.outcome.Outcome.{Outcome}
 use Rattle.pli_meaning.specs.declared.outcome.End.{End}
 use Rattle.pli_meaning.specs.declared.outcome.End.TheVariants as E
@@ -45,9 +45,24 @@ status_of (Ok o) = end_status o.end
 status_of (Err (F.Source fault)) = refusal_status fault.kind
 status_of (Err _) = 4
 
-abbrev pub line_of : Result Outcome RunFault → Option Line
-line_of (Ok o) = end_line o.end
-line_of (Err (F.Source fault)) = Some (refusal_line fault fault.kind)
-line_of (Err (F.Memory acts output)) = Some L.Memory
-line_of (Err F.BadBase) = Some L.Base
-line_of (Err (F.Machine fault acts output)) = Some (L.Machine fault)
+-- with what is told of an input that can't be read, and of an output that can't be written
+abbrev pub line_of : (unread unwritten : Line) → Result Outcome RunFault → Option Line
+line_of unread unwritten (Ok o) = end_line o.end
+line_of unread unwritten (Err (F.Source fault)) = Some (refusal_line fault fault.kind)
+line_of unread unwritten (Err (F.Memory acts output)) = Some L.Memory
+line_of unread unwritten (Err F.BadBase) = Some L.Base
+line_of unread unwritten (Err (F.Read acts output)) = Some unread
+line_of unread unwritten (Err (F.Write acts output)) = Some unwritten
+line_of unread unwritten (Err (F.Machine fault acts output)) = Some (L.Machine fault)
+
+-- an error, behind which blocks may be told
+abbrev pub is_error_end : End → Bool
+is_error_end (E.Error code line) = true
+is_error_end E.Finished = false
+is_error_end E.Stopped = false
+is_error_end E.Running = false
+is_error_end (E.Limit limit) = false
+
+abbrev pub is_error : Result Outcome RunFault → Bool
+is_error (Ok o) = is_error_end o.end
+is_error (Err f) = false

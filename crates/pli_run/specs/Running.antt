@@ -1,20 +1,23 @@
 -- What a run of an image comes to.
-use Rattle.std.specs.Prelude.{◌≡◌, ℕ, ◌+◌, ◌<◌, ◌≤◌, List, [], map, Some, Result, Ok, Err}
+use Rattle.std.specs.Prelude.{◌≡◌, ℕ, ◌+◌, ◌<◌, ◌≤◌, List, [], map, Option, Some, None, Result, Ok, Err}
 use Rattle.pli_meaning.specs.declared.outcome.Outcome.{Outcome}
 use Rattle.rv_meaning.specs.declared.instr.Fault.{Fault}
 use Rattle.rv_meaning.specs.Encoding.{word_of}
 use Rattle.pli_meaning.specs.World.{World}
 use Rattle.pli_meaning.specs.Pictures.{Picture}
-use Rattle.image_runs.specs.Runs.{Run, Stopped, shown_by}
+use Rattle.image_runs.specs.Runs.{run_of, shown_by, Run, Stopped}
 use Rattle.rv_meaning.specs.Tables.{TableSignature, AreSignatures, table_words}
 use Rattle.rv_meaning.specs.Images.{Image}
 use Rattle.rv_machine.specs.Fitting.{AllFit}
 use Rattle.pli_run.specs.declared.run.RunFault.{RunFault}
-use Rattle.pli_run.specs.declared.run.RunFault.TheVariants.{Memory, BadBase, Source, Machine}
+use Rattle.pli_run.specs.declared.run.RunFault.TheVariants.{Memory, BadBase, Source, Read, Write, Machine}
 
--- what an outcome shows
+-- what an outcome shows with an output
+abbrev pub world_with : Outcome → (output : List ℕ) → World
+world_with o output = record { acts = o.acts; output = output; raised = o.raised.items; end = o.end }
+
 abbrev pub world_of : Outcome → World
-world_of o = record { acts = o.acts; output = o.output.items; raised = o.raised.items; end = o.end }
+world_of o = world_with o o.output.items
 
 -- the image in instructions; there is one such list of instructions for its words
 pub record IsPicture (p : Picture) (image : Image) : Type 0 where
@@ -49,14 +52,36 @@ pub record ShowsWithin (run : ℕ → Run) (bound acts : ℕ) (output : List ℕ
   pub within : done ≤ bound
   pub shows : ShowsAfter run done acts output
 
--- what is answered for a run at a valid base: the world that it shows, the fault that it met, or want of memory, with
--- the acts and the output up to there
+-- what is answered for a run at a valid base, with this output: the world that it shows, the fault that it met, or want
+-- of memory or a stream that failed, with the acts and the output up to there
+abbrev pub Shows : (ℕ → Run) → (bound : ℕ) → (output : List ℕ) → Result Outcome RunFault → Type 0
+Shows run bound output (Ok o) = shown_by (run bound) ≡ Some (world_with o output)
+Shows run bound output (Err (Machine fault acts own)) = Meets run bound fault acts output
+Shows run bound output (Err (Memory acts own)) = ShowsWithin run bound acts output
+Shows run bound output (Err (Read acts own)) = ShowsWithin run bound acts output
+Shows run bound output (Err (Write acts own)) = ShowsWithin run bound acts output
+Shows run bound output (Err BadBase) = ⊥
+Shows run bound output (Err (Source fault)) = ⊥
+
+-- the output that an answer has itself
+abbrev pub own_output : Result Outcome RunFault → List ℕ
+own_output (Ok o) = o.output.items
+own_output (Err (Machine fault acts output)) = output.items
+own_output (Err (Memory acts output)) = output.items
+own_output (Err (Read acts output)) = output.items
+own_output (Err (Write acts output)) = output.items
+own_output (Err BadBase) = []
+own_output (Err (Source fault)) = []
+
 abbrev pub Tells : (ℕ → Run) → (bound : ℕ) → Result Outcome RunFault → Type 0
-Tells run bound (Ok o) = shown_by (run bound) ≡ Some (world_of o)
-Tells run bound (Err (Machine fault acts output)) = Meets run bound fault acts output.items
-Tells run bound (Err (Memory acts output)) = ShowsWithin run bound acts output.items
-Tells run bound (Err BadBase) = ⊥
-Tells run bound (Err (Source fault)) = ⊥
+Tells run bound ran = Shows run bound (own_output ran) ran
+
+-- the same of an image in pictures and signatures
+abbrev pub ShowsImage : Image → (base : ℕ) → (input : List ℕ) → (bound : ℕ) → (output : List ℕ) →
+    Result Outcome RunFault → Type 0
+ShowsImage image base input bound output ran =
+    (p : Picture) (gs : List TableSignature) → IsPicture p image → IsTabled gs image →
+    Shows (run_of p gs base input) bound output ran
 
 -- want of memory before the first instruction
 abbrev pub IsUnstarted : RunFault → Type 0
@@ -68,4 +93,16 @@ abbrev pub number_of : RunFault → ℕ
 number_of (Memory acts output) = 1
 number_of BadBase = 2
 number_of (Source fault) = 3
+number_of (Read acts output) = 4
+number_of (Write acts output) = 5
 number_of (Machine fault acts output) = 6
+
+-- the number of the fault of a stream
+abbrev pub stream_fault_of : Result Outcome RunFault → Option ℕ
+stream_fault_of (Ok o) = None
+stream_fault_of (Err (Memory acts output)) = None
+stream_fault_of (Err BadBase) = None
+stream_fault_of (Err (Source fault)) = None
+stream_fault_of (Err (Read acts output)) = Some 4
+stream_fault_of (Err (Write acts output)) = Some 5
+stream_fault_of (Err (Machine fault acts output)) = None

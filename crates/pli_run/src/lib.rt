@@ -5,3 +5,4 @@ pub mod image_file;
 pub mod report;
 pub mod run;
 pub mod source_run;
+pub mod streams;

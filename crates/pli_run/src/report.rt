@@ -2,9 +2,12 @@
 
 ghost use Rattle.std.specs.Prelude.{◌≡◌, Some};
 ghost use Rattle.pli_run.specs.declared.report.Line.TheVariants.{Unread, Unwritten};
-ghost use Rattle.pli_run.specs.Reporting.{status_of, line_of, end_status, end_line, refusal_status, refusal_line, image_line};
+ghost use Rattle.pli_run.specs.Reporting.{end_line, end_status, image_line, is_error, line_of, refusal_line};
+ghost use Rattle.pli_run.specs.Reporting.{refusal_status};
+ghost use Rattle.pli_run.specs.Reporting.{status_of};
 
 use crate::run::RunFault;
+use pli_activations::block::{Block, BlockKind};
 use pli_language::fault::{SourceFault, SourceKind};
 use pli_meaning::outcome::{End, Limit, Outcome};
 use rv_meaning::image::ImageFault;
@@ -73,6 +76,23 @@ impl fmt::Display for Line<'_> {
     }
 }
 
+/// A block that is active, told by the line at which it was called, raised or begun. Nothing but the main procedure is
+/// called at line 0.
+#[derive(Clone, Copy, Debug)]
+pub struct Active(pub Block);
+
+impl fmt::Display for Active {
+    fn fmt<W: fmt::Write>(&self, f: &mut fmt::Formatter<W>) -> fmt::Result {
+        let Block { kind, line, .. } = self.0;
+        match kind {
+            BlockKind::Procedure if line == 0 => write!(f, "MAIN PROCEDURE"),
+            BlockKind::Procedure => write!(f, "PROCEDURE CALLED AT LINE {line}"),
+            BlockKind::Begin => write!(f, "BEGIN AT LINE {line}"),
+            BlockKind::OnUnit { code, .. } => write!(f, "ON-UNIT FOR {code} AT LINE {line}"),
+        }
+    }
+}
+
 /// An exit status, with the line that explains it where it isn't 0.
 #[derive(Clone, Copy, Debug)]
 pub struct Notice<'a> {
@@ -80,18 +100,30 @@ pub struct Notice<'a> {
     pub line: Option<Line<'a>>,
 }
 
-/// What is told of a run: 0 where the program finished or stopped, 1 for an error, 2 for a refused source, 3 at the
-/// bound, 4 where it can't be run or run on, 5 at a limit of storage.
-pub fn report(ran: &Result<Outcome, RunFault>) -> Notice<'static>
+/// What is told of a run, with the names of its input and its output: 0 where the program finished or stopped, 1 for an
+/// error, 2 for a refused source, 3 at the bound, 4 where it can't be run or run on, 5 at a limit of storage.
+pub fn report<'a>(ran: &Result<Outcome, RunFault>, input: &'a str, output: &'a str) -> Notice<'a>
     ensures status { result.status ≡ status_of ran.now }
-    ensures line { result.line ≡ line_of ran.now }
+    ensures line { result.line ≡ line_of (Unread input.entry) (Unwritten output.entry) ran.now }
 {
     match ran {
         Ok(outcome) => ended(outcome.end),
         Err(RunFault::Source(fault)) => refused_source(*fault),
         Err(RunFault::Memory { .. }) => failed(Line::Memory),
         Err(RunFault::BadBase) => failed(Line::Base),
+        Err(RunFault::Read { .. }) => unread(input),
+        Err(RunFault::Write { .. }) => unwritten(output),
         Err(RunFault::Machine { fault, .. }) => failed(Line::Machine(*fault)),
+    }
+}
+
+/// Whether a run ended with an error: its blocks may be told then.
+pub fn is_error(ran: &Result<Outcome, RunFault>) -> bool
+    ensures { result ≡ is_error ran.now }
+{
+    match ran {
+        Ok(outcome) => matches!(outcome.end, End::Error { .. }),
+        Err(_) => false,
     }
 }
 

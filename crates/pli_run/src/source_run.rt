@@ -1,12 +1,17 @@
 // From a source to what a run of it comes to.
 
-ghost use Rattle.std.specs.Prelude.{◌↔◌, IsErrOf};
+ghost use Rattle.std.specs.Prelude.{◌≡◌, ◌↔◌, IsErrOf};
 ghost use Rattle.rv_meaning.specs.Machine.{IsValidBase};
 ghost use Rattle.pli_run.specs.declared.run.RunFault as RunFault;
-ghost use Rattle.pli_run.specs.Answering.{Answers, IsUncompiledFor};
+ghost use Rattle.pli_run.specs.Answering.{Answers, AnswersWith, IsUncompiledFor};
+ghost use Rattle.pli_run.specs.Streaming.{IsStreamed};
+ghost use Rattle.pli_run.specs.Tracing.{outcome_of, TracesSource};
 
-use crate::run::{RunFault, run};
+use crate::run::{RunFault, Traced, run};
+use crate::streams::run_traced;
 use pli_compile::compile::compile;
+use pli_edit::drain::Drain;
+use pli_edit::feed::Feed;
 use pli_language::fault::{SourceFault, SourceKind};
 use pli_meaning::outcome::Outcome;
 use rv_machine::base::valid_base;
@@ -25,15 +30,15 @@ fn uncompiled(alloc: Global, fault: SourceFault) -> RunFault
     }
 }
 
-/// Compiles a source and runs it at a base, on an input, for at most `bound` instructions. What it answers is what the code that the
-/// definitions have for the program comes to. Where the headline is proved for the program, that shows the program's own output,
-/// raised conditions and end after just the acts that it reports.
+/// Compiles a source and runs it at a base, on an input, for at most `bound` instructions. What it answers is what the
+/// code that the definitions have for the program comes to. Where the headline is proved for the program, that shows
+/// the program's own output, raised conditions and end after just the acts that it reports.
 ///
 /// # Errors
 ///
-/// `BadBase` before all, where the base isn't a multiple of 4,096 with 16 MiB of addresses from it on. `Source` where the
-/// source is refused. `Memory` where memory ran out, with the acts and the output up to there: none, where it ran out before the
-/// run.
+/// `BadBase` before all, where the base isn't a multiple of 4,096 with 16 MiB of addresses from it on. `Source` where
+/// the source is refused. `Memory` where memory ran out, with the acts and the output up to there: none, where it ran
+/// out before the run.
 pub fn compile_and_run(
     alloc: Global,
     source: &[u8],
@@ -51,4 +56,35 @@ pub fn compile_and_run(
         Ok(image) => run(alloc, &image, base, input, bound),
         Err(fault) => Err(uncompiled(alloc, fault)),
     }
+}
+
+/// Compiles a source and runs it at a base, on what a feed gives, for at most `bound` instructions. It answers what
+/// `compile_and_run` does, or `Read` or `Write` where a stream fails, as `run_traced` does.
+///
+/// # Errors
+///
+/// Those of `compile_and_run` and of `run_traced`.
+pub fn compile_and_stream<F: Feed, D: Drain>(
+    alloc: Global,
+    source: &[u8],
+    base: u32,
+    feed: F,
+    drain: D,
+    bound: u64,
+) -> (Result<Traced, RunFault>, F, D)
+    ensures bad_base { IsErrOf (outcome_of result.0) RunFault.BadBase ↔ ¬ IsValidBase base }
+    ensures untouched { ¬ IsValidBase base → (F.history result.1 ≡ F.history feed)
+        × (D.history result.2 ≡ D.history drain) }
+    ensures meant { IsValidBase base → IsStreamed (F.history feed) (D.history drain) (outcome_of result.0)
+        (F.history result.1) (D.history result.2)
+        (λ input output. AnswersWith source.now input base bound output (outcome_of result.0)
+        × TracesSource source.now input base bound result.0) }
+{
+    if valid_base(base) {
+        return match compile(alloc, source) {
+            Ok(image) => run_traced(alloc, &image, base, feed, drain, bound),
+            Err(fault) => (Err(uncompiled(alloc, fault)), feed, drain),
+        };
+    }
+    (Err(RunFault::BadBase), feed, drain)
 }

@@ -31,8 +31,7 @@ use Rattle.pli_storage.specs.declared.held.Held.{Held}
 use Rattle.pli_types.specs.Templates.{Template}
 use Rattle.pli_runtime.proofs.Carried.{serves_replied}
 use Rattle.pli_runtime.proofs.Ends.{refused_alike, NeverEnds}
-use Rattle.pli_runtime.specs.declared.runtime.Runtime.{Runtime}
-use Rattle.pli_runtime.specs.Running.{call_of, running, IsCarriedOut, IsStanding}
+use Rattle.pli_runtime.specs.Seen.{RunSeen, call_of, running, IsCarriedOut, IsStanding}
 
 -- ---- service 3 never ends the run
 
@@ -56,7 +55,7 @@ signature_never_ends c number places lower upper v e =
     places_goes_on c number lower upper (places_at c.layout places c.memory) v e
 
 pub by_signatures :
-    (k : Keeper) (r : Runtime) (m : List ℕ) (service : Call → Answer) (result : Result Reply Refusal) (h : Held) →
+    (k : Keeper) (r : RunSeen) (m : List ℕ) (service : Call → Answer) (result : Result Reply Refusal) (h : Held) →
     NeverEnds (service (call_of k r m)) →
     ((v : Services) (x y : ℕ) → service (call_of k r m) ≡ Done v m x y → IsCounted v.signatures v.living r.in_use) →
     IsStanding k r m → h ≡ record r.held { signatures = h.signatures } →
@@ -99,10 +98,10 @@ begun_alike :
 begun_alike v i i' gs gs' u u' made made' stacks stacks' es es' e e' p1 p2 p3 p4 p5 p6 p7 = cc
 
 pub first_of :
-    (r : Runtime) (there : Call) (table : List TableSignature) (input : List ℕ) →
+    (r : RunSeen) (there : Call) (table : List TableSignature) (input : List ℕ) →
     running r ≡ (unstarted there).services → there.services ≡ running r →
-    r.streams.input ≡ first_input input → r.held.signatures ≡ map template_of table → r.held.variables ≡ none_rooted →
-    r.held.heap_made ≡ false → r.held.controlled ≡ replicate 65536 [] → r.entries ≡ [] → places_of r.streams.edits.items ≡ [] →
+    r.input ≡ first_input input → r.held.signatures ≡ map template_of table → r.held.variables ≡ none_rooted →
+    r.held.heap_made ≡ false → r.held.controlled ≡ replicate 65536 [] → r.entries ≡ [] → places_of r.edits ≡ [] →
     running r ≡ first_services table input
 first_of r there table input begun same i gs u made stacks es e =
     begun ∙ ap (λ (v : Services). record v { world = first_world; line = 0; activations = []; waiting = None }) same
@@ -110,7 +109,7 @@ first_of r there table input begun same i gs u made stacks es e =
     (ap controlled_of stacks ∙ none_controlled 65536) es e
 
 pub standing_first :
-    (k : Keeper) (m : List ℕ) (r : Runtime) (l : Layout) →
+    (k : Keeper) (m : List ℕ) (r : RunSeen) (l : Layout) →
     IsLaid k l m → r.held.layout ≡ l → r.held.variables ≡ none_rooted → r.held.controlled ≡ replicate 65536 [] →
     r.in_use ≡ [] → IsCounted r.held.signatures [] r.in_use →
     IsStanding k r m

@@ -3,6 +3,8 @@ use Rattle.std.proofs.Common.{◌≡◌, ◌∙◌, ℕ, ◌≤◌, Bool, List, 
 use Rattle.area_keeper.specs.Keeper.{Keeper}
 use Rattle.controlled_gens.specs.Rooted.{livings}
 use Rattle.controlled_gens.specs.declared.controlled.Generation.{Generation}
+use Rattle.pli_meaning.specs.InputLines.{Input}
+use Rattle.pli_meaning.specs.World.{World}
 use Rattle.pli_serving.specs.Answers.{Answer, Bad}
 use Rattle.pli_serving.specs.Finding.{Call}
 use Rattle.pli_serving.specs.ServiceState.{Services, Entry}
@@ -13,16 +15,13 @@ use Rattle.pli_answering.specs.declared.reply.Refusal.{Refusal}
 use Rattle.pli_answering.specs.declared.reply.Refusal.TheVariants as F
 use Rattle.pli_making.specs.InUse.{IsCounted}
 use Rattle.pli_making.specs.Making.{with_both}
-use Rattle.pli_services.specs.Flowing.{with_flow}
-use Rattle.pli_services.specs.declared.flow.Flow.{Flow}
-use Rattle.pli_services.specs.declared.shown.Shown.{Shown}
+use Rattle.pli_services.specs.Flowing.{FlowSeen, with_flow}
 use Rattle.pli_storage.specs.Held.{with_held, IsLaid}
 use Rattle.pli_storage.specs.declared.held.Held.{Held}
 use Rattle.pli_transmission.specs.Transmitting.{on_entries, with_streams, AnswersTaking, IsTaking}
-use Rattle.pli_transmission.specs.declared.streams.Streams.{Streams}
+use Rattle.pli_transmission.specs.Edits.{EditKept}
 use Rattle.pli_values.specs.declared.layout.Layout.{Layout}
-use Rattle.pli_runtime.specs.declared.runtime.Runtime.{Runtime}
-use Rattle.pli_runtime.specs.Running.{call_of, running, IsCarriedOut, IsStanding, Serves}
+use Rattle.pli_runtime.specs.Seen.{RunSeen, call_of, running, IsCarriedOut, IsStanding, Serves}
 
 -- a reply that answers serves
 pub serves_replied :
@@ -52,7 +51,8 @@ laid_in k l m m' e h = record {
 
 -- a service that comes to another's answer is carried out so
 pub by_same :
-    (k : Keeper) (r : Runtime) (m : List ℕ) (s s' : Call → Answer) (result : Result Reply Refusal) (r' : Runtime) (m' : List ℕ) →
+    (k : Keeper) (r : RunSeen) (m : List ℕ) (s s' : Call → Answer) (result : Result Reply Refusal) (r' : RunSeen)
+    (m' : List ℕ) →
     s' (call_of k r m) ≡ s (call_of k r m) → IsCarriedOut k s r m result r' m' → IsCarriedOut k s' r m result r' m'
 by_same k r m s s' result r' m' e done = record {
   served = subst (λ (answer : Answer). Serves answer (running r) m result (running r') m') (sym e) done.served;
@@ -62,13 +62,13 @@ by_same k r m s s' result r' m' e done = record {
 
 -- there is no such call
 pub by_none :
-    (k : Keeper) (r : Runtime) (m : List ℕ) (service : Call → Answer) →
+    (k : Keeper) (r : RunSeen) (m : List ℕ) (service : Call → Answer) →
     IsStanding k r m → service (call_of k r m) ≡ Bad → IsCarriedOut k service r m (Err F.Bad) r m
 by_none k r m service s e = record { served = (e, refl, refl); standing = s; layout = refl }
 
 -- where more blocks are entered the totals still suffice
 pub by_flow :
-    (k : Keeper) (r : Runtime) (m : List ℕ) (service : Call → Answer) (result : Result Reply Refusal) (f : Flow) →
+    (k : Keeper) (r : RunSeen) (m : List ℕ) (service : Call → Answer) (result : Result Reply Refusal) (f : FlowSeen) →
     IsStanding k r m → ((c : Call) → Answers service (with_flow r.flow c) result (with_flow f c)) →
     length r.flow.activations ≤ length f.activations →
     IsCarriedOut k service r m result (record r { flow = f }) m
@@ -79,7 +79,7 @@ by_flow k r m service result f s answers higher = record {
 }
 
 pub by_flow_there :
-    (k : Keeper) (r : Runtime) (m : List ℕ) (service : Call → Answer) (result : Result Reply Refusal) (f : Flow) →
+    (k : Keeper) (r : RunSeen) (m : List ℕ) (service : Call → Answer) (result : Result Reply Refusal) (f : FlowSeen) →
     IsStanding k r m → Answers service (call_of k r m) result (with_flow f (call_of k r m)) →
     length r.flow.activations ≤ length f.activations →
     IsCarriedOut k service r m result (record r { flow = f }) m
@@ -91,7 +91,7 @@ by_flow_there k r m service result f s answers higher = record {
 
 -- as many blocks are entered as were
 pub by_level :
-    (k : Keeper) (r : Runtime) (m : List ℕ) (service : Call → Answer) (result : Result Reply Refusal) (f : Flow) →
+    (k : Keeper) (r : RunSeen) (m : List ℕ) (service : Call → Answer) (result : Result Reply Refusal) (f : FlowSeen) →
     IsStanding k r m → ((c : Call) → Answers service (with_flow r.flow c) result (with_flow f c)) →
     length f.activations ≡ length r.flow.activations →
     IsCarriedOut k service r m result (record r { flow = f }) m
@@ -99,7 +99,7 @@ by_level k r m service result f s answers level = by_flow k r m service result f
 
 -- variables and memory change, but neither signatures nor what lives
 pub by_held :
-    (k : Keeper) (r : Runtime) (m m' : List ℕ) (service : Call → Answer) (result : Result Reply Refusal) (h : Held) →
+    (k : Keeper) (r : RunSeen) (m m' : List ℕ) (service : Call → Answer) (result : Result Reply Refusal) (h : Held) →
     IsStanding k r m → ((c : Call) → Answers service (with_held k r.held m c) result (with_held k h m' c)) →
     length m' ≡ length m →
     h ≡ record r.held { heap_made = h.heap_made; controlled = h.controlled } → length h.controlled ≡ length r.held.controlled →
@@ -117,7 +117,7 @@ by_held k r m m' service result h s answers as_many kept as_known = record {
 
 -- whether the heap is an area's is all that changes
 pub by_heap :
-    (k : Keeper) (r : Runtime) (m m' : List ℕ) (service : Call → Answer) (result : Result Reply Refusal) (h : Held) →
+    (k : Keeper) (r : RunSeen) (m m' : List ℕ) (service : Call → Answer) (result : Result Reply Refusal) (h : Held) →
     IsStanding k r m → ((c : Call) → Answers service (with_held k r.held m c) result (with_held k h m' c)) →
     length m' ≡ length m → h ≡ record r.held { heap_made = h.heap_made } →
     IsCarriedOut k service r m result (record r { held = h }) m'
@@ -128,7 +128,7 @@ by_heap k r m m' service result h s answers as_many kept =
 
 -- the generations of CONTROLLED variables are all that changes
 pub by_controlled :
-    (k : Keeper) (r : Runtime) (m m' : List ℕ) (service : Call → Answer) (result : Result Reply Refusal) (h : Held) →
+    (k : Keeper) (r : RunSeen) (m m' : List ℕ) (service : Call → Answer) (result : Result Reply Refusal) (h : Held) →
     IsStanding k r m → ((c : Call) → Answers service (with_held k r.held m c) result (with_held k h m' c)) →
     length m' ≡ length m → h ≡ record r.held { controlled = h.controlled } → length h.controlled ≡ length r.held.controlled →
     IsCarriedOut k service r m result (record r { held = h }) m'
@@ -139,7 +139,7 @@ by_controlled k r m m' service result h s answers as_many kept as_known =
 
 -- memory alone changes
 pub by_memory :
-    (k : Keeper) (r : Runtime) (m m' : List ℕ) (service : Call → Answer) (result : Result Reply Refusal) →
+    (k : Keeper) (r : RunSeen) (m m' : List ℕ) (service : Call → Answer) (result : Result Reply Refusal) →
     IsStanding k r m → ((c : Call) → Answers service (with_held k r.held m c) result (with_held k r.held m' c)) →
     length m' ≡ length m →
     IsCarriedOut k service r m result r m'
@@ -151,7 +151,8 @@ by_memory k r m m' service result s answers as_many = record {
 
 -- variables are made
 pub by_both :
-    (k : Keeper) (r : Runtime) (m m' : List ℕ) (service : Call → Answer) (result : Result Reply Refusal) (f : Flow) (h : Held) (u : List ℕ) →
+    (k : Keeper) (r : RunSeen) (m m' : List ℕ) (service : Call → Answer) (result : Result Reply Refusal)
+    (f : FlowSeen) (h : Held) (u : List ℕ) →
     IsStanding k r m → ((c : Call) → Answers service (with_both k r.flow r.held m c) result (with_both k f h m' c)) →
     length m' ≡ length m → h ≡ record r.held { variables = h.variables } →
     IsCounted h.signatures (livings h.variables.roots) u → length u ≤ length f.activations →
@@ -169,30 +170,49 @@ by_both k r m m' service result f h u s answers as_many kept counted high = reco
 
 -- streams go on, and what is shown
 pub by_streams_there :
-    (k : Keeper) (r : Runtime) (m : List ℕ) (service : Call → Answer) (result : Result Reply Refusal) (f : Shown) (s' : Streams) →
+    (k : Keeper) (r : RunSeen) (m : List ℕ) (service : Call → Answer) (result : Result Reply Refusal) (w : World)
+    (i : Input)
+    (places : List EditKept) →
     IsStanding k r m →
-    Answers service (with_streams r.flow.shown r.streams (call_of k r m)) result (with_streams f s' (call_of k r m)) →
-    IsCarriedOut k service r m result (record r { flow = record r.flow { shown = f }; streams = s' }) m
-by_streams_there k r m service result f s' s answers = record {
+    Answers service (with_streams r.flow.world r.input r.edits (call_of k r m)) result
+    (with_streams w i places (call_of k r m)) →
+    IsCarriedOut k service r m result (record r { flow = record r.flow { world = w }; input = i; edits = places }) m
+by_streams_there k r m service result w i places s answers = record {
   served = serves_replied _ _ _ result _ _ answers;
-  standing = record { laid = s.laid; known = s.known; counted = s.counted; high = s.high };
+  standing = s;
   layout = refl;
 }
 
 pub by_streams :
-    (k : Keeper) (r : Runtime) (m : List ℕ) (service : Call → Answer) (result : Result Reply Refusal) (f : Shown) (s' : Streams) →
-    IsStanding k r m → ((c : Call) → Answers service (with_streams r.flow.shown r.streams c) result (with_streams f s' c)) →
-    IsCarriedOut k service r m result (record r { flow = record r.flow { shown = f }; streams = s' }) m
-by_streams k r m service result f s' s answers = by_streams_there k r m service result f s' s (answers (call_of k r m))
+    (k : Keeper) (r : RunSeen) (m : List ℕ) (service : Call → Answer) (result : Result Reply Refusal) (w : World)
+    (i : Input)
+    (places : List EditKept) →
+    IsStanding k r m →
+    ((c : Call) → Answers service (with_streams r.flow.world r.input r.edits c) result (with_streams w i places c)) →
+    IsCarriedOut k service r m result (record r { flow = record r.flow { world = w }; input = i; edits = places }) m
+by_streams k r m service result w i places s answers =
+    by_streams_there k r m service result w i places s (answers (call_of k r m))
 
 -- the same with the entries, of which one may be lost
 pub by_taking :
-    (k : Keeper) (r : Runtime) (m : List ℕ) (service : Call → Answer) (result : Result Reply Refusal) (f : Shown) (s' : Streams) (es : List Entry) →
+    (k : Keeper) (r : RunSeen) (m : List ℕ) (service : Call → Answer) (result : Result Reply Refusal) (w : World)
+    (i : Input)
+    (places : List EditKept) (es : List Entry) →
     IsStanding k r m →
-    ((c : Call) → AnswersTaking service (on_entries r.entries (with_streams r.flow.shown r.streams c)) result (on_entries es (with_streams f s' c))) →
-    IsCarriedOut k service r m result (record r { flow = record r.flow { shown = f }; streams = s'; entries = es }) m
-by_taking k r m service result f s' es s answers = record {
+    ((c : Call) → AnswersTaking service (on_entries r.entries (with_streams r.flow.world r.input r.edits c)) result
+    (on_entries es (with_streams w i places c))) →
+    IsCarriedOut k service r m result
+    (record r { flow = record r.flow { world = w }; input = i; edits = places; entries = es }) m
+by_taking k r m service result w i places es s answers = record {
   served = serves_taking _ _ _ result _ _ (answers (call_of k r m));
-  standing = record { laid = s.laid; known = s.known; counted = s.counted; high = s.high };
+  standing = s;
   layout = refl;
 }
+
+-- ---- what is refused shows nothing
+
+pub refused_shown :
+    (k : Keeper) (service : Call → Answer) (r r' : RunSeen) (m m' : List ℕ) (refusal : Refusal) →
+    IsCarriedOut k service r m (Err refusal) r' m' → (r'.flow.world ≡ r.flow.world) × (m' ≡ m)
+refused_shown k service r r' m m' F.Bad done = (ap (λ (v : Services). v.world) done.served.1, done.served.2)
+refused_shown k service r r' m m' F.Memory done = done.served

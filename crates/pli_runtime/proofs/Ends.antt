@@ -16,7 +16,6 @@ use Rattle.pli_leaving.specs.Leaving.{back_to, with_both, Leaves}
 use Rattle.pli_leaving.specs.declared.leaving.Left.{Left}
 use Rattle.pli_making.specs.InUse.{IsCounted}
 use Rattle.pli_meaning.specs.InputLines.{Input}
-use Rattle.pli_services.specs.declared.flow.Flow.{Flow}
 use Rattle.pli_serving.specs.Answers.{Answer, Done, Ends, Bad}
 use Rattle.pli_serving.specs.Blocks.{ended_to, ended_with, entries_left, from_frame, leave_served, left_by, newest_ended, oldest, return_served, returned_by, top_kept, unit_left, unwind_served, unwound}
 use Rattle.pli_serving.specs.Finding.{Call}
@@ -25,10 +24,10 @@ use Rattle.pli_serving.specs.ServiceState.{Activation, AggregateEntry, BlockKind
 use Rattle.pli_storage.specs.Held.{IsLaid}
 use Rattle.pli_storage.specs.declared.held.Held.{Held}
 use Rattle.pli_values.specs.declared.layout.Layout.{Layout}
+use Rattle.pli_services.specs.Flowing.{FlowSeen}
 use Rattle.pli_runtime.proofs.Carried.{serves_replied}
 use Rattle.pli_runtime.specs.Ending.{IsBack, IsKept}
-use Rattle.pli_runtime.specs.declared.runtime.Runtime.{Runtime}
-use Rattle.pli_runtime.specs.Running.{call_of, running, IsCarriedOut, IsStanding}
+use Rattle.pli_runtime.specs.Seen.{RunSeen, call_of, running, IsCarriedOut, IsStanding}
 
 -- ---- none of these services ends the run
 
@@ -144,7 +143,7 @@ three_alike :
 three_alike v i i' es es' e e' p q t = cc
 
 counted_back :
-    (k : Keeper) (r r' : Runtime) (m : List ℕ) →
+    (k : Keeper) (r r' : RunSeen) (m : List ℕ) →
     IsStanding k r m → r'.held.layout ≡ r.held.layout → length r'.held.controlled ≡ 2 ^ 16 →
     r'.in_use ≡ take (length r'.flow.activations) r.in_use →
     IsCounted r'.held.signatures (livings r'.held.variables.roots) (take (length r'.flow.activations) r.in_use) →
@@ -161,7 +160,7 @@ counted_back k r r' m s same known cut counted = record {
 
 -- the reply is the answer once entries and places in format lists are back
 back_answered :
-    (k : Keeper) (r r' : Runtime) (m : List ℕ) (service : Call → Answer) (keep : ℕ) (left : Left) (reply : Reply) →
+    (k : Keeper) (r r' : RunSeen) (m : List ℕ) (service : Call → Answer) (keep : ℕ) (left : Left) (reply : Reply) →
     NeverEnds (service (call_of k r m)) →
     ((v : Services) (x y : ℕ) → service (call_of k r m) ≡ Done v m x y → IsCounted v.signatures v.living (take (length v.activations) r.in_use)) →
     IsStanding k r m → r'.held.layout ≡ r.held.layout → length r'.held.controlled ≡ 2 ^ 16 →
@@ -177,7 +176,8 @@ back_answered k r r' m service keep left (R.Done x y) never counted s same known
 }
 
 pub by_left :
-    (k : Keeper) (r r' : Runtime) (m : List ℕ) (service : Call → Answer) (keep : ℕ) (f : Flow) (h : Held) (left : Left) →
+    (k : Keeper) (r r' : RunSeen) (m : List ℕ) (service : Call → Answer) (keep : ℕ) (f : FlowSeen) (h : Held)
+    (left : Left) →
     NeverEnds (service (call_of k r m)) →
     ((v : Services) (x y : ℕ) → service (call_of k r m) ≡ Done v m x y → IsCounted v.signatures v.living (take (length v.activations) r.in_use)) →
     IsStanding k r m → h ≡ record r.held { variables = h.variables } → IsBack left keep (record r { flow = f; held = h }) r' →
@@ -187,9 +187,10 @@ by_left k r r' m service keep f h left never counted s kept back answers =
     back_answered k r r' m service keep left left.reply never counted s
     (ap (λ (held : Held). held.layout) (back.held ∙ kept))
     (ap (λ (held : Held). length held.controlled) (back.held ∙ kept) ∙ s.known)
-    (subst (λ (flow : Flow). r'.in_use ≡ take (length flow.activations) r.in_use) (sym back.flow) back.in_use)
+    (subst (λ (flow : FlowSeen). r'.in_use ≡ take (length flow.activations) r.in_use) (sym back.flow) back.in_use)
     (three_alike (running r') _ _ _ _ _ _ back.input back.entries back.edits)
-    (subst (λ (flow : Flow). Replies (service (call_of k r m)) (running r) m (Ok left.reply) (back_to left.texts left.edits keep (with_both k flow r'.held m (call_of k r m)).services) m) (sym back.flow)
+    (subst (λ (flow : FlowSeen). Replies (service (call_of k r m)) (running r) m (Ok left.reply)
+    (back_to left.texts left.edits keep (with_both k flow r'.held m (call_of k r m)).services) m) (sym back.flow)
     (subst (λ (held : Held). Replies (service (call_of k r m)) (running r) m (Ok left.reply) (back_to left.texts left.edits keep (with_both k f held m (call_of k r m)).services) m) (sym back.held) answers))
 
 -- ---- no block was left
@@ -199,7 +200,8 @@ refused_alike answer v v' m m' F.Bad h = h.1
 refused_alike answer v v' m m' F.Memory h = h.0
 
 pub by_kept :
-    (k : Keeper) (r : Runtime) (m : List ℕ) (service : Call → Answer) (keep : ℕ) (f : Flow) (h : Held) (refusal : Refusal) →
+    (k : Keeper) (r : RunSeen) (m : List ℕ) (service : Call → Answer) (keep : ℕ) (f : FlowSeen) (h : Held)
+    (refusal : Refusal) →
     IsStanding k r m → h ≡ record r.held { variables = h.variables } →
     Leaves (service (call_of k r m)) keep (call_of k r m) (Err refusal) (with_both k f h m (call_of k r m)) →
     IsCarriedOut k service r m (Err refusal) (record r { flow = f; held = h }) m

@@ -17,12 +17,11 @@ use Rattle.pli_serving.specs.Finding.{Call}
 use Rattle.pli_serving.specs.Outcomes.{with_entries}
 use Rattle.pli_serving.specs.ServiceState.{AggregateEntry, Entry, TakenLeaf, TextEntry}
 use Rattle.pli_runtime.proofs.Carried.{laid_in, serves_replied}
-use Rattle.pli_runtime.specs.declared.runtime.Runtime.{Runtime}
-use Rattle.pli_runtime.specs.Running.{call_of, running, IsCarriedOut, IsStanding, Serves}
+use Rattle.pli_runtime.specs.Seen.{RunSeen, call_of, running, IsCarriedOut, IsStanding, Serves}
 
 -- a service of texts is done
 pub by_done :
-    (k : Keeper) (r : Runtime) (m m' : List ℕ) (service : Call → Answer) (x y : ℕ) (es : List Entry) →
+    (k : Keeper) (r : RunSeen) (m m' : List ℕ) (service : Call → Answer) (x y : ℕ) (es : List Entry) →
     IsStanding k r m → length m' ≡ length m → service (call_of k r m) ≡ Done (with_entries es (running r)) m' x y →
     IsCarriedOut k service r m (Ok (R.Done x y)) (record r { entries = es }) m'
 by_done k r m m' service x y es s as_many e = record {
@@ -33,7 +32,8 @@ by_done k r m m' service x y es s as_many e = record {
 
 -- it is refused, and then nothing has changed
 pub by_refused :
-    (k : Keeper) (r : Runtime) (m m' : List ℕ) (service : Call → Answer) (x : ℕ) (fault : EntryFault) (result : Result Reply Refusal) (es : List Entry) →
+    (k : Keeper) (r : RunSeen) (m m' : List ℕ) (service : Call → Answer) (x : ℕ) (fault : EntryFault)
+    (result : Result Reply Refusal) (es : List Entry) →
     IsStanding k r m → m' ≡ m → IsRefusal (call_of k r m) x (service (call_of k r m)) fault → es ≡ r.entries →
     ((c : Call) → (answer : Answer) → IsRefusal c x answer fault → Serves answer c.services c.memory result c.services c.memory) →
     IsCarriedOut k service r m result (record r { entries = es }) m'
@@ -44,7 +44,8 @@ by_refused k r m m' service x fault result es s same refused kept told =
 
 -- entries and memory change
 pub by_entries :
-    (k : Keeper) (r : Runtime) (m m' : List ℕ) (service : Call → Answer) (result : Result Reply Refusal) (es : List Entry) →
+    (k : Keeper) (r : RunSeen) (m m' : List ℕ) (service : Call → Answer) (result : Result Reply Refusal)
+    (es : List Entry) →
     IsStanding k r m → ((c : Call) → Answers service (with_all k r.held m r.entries c) result (with_all k r.held m' es c)) →
     length m' ≡ length m →
     IsCarriedOut k service r m result (record r { entries = es }) m'
@@ -65,7 +66,8 @@ on_top (AggregateEntry others ∷ es) leaves e = ap (λ (it : Entry). it ∷ es)
     other_top others leaves e = cc
 
 pub by_put :
-    (k : Keeper) (r : Runtime) (m m' : List ℕ) (service : Call → Answer) (result : Result Reply Refusal) (taken : List LeafHeld) (es : List Entry) →
+    (k : Keeper) (r : RunSeen) (m m' : List ℕ) (service : Call → Answer) (result : Result Reply Refusal)
+    (taken : List LeafHeld) (es : List Entry) →
     IsStanding k r m → Some (map leaf_of taken) ≡ leaves_on_top r.entries →
     ((c : Call) (below : List Entry) →
     Answers service (with_all k r.held m (entry_of taken ∷ below) c) result (with_all k r.held m' (entries_left result (entry_of taken ∷ below)) c)) →

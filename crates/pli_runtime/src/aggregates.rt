@@ -4,12 +4,15 @@ ghost use Rattle.std.specs.Prelude.{◌≡◌, List, drop, if◌then◌else◌, 
 ghost use Rattle.pli_parts.specs.Served.{entries_left};
 ghost use Rattle.pli_serving.specs.ServiceState.{Entry};
 ghost use Rattle.pli_serving.specs.AggregateServices as services;
-ghost use Rattle.pli_runtime.specs.Running.{IsCarriedOut, IsStanding};
+ghost use Rattle.pli_meaning.specs.InputLines.{Input as LineInput};
+ghost use Rattle.pli_runtime.specs.Seen.{run_seen, CanServe, IsCarriedOut};
 
 use crate::runtime::Runtime;
 use area_heap::keeper::AreaKeeper;
 use pli_aggregates::scalar::scalar;
 use pli_answering::reply::{Refusal, Reply};
+use pli_edit::input_stream::InputStream;
+use pli_edit::output_stream::OutputStream;
 use pli_parts::part::PartAsked;
 use pli_parts::putting::put_aggregate;
 use pli_parts::taking::take_aggregate;
@@ -36,15 +39,18 @@ fn is_stored(reply: Result<Reply, Refusal>) -> bool
     }
 }
 
-impl Runtime {
+impl<I: InputStream, O: OutputStream> Runtime<I, O> {
     /// 40 with mode 1: the aggregate on top of the entries is stored in a part, and dropped.
     fn put_part<K: AreaKeeper>(
         &mut self,
         memory: &mut [u8],
         asked: PartAsked,
     ) -> Result<Reply, Refusal>
-        requires { IsStanding K.keeper self.old memory.old }
-        ensures { IsCarriedOut K.keeper (λ c. services.aggregate_served c asked.at asked.first asked.leaves asked.given 1) self.old memory.old result self.new memory.new }
+        requires { CanServe K.keeper self.old memory.old }
+        ensures carried { (input : LineInput) → IsCarriedOut K.keeper
+            (λ c. services.aggregate_served c asked.at asked.first asked.leaves asked.given 1)
+            (run_seen O.output self.old input) memory.old result (run_seen O.output self.new input) memory.new }
+        ensures unread { self.new.streams.input ≡ self.old.streams.input }
     {
         let Some(leaves) = self.entries.newest_leaves() else {
             return Err(Refusal::Bad);
@@ -64,8 +70,11 @@ impl Runtime {
         asked: PartAsked,
         mode: u32,
     ) -> Result<Reply, Refusal>
-        requires { IsStanding K.keeper self.old memory.old }
-        ensures { IsCarriedOut K.keeper (λ c. services.aggregate_served c asked.at asked.first asked.leaves asked.given mode) self.old memory.old result self.new memory.new }
+        requires { CanServe K.keeper self.old memory.old }
+        ensures carried { (input : LineInput) → IsCarriedOut K.keeper
+            (λ c. services.aggregate_served c asked.at asked.first asked.leaves asked.given mode)
+            (run_seen O.output self.old input) memory.old result (run_seen O.output self.new input) memory.new }
+        ensures unread { self.new.streams.input ≡ self.old.streams.input }
     {
         match mode {
             0 => take_aggregate::<K>(self.alloc, &self.held, &mut self.entries, memory, asked),
@@ -81,8 +90,12 @@ impl Runtime {
         memory: &mut [u8],
         registers: &[u32; 32],
     ) -> Result<Reply, Refusal>
-        requires { IsStanding K.keeper self.old memory.old }
-        ensures { IsCarriedOut K.keeper (λ c. services.aggregate_served c (slice_index registers.now 10) (slice_index registers.now 11) (slice_index registers.now 12) (slice_index registers.now 13) (slice_index registers.now 14)) self.old memory.old result self.new memory.new }
+        requires { CanServe K.keeper self.old memory.old }
+        ensures carried { (input : LineInput) → IsCarriedOut K.keeper
+            (λ c. services.aggregate_served c (slice_index registers.now 10) (slice_index registers.now 11)
+            (slice_index registers.now 12) (slice_index registers.now 13) (slice_index registers.now 14))
+            (run_seen O.output self.old input) memory.old result (run_seen O.output self.new input) memory.new }
+        ensures unread { self.new.streams.input ≡ self.old.streams.input }
     {
         self.part_by_mode::<K>(memory, part_of(registers), registers[14])
     }
@@ -96,8 +109,10 @@ impl Runtime {
         leaf: u32,
         value: u32,
     ) -> Result<Reply, Refusal>
-        requires { IsStanding K.keeper self.old memory.old }
-        ensures { IsCarriedOut K.keeper (λ c. services.scalar_served c at leaf value) self.old memory.old result self.new memory.new }
+        requires { CanServe K.keeper self.old memory.old }
+        ensures carried { (input : LineInput) → IsCarriedOut K.keeper (λ c. services.scalar_served c at leaf value)
+            (run_seen O.output self.old input) memory.old result (run_seen O.output self.new input) memory.new }
+        ensures unread { self.new.streams.input ≡ self.old.streams.input }
     {
         scalar::<K>(
             self.alloc,

@@ -2,12 +2,15 @@
 
 ghost use Rattle.std.specs.Prelude.{◌≡◌, slice_index};
 ghost use Rattle.pli_serving.specs.AreaServices.{allocate_served};
-ghost use Rattle.pli_runtime.specs.Running.{IsCarriedOut, IsStanding};
+ghost use Rattle.pli_meaning.specs.InputLines.{Input as LineInput};
+ghost use Rattle.pli_runtime.specs.Seen.{run_seen, CanServe, IsCarriedOut};
 
 use crate::runtime::Runtime;
 use area_heap::keeper::AreaKeeper;
 use pli_allocation::allocating::{Allocation, allocate};
 use pli_answering::reply::{Refusal, Reply};
+use pli_edit::input_stream::InputStream;
+use pli_edit::output_stream::OutputStream;
 
 /// What is to be allocated, by the registers of the call.
 fn allocation_of(registers: &[u32; 32]) -> Allocation
@@ -22,7 +25,7 @@ fn allocation_of(registers: &[u32; 32]) -> Allocation
     }
 }
 
-impl Runtime {
+impl<I: InputStream, O: OutputStream> Runtime<I, O> {
     /// 10: a generation is placed in an area or in the heap.
     #[inline(never)]
     pub(crate) fn allocate<K: AreaKeeper>(
@@ -30,8 +33,12 @@ impl Runtime {
         memory: &mut [u8],
         registers: &[u32; 32],
     ) -> Result<Reply, Refusal>
-        requires { IsStanding K.keeper self.old memory.old }
-        ensures { IsCarriedOut K.keeper (λ c. allocate_served c (slice_index registers.now 10) (slice_index registers.now 11) (slice_index registers.now 12) (slice_index registers.now 13) (slice_index registers.now 14)) self.old memory.old result self.new memory.new }
+        requires { CanServe K.keeper self.old memory.old }
+        ensures carried { (input : LineInput) → IsCarriedOut K.keeper
+            (λ c. allocate_served c (slice_index registers.now 10) (slice_index registers.now 11)
+            (slice_index registers.now 12) (slice_index registers.now 13) (slice_index registers.now 14))
+            (run_seen O.output self.old input) memory.old result (run_seen O.output self.new input) memory.new }
+        ensures unread { self.new.streams.input ≡ self.old.streams.input }
     {
         allocate::<K>(&mut self.held, self.alloc, memory, allocation_of(registers))
     }

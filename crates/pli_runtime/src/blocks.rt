@@ -6,11 +6,14 @@ ghost use Rattle.pli_serving.specs.Blocks as services;
 ghost use Rattle.pli_serving.specs.ElementService.{of_two_words};
 ghost use Rattle.pli_serving.specs.Making.{make_served};
 ghost use Rattle.pli_serving.specs.Serving.{found_served};
-ghost use Rattle.pli_runtime.specs.Running.{IsCarriedOut, IsStanding};
+ghost use Rattle.pli_meaning.specs.InputLines.{Input as LineInput};
+ghost use Rattle.pli_runtime.specs.Seen.{run_seen, CanServe, IsCarriedOut};
 
 use crate::runtime::Runtime;
 use area_heap::keeper::AreaKeeper;
 use pli_answering::reply::{Refusal, Reply};
+use pli_edit::input_stream::InputStream;
+use pli_edit::output_stream::OutputStream;
 use pli_elements::element::element;
 use pli_making::making::make;
 use pli_making::wanted::Making;
@@ -36,7 +39,7 @@ fn making_of(registers: &[u32; 32]) -> Making
     }
 }
 
-impl Runtime {
+impl<I: InputStream, O: OutputStream> Runtime<I, O> {
     /// 4: a block is entered.
     #[inline(never)]
     pub(crate) fn enter(
@@ -46,7 +49,10 @@ impl Runtime {
         line: u32,
         texts: u32,
     ) -> Result<Reply, Refusal>
-        ensures { (k : Keeper) → (m : List ℕ) → IsStanding k self.old m → IsCarriedOut k (λ c. services.enter_served c kind frame line texts) self.old m result self.new m }
+        ensures carried { (k : Keeper) → (m : List ℕ) → (input : LineInput) → CanServe k self.old m →
+            IsCarriedOut k (λ c. services.enter_served c kind frame line texts) (run_seen O.output self.old input) m
+            result (run_seen O.output self.new input) m }
+        ensures unread { self.new.streams.input ≡ self.old.streams.input }
     {
         let standing = Standing {
             are_texts: self.entries.are_texts(texts as usize),
@@ -63,8 +69,11 @@ impl Runtime {
         memory: &mut [u8],
         registers: &[u32; 32],
     ) -> Result<Reply, Refusal>
-        requires { IsStanding K.keeper self.old memory.old }
-        ensures { IsCarriedOut K.keeper (λ c. found_served c (slice_index registers.now) (slice_index registers.now 14)) self.old memory.old result self.new memory.new }
+        requires { CanServe K.keeper self.old memory.old }
+        ensures carried { (input : LineInput) → IsCarriedOut K.keeper
+            (λ c. found_served c (slice_index registers.now) (slice_index registers.now 14))
+            (run_seen O.output self.old input) memory.old result (run_seen O.output self.new input) memory.new }
+        ensures unread { self.new.streams.input ≡ self.old.streams.input }
     {
         let (first, second) = (registers[10], registers[11]);
         let (third, fourth) = (registers[12], registers[13]);
@@ -89,10 +98,14 @@ impl Runtime {
         memory: &mut [u8],
         registers: &[u32; 32],
     ) -> Result<Reply, Refusal>
-        requires { IsStanding K.keeper self.old memory.old }
-        ensures { IsCarriedOut K.keeper (λ c. make_served c (slice_index registers.now 10) (slice_index registers.now 11) (slice_index registers.now 12) (slice_index registers.now 13) (slice_index registers.now 14)) self.old memory.old result self.new memory.new }
+        requires { CanServe K.keeper self.old memory.old }
+        ensures carried { (input : LineInput) → IsCarriedOut K.keeper
+            (λ c. make_served c (slice_index registers.now 10) (slice_index registers.now 11)
+            (slice_index registers.now 12) (slice_index registers.now 13) (slice_index registers.now 14))
+            (run_seen O.output self.old input) memory.old result (run_seen O.output self.new input) memory.new }
+        ensures unread { self.new.streams.input ≡ self.old.streams.input }
     {
-        make::<K>(
+        make::<K, O>(
             &mut self.flow,
             &mut self.held,
             &mut self.in_use,

@@ -5,14 +5,17 @@ ghost use Rattle.area_keeper.specs.Keeper.{Keeper};
 ghost use Rattle.pli_leaving.specs.Leaving.{IsTop};
 ghost use Rattle.pli_serving.specs.Blocks as services;
 ghost use Rattle.pli_runtime.specs.Ending.{IsBack, IsKept};
-ghost use Rattle.pli_runtime.specs.Running.{IsCarriedOut, IsStanding};
+ghost use Rattle.pli_meaning.specs.InputLines.{Input as LineInput};
+ghost use Rattle.pli_runtime.specs.Seen.{run_seen, CanServe, IsCarriedOut};
 
 use crate::runtime::Runtime;
 use pli_answering::reply::{Refusal, Reply};
+use pli_edit::input_stream::InputStream;
+use pli_edit::output_stream::OutputStream;
 use pli_leaving::leaving::{Left, Top, leave, return_from, unwind};
 use pli_making::laws::blocks_are_left;
 
-impl Runtime {
+impl<I: InputStream, O: OutputStream> Runtime<I, O> {
     /// What is known of the entries.
     fn top(&self) -> Top
         ensures { IsTop result self.now.entries }
@@ -43,7 +46,9 @@ impl Runtime {
     fn end_block(&mut self, left: Left, keep: u32) -> Reply
         requires few { keep ≤ 1 }
         requires kept { keep ≡ 1 → IsKept left.texts self.old.entries }
-        ensures back { IsBack left keep self.old self.new }
+        ensures back { (input : LineInput) →
+            IsBack left keep (run_seen O.output self.old input) (run_seen O.output self.new input) }
+        ensures unread { self.new.streams.input ≡ self.old.streams.input }
         ensures reply { result ≡ left.reply }
     {
         self.end_entries(left.texts, keep);
@@ -56,7 +61,10 @@ impl Runtime {
     /// 5: the newest block ends.
     #[inline(never)]
     pub(crate) fn leave(&mut self, keep: u32, second: u32) -> Result<Reply, Refusal>
-        ensures { (k : Keeper) → (m : List ℕ) → IsStanding k self.old m → IsCarriedOut k (λ c. services.leave_served c keep second) self.old m result self.new m }
+        ensures carried { (k : Keeper) → (m : List ℕ) → (input : LineInput) → CanServe k self.old m →
+            IsCarriedOut k (λ c. services.leave_served c keep second) (run_seen O.output self.old input) m
+            result (run_seen O.output self.new input) m }
+        ensures unread { self.new.streams.input ≡ self.old.streams.input }
     {
         blocks_are_left();
         let top = self.top();
@@ -69,7 +77,10 @@ impl Runtime {
     /// 6: the blocks above one end.
     #[inline(never)]
     pub(crate) fn unwind(&mut self, frame: u32, keep: u32) -> Result<Reply, Refusal>
-        ensures { (k : Keeper) → (m : List ℕ) → IsStanding k self.old m → IsCarriedOut k (λ c. services.unwind_served c frame keep) self.old m result self.new m }
+        ensures carried { (k : Keeper) → (m : List ℕ) → (input : LineInput) → CanServe k self.old m →
+            IsCarriedOut k (λ c. services.unwind_served c frame keep) (run_seen O.output self.old input) m
+            result (run_seen O.output self.new input) m }
+        ensures unread { self.new.streams.input ≡ self.old.streams.input }
     {
         blocks_are_left();
         let top = self.top();
@@ -83,7 +94,10 @@ impl Runtime {
     /// 31: an on-unit, the newest block, ends.
     #[inline(never)]
     pub(crate) fn return_from(&mut self) -> Result<Reply, Refusal>
-        ensures { (k : Keeper) → (m : List ℕ) → IsStanding k self.old m → IsCarriedOut k services.return_served self.old m result self.new m }
+        ensures carried { (k : Keeper) → (m : List ℕ) → (input : LineInput) → CanServe k self.old m →
+            IsCarriedOut k services.return_served (run_seen O.output self.old input) m
+            result (run_seen O.output self.new input) m }
+        ensures unread { self.new.streams.input ≡ self.old.streams.input }
     {
         blocks_are_left();
         match return_from(&mut self.flow, &mut self.held) {

@@ -8,4 +8,6 @@ mod edits;
 mod ending;
 mod run;
 pub mod runtime;
+#[cfg(test)]
+mod tests;
 mod texts;

@@ -1,22 +1,27 @@
 // A call of the services.
 
-ghost use Rattle.std.specs.Prelude.{◌≡◌, ◌≢◌, slice_index};
+ghost use Rattle.std.specs.Prelude.{◌≡◌, ◌≢◌, ℕ, List, MatchResult, false, slice_index};
+ghost use Rattle.pli_meaning.specs.InputLines.{Input as LineInput};
+ghost use Rattle.pli_services.specs.Shown.{world_of};
 ghost use Rattle.pli_serving.specs.Serving.{served, serves};
 ghost use Rattle.pli_serving.specs.SignatureService.{signature_served};
-ghost use Rattle.pli_runtime.specs.Running.{IsCarriedOut, IsServed, IsStanding};
+ghost use Rattle.pli_transmission.specs.Transmitting.{places_of};
+ghost use Rattle.pli_runtime.specs.Seen.{asks_input, run_seen, CanServe, IsCarriedOut, IsServed};
 
 use crate::runtime::Runtime;
 use area_heap::keeper::AreaKeeper;
 use pli_allocation::popping::pop;
 use pli_allocation::referring::refer;
 use pli_answering::reply::{Refusal, Reply};
+use pli_edit::input_stream::InputStream;
+use pli_edit::output_stream::OutputStream;
 use pli_making::laws::signatures_are_added;
 use pli_pushing::pushing::push;
 
 /// The service of acts.
 const ACT: u32 = 1;
 
-impl Runtime {
+impl<I: InputStream, O: OutputStream> Runtime<I, O> {
     /// 3: a signature with an extent that the run tells.
     #[inline(never)]
     fn signature<K: AreaKeeper>(
@@ -27,25 +32,31 @@ impl Runtime {
         lower: u32,
         upper: u32,
     ) -> Result<Reply, Refusal>
-        requires { IsStanding K.keeper self.old memory.now }
-        ensures { IsCarriedOut K.keeper (λ c. signature_served c number places lower upper) self.old memory.now result self.new memory.now }
+        requires { CanServe K.keeper self.old memory.now }
+        ensures carried { (input : LineInput) → IsCarriedOut K.keeper
+            (λ c. signature_served c number places lower upper) (run_seen O.output self.old input) memory.now
+            result (run_seen O.output self.new input) memory.now }
+        ensures unread { self.new.streams.input ≡ self.old.streams.input }
     {
         signatures_are_added();
         self.held
             .signature::<K>(self.alloc, memory, number, places, lower, upper)
     }
 
-    /// All services but acts by their numbers. Each stands apart, so that a call costs one jump and has no frame but its service's.
-    #[inline(never)]
-    fn by_number<K: AreaKeeper>(
+    /// All services but acts and those of items, by their numbers. Each stands apart, so that a call costs one jump and
+    /// has no frame but its service's.
+    fn by_other<K: AreaKeeper>(
         &mut self,
         memory: &mut [u8],
         number: u32,
         registers: &[u32; 32],
     ) -> Result<Reply, Refusal>
-        requires standing { IsStanding K.keeper self.old memory.old }
+        requires standing { CanServe K.keeper self.old memory.old }
         requires no_act { number ≢ 1 }
-        ensures { IsCarriedOut K.keeper (λ c. served number c (slice_index registers.now)) self.old memory.old result self.new memory.new }
+        requires no_item { (number ≢ 35) × (number ≢ 36) × (number ≢ 37) × (number ≢ 39) }
+        ensures carried { (input : LineInput) → IsCarriedOut K.keeper (λ c. served number c (slice_index registers.now))
+            (run_seen O.output self.old input) memory.old result (run_seen O.output self.new input) memory.new }
+        ensures unread { self.new.streams.input ≡ self.old.streams.input }
     {
         let (first, second) = (registers[10], registers[11]);
         let (third, fourth) = (registers[12], registers[13]);
@@ -83,35 +94,82 @@ impl Runtime {
             32 => self.flow.retry(first, second),
             33 => Ok(self.flow.oncode(second)),
             34 => self.begin_edit::<K>(memory, first, second),
-            35 => self.streams.control(&mut self.flow.shown, second),
-            36 => self.streams.fixed(&mut self.flow.shown, first, second),
-            37 => self
-                .streams
-                .text(&mut self.entries, &mut self.flow.shown, first, second),
             38 => self.streams.end(first, second),
-            39 => self.streams.skip(&mut self.flow.shown, first, second),
             40 => self.assign_part::<K>(memory, registers),
             41 => self.store_scalar::<K>(memory, first, second, third),
             _ => Err(Refusal::Bad),
         }
     }
 
-    /// Serves the call whose number is in register 17, with what stands in registers 10 to 14 and with the memory. The parts of memory
-    /// stay where they are.
+    /// All services but acts by their numbers.
+    #[inline(never)]
+    fn by_number<K: AreaKeeper>(
+        &mut self,
+        memory: &mut [u8],
+        number: u32,
+        registers: &[u32; 32],
+    ) -> Result<Reply, Refusal>
+        requires standing { CanServe K.keeper self.old memory.old }
+        requires no_act { number ≢ 1 }
+        ensures carried { (all : List ℕ) → I.agrees self.new.streams.input all →
+            I.has_failed self.new.streams.input ≡ false →
+            IsCarriedOut K.keeper (λ c. served number c (slice_index registers.now))
+            (run_seen O.output self.old (I.input self.old.streams.input all)) memory.old result
+            (run_seen O.output self.new (I.input self.new.streams.input all)) memory.new }
+        ensures standing { CanServe K.keeper self.new memory.new }
+        ensures layout { self.new.held.layout ≡ self.old.held.layout }
+        ensures follows { I.follows self.old.streams.input self.new.streams.input }
+        ensures unread { asks_input (places_of self.old.streams.edits.items) number (slice_index registers.now 11) ≡
+            false →
+            self.new.streams.input ≡ self.old.streams.input }
+        ensures kept { MatchResult result
+            (λ _. I.has_failed self.old.streams.input ≡ false → I.has_failed self.new.streams.input ≡ false)
+            (λ _. (world_of O.output self.new.flow.shown ≡ world_of O.output self.old.flow.shown)
+            × (memory.new ≡ memory.old)) }
+    {
+        let (first, second) = (registers[10], registers[11]);
+        match number {
+            35 => self.streams.control(&mut self.flow.shown, second),
+            36 => self.streams.fixed(&mut self.flow.shown, first, second),
+            37 => self
+                .streams
+                .text(&mut self.entries, &mut self.flow.shown, first, second),
+            39 => self.streams.skip(&mut self.flow.shown, first, second),
+            _ => self.by_other::<K>(memory, number, registers),
+        }
+    }
+
+    /// Serves the call whose number is in register 17, with what stands in registers 10 to 14 and with the memory. The
+    /// parts of memory stay where they are.
+    ///
+    /// Where a write failed, the output has all that is due. Where a read failed, nothing is shown and the reply is
+    /// `Memory`. In both cases `stream_fault` tells so, and the run is to end.
     ///
     /// # Errors
     ///
-    /// `Bad` where there is no such service or its arguments are wrong, and then nothing has changed; `Memory` without memory for its
-    /// work, and then nothing is shown, and the bytes are as they were.
+    /// `Bad` where there is no such service or its arguments are wrong, and then nothing has changed; `Memory` without
+    /// memory for its work, or where a read failed, and then nothing is shown, and the bytes are as they were.
     pub fn serve<K: AreaKeeper>(
         &mut self,
         memory: &mut [u8],
         registers: &[u32; 32],
     ) -> Result<Reply, Refusal>
-        requires { IsStanding K.keeper self.old memory.old }
-        ensures served { IsServed K.keeper (λ c. serves c (slice_index registers.now)) self.old memory.old result self.new memory.new }
-        ensures standing { IsStanding K.keeper self.new memory.new }
+        requires { CanServe K.keeper self.old memory.old }
+        ensures served { (all : List ℕ) → I.agrees self.new.streams.input all →
+            I.has_failed self.new.streams.input ≡ false →
+            IsServed K.keeper (λ c. serves c (slice_index registers.now))
+            (run_seen O.output self.old (I.input self.old.streams.input all)) memory.old result
+            (run_seen O.output self.new (I.input self.new.streams.input all)) memory.new }
+        ensures standing { CanServe K.keeper self.new memory.new }
         ensures layout { self.new.held.layout ≡ self.old.held.layout }
+        ensures follows { I.follows self.old.streams.input self.new.streams.input }
+        ensures unread { asks_input (places_of self.old.streams.edits.items) (slice_index registers.now 17)
+            (slice_index registers.now 11) ≡ false →
+            self.new.streams.input ≡ self.old.streams.input }
+        ensures kept { MatchResult result
+            (λ _. I.has_failed self.old.streams.input ≡ false → I.has_failed self.new.streams.input ≡ false)
+            (λ _. (world_of O.output self.new.flow.shown ≡ world_of O.output self.old.flow.shown)
+            × (memory.new ≡ memory.old)) }
     {
         self.act_or::<K>(memory, registers[17], registers)
     }
@@ -123,8 +181,22 @@ impl Runtime {
         number: u32,
         registers: &[u32; 32],
     ) -> Result<Reply, Refusal>
-        requires { IsStanding K.keeper self.old memory.old }
-        ensures { IsCarriedOut K.keeper (λ c. served number c (slice_index registers.now)) self.old memory.old result self.new memory.new }
+        requires { CanServe K.keeper self.old memory.old }
+        ensures carried { (all : List ℕ) → I.agrees self.new.streams.input all →
+            I.has_failed self.new.streams.input ≡ false →
+            IsCarriedOut K.keeper (λ c. served number c (slice_index registers.now))
+            (run_seen O.output self.old (I.input self.old.streams.input all)) memory.old result
+            (run_seen O.output self.new (I.input self.new.streams.input all)) memory.new }
+        ensures standing { CanServe K.keeper self.new memory.new }
+        ensures layout { self.new.held.layout ≡ self.old.held.layout }
+        ensures follows { I.follows self.old.streams.input self.new.streams.input }
+        ensures unread { asks_input (places_of self.old.streams.edits.items) number (slice_index registers.now 11) ≡
+            false →
+            self.new.streams.input ≡ self.old.streams.input }
+        ensures kept { MatchResult result
+            (λ _. I.has_failed self.old.streams.input ≡ false → I.has_failed self.new.streams.input ≡ false)
+            (λ _. (world_of O.output self.new.flow.shown ≡ world_of O.output self.old.flow.shown)
+            × (memory.new ≡ memory.old)) }
     {
         if number == ACT {
             return self.flow.act(registers[10], registers[11]);

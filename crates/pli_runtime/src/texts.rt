@@ -7,11 +7,14 @@ ghost use Rattle.pli_entries.specs.Served.{IsRefusal};
 ghost use Rattle.pli_serving.specs.Answers.{Answer};
 ghost use Rattle.pli_serving.specs.Finding.{Call};
 ghost use Rattle.pli_serving.specs.TextServices as services;
-ghost use Rattle.pli_runtime.specs.Running.{IsCarriedOut, IsStanding, Serves};
+ghost use Rattle.pli_meaning.specs.InputLines.{Input as LineInput};
+ghost use Rattle.pli_runtime.specs.Seen.{run_seen, CanServe, IsCarriedOut, Serves};
 
 use crate::runtime::Runtime;
 use area_heap::keeper::AreaKeeper;
 use pli_answering::reply::{Refusal, Reply};
+use pli_edit::input_stream::InputStream;
+use pli_edit::output_stream::OutputStream;
 use pli_entries::fault::EntryFault;
 use pli_values::source::Source;
 use std::cmp::Ordering;
@@ -53,7 +56,7 @@ fn order_word(order: Ordering) -> u32
     }
 }
 
-impl Runtime {
+impl<I: InputStream, O: OutputStream> Runtime<I, O> {
     /// 20: the text or bit at an address comes on top.
     #[inline(never)]
     pub(crate) fn push_text<K: AreaKeeper>(
@@ -63,8 +66,10 @@ impl Runtime {
         most: u32,
         mode: u32,
     ) -> Result<Reply, Refusal>
-        requires { IsStanding K.keeper self.old memory.now }
-        ensures { IsCarriedOut K.keeper (λ c. services.push_served c at most mode) self.old memory.now result self.new memory.now }
+        requires { CanServe K.keeper self.old memory.now }
+        ensures carried { (input : LineInput) → IsCarriedOut K.keeper (λ c. services.push_served c at most mode)
+            (run_seen O.output self.old input) memory.now result (run_seen O.output self.new input) memory.now }
+        ensures unread { self.new.streams.input ≡ self.old.streams.input }
     {
         let source = Source::new(self.held.layout, memory);
         match self.entries.push_from(&source, at as usize, most, mode) {
@@ -76,7 +81,10 @@ impl Runtime {
     /// 21: a number comes on top, as text; with precision 0 a bit.
     #[inline(never)]
     pub(crate) fn push_number(&mut self, number: u32, precision: u32) -> Result<Reply, Refusal>
-        ensures { (k : Keeper) → (m : List ℕ) → IsStanding k self.old m → IsCarriedOut k (λ c. services.push_number_served c number precision) self.old m result self.new m }
+        ensures carried { (k : Keeper) → (m : List ℕ) → (input : LineInput) → CanServe k self.old m →
+            IsCarriedOut k (λ c. services.push_number_served c number precision) (run_seen O.output self.old input) m
+            result (run_seen O.output self.new input) m }
+        ensures unread { self.new.streams.input ≡ self.old.streams.input }
     {
         match self.entries.push_number(number, precision) {
             Ok(()) => Ok(Reply::Done(number, precision)),
@@ -87,7 +95,10 @@ impl Runtime {
     /// 22: the two newest texts become one.
     #[inline(never)]
     pub(crate) fn join_texts(&mut self, first: u32) -> Result<Reply, Refusal>
-        ensures { (k : Keeper) → (m : List ℕ) → IsStanding k self.old m → IsCarriedOut k (λ c. services.join_served c first) self.old m result self.new m }
+        ensures carried { (k : Keeper) → (m : List ℕ) → (input : LineInput) → CanServe k self.old m →
+            IsCarriedOut k (λ c. services.join_served c first) (run_seen O.output self.old input) m
+            result (run_seen O.output self.new input) m }
+        ensures unread { self.new.streams.input ≡ self.old.streams.input }
     {
         match self.entries.join() {
             Ok(()) => Ok(Reply::Done(first, 0)),
@@ -98,7 +109,10 @@ impl Runtime {
     /// 23: the newest text becomes a part of it.
     #[inline(never)]
     pub(crate) fn cut_text(&mut self, start: u32, count: u32, mode: u32) -> Result<Reply, Refusal>
-        ensures { (k : Keeper) → (m : List ℕ) → IsStanding k self.old m → IsCarriedOut k (λ c. services.cut_served c start count mode) self.old m result self.new m }
+        ensures carried { (k : Keeper) → (m : List ℕ) → (input : LineInput) → CanServe k self.old m →
+            IsCarriedOut k (λ c. services.cut_served c start count mode) (run_seen O.output self.old input) m
+            result (run_seen O.output self.new input) m }
+        ensures unread { self.new.streams.input ≡ self.old.streams.input }
     {
         match self.entries.cut(start, count, mode) {
             Ok(()) => Ok(Reply::Done(start, 0)),
@@ -109,7 +123,10 @@ impl Runtime {
     /// 24: how the two newest texts compare.
     #[inline(never)]
     pub(crate) fn compare_texts(&mut self, second: u32) -> Result<Reply, Refusal>
-        ensures { (k : Keeper) → (m : List ℕ) → IsStanding k self.old m → IsCarriedOut k (λ c. services.compare_served c second) self.old m result self.new m }
+        ensures carried { (k : Keeper) → (m : List ℕ) → (input : LineInput) → CanServe k self.old m →
+            IsCarriedOut k (λ c. services.compare_served c second) (run_seen O.output self.old input) m
+            result (run_seen O.output self.new input) m }
+        ensures unread { self.new.streams.input ≡ self.old.streams.input }
     {
         match self.entries.compare() {
             Ok(order) => Ok(Reply::Done(order_word(order), second)),
@@ -120,7 +137,10 @@ impl Runtime {
     /// 25: where one text stands in another, or what of one isn't in the other.
     #[inline(never)]
     pub(crate) fn find_text(&mut self, mode: u32, second: u32) -> Result<Reply, Refusal>
-        ensures { (k : Keeper) → (m : List ℕ) → IsStanding k self.old m → IsCarriedOut k (λ c. services.find_served c mode second) self.old m result self.new m }
+        ensures carried { (k : Keeper) → (m : List ℕ) → (input : LineInput) → CanServe k self.old m →
+            IsCarriedOut k (λ c. services.find_served c mode second) (run_seen O.output self.old input) m
+            result (run_seen O.output self.new input) m }
+        ensures unread { self.new.streams.input ≡ self.old.streams.input }
     {
         match self.entries.find(mode) {
             Ok(place) => Ok(Reply::Done(place, second)),
@@ -131,7 +151,10 @@ impl Runtime {
     /// 26: the number or bit that the newest text stands for.
     #[inline(never)]
     pub(crate) fn text_number(&mut self, mode: u32) -> Result<Reply, Refusal>
-        ensures { (k : Keeper) → (m : List ℕ) → IsStanding k self.old m → IsCarriedOut k (λ c. services.to_number_served c mode) self.old m result self.new m }
+        ensures carried { (k : Keeper) → (m : List ℕ) → (input : LineInput) → CanServe k self.old m →
+            IsCarriedOut k (λ c. services.to_number_served c mode) (run_seen O.output self.old input) m
+            result (run_seen O.output self.new input) m }
+        ensures unread { self.new.streams.input ≡ self.old.streams.input }
     {
         match self.entries.to_number(mode) {
             Ok(number) => Ok(Reply::Done(number, 0)),
@@ -148,8 +171,10 @@ impl Runtime {
         most: u32,
         mode: u32,
     ) -> Result<Reply, Refusal>
-        requires { IsStanding K.keeper self.old memory.old }
-        ensures { IsCarriedOut K.keeper (λ c. services.store_served c at most mode) self.old memory.old result self.new memory.new }
+        requires { CanServe K.keeper self.old memory.old }
+        ensures carried { (input : LineInput) → IsCarriedOut K.keeper (λ c. services.store_served c at most mode)
+            (run_seen O.output self.old input) memory.old result (run_seen O.output self.new input) memory.new }
+        ensures unread { self.new.streams.input ≡ self.old.streams.input }
     {
         let stored = self
             .entries

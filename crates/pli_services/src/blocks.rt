@@ -7,11 +7,12 @@ ghost use Rattle.pli_serving.specs.Blocks as blocks;
 ghost use Rattle.pli_serving.specs.Finding.{Call};
 ghost use Rattle.pli_activations.specs.Entered.{block_shown, kind_shown};
 ghost use Rattle.pli_services.specs.Entering.{entered_as, entered_shown};
-ghost use Rattle.pli_services.specs.Flowing.{waiting_of, with_flow};
+ghost use Rattle.pli_services.specs.Flowing.{flow_seen, waiting_of, with_flow};
 
 use crate::flow::Flow;
 use pli_activations::block::{Block, BlockKind};
 use pli_answering::reply::{Refusal, Reply};
+use pli_edit::output_stream::OutputStream;
 use pli_meaning::outcome::{End, Limit};
 
 /// So many blocks may be entered.
@@ -50,7 +51,7 @@ fn block_of(entered: Entered, frame: u32, texts: u32, standing: Standing) -> Opt
     })
 }
 
-impl Flow {
+impl<O: OutputStream> Flow<O> {
     /// A block other than an on-unit, where no raise waits.
     fn block_entered(&self, kind: BlockKind) -> Option<Entered>
         ensures { option_map entered_shown result ≡ blocks.block_entered (kind_shown kind) self.now.line (option_map waiting_of self.now.waiting) }
@@ -101,8 +102,10 @@ impl Flow {
         line: u32,
     ) -> Result<Reply, Refusal>
         requires { length self.old.activations < 500 }
-        ensures answers { (c : Call) → (e : blocks.Entered) → (texts : ℕ) → block_shown block ≡ blocks.activation_of (with_flow self.old c).services e frame texts →
-            Answers (λ c. entered_as c kind frame line texts e) (with_flow self.old c) result (with_flow self.new c) }
+        ensures answers { (c : Call) → (e : blocks.Entered) → (texts : ℕ) → block_shown block ≡ blocks.activation_of
+            (with_flow (flow_seen O.output self.old) c).services e frame texts →
+            Answers (λ c. entered_as c kind frame line texts e) (with_flow (flow_seen O.output self.old) c) result
+            (with_flow (flow_seen O.output self.new) c) }
         ensures height { length self.old.activations ≤ length self.new.activations }
     {
         if self.activations.enter(block).is_err() {
@@ -125,7 +128,8 @@ impl Flow {
         standing: Standing,
     ) -> Result<Reply, Refusal>
         ensures answers { (c : Call) → standing.entries ≡ length c.services.entries → standing.edits ≡ length c.services.edits →
-            Answers (λ c. entered_as c kind frame line texts (entered_shown entered)) (with_flow self.old c) result (with_flow self.new c) }
+            Answers (λ c. entered_as c kind frame line texts (entered_shown entered))
+            (with_flow (flow_seen O.output self.old) c) result (with_flow (flow_seen O.output self.new) c) }
         ensures height { length self.old.activations ≤ length self.new.activations }
     {
         if self.activations.height() >= MOST_ACTIVATIONS {
@@ -148,7 +152,8 @@ impl Flow {
         standing: Standing,
     ) -> Result<Reply, Refusal>
         ensures answers { (c : Call) → standing.are_texts ≡ blocks.are_texts texts c.services.entries → standing.entries ≡ length c.services.entries → standing.edits ≡ length c.services.edits →
-            Answers (λ c. blocks.enter_served c kind frame line texts) (with_flow self.old c) result (with_flow self.new c) }
+            Answers (λ c. blocks.enter_served c kind frame line texts) (with_flow (flow_seen O.output self.old) c)
+            result (with_flow (flow_seen O.output self.new) c) }
         ensures height { length self.old.activations ≤ length self.new.activations }
     {
         match self.entered(kind) {

@@ -1,17 +1,19 @@
 // How a run goes on: services 1, 2, 28 to 30, 32 and 33.
 
-ghost use Rattle.std.specs.Prelude.{◌≡◌, length, Some, None, if◌then◌else◌};
+ghost use Rattle.std.specs.Prelude.{◌≡◌, length, [], Some, None, if◌then◌else◌};
 ghost use Rattle.pli_serving.specs.Finding.{Call};
 ghost use Rattle.pli_serving.specs.ActsAndEnds as acts;
 ghost use Rattle.pli_serving.specs.OnUnits as units;
 ghost use Rattle.pli_activations.specs.Entered.{unit_shown};
 ghost use Rattle.pli_answering.specs.Answering.{Answers};
-ghost use Rattle.pli_services.specs.Flowing.{unstarted, with_flow};
+ghost use Rattle.pli_services.specs.Flowing.{flow_seen, unstarted, with_flow};
 
 use crate::shown::Shown;
 use pli_activations::activations::Activations;
 use pli_answering::reply::{Refusal, Reply};
 use pli_conditions::units::Unit;
+use pli_edit::output::Output;
+use pli_edit::output_stream::OutputStream;
 use pli_language::condition::Condition;
 use pli_meaning::outcome::End;
 use std::alloc::Global;
@@ -26,20 +28,22 @@ pub struct Waiting {
 
 /// What a run shows, the line that is current, the blocks that are entered, and the raise that waits.
 #[derive(Drop)]
-pub struct Flow {
-    pub shown: Shown,
+pub struct Flow<O = Output> {
+    pub shown: Shown<O>,
     pub line: u32,
     pub activations: Activations,
     pub waiting: Option<Waiting>,
 }
 
-impl Flow {
+impl<O: OutputStream> Flow<O> {
     /// No block is entered, and no raise waits.
-    pub fn new(alloc: Global) -> Flow
-        ensures { (c : Call) → with_flow result c ≡ unstarted c }
+    pub fn new(alloc: Global, output: O) -> Flow<O>
+        requires { O.output output ≡ [] }
+        ensures unstarted { (c : Call) → with_flow (flow_seen O.output result) c ≡ unstarted c }
+        ensures output { result.shown.output ≡ output }
     {
         Flow {
-            shown: Shown::new(alloc),
+            shown: Shown::new(alloc, output),
             line: 0,
             activations: Activations::new(alloc),
             waiting: None,
@@ -48,7 +52,8 @@ impl Flow {
 
     /// 1: the line becomes current; with mode 0 an act is made, with 1 none.
     pub fn act(&mut self, line: u32, mode: u32) -> Result<Reply, Refusal>
-        ensures answers { (c : Call) → Answers (λ c. acts.act_served c line mode) (with_flow self.old c) result (with_flow self.new c) }
+        ensures answers { (c : Call) → Answers (λ c. acts.act_served c line mode)
+            (with_flow (flow_seen O.output self.old) c) result (with_flow (flow_seen O.output self.new) c) }
         ensures height { length self.new.activations ≡ length self.old.activations }
     {
         match mode {
@@ -62,7 +67,8 @@ impl Flow {
 
     /// 2: the run ends: 0 Finished, 1 Stopped, 2 Error with a code at the current line.
     pub fn end(&mut self, kind: u32, code: u32) -> Result<Reply, Refusal>
-        ensures answers { (c : Call) → Answers (λ c. acts.end_served c kind code) (with_flow self.old c) result (with_flow self.new c) }
+        ensures answers { (c : Call) → Answers (λ c. acts.end_served c kind code)
+            (with_flow (flow_seen O.output self.old) c) result (with_flow (flow_seen O.output self.new) c) }
         ensures height { length self.new.activations ≡ length self.old.activations }
     {
         let Some(end) = end_of(kind, code, self.line) else {
@@ -74,7 +80,8 @@ impl Flow {
 
     /// 32: the act of trying an allocation again.
     pub fn retry(&mut self, first: u32, second: u32) -> Result<Reply, Refusal>
-        ensures answers { (c : Call) → Answers (λ c. acts.retry_served c first second) (with_flow self.old c) result (with_flow self.new c) }
+        ensures answers { (c : Call) → Answers (λ c. acts.retry_served c first second)
+            (with_flow (flow_seen O.output self.old) c) result (with_flow (flow_seen O.output self.new) c) }
         ensures height { length self.new.activations ≡ length self.old.activations }
     {
         self.shown.count()?;
@@ -83,7 +90,8 @@ impl Flow {
 
     /// 33: the code of the newest active on-unit, 0 with none.
     pub fn oncode(&self, second: u32) -> Reply
-        ensures { (c : Call) → Answers (λ c. acts.oncode_served c second) (with_flow self.now c) (Ok result) (with_flow self.now c) }
+        ensures { (c : Call) → Answers (λ c. acts.oncode_served c second) (with_flow (flow_seen O.output self.now) c)
+            (Ok result) (with_flow (flow_seen O.output self.now) c) }
     {
         Reply::Done(u32::from(self.activations.oncode()), second)
     }
@@ -91,7 +99,8 @@ impl Flow {
     /// 28: the newest block has a unit for the condition: code at an address, or with 0 the system's action.
     #[tactic(auto, using(crate::proofs::Units::established_none, crate::proofs::Units::established_height))]
     pub fn establish(&mut self, condition: u32, at: u32) -> Result<Reply, Refusal>
-        ensures answers { (c : Call) → Answers (λ c. units.on_served c condition at) (with_flow self.old c) result (with_flow self.new c) }
+        ensures answers { (c : Call) → Answers (λ c. units.on_served c condition at)
+            (with_flow (flow_seen O.output self.old) c) result (with_flow (flow_seen O.output self.new) c) }
         ensures height { length self.new.activations ≡ length self.old.activations }
     {
         let Some(found) = condition_of(condition) else {
@@ -109,7 +118,8 @@ impl Flow {
     /// 29: the newest block has no unit for the condition.
     #[tactic(auto, using(crate::proofs::Units::reverted_none, crate::proofs::Units::reverted_height))]
     pub fn revert(&mut self, condition: u32, second: u32) -> Result<Reply, Refusal>
-        ensures answers { (c : Call) → Answers (λ c. units.revert_served c condition second) (with_flow self.old c) result (with_flow self.new c) }
+        ensures answers { (c : Call) → Answers (λ c. units.revert_served c condition second)
+            (with_flow (flow_seen O.output self.old) c) result (with_flow (flow_seen O.output self.new) c) }
         ensures height { length self.new.activations ≡ length self.old.activations }
     {
         let Some(found) = condition_of(condition) else {
@@ -125,7 +135,8 @@ impl Flow {
     /// 30: the condition is raised with its code; what the unit in force is told waits for its enter.
     #[tactic(auto, using(crate::proofs::Units::raised_without, crate::proofs::Units::raised_to))]
     pub fn raise(&mut self, condition: u32, code: u32, resume: u32) -> Result<Reply, Refusal>
-        ensures answers { (c : Call) → Answers (λ c. units.raise_served c condition code resume) (with_flow self.old c) result (with_flow self.new c) }
+        ensures answers { (c : Call) → Answers (λ c. units.raise_served c condition code resume)
+            (with_flow (flow_seen O.output self.old) c) result (with_flow (flow_seen O.output self.new) c) }
         ensures height { length self.new.activations ≡ length self.old.activations }
     {
         let (Some(raised), Some(short)) = (condition_of(condition), code_of(code)) else {

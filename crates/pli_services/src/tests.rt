@@ -3,6 +3,7 @@
 use crate::blocks::Standing;
 use crate::flow::Flow;
 use pli_answering::reply::{Refusal, Reply};
+use pli_edit::output::Output;
 use pli_meaning::outcome::End;
 
 const NONE_WAIT: Standing = Standing {
@@ -12,7 +13,7 @@ const NONE_WAIT: Standing = Standing {
 };
 
 // What the calls reply, up to the first that is refused.
-fn walk(flow: &mut Flow) -> Result<[Reply; 5], Refusal> {
+fn walk(flow: &mut Flow<Output>) -> Result<[Reply; 5], Refusal> {
     let acted = flow.act(7, 0)?;
     let entered = flow.enter(0, 4096, 8, 0, NONE_WAIT)?;
     flow.establish(5, 64)?;
@@ -26,7 +27,7 @@ fn walk(flow: &mut Flow) -> Result<[Reply; 5], Refusal> {
 
 #[test]
 fn a_run_flows_or_memory_is_refused(rt: HostRuntime) {
-    let mut flow = Flow::new(rt.alloc());
+    let mut flow = Flow::new(rt.alloc(), Output::new(rt.alloc()));
     match walk(&mut flow) {
         Ok(replies) => {
             assert!(rt; replies[0] == Reply::Done(7, 0) && replies[1] == Reply::Done(0, 4096));

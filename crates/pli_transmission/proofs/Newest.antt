@@ -1,17 +1,18 @@
 -- Places kept from the oldest on, and seen from the newest on.
-use Rattle.std.proofs.Common.{◌≡◌, ℕ, ◌+◌, ◌-◌, ◌<◌, ◌≤◌, List, [], ◌∷◌, ◌++◌, length, take, drop, get_or, set, Result, refl, sym, ap, subst, ◌∙◌, arith, length-drop}
+use Rattle.std.proofs.Common.{◌≡◌, ℕ, ◌+◌, ◌-◌, ◌<◌, ◌≤◌, false, List, [], ◌∷◌, ◌++◌, length, take, drop, get_or}
+use Rattle.std.proofs.Common.{set, Result, refl, sym, ap, subst, ◌∙◌, arith, length-drop}
 use Rattle.std.proofs.lemmas.List.{map-append, reverse-append, take-append-drop, drop_at, length-reverse, length-map, length-set, take_more, take_more_set, take_all}
 use Rattle.pli_meaning.specs.InputLines.{Input}
-use Rattle.pli_serving.specs.ServiceState.{EditPlace, Entry}
+use Rattle.pli_meaning.specs.World.{World}
+use Rattle.pli_serving.specs.ServiceState.{EditPlace, Entry, Direction, Getting, Putting}
 use Rattle.pli_serving.specs.Answers.{Answer}
 use Rattle.pli_serving.specs.Finding.{Call}
 use Rattle.pli_answering.specs.Answering.{Answers}
 use Rattle.pli_answering.specs.declared.reply.Reply.{Reply}
 use Rattle.pli_answering.specs.declared.reply.Refusal.{Refusal}
-use Rattle.pli_services.specs.Shown.{world_of}
-use Rattle.pli_services.specs.declared.shown.Shown.{Shown}
 use Rattle.pli_transmission.specs.Edits.{EditKept}
-use Rattle.pli_transmission.specs.Transmitting.{on_edit, on_entries, places_of, with_edits, AnswersTaking}
+use Rattle.pli_transmission.specs.Transmitting.{is_get, is_getting, on_edit}
+use Rattle.pli_transmission.specs.Transmitting.{on_entries, places_of, with_edits, AnswersTaking}
 
 places_append : (xs ys : List EditKept) → places_of (xs ++ ys) ≡ places_of ys ++ places_of xs
 places_append xs ys = rw (map-append, reverse-append) refl
@@ -39,6 +40,18 @@ places_split xs n d h e =
     ∙ (places_more xs n d (omega (arith, h))
     ∙ ap (λ (k : EditKept). k.place ∷ places_of (take n xs)) (sym e))
 
+-- the newest place is of PUT where it is none of GET
+puts : (p : EditPlace) → is_get p.direction ≡ false → p.direction ≡ Putting
+puts p h = is_put p.direction h
+  where
+    is_put : (d : Direction) → is_get d ≡ false → d ≡ Putting
+    is_put Getting h = absurd cc
+    is_put Putting h = refl
+
+pub newest_puts : (xs : List EditKept) (n : ℕ) (d : EditKept) → n + 1 ≡ length xs → d ≡ get_or xs n d →
+    is_getting (places_of xs) ≡ false → d.place.direction ≡ Putting
+newest_puts xs n d h e none = puts d.place (subst (λ l. is_getting l ≡ false) (places_split xs n d h e) none)
+
 -- the newest place is changed
 places_set : (xs : List EditKept) (n : ℕ) (e : EditKept) → n + 1 ≡ length xs → places_of (set xs n e) ≡ e.place ∷ places_of (take n xs)
 places_set xs n e h =
@@ -46,16 +59,23 @@ places_set xs n e h =
     ap places_of (sym whole ∙ take_more_set xs n e (omega arith)) ∙ places_append (take n xs) (e ∷ [])
 
 -- a service on the newest place
-pub newest_answers : (f : Call → Answer) (s s' : Shown) (i i' : Input) (xs : List EditKept) (n : ℕ) (d e : EditKept) (c : Call) (r : Result Reply Refusal) → n + 1 ≡ length xs → d ≡ get_or xs n d
+pub newest_answers : (f : Call → Answer) (s s' : World) (i i' : Input) (xs : List EditKept) (n : ℕ) (d e : EditKept)
+    (c : Call) (r : Result Reply Refusal) → n + 1 ≡ length xs → d ≡ get_or xs n d
     → Answers f (on_edit s i d (places_of (take n xs)) c) r (on_edit s' i' e (places_of (take n xs)) c)
-    → Answers f (with_edits (world_of s) i (places_of xs) c) r (with_edits (world_of s') i' (places_of (set xs n e)) c)
+    → Answers f (with_edits s i (places_of xs) c) r (with_edits s' i' (places_of (set xs n e)) c)
 newest_answers f s s' i i' xs n d e c r h v a =
-    subst (λ (l : List EditPlace). Answers f (with_edits (world_of s) i l c) r (with_edits (world_of s') i' (places_of (set xs n e)) c)) (sym (places_split xs n d h v))
-    (subst (λ (l : List EditPlace). Answers f (on_edit s i d (places_of (take n xs)) c) r (with_edits (world_of s') i' l c)) (sym (places_set xs n e h)) a)
+    subst (λ (l : List EditPlace). Answers f (with_edits s i l c) r (with_edits s' i' (places_of (set xs n e)) c))
+    (sym (places_split xs n d h v))
+    (subst (λ (l : List EditPlace). Answers f (on_edit s i d (places_of (take n xs)) c) r (with_edits s' i' l c))
+    (sym (places_set xs n e h)) a)
 
-pub newest_taking : (f : Call → Answer) (s s' : Shown) (i i' : Input) (es es' : List Entry) (xs : List EditKept) (n : ℕ) (d e : EditKept) (c : Call) (r : Result Reply Refusal) → n + 1 ≡ length xs → d ≡ get_or xs n d
+pub newest_taking : (f : Call → Answer) (s s' : World) (i i' : Input) (es es' : List Entry) (xs : List EditKept)
+    (n : ℕ) (d e : EditKept) (c : Call) (r : Result Reply Refusal) → n + 1 ≡ length xs → d ≡ get_or xs n d
     → AnswersTaking f (on_entries es (on_edit s i d (places_of (take n xs)) c)) r (on_entries es' (on_edit s' i' e (places_of (take n xs)) c))
-    → AnswersTaking f (on_entries es (with_edits (world_of s) i (places_of xs) c)) r (on_entries es' (with_edits (world_of s') i' (places_of (set xs n e)) c))
+    → AnswersTaking f (on_entries es (with_edits s i (places_of xs) c)) r
+    (on_entries es' (with_edits s' i' (places_of (set xs n e)) c))
 newest_taking f s s' i i' es es' xs n d e c r h v a =
-    subst (λ (l : List EditPlace). AnswersTaking f (on_entries es (with_edits (world_of s) i l c)) r (on_entries es' (with_edits (world_of s') i' (places_of (set xs n e)) c))) (sym (places_split xs n d h v))
-    (subst (λ (l : List EditPlace). AnswersTaking f (on_entries es (on_edit s i d (places_of (take n xs)) c)) r (on_entries es' (with_edits (world_of s') i' l c))) (sym (places_set xs n e h)) a)
+    subst (λ (l : List EditPlace). AnswersTaking f (on_entries es (with_edits s i l c)) r
+    (on_entries es' (with_edits s' i' (places_of (set xs n e)) c))) (sym (places_split xs n d h v))
+    (subst (λ (l : List EditPlace). AnswersTaking f (on_entries es (on_edit s i d (places_of (take n xs)) c)) r
+    (on_entries es' (with_edits s' i' l c))) (sym (places_set xs n e h)) a)

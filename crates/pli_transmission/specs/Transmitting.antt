@@ -1,5 +1,6 @@
 -- A call of a service whose services hold what a run shows, its input, and its places in format lists.
-use Rattle.std.specs.Prelude.{◌≡◌, ℕ, true, false, List, [], ◌∷◌, drop, length, map, reverse, option_map, Option, Some, None, Result, Ok, Err, Vec}
+use Rattle.std.specs.Prelude.{◌≡◌, ℕ, Bool, true, false, List, [], ◌∷◌, drop, length, map, reverse, option_map}
+use Rattle.std.specs.Prelude.{Option, Some, None, Result, Ok, Err, Vec}
 use Rattle.std.specs.declared.alloc.Global.{Global}
 use Rattle.rv_meaning.specs.Words.{signed}
 use Rattle.pli_meaning.specs.Stream.{fixed_field, with_field}
@@ -13,11 +14,9 @@ use Rattle.pli_answering.specs.declared.reply.Reply.{Reply}
 use Rattle.pli_answering.specs.declared.reply.Reply.TheVariants as R
 use Rattle.pli_answering.specs.declared.reply.Refusal.{Refusal}
 use Rattle.pli_answering.specs.declared.reply.Refusal.TheVariants as F
-use Rattle.pli_services.specs.Shown.{world_of, Acts}
-use Rattle.pli_services.specs.declared.shown.Shown.{Shown}
+use Rattle.pli_services.specs.Shown.{Acts}
 use Rattle.pli_transmission.specs.Edits.{EditKept}
 use Rattle.pli_transmission.specs.Tops.{top_text}
-use Rattle.pli_transmission.specs.declared.streams.Streams.{Streams}
 
 abbrev pub transmitting : World → Input → List EditPlace → Services → Services
 transmitting world input edits v = record v { world = world; input = input; edits = edits }
@@ -27,15 +26,24 @@ abbrev pub with_edits : World → Input → List EditPlace → Call → Call
 with_edits world input edits c = record c { services = transmitting world input edits c.services }
 
 -- with the newest place and those below it
-abbrev pub on_edit : Shown → Input → EditKept → (below : List EditPlace) → Call → Call
-on_edit shown input edit below c = with_edits (world_of shown) input (edit.place ∷ below) c
+abbrev pub on_edit : World → Input → EditKept → (below : List EditPlace) → Call → Call
+on_edit world input edit below c = with_edits world input (edit.place ∷ below) c
 
 -- the places, newest first, as they are kept from the oldest on
 abbrev pub places_of : List EditKept → List EditPlace
 places_of edits = reverse (map (λ (e : EditKept). e.place) edits)
 
-abbrev pub with_streams : Shown → Streams → Call → Call
-with_streams shown s c = with_edits (world_of shown) s.input (places_of s.edits.items) c
+abbrev pub is_get : Direction → Bool
+is_get Getting = true
+is_get Putting = false
+
+-- whether the newest is of GET
+abbrev pub is_getting : List EditPlace → Bool
+is_getting [] = false
+is_getting (p ∷ below) = is_get p.direction
+
+abbrev pub with_streams : World → Input → List EditKept → Call → Call
+with_streams world input edits c = with_edits world input (places_of edits) c
 
 -- ---- F by its width
 

@@ -1,14 +1,16 @@
 // F, numbers in fields: service 36.
 
-ghost use Rattle.std.specs.Prelude.{◌≡◌, ◌∷◌, Some, List, is_some};
+ghost use Rattle.std.specs.Prelude.{◌≡◌, ◌∷◌, Some, List, MatchResult, is_some, ℕ, IfErr, false};
 ghost use Rattle.rv_meaning.specs.Words.{signed};
 ghost use Rattle.pli_answering.specs.Answering.{Answers};
 ghost use Rattle.pli_edit.specs.FormatPlaces.{item_of};
+ghost use Rattle.pli_meaning.specs.InputLines.{Input as LineInput};
 ghost use Rattle.pli_meaning.specs.Stream.{fixed_field};
 ghost use Rattle.pli_serving.specs.Edits as edits;
 ghost use Rattle.pli_serving.specs.Edits.{NextItem, next_item};
 ghost use Rattle.pli_serving.specs.Finding.{Call};
-ghost use Rattle.pli_serving.specs.ServiceState.{EditPlace};
+ghost use Rattle.pli_serving.specs.ServiceState.{EditPlace, Putting};
+ghost use Rattle.pli_services.specs.Shown.{world_of};
 ghost use Rattle.pli_transmission.specs.Transmitting.{fixed_of, on_edit};
 
 use crate::edit::{Direction, Edit};
@@ -18,7 +20,8 @@ use itoa::Buffer;
 use pli_answering::reply::{Refusal, Reply};
 use pli_edit::fault::EditFault;
 use pli_edit::format::Format;
-use pli_edit::input::Input;
+use pli_edit::input_stream::InputStream;
+use pli_edit::output_stream::OutputStream;
 use pli_services::shown::Shown;
 use pli_text::number::decimal;
 
@@ -38,15 +41,18 @@ fn has_room(width: u32, number: u32) -> bool
 }
 
 /// PUT: the number is written, and the place is behind the item.
-fn write(
+fn write<O: OutputStream>(
     edit: &mut Edit,
-    input: &Input,
-    shown: &mut Shown,
+    shown: &mut Shown<O>,
     width: u32,
     number: u32,
 ) -> Result<Reply, Refusal>
-    ensures { (c : Call) → (n : NextItem) → (below : List EditPlace) → edit.old.next ≡ Some n →
-        Answers (λ c. edits.number_put c number 1 (fixed_field width (signed number)) (n.behind ∷ below)) (on_edit shown.old input.now edit.old below c) result (on_edit shown.new input.now edit.new below c) }
+    ensures answers { (c : Call) → (input : LineInput) → (n : NextItem) → (below : List EditPlace) →
+        edit.old.next ≡ Some n →
+        Answers (λ c. edits.number_put c number 1 (fixed_field width (signed number)) (n.behind ∷ below))
+        (on_edit (world_of O.output shown.old) input edit.old below c) result
+        (on_edit (world_of O.output shown.new) input edit.new below c) }
+    ensures kept { IfErr result (λ _. world_of O.output shown.new ≡ world_of O.output shown.old) }
 {
     write_number(shown, number.cast_signed(), width)?;
     edit.advance();
@@ -54,37 +60,47 @@ fn write(
 }
 
 /// PUT: whether the field is wide enough with mode 0; with 1 the number is written.
-fn put(
+fn put<O: OutputStream>(
     edit: &mut Edit,
-    input: &Input,
-    shown: &mut Shown,
+    shown: &mut Shown<O>,
     width: u32,
     number: u32,
     mode: u32,
 ) -> Result<Reply, Refusal>
-    ensures { (c : Call) → (n : NextItem) → (below : List EditPlace) → edit.old.next ≡ Some n →
-        Answers (λ c. edits.number_put c number mode (fixed_field width (signed number)) (n.behind ∷ below)) (on_edit shown.old input.now edit.old below c) result (on_edit shown.new input.now edit.new below c) }
+    ensures answers { (c : Call) → (input : LineInput) → (n : NextItem) → (below : List EditPlace) →
+        edit.old.next ≡ Some n →
+        Answers (λ c. edits.number_put c number mode (fixed_field width (signed number)) (n.behind ∷ below))
+        (on_edit (world_of O.output shown.old) input edit.old below c) result
+        (on_edit (world_of O.output shown.new) input edit.new below c) }
+    ensures kept { IfErr result (λ _. world_of O.output shown.new ≡ world_of O.output shown.old) }
 {
     match mode {
         0 => {
             let status = if has_room(width, number) { 0 } else { TOO_WIDE };
             Ok(Reply::Done(number, status))
         }
-        1 => write(edit, input, shown, width, number),
+        1 => write(edit, shown, width, number),
         _ => Err(Refusal::Bad),
     }
 }
 
 /// GET: the field is taken, and its number told.
-fn get(
+fn get<I: InputStream, O: OutputStream>(
     edit: &mut Edit,
-    input: &mut Input,
-    shown: &mut Shown,
+    input: &mut I,
+    shown: &mut Shown<O>,
     width: u32,
     first: u32,
 ) -> Result<Reply, Refusal>
-    ensures { (c : Call) → (n : NextItem) → (below : List EditPlace) → edit.old.next ≡ Some n →
-        Answers (λ c. edits.number_got c width first (n.behind ∷ below)) (on_edit shown.old input.old edit.old below c) result (on_edit shown.new input.new edit.new below c) }
+    ensures answers { (c : Call) → (all : List ℕ) → I.agrees input.new all → I.has_failed input.new ≡ false →
+        (n : NextItem) → (below : List EditPlace) →
+        edit.old.next ≡ Some n →
+        Answers (λ c. edits.number_got c width first (n.behind ∷ below))
+        (on_edit (world_of O.output shown.old) (I.input input.old all) edit.old below c) result
+        (on_edit (world_of O.output shown.new) (I.input input.new all) edit.new below c) }
+    ensures follows { I.follows input.old input.new }
+    ensures kept { MatchResult result (λ _. I.has_failed input.old ≡ false → I.has_failed input.new ≡ false)
+        (λ _. world_of O.output shown.new ≡ world_of O.output shown.old) }
 {
     let acts = shown.acts;
     shown.count()?;
@@ -109,34 +125,50 @@ fn get(
 }
 
 /// F of a width in either direction.
-fn fixed_field(
+fn fixed_field<I: InputStream, O: OutputStream>(
     edit: &mut Edit,
-    input: &mut Input,
-    shown: &mut Shown,
+    input: &mut I,
+    shown: &mut Shown<O>,
     width: u32,
     first: u32,
     second: u32,
 ) -> Result<Reply, Refusal>
-    ensures { (c : Call) → (n : NextItem) → (below : List EditPlace) → edit.old.next ≡ Some n →
-        Answers (λ c. fixed_of c first second edit.old.place.direction width (n.behind ∷ below)) (on_edit shown.old input.old edit.old below c) result (on_edit shown.new input.new edit.new below c) }
+    ensures answers { (c : Call) → (all : List ℕ) → I.agrees input.new all → I.has_failed input.new ≡ false →
+        (n : NextItem) → (below : List EditPlace) →
+        edit.old.next ≡ Some n →
+        Answers (λ c. fixed_of c first second edit.old.place.direction width (n.behind ∷ below))
+        (on_edit (world_of O.output shown.old) (I.input input.old all) edit.old below c) result
+        (on_edit (world_of O.output shown.new) (I.input input.new all) edit.new below c) }
+    ensures follows { I.follows input.old input.new }
+    ensures unread { edit.old.place.direction ≡ Putting → input.new ≡ input.old }
+    ensures kept { MatchResult result (λ _. I.has_failed input.old ≡ false → I.has_failed input.new ≡ false)
+        (λ _. world_of O.output shown.new ≡ world_of O.output shown.old) }
 {
     match edit.direction() {
-        Direction::Putting => put(edit, input, shown, width, first, second),
+        Direction::Putting => put(edit, shown, width, first, second),
         Direction::Getting => get(edit, input, shown, width, first),
     }
 }
 
 /// The next item, which is to be F.
-fn fixed_next(
+fn fixed_next<I: InputStream, O: OutputStream>(
     edit: &mut Edit,
-    input: &mut Input,
-    shown: &mut Shown,
+    input: &mut I,
+    shown: &mut Shown<O>,
     format: Format,
     first: u32,
     second: u32,
 ) -> Result<Reply, Refusal>
-    ensures { (c : Call) → (n : NextItem) → (below : List EditPlace) → edit.old.next ≡ Some n → n.behind.direction ≡ edit.old.place.direction → n.item ≡ item_of format →
-        Answers (λ c. edits.fixed_by c first second n.behind.direction n.item (n.behind ∷ below)) (on_edit shown.old input.old edit.old below c) result (on_edit shown.new input.new edit.new below c) }
+    ensures answers { (c : Call) → (all : List ℕ) → I.agrees input.new all → I.has_failed input.new ≡ false →
+        (n : NextItem) → (below : List EditPlace) →
+        edit.old.next ≡ Some n → n.behind.direction ≡ edit.old.place.direction → n.item ≡ item_of format →
+        Answers (λ c. edits.fixed_by c first second n.behind.direction n.item (n.behind ∷ below))
+        (on_edit (world_of O.output shown.old) (I.input input.old all) edit.old below c) result
+        (on_edit (world_of O.output shown.new) (I.input input.new all) edit.new below c) }
+    ensures follows { I.follows input.old input.new }
+    ensures unread { edit.old.place.direction ≡ Putting → input.new ≡ input.old }
+    ensures kept { MatchResult result (λ _. I.has_failed input.old ≡ false → I.has_failed input.new ≡ false)
+        (λ _. world_of O.output shown.new ≡ world_of O.output shown.old) }
 {
     match fixed_width(format) {
         Some(width) => fixed_field(edit, input, shown, width, first, second),
@@ -144,16 +176,24 @@ fn fixed_next(
     }
 }
 
-/// 36: F. PUT asks with mode 0 whether the field is wide enough, and writes the number with 1; GET takes the field and tells its
-/// number, or that it is none.
-pub fn fixed(
+/// 36: F. PUT asks with mode 0 whether the field is wide enough, and writes the number with 1; GET takes the field and
+/// tells its number, or that it is none.
+pub fn fixed<I: InputStream, O: OutputStream>(
     edit: &mut Edit,
-    input: &mut Input,
-    shown: &mut Shown,
+    input: &mut I,
+    shown: &mut Shown<O>,
     first: u32,
     second: u32,
 ) -> Result<Reply, Refusal>
-    ensures { (c : Call) → (below : List EditPlace) → Answers (λ c. edits.fixed_served c first second) (on_edit shown.old input.old edit.old below c) result (on_edit shown.new input.new edit.new below c) }
+    ensures answers { (c : Call) → (all : List ℕ) → I.agrees input.new all → I.has_failed input.new ≡ false →
+        (below : List EditPlace) →
+        Answers (λ c. edits.fixed_served c first second)
+        (on_edit (world_of O.output shown.old) (I.input input.old all) edit.old below c) result
+        (on_edit (world_of O.output shown.new) (I.input input.new all) edit.new below c) }
+    ensures follows { I.follows input.old input.new }
+    ensures unread { edit.old.place.direction ≡ Putting → input.new ≡ input.old }
+    ensures kept { MatchResult result (λ _. I.has_failed input.old ≡ false → I.has_failed input.new ≡ false)
+        (λ _. world_of O.output shown.new ≡ world_of O.output shown.old) }
 {
     let Ok(found) = edit.reach() else {
         return Err(Refusal::Memory);

@@ -6,6 +6,8 @@ pub mod control;
 pub mod edit;
 pub mod fixed;
 pub mod item;
+#[cfg(test)]
+mod stream_tests;
 pub mod streams;
 #[cfg(test)]
 mod tests;

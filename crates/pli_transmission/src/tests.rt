@@ -2,6 +2,7 @@
 
 use crate::streams::Streams;
 use pli_answering::reply::{Refusal, Reply};
+use pli_edit::output::Output;
 use pli_entries::entries::Entries;
 use pli_services::shown::Shown;
 use pli_values::layout::Layout;
@@ -26,7 +27,7 @@ const LAYOUT: Layout = Layout {
 fn put(
     streams: &mut Streams,
     entries: &mut Entries,
-    shown: &mut Shown,
+    shown: &mut Shown<Output>,
     source: &Source,
 ) -> Result<[Reply; 6], Refusal> {
     streams.begin(source, 4, 1)?;
@@ -50,7 +51,7 @@ fn items_are_put_or_memory_is_refused(rt: HostRuntime) {
         return;
     };
     let mut entries = Entries::new(rt.alloc());
-    let mut shown = Shown::new(rt.alloc());
+    let mut shown = Shown::new(rt.alloc(), Output::new(rt.alloc()));
     let source = Source::new(LAYOUT, &LIST);
     let whole = b"  12 345AB\n\n".as_slice();
     match put(&mut streams, &mut entries, &mut shown, &source) {
@@ -74,7 +75,7 @@ fn items_are_put_or_memory_is_refused(rt: HostRuntime) {
 fn get(
     streams: &mut Streams,
     entries: &mut Entries,
-    shown: &mut Shown,
+    shown: &mut Shown<Output>,
     source: &Source,
 ) -> Result<[Reply; 5], Refusal> {
     streams.begin(source, 4, 0)?;
@@ -96,7 +97,7 @@ fn items_are_got_or_memory_is_refused(rt: HostRuntime) {
         return;
     };
     let mut entries = Entries::new(rt.alloc());
-    let mut shown = Shown::new(rt.alloc());
+    let mut shown = Shown::new(rt.alloc(), Output::new(rt.alloc()));
     let source = Source::new(LAYOUT, &LIST);
     match get(&mut streams, &mut entries, &mut shown, &source) {
         Ok(replies) => {

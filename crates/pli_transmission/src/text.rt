@@ -1,12 +1,15 @@
 // A, texts in fields: service 37.
 
-ghost use Rattle.std.specs.Prelude.{◌≡◌, ◌∷◌, Some, List, MatchResult};
+ghost use Rattle.std.specs.Prelude.{◌≡◌, ◌∷◌, Some, List, MatchResult, ℕ, IfErr, IfOk, false};
 ghost use Rattle.pli_edit.specs.FormatPlaces.{item_of};
+ghost use Rattle.pli_meaning.specs.InputLines.{Input as LineInput};
 ghost use Rattle.pli_serving.specs.Edits as edits;
 ghost use Rattle.pli_serving.specs.Edits.{NextItem};
 ghost use Rattle.pli_serving.specs.Finding.{Call};
-ghost use Rattle.pli_serving.specs.ServiceState.{EditPlace, TextEntry};
-ghost use Rattle.pli_transmission.specs.Transmitting.{on_edit, on_entries, text_of, AnswersTaking, IsTopGot, IsTopWritten};
+ghost use Rattle.pli_serving.specs.ServiceState.{EditPlace, Putting, TextEntry};
+ghost use Rattle.pli_services.specs.Shown.{world_of};
+ghost use Rattle.pli_transmission.specs.Transmitting.{on_edit, on_entries, text_of, AnswersTaking, IsTopGot};
+ghost use Rattle.pli_transmission.specs.Transmitting.{IsTopWritten};
 
 use crate::edit::{Direction, Edit};
 use crate::item::text_width;
@@ -14,41 +17,41 @@ use crate::top::take_top;
 use pli_answering::reply::{Refusal, Reply};
 use pli_edit::fault::EditFault;
 use pli_edit::format::Format;
-use pli_edit::input::Input;
-use pli_edit::output::Output;
+use pli_edit::input_stream::InputStream;
+use pli_edit::output_stream::OutputStream;
 use pli_entries::entries::Entries;
-use pli_services::shown::Shown;
+use pli_services::shown::{Shown, written};
 use std::alloc::Global;
 
 /// The newest text is written behind the output.
-fn put_top(
+fn put_top<O: OutputStream>(
     alloc: Global,
     entries: &mut Entries,
-    output: &mut Output,
+    output: &mut O,
     width: Option<u32>,
 ) -> Result<(), Refusal>
-    ensures { IsTopWritten width entries.old output.old result entries.new output.new }
+    ensures { IsTopWritten width entries.old (O.output output.old) result entries.new (O.output output.new) }
 {
     let text = take_top(alloc, entries)?;
-    match output.put_a(&text, width) {
-        Ok(()) => Ok(()),
-        Err(_) => Err(Refusal::Memory),
-    }
+    written(output.put_a(&text, width))
 }
 
 /// PUT: the newest text is dropped and written, and the place is behind the item.
-fn put(
+fn put<O: OutputStream>(
     alloc: Global,
     edit: &mut Edit,
     entries: &mut Entries,
-    input: &Input,
-    shown: &mut Shown,
+    shown: &mut Shown<O>,
     width: Option<u32>,
     first: u32,
     second: u32,
 ) -> Result<Reply, Refusal>
-    ensures { (c : Call) → (n : NextItem) → (below : List EditPlace) → edit.old.next ≡ Some n →
-        AnswersTaking (λ c. edits.text_put c first second width (n.behind ∷ below)) (on_entries entries.old (on_edit shown.old input.now edit.old below c)) result (on_entries entries.new (on_edit shown.new input.now edit.new below c)) }
+    ensures answers { (c : Call) → (input : LineInput) → (n : NextItem) → (below : List EditPlace) →
+        edit.old.next ≡ Some n →
+        AnswersTaking (λ c. edits.text_put c first second width (n.behind ∷ below))
+        (on_entries entries.old (on_edit (world_of O.output shown.old) input edit.old below c)) result
+        (on_entries entries.new (on_edit (world_of O.output shown.new) input edit.new below c)) }
+    ensures kept { IfErr result (λ _. world_of O.output shown.new ≡ world_of O.output shown.old) }
 {
     let acts = shown.acts;
     shown.count()?;
@@ -75,8 +78,11 @@ fn push_field(entries: &mut Entries, field: &[u8]) -> Result<(), Refusal>
 }
 
 /// A field is taken and becomes the newest text. Where it stands in one line it is pushed as it stands there.
-fn get_top(entries: &mut Entries, input: &mut Input, width: u32) -> Result<(), Refusal>
-    ensures { IsTopGot width entries.old input.old result entries.new input.new }
+fn get_top<I: InputStream>(entries: &mut Entries, input: &mut I, width: u32) -> Result<(), Refusal>
+    ensures got { (all : List ℕ) → I.agrees input.new all → I.has_failed input.new ≡ false →
+        IsTopGot width entries.old (I.input input.old all) result entries.new (I.input input.new all) }
+    ensures follows { I.follows input.old input.new }
+    ensures whole { IfOk result (λ _. I.has_failed input.old ≡ false → I.has_failed input.new ≡ false) }
 {
     if let Some(field) = input.line_field(width) {
         push_field(entries, field)?;
@@ -91,17 +97,25 @@ fn get_top(entries: &mut Entries, input: &mut Input, width: u32) -> Result<(), R
 }
 
 /// GET: the field is taken and becomes the newest text, and the place is behind the item.
-fn get_field(
+fn get_field<I: InputStream, O: OutputStream>(
     edit: &mut Edit,
     entries: &mut Entries,
-    input: &mut Input,
-    shown: &mut Shown,
+    input: &mut I,
+    shown: &mut Shown<O>,
     width: u32,
     first: u32,
     second: u32,
 ) -> Result<Reply, Refusal>
-    ensures { (c : Call) → (n : NextItem) → (below : List EditPlace) → edit.old.next ≡ Some n →
-        AnswersTaking (λ c. edits.text_got c first second (Some width) (n.behind ∷ below)) (on_entries entries.old (on_edit shown.old input.old edit.old below c)) result (on_entries entries.new (on_edit shown.new input.new edit.new below c)) }
+    ensures answers { (c : Call) → (all : List ℕ) → I.agrees input.new all → I.has_failed input.new ≡ false →
+        (n : NextItem) → (below : List EditPlace) →
+        edit.old.next ≡ Some n →
+        AnswersTaking (λ c. edits.text_got c first second (Some width) (n.behind ∷ below))
+        (on_entries entries.old (on_edit (world_of O.output shown.old) (I.input input.old all) edit.old below c))
+        result (on_entries entries.new
+        (on_edit (world_of O.output shown.new) (I.input input.new all) edit.new below c)) }
+    ensures follows { I.follows input.old input.new }
+    ensures kept { MatchResult result (λ _. I.has_failed input.old ≡ false → I.has_failed input.new ≡ false)
+        (λ _. world_of O.output shown.new ≡ world_of O.output shown.old) }
 {
     let acts = shown.acts;
     shown.count()?;
@@ -118,17 +132,25 @@ fn get_field(
 }
 
 /// GET: an item without a width is no right call.
-fn get(
+fn get<I: InputStream, O: OutputStream>(
     edit: &mut Edit,
     entries: &mut Entries,
-    input: &mut Input,
-    shown: &mut Shown,
+    input: &mut I,
+    shown: &mut Shown<O>,
     width: Option<u32>,
     first: u32,
     second: u32,
 ) -> Result<Reply, Refusal>
-    ensures { (c : Call) → (n : NextItem) → (below : List EditPlace) → edit.old.next ≡ Some n →
-        AnswersTaking (λ c. edits.text_got c first second width (n.behind ∷ below)) (on_entries entries.old (on_edit shown.old input.old edit.old below c)) result (on_entries entries.new (on_edit shown.new input.new edit.new below c)) }
+    ensures answers { (c : Call) → (all : List ℕ) → I.agrees input.new all → I.has_failed input.new ≡ false →
+        (n : NextItem) → (below : List EditPlace) →
+        edit.old.next ≡ Some n →
+        AnswersTaking (λ c. edits.text_got c first second width (n.behind ∷ below))
+        (on_entries entries.old (on_edit (world_of O.output shown.old) (I.input input.old all) edit.old below c))
+        result (on_entries entries.new
+        (on_edit (world_of O.output shown.new) (I.input input.new all) edit.new below c)) }
+    ensures follows { I.follows input.old input.new }
+    ensures kept { MatchResult result (λ _. I.has_failed input.old ≡ false → I.has_failed input.new ≡ false)
+        (λ _. world_of O.output shown.new ≡ world_of O.output shown.old) }
 {
     match width {
         Some(width) => get_field(edit, entries, input, shown, width, first, second),
@@ -137,38 +159,56 @@ fn get(
 }
 
 /// A of a width in either direction.
-fn text_field(
+fn text_field<I: InputStream, O: OutputStream>(
     alloc: Global,
     edit: &mut Edit,
     entries: &mut Entries,
-    input: &mut Input,
-    shown: &mut Shown,
+    input: &mut I,
+    shown: &mut Shown<O>,
     width: Option<u32>,
     first: u32,
     second: u32,
 ) -> Result<Reply, Refusal>
-    ensures { (c : Call) → (n : NextItem) → (below : List EditPlace) → edit.old.next ≡ Some n →
-        AnswersTaking (λ c. text_of c first second edit.old.place.direction width (n.behind ∷ below)) (on_entries entries.old (on_edit shown.old input.old edit.old below c)) result (on_entries entries.new (on_edit shown.new input.new edit.new below c)) }
+    ensures answers { (c : Call) → (all : List ℕ) → I.agrees input.new all → I.has_failed input.new ≡ false →
+        (n : NextItem) → (below : List EditPlace) →
+        edit.old.next ≡ Some n →
+        AnswersTaking (λ c. text_of c first second edit.old.place.direction width (n.behind ∷ below))
+        (on_entries entries.old (on_edit (world_of O.output shown.old) (I.input input.old all) edit.old below c))
+        result (on_entries entries.new
+        (on_edit (world_of O.output shown.new) (I.input input.new all) edit.new below c)) }
+    ensures follows { I.follows input.old input.new }
+    ensures unread { edit.old.place.direction ≡ Putting → input.new ≡ input.old }
+    ensures kept { MatchResult result (λ _. I.has_failed input.old ≡ false → I.has_failed input.new ≡ false)
+        (λ _. world_of O.output shown.new ≡ world_of O.output shown.old) }
 {
     match edit.direction() {
-        Direction::Putting => put(alloc, edit, entries, input, shown, width, first, second),
+        Direction::Putting => put(alloc, edit, entries, shown, width, first, second),
         Direction::Getting => get(edit, entries, input, shown, width, first, second),
     }
 }
 
 /// The next item, which is to be A.
-fn text_next(
+fn text_next<I: InputStream, O: OutputStream>(
     alloc: Global,
     edit: &mut Edit,
     entries: &mut Entries,
-    input: &mut Input,
-    shown: &mut Shown,
+    input: &mut I,
+    shown: &mut Shown<O>,
     format: Format,
     first: u32,
     second: u32,
 ) -> Result<Reply, Refusal>
-    ensures { (c : Call) → (n : NextItem) → (below : List EditPlace) → edit.old.next ≡ Some n → n.behind.direction ≡ edit.old.place.direction → n.item ≡ item_of format →
-        AnswersTaking (λ c. edits.text_by c first second n.behind.direction n.item (n.behind ∷ below)) (on_entries entries.old (on_edit shown.old input.old edit.old below c)) result (on_entries entries.new (on_edit shown.new input.new edit.new below c)) }
+    ensures answers { (c : Call) → (all : List ℕ) → I.agrees input.new all → I.has_failed input.new ≡ false →
+        (n : NextItem) → (below : List EditPlace) →
+        edit.old.next ≡ Some n → n.behind.direction ≡ edit.old.place.direction → n.item ≡ item_of format →
+        AnswersTaking (λ c. edits.text_by c first second n.behind.direction n.item (n.behind ∷ below))
+        (on_entries entries.old (on_edit (world_of O.output shown.old) (I.input input.old all) edit.old below c))
+        result (on_entries entries.new
+        (on_edit (world_of O.output shown.new) (I.input input.new all) edit.new below c)) }
+    ensures follows { I.follows input.old input.new }
+    ensures unread { edit.old.place.direction ≡ Putting → input.new ≡ input.old }
+    ensures kept { MatchResult result (λ _. I.has_failed input.old ≡ false → I.has_failed input.new ≡ false)
+        (λ _. world_of O.output shown.new ≡ world_of O.output shown.old) }
 {
     match text_width(format) {
         Some(width) => text_field(alloc, edit, entries, input, shown, width, first, second),
@@ -176,19 +216,27 @@ fn text_next(
     }
 }
 
-/// 37: A. PUT drops and writes the newest text; GET takes the field, which becomes the newest text. Without memory nothing is shown,
-/// but the text or the field may be gone.
-pub fn text(
+/// 37: A. PUT drops and writes the newest text; GET takes the field, which becomes the newest text. Without memory
+/// nothing is shown, but the text or the field may be gone.
+pub fn text<I: InputStream, O: OutputStream>(
     alloc: Global,
     edit: &mut Edit,
     entries: &mut Entries,
-    input: &mut Input,
-    shown: &mut Shown,
+    input: &mut I,
+    shown: &mut Shown<O>,
     first: u32,
     second: u32,
 ) -> Result<Reply, Refusal>
-    ensures { (c : Call) → (below : List EditPlace) →
-        AnswersTaking (λ c. edits.text_served c first second) (on_entries entries.old (on_edit shown.old input.old edit.old below c)) result (on_entries entries.new (on_edit shown.new input.new edit.new below c)) }
+    ensures answers { (c : Call) → (all : List ℕ) → I.agrees input.new all → I.has_failed input.new ≡ false →
+        (below : List EditPlace) →
+        AnswersTaking (λ c. edits.text_served c first second)
+        (on_entries entries.old (on_edit (world_of O.output shown.old) (I.input input.old all) edit.old below c))
+        result (on_entries entries.new
+        (on_edit (world_of O.output shown.new) (I.input input.new all) edit.new below c)) }
+    ensures follows { I.follows input.old input.new }
+    ensures unread { edit.old.place.direction ≡ Putting → input.new ≡ input.old }
+    ensures kept { MatchResult result (λ _. I.has_failed input.old ≡ false → I.has_failed input.new ≡ false)
+        (λ _. world_of O.output shown.new ≡ world_of O.output shown.old) }
 {
     let Ok(found) = edit.reach() else {
         return Err(Refusal::Memory);

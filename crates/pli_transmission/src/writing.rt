@@ -1,10 +1,11 @@
 // Acts that write behind the output.
 
 ghost use Rattle.std.specs.Prelude.{◌≡◌};
-ghost use Rattle.pli_edit.specs.Fields.{text_field, IsWritten};
+ghost use Rattle.pli_edit.specs.Fields.{text_field};
+ghost use Rattle.pli_edit.specs.OutputStreams.{IsWrittenOn};
 ghost use Rattle.pli_meaning.specs.Stream.{fixed_field, with_field};
 ghost use Rattle.pli_meaning.specs.Streaming.{control_written};
-ghost use Rattle.pli_meaning.specs.World.{written};
+ghost use Rattle.pli_meaning.specs.World as world;
 ghost use Rattle.pli_services.specs.Shown.{world_of, Acts};
 ghost use Rattle.pli_transmission.specs.Items.{control_shown};
 ghost use Rattle.pli_transmission.specs.Transmitting.{IsNumberWritten};
@@ -12,12 +13,13 @@ ghost use Rattle.pli_transmission.specs.Transmitting.{IsNumberWritten};
 use crate::item::Control;
 use pli_answering::reply::Refusal;
 use pli_edit::fault::EditFault;
-use pli_edit::output::Output;
-use pli_services::shown::Shown;
+use pli_edit::output_stream::OutputStream;
+use pli_services::shown::{Shown, written};
 
 /// A control item behind the output. `Memory` where there is none, and then nothing changed.
-fn put_control(output: &mut Output, control: Control) -> Result<(), EditFault>
-    ensures { IsWritten (control_written (control_shown control) output.old) output.old result output.new }
+fn put_control<O: OutputStream>(output: &mut O, control: Control) -> Result<(), EditFault>
+    ensures { IsWrittenOn (control_written (control_shown control) (O.output output.old)) (O.output output.old) result
+        (O.output output.new) }
 {
     match control {
         Control::Space(count) => output.space(count),
@@ -27,28 +29,34 @@ fn put_control(output: &mut Output, control: Control) -> Result<(), EditFault>
 }
 
 /// The act of a control item of PUT.
-pub fn write_control(shown: &mut Shown, control: Control) -> Result<(), Refusal>
-    ensures { Acts (world_of shown.old) (written (control_written (control_shown control)) (world_of shown.old)) result (world_of shown.new) }
+pub fn write_control<O: OutputStream>(shown: &mut Shown<O>, control: Control) -> Result<(), Refusal>
+    ensures { Acts (world_of O.output shown.old) (world.written (control_written (control_shown control))
+        (world_of O.output shown.old)) result (world_of O.output shown.new) }
 {
     let acts = shown.acts;
     shown.count()?;
-    match put_control(&mut shown.output, control) {
+    match written(put_control(&mut shown.output, control)) {
         Ok(()) => Ok(()),
-        Err(_) => {
+        Err(refusal) => {
             shown.acts = acts;
-            Err(Refusal::Memory)
+            Err(refusal)
         }
     }
 }
 
 /// The act of F of PUT. A number that is too wide for its field is no right call.
-pub fn write_number(shown: &mut Shown, number: i32, width: u32) -> Result<(), Refusal>
-    ensures { IsNumberWritten (fixed_field width number) (world_of shown.old) result (world_of shown.new) }
+pub fn write_number<O: OutputStream>(
+    shown: &mut Shown<O>,
+    number: i32,
+    width: u32,
+) -> Result<(), Refusal>
+    ensures { IsNumberWritten (fixed_field width number) (world_of O.output shown.old) result
+        (world_of O.output shown.new) }
 {
     let acts = shown.acts;
     shown.count()?;
     match shown.output.put_f(number, width) {
-        Ok(()) => Ok(()),
+        Ok(()) | Err(EditFault::Write) => Ok(()),
         Err(EditFault::TooWide) => {
             shown.acts = acts;
             Err(Refusal::Bad)
@@ -61,16 +69,21 @@ pub fn write_number(shown: &mut Shown, number: i32, width: u32) -> Result<(), Re
 }
 
 /// The act of A of PUT.
-pub fn write_text(shown: &mut Shown, text: &[u8], width: Option<u32>) -> Result<(), Refusal>
-    ensures { Acts (world_of shown.old) (written (with_field (text_field width text.now)) (world_of shown.old)) result (world_of shown.new) }
+pub fn write_text<O: OutputStream>(
+    shown: &mut Shown<O>,
+    text: &[u8],
+    width: Option<u32>,
+) -> Result<(), Refusal>
+    ensures { Acts (world_of O.output shown.old) (world.written (with_field (text_field width text.now))
+        (world_of O.output shown.old)) result (world_of O.output shown.new) }
 {
     let acts = shown.acts;
     shown.count()?;
-    match shown.output.put_a(text, width) {
+    match written(shown.output.put_a(text, width)) {
         Ok(()) => Ok(()),
-        Err(_) => {
+        Err(refusal) => {
             shown.acts = acts;
-            Err(Refusal::Memory)
+            Err(refusal)
         }
     }
 }

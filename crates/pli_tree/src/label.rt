@@ -61,7 +61,8 @@ fn jump<'a>(
 /// A GOTO to a name that means two things.
 #[tactic(auto, using(pli_operand::proofs::Noting::noting), unfolding(pli_typing::specs::TypedStatementView::stmt_of))]
 fn ambiguous<'a>(notes: &mut Notes, name: &Name, place: Place) -> Stmt<'a>
-    ensures noted { notes_of notes.new ≡ noted (notes_of notes.old) (broken name.now.place Ambiguous (Y.Null place.line)) }
+    ensures noted { notes_of notes.new
+        ≡ noted (notes_of notes.old) (broken name.now.place Ambiguous (Y.Null place.line)) }
     ensures value { stmt_of result ≡ Y.Null place.line }
 {
     notes.broken(name.place, SourceKind::Ambiguous);

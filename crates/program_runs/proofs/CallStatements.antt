@@ -53,7 +53,7 @@ parent_height {k} h n =
     ∙ newest_ancestor n.activation k.call.point.state.activations k.environment.level (n.level ∙ sym h.level)
     ∙ omega (arith, height, parent)
 
-newest_frame_at :
+pub newest_frame_at :
     (φ : Layer) (φs : List Layer) (n : ℕ) → n ≡ suc (length φs) → frame_at (φ ∷ φs) n ≡ φ.at
 newest_frame_at φ φs n e = ap (λ q. cond q φ.at (frame_at φs n)) (eq-eqb n (suc (length φs)) e)
 
@@ -137,6 +137,7 @@ behind_goes {k} {numbers = numbers} {p = p} h o since q =
         stands = q.stands;
         image = q.image;
         later = later_then k.first p q.point o.later q.later;
+        few = q.few;
         entries = q.entries ∙ o.entries;
         others = o.others;
         words = o.words;
@@ -191,7 +192,7 @@ call_goes k c labels acts line index left' more h p numbers wanted f o b since m
     (λ c' f' v' r s q. record { to = behind_goes h o since q })
     (λ c' f' v' height label s q. absurd q)
     (λ c' f' v' r s q. absurd q)
-    (procedure_runs w k.call.code c p numbers (0 + size_of given') wanted g (o.stands, o.image)
+    (procedure_runs w k.call.code c p numbers (0 + size_of given') wanted g (o.stands, o.image) o.few
     (h.callee, room_among h o) made' o.words each (omega (arith, enough, turns, later))
     (omega (arith, n, inside, proc))
     (λ b. subst (λ j. IsIn w p numbers j b (g b)) (omega (arith, n, size, at_call)) (at b).0)

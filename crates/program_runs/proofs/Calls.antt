@@ -22,10 +22,11 @@ use Rattle.pli_coding.specs.Assembly.{Code, Mark, ReturnPlace, size_of}
 use Rattle.pli_coding.specs.Environments.{none_taken}
 use Rattle.pli_coding.specs.Statements.{stmts_code}
 use Rattle.activation_relation.specs.Layers.{Point, services_of}
-use Rattle.activation_relation.specs.Points.{Surroundings, Stands}
+use Rattle.activation_relation.specs.Points.{AreFew, Stands, Surroundings}
 use Rattle.activation_relation.specs.Remaining.{Remains}
-use Rattle.activation_relation.proofs.Remaining.{remains_acted, remains_entered, remains_same, remains_then}
+use Rattle.activation_relation.proofs.Remaining.{remains_acted, remains_entered, remains_then}
 use Rattle.activation_relation.proofs.Returning.{later_same}
+use Rattle.activation_relation.proofs.Serials.{few_made}
 use Rattle.run_steps.specs.Engine.{Base}
 use Rattle.run_steps.proofs.Jumps.{front_of, back_of, rest_of, linked_at}
 use Rattle.run_steps.proofs.Linking.{size_append}
@@ -46,11 +47,12 @@ use Rattle.program_runs.specs.Procedures.{HasRoom, beginning_for, begin_of, bloc
 use Rattle.program_runs.specs.Statements.{IsAmong, IsBegun, EachDoes, statement_aims}
 use Rattle.program_runs.proofs.Procedures.{layer_begins}
 use Rattle.program_runs.proofs.Lists.{list_does}
-use Rattle.program_runs.proofs.Statements.{at_end, end_later}
+use Rattle.program_runs.proofs.JumpsOut.{end_later, no_jump}
+use Rattle.program_runs.proofs.Statements.{at_end}
 
 -- ---- what its block means: its variables, the act of its entry, and its statements
 
-abbrev behind_variables : Around → Y.Stmts → Meaning (Unit {0})
+abbrev pub behind_variables : Around → Y.Stmts → Meaning (Unit {0})
 behind_variables around body = act counted >> M.list around body
 
 abbrev body_of : Around → Y.BlockHead → Y.Stmts → Meaning (Unit {0})
@@ -67,7 +69,7 @@ on_same k (F.Ended s) next other h = refl
 on_same k (Paused s) next other h = refl
 on_same k Stuck next other h = refl
 
-abbrev behind_entry : Around → Y.Stmts → Meaning (Unit {0})
+abbrev pub behind_entry : Around → Y.Stmts → Meaning (Unit {0})
 behind_entry around body = M.list around body >> M.end_reached around false
 
 end_nothing :
@@ -75,7 +77,7 @@ end_nothing :
 unfolding ◌>>◌ M.end_reached give
 end_nothing around body k s = on_nothing k (M.list around body k s) (λ q. M.end_reached around false) (λ s'. refl)
 
-entry_means :
+pub entry_means :
     (around : Around) (kind : Y.BlockKind) (body : Y.Stmts) (k : ℕ) (s : State) → kind ≡ Y.ProcedureBlock →
     flow_on k (M.entry_act kind k s) (λ q. behind_entry around body) ≡ behind_variables around body k s
 unfolding ◌>>◌
@@ -155,13 +157,15 @@ first_among :
     (w : Surroundings) (code : List Instr) (c : Callee) (p : Point) (numbers : ℕ → ℕ) →
     Stands w (c.made (begun_at w c p numbers)) × IsImage w code (c.made (begun_at w c p numbers)) →
     ((n : ℕ) → numbers n < 2 ^ 32) → (c.made (begun_at w c p numbers)).state.world.acts < w.acts →
+    AreFew w (block_at w code c p numbers).first →
     IsAmong (block_at w code c p numbers) numbers (block_at w code c p numbers).first
-first_among w code c p numbers made' words less =
+first_among w code c p numbers made' words less few =
     let known = stands_acted c.procedure.head.line made'.0 made'.1 less in
     record {
       stands = known.0;
       image = known.1;
       later = later_same (block_at w code c p numbers).first;
+      few = few;
       entries = refl;
       others = λ n more. refl;
       words = words;
@@ -174,9 +178,7 @@ first_begun :
     IsBegun (block_at w code c p numbers)
 first_begun w code c p numbers made' begun' stands =
     let same = ap (λ (u : World). u.acts) made'.world in
-    let x = beginning_for w p numbers c.procedure c.calling in
-    let start = begun_at w c p numbers in
-    let then' = c.made start in
+    let then' = c.made (begun_at w c p numbers) in
     let first = acted c.procedure.head.line then' in
     record {
       activation = made'.activation;
@@ -190,8 +192,8 @@ first_begun w code c p numbers made' begun' stands =
         more = omega (arith, same);
       };
       acts = omega (arith, same);
-      remains = remains_then p start first (remains_entered p x.head x.entry x.layer x.head.line)
-          (remains_then start then' first (made'.remains begun') (remains_acted then' counted c.procedure.head.line));
+      remains = remains_then p then' first (made'.remains begun') (remains_acted then' counted c.procedure.head.line);
+      outer = tt;
     }
 
 pub body_closed : (k : B.Called) (left' : ℕ) → Closed k.code (body_aims k left')
@@ -227,9 +229,9 @@ body_goes w code c p numbers f h b o each few there =
     let flow = M.list k.around x.body w.acts k.first.state in
     let acts = k.first.state.world.acts in
     comes_map (statement_aims k [] acts c.calling.end left_over left_over) (body_aims k.call left_over) flow
-    (λ c' f' v' r s q. at_end b refl q)
-    (λ c' f' v' height label s q. absurd (cc q.carried))
-    (λ c' f' v' r s q. q)
+    (λ c' f' v' r s q. at_end b refl (omega arith) q)
+    (λ c' f' v' height label s q. no_jump refl q)
+    (λ c' f' v' r s q. q.to)
     (subst (λ j. Comes code 0 f (services_of k.first) (statement_aims k [] acts j left_over left_over) flow)
     (sym h.end)
     (list_does k [] x.body (body_index c) left_over k.first numbers 0 left_over f b few each h.labels o l2
@@ -237,8 +239,9 @@ body_goes w code c p numbers f h b o each few there =
 
 pub procedure_runs :
     (w : Surroundings) (code : List Instr) (c : Callee) (p : Point) (numbers : ℕ → ℕ) (credits wanted : ℕ)
-    (f : Family) → Stands w p × IsImage w code p → IsCallee w code c × HasRoom w p c.procedure c.calling →
-    AreMade w code c p numbers → ((n : ℕ) → numbers n < 2 ^ 32) →
+    (f : Family) → Stands w p × IsImage w code p → AreFew w p →
+    IsCallee w code c × HasRoom w p c.procedure c.calling → AreMade w code c p numbers →
+    ((n : ℕ) → numbers n < 2 ^ 32) →
     (IsBegun (block_at w code c p numbers) →
     EachDoes (block_at w code c p numbers) (labels_of c) c.procedure.body (body_index c) left_over) →
     w.acts < c.around.turns + (p.state.world.acts + 1) →
@@ -248,7 +251,7 @@ pub procedure_runs :
     Comes code credits f (services_of p) (behind_aims (called_at w code c p numbers) wanted)
     (M.block_run c.around (block_of c.procedure) (begun (block_of c.procedure) c.calling.parent) w.acts p.state)
 unfolding ◌>>◌
-procedure_runs w code c p numbers credits wanted f known h made' words each few paid there gives =
+procedure_runs w code c p numbers credits wanted f known serials h made' words each few paid there gives =
     let k = called_at w code c p numbers in
     let x = c.procedure in
     let one = act_code x.head.line in
@@ -286,9 +289,10 @@ procedure_runs w code c p numbers credits wanted f known h made' words each few 
     (act_comes (before_closed w.acts next' closed) x.head.line (c0 + size_of x.variables) 0 g' stands'
     (h.0.coded.line, h.0.acts, omega (arith, n0, n1, n2, n3, paid)) (front_of one (body ++ tail) l1) at'
     (λ g'' less at''.
-    let o = first_among w code c p numbers stands' words less in
-    let b = first_begun w code c p numbers made' new.0 o.stands in
     let same = ap (λ (u : World). u.acts) made'.world in
+    let o = first_among w code c p numbers stands' words less
+    (few_made w p (block_at w code c p numbers).first serials made'.few (omega (arith, same))) in
+    let b = first_begun w code c p numbers made' new.0 o.stands in
     body_goes w code c p numbers g'' h.0 b o (each b) (omega (arith, few, same)) at''))))) there gives)
 
 -- ---- no variables
@@ -323,5 +327,6 @@ none_made w code c p numbers kind none empty =
       activations = ap (λ (q : Point). q.state.activations) here;
       idle = ap (λ (q : Point). q.control.waiting) here;
       world = ap (λ (q : Point). q.state.world) here;
-      remains = λ begun'. subst (λ q. Remains start q) (sym here) (remains_same start);
+      remains = λ begun'. subst (λ q. Remains p q) (sym here) (remains_entered p x.head x.entry φ x.head.line);
+      few = subst (λ (q : Point). q.state.serials ≤ p.state.serials + w.serials) (sym here) (omega arith);
     }

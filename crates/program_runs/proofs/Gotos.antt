@@ -1,11 +1,12 @@
 -- GOTO to a label of a list that the block is carrying out.
-use Rattle.std.proofs.Common.{◌≡◌, ℕ, ◌+◌, [], ◌∷◌, ◌++◌, List, ap, ◌∙◌, subst, refl, arith}
+use Rattle.std.proofs.Common.{◌≡◌, ℕ, ◌+◌, [], ◌∷◌, ◌++◌, List, inl, ap, ◌∙◌, subst, refl, arith}
 use Rattle.std.proofs.lemmas.Bool.{eq-eqb}
 use Rattle.std.specs.Prelude.{cond}
 use Rattle.pli_typing.specs.TypedTree as Y
 use Rattle.pli_meaning.specs.Control.{Label, Meaning, act, jumps, looked, ◌>>=◌, ◌>>◌}
 use Rattle.pli_meaning.specs.Executing as M
-use Rattle.pli_meaning.specs.StorageState.{ancestor_at, height_of}
+use Rattle.pli_meaning.specs.StorageState.{State, ancestor_at, height_of}
+use Rattle.pli_serving.specs.ServiceState.{Services}
 use Rattle.pli_meaning.specs.World.{counted}
 use Rattle.pli_coding.specs.Allocating.{act_code}
 use Rattle.pli_coding.specs.Assembly.{JumpTo, LabelPlace, size_of}
@@ -17,12 +18,13 @@ use Rattle.run_steps.proofs.Jumps.{back_of, front_of, jump_piece}
 use Rattle.run_steps.proofs.Linking.{size_append}
 use Rattle.run_steps.specs.Owing.{owing}
 use Rattle.run_steps.proofs.Owing.{comes_owing, owing_closed, repaid}
+use Rattle.run_steps.specs.Reach.{Family}
 use Rattle.run_steps.proofs.Reach.{before_closed, comes_on, reach_map}
 use Rattle.run_steps.specs.Temporaries.{nothing}
 use Rattle.block_runs.specs.Machines.{acted}
 use Rattle.block_runs.proofs.PointActs.{act_comes}
 use Rattle.block_runs.proofs.PointGrounds.{in_known, known_in, point_frame}
-use Rattle.program_runs.specs.Statements.{Block, Does, HasAct, IsNear, size_in, statement_aims}
+use Rattle.program_runs.specs.Statements.{Block, Does, HasAct, IsNear, JumpsTo, LandsAt, size_in, statement_aims}
 use Rattle.program_runs.proofs.NewestBlocks.{newest_at, own_ancestor}
 use Rattle.program_runs.proofs.Statements.{acted_among}
 
@@ -34,6 +36,12 @@ near_code k labels label near =
     ap (λ q. cond q [] (goto_outer e e.level) ++ JumpTo (LabelPlace (block_around e e.level) label) ∷ [])
     (eq-eqb e.level e.level refl)
     ∙ ap (λ n. JumpTo (LabelPlace n label) ∷ []) near.block
+
+at_label :
+    {k : Block} {labels : List Label} {acts c : ℕ} {f : Family} {v : Services} {height : ℕ} {label : Label}
+    {s : State} →
+    LandsAt k labels acts c f v height label s → JumpsTo k labels acts c f v height label s
+at_label o = record { to = inl o }
 
 pub goto_does :
     (k : Block) (labels : List Label) (label : Label) (line index left' : ℕ) → HasAct k line →
@@ -67,7 +75,7 @@ goto_does k labels label line index left' h near l p numbers c wanted f o paid t
     (record { reserved_stay = λ y u. refl; known_stay = λ b y u q. q; set = λ y u. refl }) (back_of one jump l')
     (λ b. known_in frame (at b) tt) in
     record {
-      to = λ i0 f0 v0 from. record {
+      to = λ i0 f0 v0 from. at_label (record {
         own = own_ancestor near.level (newest_at near.begun o');
         carried = near.carried;
         point = acted line p;
@@ -78,5 +86,5 @@ goto_does k labels label line index left' h near l p numbers c wanted f o paid t
         index = near.at;
         place = near.place;
         reach = repaid 2 0 (omega arith) (reach_map _ r (λ b y q. in_known frame o'.image.parts q)) from;
-      };
+      });
     })))

@@ -1,6 +1,7 @@
 pub mod Ends
 pub mod Starts
 pub mod Procedures
+pub mod JumpsOut
 pub mod Statements
 pub mod NewestBlocks
 pub mod Gotos
@@ -11,5 +12,6 @@ pub mod Programs
 pub mod VariableMemory
 pub mod Variables
 pub mod VariableProcedures
+pub mod VariablesAmong
 pub mod Rows
 pub mod VariableRows

@@ -1,5 +1,6 @@
 -- Lists of statements: from the start or from a label, and again from a label of their own after each jump to it.
-use Rattle.std.proofs.Common.{◌≡◌, ℕ, zero, suc, ◌+◌, ◌*◌, ◌<◌, ◌≤◌, List, [], ◌∷◌, ◌++◌, Bool, true, false}
+use Rattle.std.proofs.Common.{◌≡◌, ℕ, zero, suc, ◌+◌, ◌*◌, ◌<◌, ◌≤◌, List, [], ◌∷◌, ◌++◌, Bool, ◌⊎◌, inl, inr, true}
+use Rattle.std.proofs.Common.{false}
 use Rattle.std.proofs.Common.{None, Option, Some, refl, sym, ap, ◌∙◌, subst, arith}
 use Rattle.std.proofs.lemmas.Bool.{eq-eqb}
 use Rattle.std.specs.Prelude.{cond, ◌&&◌, ◌||◌, ◌==◌}
@@ -15,6 +16,8 @@ use Rattle.pli_coding.specs.Assembly.{Code, LabelPlace, size_of}
 use Rattle.pli_coding.specs.Environments.{none_taken}
 use Rattle.pli_coding.specs.Linking.{place_of}
 use Rattle.pli_coding.specs.Statements.{marked, stmt_code, stmts_code}
+use Rattle.storage_relation.proofs.Holders.{eqb-other}
+use Rattle.activation_relation.specs.Landing.{closed}
 use Rattle.activation_relation.specs.Layers.{Point, services_of}
 use Rattle.activation_relation.specs.Points.{Surroundings}
 use Rattle.run_steps.specs.Items.{Linked}
@@ -24,8 +27,9 @@ use Rattle.run_steps.specs.Reach.{Aims, Family, Comes, before, cost}
 use Rattle.run_steps.proofs.Reach.{comes_on, onward, reach_with}
 use Rattle.block_runs.specs.Machines.{AreIn}
 use Rattle.block_runs.proofs.CallStatements.{comes_map}
-use Rattle.program_runs.specs.Statements.{AreMarked, Block, EachDoes, GoesOn, IsAmong, IsBegun, LandsAt, own_height}
-use Rattle.program_runs.specs.Statements.{statement_aims}
+use Rattle.program_runs.specs.Statements.{AreMarked, Block, EachDoes, GoesOn, IsAmong, IsBegun, JumpsOut, LandsAt}
+use Rattle.program_runs.specs.Statements.{own_height, statement_aims}
+use Rattle.program_runs.proofs.JumpsOut.{jumps_since, outs_low}
 use Rattle.program_runs.proofs.NewestBlocks.{newest_at, newest_own}
 use Rattle.program_runs.proofs.Statements.{goes_here, statement_closed}
 
@@ -69,24 +73,6 @@ goes_since few o =
       reach = o.reach;
     }
 
-pub lands_since :
-    {k : Block} {labels : List Label} {acts more c : ℕ} {f : Family} {v : Services} {height : ℕ} {label : Label}
-    {s : State} → acts ≤ more → LandsAt k labels more c f v height label s → LandsAt k labels acts c f v height label s
-lands_since few o =
-    let more = o.more in
-    record {
-      own = o.own;
-      carried = o.carried;
-      point = o.point;
-      numbers = o.numbers;
-      among = o.among;
-      more = omega (arith, few, more);
-      state = o.state;
-      index = o.index;
-      place = o.place;
-      reach = o.reach;
-    }
-
 pub comes_since :
     {k : Block} {labels : List Label} {acts more index wanted left' c : ℕ} {f : Family} {v : Services}
     {flow : Flow (Unit {0})} → acts ≤ more →
@@ -95,7 +81,7 @@ pub comes_since :
 comes_since {k} {labels} {acts} {more} {index} {wanted} {left'} {flow = flow} few o =
     comes_map (statement_aims k labels more index wanted left') (statement_aims k labels acts index wanted left') flow
     (λ c f v r s q. goes_since few q)
-    (λ c f v height label s q. lands_since few q)
+    (λ c f v height label s q. jumps_since few q)
     (λ c f v r s q. q)
     o
 
@@ -142,7 +128,7 @@ statements_do k labels (Y.StmtThen own first rest) acts index left' c wanted p n
     (λ g at.
     statements_do k labels rest acts (i + size_of one) left' 0 wanted q.point q.numbers g (omega (arith, since, later))
     each.1 q.among l2 (omega arith, omega (arith, n0, n1, inside)) at)))
-    (λ c' f' v' height label s q. lands_since since q)
+    (λ c' f' v' height label s q. jumps_since since q)
     (λ c' f' v' r s q. q)
     (each.0 p numbers c 0 f o (omega (arith, n0, n1, paid)) (moved_in k f (omega (arith, n)) there))))
 
@@ -239,28 +225,27 @@ sought_do k labels label (Y.StmtThen own first rest) index left' wanted at p num
 
 -- ---- jumps that a list catches
 
-comes_caught :
+abbrev caught_by :
+    Block → (height : ℕ) → List Label → (h : ℕ) → Label → State → (Label → Meaning (Unit {0})) → Flow (Unit {0})
+caught_by k height own h label s next' =
+    cond ((h == height) && is_among label own) (next' label k.call.surroundings.acts s) (Jump h label s)
+
+-- a label of the list, or of another that the block is carrying out
+lands_caught :
     {k : Block} {labels : List Label} {acts index wanted left' c : ℕ} {f : Family} {v : Services} (own : List Label)
-    (height : ℕ) (flow : Flow (Unit {0})) (next' : Label → Meaning (Unit {0})) → height ≡ own_height k →
-    ((label : Label) (c' : ℕ) (f' : Family) (v' : Services) (s : State) →
-    LandsAt k own acts c' f' v' height label s →
-    Comes k.call.code c' f' v' (statement_aims k labels acts index wanted left')
-    (next' label k.call.surroundings.acts s)) →
-    Comes k.call.code c f v (statement_aims k (own ++ labels) acts index wanted left') flow →
+    (height h : ℕ) (label : Label) (s : State) (next' : Label → Meaning (Unit {0})) → height ≡ own_height k →
+    (LandsAt k own acts c f v height label s →
     Comes k.call.code c f v (statement_aims k labels acts index wanted left')
-    (caught k.call.surroundings.acts height own flow next')
-comes_caught own height (Normal r s) next' same goes o = record { to = o.to }
-comes_caught {k} {labels} {acts} {index} {wanted} {left'} {c} {f} {v} own height (Jump h label s) next' same goes o =
-    ap-test (h == height) refl (is_among label own) refl
+    (next' label k.call.surroundings.acts s)) → LandsAt k (own ++ labels) acts c f v h label s →
+    Comes k.call.code c f v (statement_aims k labels acts index wanted left') (caught_by k height own h label s next')
+lands_caught {k} {labels} {acts} {index} {wanted} {left'} {c} {f} {v} own height h label s next' same goes lands =
+    by (is_among label own) refl
   where
     goal : Aims (Unit {0})
     goal = statement_aims k labels acts index wanted left'
 
     on : Flow (Unit {0})
     on = next' label k.call.surroundings.acts s
-
-    lands : LandsAt k (own ++ labels) acts c f v h label s
-    lands = o.to
 
     lands_on : (xs : List Label) → is_among label xs ≡ true → LandsAt k xs acts c f v h label s
     lands_on xs among =
@@ -280,23 +265,59 @@ comes_caught {k} {labels} {acts} {index} {wanted} {left'} {c} {f} {v} own height
     same_height : h ≡ height
     same_height = lands.own ∙ sym same
 
-    ap-test :
-        (q : Bool) → (h == height) ≡ q → (r : Bool) → is_among label own ≡ r →
-        Comes k.call.code c f v goal (cond ((h == height) && is_among label own) on (Jump h label s))
-    ap-test true e true g =
-        subst (λ t. Comes k.call.code c f v goal (cond (t && is_among label own) on (Jump h label s))) (sym e)
+    by :
+        (r : Bool) → is_among label own ≡ r → Comes k.call.code c f v goal (caught_by k height own h label s next')
+    by true g =
+        subst (λ t. Comes k.call.code c f v goal (cond (t && is_among label own) on (Jump h label s)))
+        (sym (eq-eqb h height same_height))
         (subst (λ t. Comes k.call.code c f v goal (cond t on (Jump h label s))) (sym g)
-        (goes label c f v s
-        (subst (λ n. LandsAt k own acts c f v n label s) same_height (lands_on own g))))
-    ap-test true e false g =
-        subst (λ t. Comes k.call.code c f v goal (cond (t && is_among label own) on (Jump h label s))) (sym e)
+        (goes (subst (λ n. LandsAt k own acts c f v n label s) same_height (lands_on own g))))
+    by false g =
+        subst (λ t. Comes k.call.code c f v goal (cond (t && is_among label own) on (Jump h label s)))
+        (sym (eq-eqb h height same_height))
         (subst (λ t. Comes k.call.code c f v goal (cond t on (Jump h label s))) (sym g)
-        (record { to = lands_on labels (or_else label own labels lands.carried g) }))
-    ap-test false e r g = absurd (cc (sym e ∙ eq-eqb h height same_height))
-comes_caught own height (Return r s) next' same goes o = record { to = o.to }
-comes_caught own height (F.Ended s) next' same goes o = record { to = o.to }
-comes_caught own height (Paused s) next' same goes o = record { to = o.to }
-comes_caught own height Stuck next' same goes o = absurd o.to
+        (record { to = record { to = inl (lands_on labels (or_else label own labels lands.carried g)) } }))
+
+-- a label of a block further out is not the list's
+outs_caught :
+    {k : Block} {labels : List Label} {acts index wanted left' c : ℕ} {f : Family} {v : Services} (own : List Label)
+    (height h : ℕ) (label : Label) (s : State) (next' : Label → Meaning (Unit {0})) → IsBegun k →
+    height ≡ own_height k →
+    JumpsOut k.call.surroundings k.call.code k.outers acts c f v h label (closed s) →
+    Comes k.call.code c f v (statement_aims k labels acts index wanted left') (caught_by k height own h label s next')
+outs_caught {k} {labels} {acts} {index} {wanted} {left'} {c} {f} {v} own height h label s next' b same out =
+    let w = k.call.surroundings in
+    let low = outs_low w k.call.code k.outers k.call.point acts c f v h label (closed s) b.outer out in
+    subst (λ t. Comes k.call.code c f v (statement_aims k labels acts index wanted left')
+    (cond (t && is_among label own) (next' label w.acts s) (Jump h label s)))
+    (sym (eqb-other h height (omega (arith, low, same))))
+    (record { to = record { to = inr out } })
+
+comes_caught :
+    {k : Block} {labels : List Label} {acts index wanted left' c : ℕ} {f : Family} {v : Services} (own : List Label)
+    (height : ℕ) (flow : Flow (Unit {0})) (next' : Label → Meaning (Unit {0})) → IsBegun k → height ≡ own_height k →
+    ((label : Label) (c' : ℕ) (f' : Family) (v' : Services) (s : State) →
+    LandsAt k own acts c' f' v' height label s →
+    Comes k.call.code c' f' v' (statement_aims k labels acts index wanted left')
+    (next' label k.call.surroundings.acts s)) →
+    Comes k.call.code c f v (statement_aims k (own ++ labels) acts index wanted left') flow →
+    Comes k.call.code c f v (statement_aims k labels acts index wanted left')
+    (caught k.call.surroundings.acts height own flow next')
+comes_caught own height (Normal r s) next' b same goes o = record { to = o.to }
+comes_caught {k} {labels} {acts} {index} {wanted} {left'} {c} {f} {v} own height (Jump h label s) next' b same goes o =
+    by o.to.to
+  where
+    by :
+        LandsAt k (own ++ labels) acts c f v h label s
+        ⊎ JumpsOut k.call.surroundings k.call.code k.outers acts c f v h label (closed s) →
+        Comes k.call.code c f v (statement_aims k labels acts index wanted left')
+        (caught_by k height own h label s next')
+    by (inl here) = lands_caught own height h label s next' same (goes label c f v s) here
+    by (inr out) = outs_caught own height h label s next' b same out
+comes_caught own height (Return r s) next' b same goes o = record { to = record { to = o.to.to } }
+comes_caught own height (F.Ended s) next' b same goes o = record { to = o.to }
+comes_caught own height (Paused s) next' b same goes o = record { to = o.to }
+comes_caught own height Stuck next' b same goes o = absurd o.to
 
 -- ---- turns of a list
 
@@ -350,7 +371,7 @@ turns_do zero k labels body index left' wanted height label at p numbers f x sam
 turns_do (suc n) k labels body index left' wanted height label at p numbers f x same few o among place there =
     comes_caught (M.labels_in body) height
     (M.statements k.around body (Some label) k.call.surroundings.acts p.state)
-    (λ l. list_from n height (M.labels_in body) (M.statements k.around body) (Some l)) same
+    (λ l. list_from n height (M.labels_in body) (M.statements k.around body) (Some l)) x.begun same
     (λ l c' f' v' s q. jumped_on n k labels body index left' wanted height l p.state.world.acts few c' f' v' s q
     (λ m g at'. turns_do n k labels body index left' wanted height l q.index q.point q.numbers g x same m q.among
     q.carried q.place at'))
@@ -373,7 +394,7 @@ starts_do zero k labels body index left' wanted c height p numbers f x same few 
 starts_do (suc n) k labels body index left' wanted c height p numbers f x same few o fits there =
     comes_caught (M.labels_in body) height
     (M.statements k.around body None k.call.surroundings.acts p.state)
-    (λ l. list_from n height (M.labels_in body) (M.statements k.around body) (Some l)) same
+    (λ l. list_from n height (M.labels_in body) (M.statements k.around body) (Some l)) x.begun same
     (λ l c' f' v' s q. jumped_on n k labels body index left' wanted height l p.state.world.acts few c' f' v' s q
     (λ m g at'. turns_do n k labels body index left' wanted height l q.index q.point q.numbers g x same m q.among
     q.carried q.place at'))

@@ -56,6 +56,7 @@ layer_begins w code p numbers x y known fits words =
       held = refl;
       words = λ n less. words n;
       waits = λ n. refl;
+      list = refl;
       top = refl;
       lower = refl;
     }

@@ -97,6 +97,6 @@ program_runs keeps k first h each =
     (λ c' f' v' height label s q. absurd q)
     (λ c' f' v' r s q. absurd q)
     (procedure_runs w i.code c p no_numbers (0 + call_index) 0 g (start_stands i k.main.head.number first h.start)
-    (h.callee, h.room) h.made (λ n. omega arith) each (omega arith) (omega (arith, inside, proc))
+    (omega arith) (h.callee, h.room) h.made (λ n. omega arith) each (omega arith) (omega (arith, inside, proc))
     (λ b. (at b).0)
     (λ b. record { parent = λ more. absurd (omega (arith, more, level)); texts = (at b).1 })))))

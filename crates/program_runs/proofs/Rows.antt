@@ -183,7 +183,16 @@ inner_own :
     IsOwn (block_at (surroundings_of (row_image input acts)) (linked_code row_code) (row_callee more) p numbers)
     left_over
 inner_own input acts more p numbers b =
-    record { owner = refl; end = refl; near = omega arith; enough = omega arith; function = refl; begun = b }
+    record {
+      owner = refl;
+      end = refl;
+      near = omega arith;
+      enough = omega arith;
+      function = refl;
+      begun = b;
+      kind = refl;
+      registers = omega arith;
+    }
 
 inner_each :
     (input : List ℕ) (acts more : ℕ) (p : Point) (numbers : ℕ → ℕ) → acts + 1 < 2 ^ 64 →

@@ -23,6 +23,7 @@ use Rattle.activation_relation.specs.Landing.{Resumes}
 use Rattle.activation_relation.specs.Layers.{Point, services_of}
 use Rattle.activation_relation.proofs.Remaining.{remains_acted, remains_then}
 use Rattle.activation_relation.proofs.Returning.{later_then}
+use Rattle.activation_relation.proofs.Serials.{few_acted}
 use Rattle.run_steps.specs.Engine.{Base}
 use Rattle.run_steps.specs.Items.{Linked}
 use Rattle.run_steps.proofs.Jumps.{front_of, back_of, jump_piece}
@@ -38,6 +39,7 @@ use Rattle.block_runs.proofs.PointActs.{act_comes, stands_acted}
 use Rattle.block_runs.proofs.PointGrounds.{known_in, in_known, point_frame}
 use Rattle.program_runs.specs.Statements.{Block, IsAmong, IsBegun, GoesOn, Does, EachDoes, HasAct, IsOwn, LandsAt}
 use Rattle.program_runs.specs.Statements.{size_in, statement_aims}
+use Rattle.program_runs.proofs.JumpsOut.{end_later, jumps_later, own_end, returns_later}
 use Rattle.program_runs.proofs.Ends.{end_comes, ended_code, stopped_kind}
 
 -- ---- what is aimed at may be reached later
@@ -56,51 +58,14 @@ goes_later r o =
       reach = reach_then r o.reach;
     }
 
-pub lands_later :
-    {k : Block} {labels : List Label} {acts : ℕ} {i i' : ℕ} {f : Family} {v v' : Services}
-    {Q : Base → Whole → Type 0} {height : ℕ} {label : Label} {s : State} (r : Reach k.call.code i f v i' v' Q) →
-    LandsAt k labels acts i' (reached r) v' height label s → LandsAt k labels acts i f v height label s
-lands_later r o =
-    record {
-      own = o.own;
-      carried = o.carried;
-      point = o.point;
-      numbers = o.numbers;
-      among = o.among;
-      more = o.more;
-      state = o.state;
-      index = o.index;
-      place = o.place;
-      reach = reach_then r o.reach;
-    }
-
-pub end_later :
-    {k : Called} {left' : ℕ} {i i' : ℕ} {f : Family} {v v' : Services} {Q : Base → Whole → Type 0}
-    {x : Option BasicValue} {s : State} (r : Reach k.code i f v i' v' Q) → AtEnd k left' i' (reached r) v' x s →
-    AtEnd k left' i f v x s
-end_later r o =
-    record {
-      point = o.point;
-      after = o.after;
-      activation = o.activation;
-      resumes = o.resumes;
-      image = o.image;
-      remains = o.remains;
-      others = o.others;
-      state = o.state;
-      given = o.given;
-      result = o.result;
-      reach = reach_then r o.reach;
-    }
-
 pub statement_closed :
     (k : Block) (labels : List Label) (acts index wanted left' : ℕ) →
     Closed k.call.code (statement_aims k labels acts index wanted left')
 statement_closed k labels acts index wanted left' =
     record {
       done = λ r x s o. goes_later r o;
-      jumped = λ r height label s o. lands_later r o;
-      returned = λ r x s o. end_later r o;
+      jumped = λ r height label s o. jumps_later r o;
+      returned = λ r x s o. returns_later r o;
     }
 
 -- ---- points
@@ -125,6 +90,7 @@ acted_among {k} {numbers} {p} line o less =
       stands = known.0;
       image = known.1;
       later = later_then k.first p (acted line p) o.later (acted_later line p);
+      few = few_acted k.call.surroundings p line o.few;
       entries = o.entries;
       others = o.others;
       words = o.words;
@@ -171,8 +137,9 @@ nothing_left k e y = subst (λ o. HasGiven k.beginning.layer (place_in o) 0 y) (
 
 pub at_end :
     {k : Block} {acts left' c : ℕ} {f : Family} {v : Services} {s : State} → IsBegun k → k.call.function ≡ None →
-    GoesOn k acts k.call.end left' c f v s → AtEnd k.call left' c f v None s
-at_end {k} b none o =
+    k.registers ≤ k.call.beginning.layer.saved → GoesOn k acts k.call.end left' c f v s →
+    AtEnd k.call left' c f v None s
+at_end {k} b none few o =
     record {
       point = o.point;
       after = o.numbers;
@@ -180,7 +147,8 @@ at_end {k} b none o =
       resumes = resumes_among b o.among;
       image = o.among.image;
       remains = remains_then k.call.point k.first o.point b.remains o.among.later.remains;
-      others = o.among.others;
+      few = o.among.few;
+      others = λ n more. o.among.others n (omega (arith, few, more));
       state = o.state;
       given = 0;
       result = none_given k.call none;
@@ -230,7 +198,7 @@ jump_ends k left' index p numbers f own o l there =
     (omega (arith, enough)) own.end own.near
     (record { reserved_stay = λ y u. refl; known_stay = λ b y u q. q; set = λ y u. refl }) l
     (λ b. known_in h (there b) tt) in
-    at_end {acts = 0} own.begun own.function
+    at_end {acts = 0} own.begun own.function own.registers
     (record {
       point = p;
       numbers = numbers;
@@ -259,8 +227,8 @@ return_does k line index left' h own l labels p numbers c wanted f o paid there 
     (act_comes (before_closed w.acts next' closed) line c 0 f (o.stands, o.image)
     (h.line_fits, h.acts, omega (arith, paid, n0, n1)) (front_of one jump l') there
     (λ g less at. record {
-      to = jump_ends k left' (index + size_of one) (acted line p) numbers g own (acted_among line o less)
-          (back_of one jump l') at;
+      to = own_end own.kind (jump_ends k left' (index + size_of one) (acted line p) numbers g own
+          (acted_among line o less) (back_of one jump l') at);
     }))
 
 pub stop_does :

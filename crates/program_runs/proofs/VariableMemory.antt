@@ -218,6 +218,7 @@ frames_grown parts base m b y (a ∷ as') φ φs same h = (
     lower = h.0.lower ∙ sym same;
     display_words = h.0.display_words;
     waits = h.0.waits;
+    list = h.0.list;
   },
   h.1,
 )

@@ -1,5 +1,5 @@
 -- A procedure with one variable makes it where its block begins.
-use Rattle.std.proofs.Common.{◌≡◌, ℕ, ◌+◌, List, [], ◌∷◌, length, refl, sym, ap, ◌∙◌, subst}
+use Rattle.std.proofs.Common.{◌≡◌, ℕ, ◌+◌, ◌≤◌, List, [], ◌∷◌, length, refl, sym, ap, ◌∙◌, subst, arith}
 use Rattle.std.specs.Prelude.{pos}
 use Rattle.rv_meaning.specs.declared.instr.Instr.{Instr}
 use Rattle.pli_typing.specs.TypedTree as Y
@@ -16,7 +16,7 @@ use Rattle.activation_relation.specs.Layers.{Point, services_of}
 use Rattle.activation_relation.specs.Points.{Surroundings, Stands}
 use Rattle.activation_relation.specs.Remaining.{Remains}
 use Rattle.activation_relation.specs.Variables.{with_made}
-use Rattle.activation_relation.proofs.Remaining.{remains_made}
+use Rattle.activation_relation.proofs.Remaining.{remains_entered, remains_made}
 use Rattle.run_steps.specs.Items.{Linked}
 use Rattle.run_steps.specs.Reach.{Reach}
 use Rattle.block_runs.specs.Machines.{IsImage, IsIn}
@@ -27,7 +27,7 @@ use Rattle.program_runs.proofs.VariableMemory.{made_stands}
 use Rattle.program_runs.proofs.Variables.{variable_comes, variable_means}
 
 -- what is meant by a block's variables, where it has this one
-variables_mean :
+pub variables_mean :
     (around : Around) (d : Y.DeclaredVariable) (k : ℕ) (s s' : State) → d.class ≡ Y.AutomaticClass →
     d.evaluations ≡ [] → K.variable_made 0 (fresh (shape_of [] d) (pos 0) (initial_of d)) k s ≡ Normal tt s' →
     K.variables_made around 0 (d ∷ []) k s ≡ Normal tt s'
@@ -57,6 +57,7 @@ one_made w code c p numbers x h =
     let made' = made_of w.parts φ x in
     let q = with_made made' start in
     let here : c.made start ≡ q = ap (λ (made : Point → Point). made start) h.made in
+    let each = h.few in
     let size = ap (λ u. size_of u) h.code in
     let around' = at_line c.around c.procedure.head.line in
     let made : K.variable_made 0 (generation_for x) w.acts start.state ≡ Normal tt q.state =
@@ -90,5 +91,7 @@ one_made w code c p numbers x h =
       activations = ap (λ (u : Point). u.state.activations) here;
       idle = ap (λ (u : Point). u.control.waiting) here;
       world = ap (λ (u : Point). u.state.world) here;
-      remains = λ begun'. subst (λ u. Remains start u) (sym here) (remains_made start made' begun'.lives);
+      remains = λ begun'. subst (λ u. Remains p u) (sym here)
+          (remains_made p start made' (remains_entered p y.head y.entry φ y.head.line) begun'.lives (omega arith));
+      few = subst (λ (u : Point). u.state.serials ≤ p.state.serials + w.serials) (sym here) (omega (arith, each));
     }

@@ -139,6 +139,7 @@ number_only input acts =
       made = refl;
       table = refl;
       parts = refl;
+      few = omega arith;
       declared = record {
         newest = refl;
         here = refl;

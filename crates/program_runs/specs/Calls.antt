@@ -15,7 +15,7 @@ use Rattle.pli_coding.specs.Linking.{place_of}
 use Rattle.pli_coding.specs.Statements.{stmt_code, stmts_code}
 use Rattle.activation_relation.specs.Landing.{Changed, resumed, with_units}
 use Rattle.activation_relation.specs.Layers.{Point, services_of}
-use Rattle.activation_relation.specs.Points.{Surroundings, Stands}
+use Rattle.activation_relation.specs.Points.{AreFew, Stands, Surroundings}
 use Rattle.activation_relation.specs.Remaining.{Remains}
 use Rattle.run_steps.specs.Engine.{Base}
 use Rattle.run_steps.specs.Items.{Linked}
@@ -64,6 +64,8 @@ block_at w code c p numbers =
       first = acted c.procedure.head.line (c.made (begun_at w c p numbers));
       environment = c.environment;
       around = at_line c.around c.procedure.head.line;
+      registers = c.procedure.saved;
+      outers = [];
     }
 
 -- the indices of its variables, of the act of its entry, and of its first statement
@@ -113,8 +115,9 @@ pub record AreMade (w : Surroundings) (code : List Instr) (c : Callee) (p : Poin
       (c.made (begun_at w c p numbers)).state.activations ≡ with_units own activation ∷ p.state.activations
   pub idle : (c.made (begun_at w c p numbers)).control.waiting ≡ None
   pub world : (c.made (begun_at w c p numbers)).state.world ≡ p.state.world
-  pub remains :
-      Stands w (begun_at w c p numbers) → Remains (begun_at w c p numbers) (c.made (begun_at w c p numbers))
+  -- what lived where it was called lives on, and an act pays for the serials
+  pub remains : Stands w (begun_at w c p numbers) → Remains p (c.made (begun_at w c p numbers))
+  pub few : (c.made (begun_at w c p numbers)).state.serials ≤ p.state.serials + w.serials
 
 -- the labels that its statements may name
 abbrev pub labels_of : Callee → List Label
@@ -128,8 +131,9 @@ left_over = 2
 abbrev pub ProceduresRun : Type 0
 ProceduresRun =
     (w : Surroundings) (code : List Instr) (c : Callee) (p : Point) (numbers : ℕ → ℕ) (credits wanted : ℕ)
-    (f : Family) → Stands w p × IsImage w code p → IsCallee w code c × HasRoom w p c.procedure c.calling →
-    AreMade w code c p numbers → ((n : ℕ) → numbers n < 2 ^ 32) →
+    (f : Family) → Stands w p × IsImage w code p → AreFew w p →
+    IsCallee w code c × HasRoom w p c.procedure c.calling → AreMade w code c p numbers →
+    ((n : ℕ) → numbers n < 2 ^ 32) →
     (IsBegun (block_at w code c p numbers) →
     EachDoes (block_at w code c p numbers) (labels_of c) c.procedure.body (body_index c) left_over) →
     w.acts < c.around.turns + (p.state.world.acts + 1) →

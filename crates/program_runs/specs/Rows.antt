@@ -82,6 +82,7 @@ row_image input acts =
       signatures = [];
       input = input;
       acts = acts;
+      serials = 1;
     }
 
 abbrev pub row_whole : (input : List ℕ) → (acts : ℕ) → Whole

@@ -46,7 +46,8 @@ finish_index = 15
 
 -- ---- its first moment
 
--- a program's image in a run: its code, its signatures, the input, and how many acts are allowed
+-- a program's image in a run: its code, its signatures, the input, how many acts are allowed, and how many serials may
+-- come for each
 pub record Image : Type 0 where
   pub code : List Instr
   pub links : Links
@@ -54,9 +55,17 @@ pub record Image : Type 0 where
   pub signatures : List Template
   pub input : List ℕ
   pub acts : ℕ
+  pub serials : ℕ
 
 abbrev pub surroundings_of : Image → Surroundings
-surroundings_of i = record { parts = image_parts; links = i.links; units = i.units; acts = i.acts }
+surroundings_of i =
+    record {
+      parts = image_parts;
+      links = i.links;
+      units = i.units;
+      acts = i.acts;
+      serials = i.serials;
+    }
 
 abbrev pub start_point : Image → Point
 start_point i =

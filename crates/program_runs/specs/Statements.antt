@@ -1,6 +1,9 @@
 -- Statements of a procedure's body: where they run, what each of them comes to, and lists of them.
-use Rattle.std.specs.Prelude.{ℕ, ◌+◌, ◌*◌, ◌^◌, ◌<◌, ◌≤◌, ◌≡◌, ⊤, None, List, ◌++◌, true, length}
+use Rattle.std.specs.Prelude.{ℕ, ◌+◌, ◌*◌, ◌^◌, ◌<◌, ◌≤◌, ◌≡◌, ◌⊎◌, ⊤, None, Option, List, [], ◌∷◌, ◌++◌, true, false}
+use Rattle.std.specs.Prelude.{length}
+use Rattle.rv_meaning.specs.declared.instr.Instr.{Instr}
 use Rattle.pli_typing.specs.TypedTree as Y
+use Rattle.pli_meaning.specs.BasicValues.{BasicValue}
 use Rattle.pli_meaning.specs.Control.{Label, is_among}
 use Rattle.pli_meaning.specs.Executing.{labels_in, list, statement}
 use Rattle.pli_meaning.specs.Raising.{Around}
@@ -11,25 +14,112 @@ use Rattle.pli_coding.specs.Environments.{BlockOwner, Environment, block_around,
 use Rattle.pli_coding.specs.Linking.{Links, place_of}
 use Rattle.pli_coding.specs.Statements.{stmt_code, stmts_code, marked}
 use Rattle.activation_relation.specs.Entering.{Later}
-use Rattle.activation_relation.specs.Landing.{Resumes}
+use Rattle.activation_relation.specs.Landing.{Resumes, closed, either, is_begin}
 use Rattle.activation_relation.specs.Layers.{Point, services_of}
-use Rattle.activation_relation.specs.Points.{Stands}
+use Rattle.activation_relation.specs.Points.{AreFew, Stands, Surroundings}
 use Rattle.activation_relation.specs.Remaining.{Remains}
 use Rattle.run_steps.specs.Engine.{most_code}
 use Rattle.run_steps.specs.Items.{Linked}
 use Rattle.run_steps.specs.Reach.{Family, Reach, Aims, Comes, cost}
-use Rattle.block_runs.specs.Bodies.{Called, AtEnd}
+use Rattle.block_runs.specs.Beginnings.{Beginning}
+use Rattle.block_runs.specs.Bodies.{Called, AtEnd, Function}
 use Rattle.block_runs.specs.Machines.{IsImage, IsIn, AreIn}
 
 -- ---- where they run
 
--- a block whose statements run: how it was called, the point of its first statement, behind the act of its entry, and
--- what is known around its code and its meaning
+-- a block further out in the same run: where and how it was entered, its end, the point of its first statement, what
+-- is known around its code, how many registers that may write, and the labels of the lists that it is carrying out
+pub record Outer : Type 0 where
+  pub point : Point
+  pub numbers : ℕ → ℕ
+  pub beginning : Beginning
+  pub call : ℕ
+  pub entry : ℕ
+  pub end : ℕ
+  pub function : Option Function
+  pub first : Point
+  pub environment : Environment
+  pub around : Around
+  pub registers : ℕ
+  pub labels : List Label
+
+-- a block whose statements run: the same of it, its first statement being behind the act of its entry; and the blocks
+-- further out to which control may leave it, the nearest first
 pub record Block : Type 0 where
   pub call : Called
   pub first : Point
   pub environment : Environment
   pub around : Around
+  pub registers : ℕ
+  pub outers : List Outer
+
+abbrev pub outer_call : Surroundings → List Instr → Outer → Called
+outer_call w code o =
+    record {
+      surroundings = w;
+      code = code;
+      point = o.point;
+      numbers = o.numbers;
+      beginning = o.beginning;
+      call = o.call;
+      entry = o.entry;
+      end = o.end;
+      function = o.function;
+    }
+
+abbrev pub outer_block : Surroundings → List Instr → Outer → List Outer → Block
+outer_block w code o os =
+    record {
+      call = outer_call w code o;
+      first = o.first;
+      environment = o.environment;
+      around = o.around;
+      registers = o.registers;
+      outers = os;
+    }
+
+-- a block in which statements run, with labels that a jump may name
+abbrev pub as_outer : Block → List Label → Outer
+as_outer k labels =
+    record {
+      point = k.call.point;
+      numbers = k.call.numbers;
+      beginning = k.call.beginning;
+      call = k.call.call;
+      entry = k.call.entry;
+      end = k.call.end;
+      function = k.call.function;
+      first = k.first;
+      environment = k.environment;
+      around = k.around;
+      registers = k.registers;
+      labels = labels;
+    }
+
+-- a point at which a statement of it begins: the blocks that it entered have been left, and registers that it doesn't
+-- write are as they were
+pub record IsAmong (k : Block) (numbers : ℕ → ℕ) (p : Point) : Type 0 where
+  pub stands : Stands k.call.surroundings p
+  pub image : IsImage k.call.surroundings k.call.code p
+  pub later : Later k.first p
+  pub few : AreFew k.call.surroundings p
+  pub entries : p.control.entries ≡ k.first.control.entries
+  pub others : (n : ℕ) → k.registers ≤ n → numbers n ≡ k.call.numbers n
+  pub words : (n : ℕ) → numbers n < 2 ^ 32
+
+-- a block further out was the newest where the next one was entered, among its own points
+pub record IsOuter (w : Surroundings) (code : List Instr) (o : Outer) (p : Point) : Type 0 where
+  pub activation : Activation
+  pub resumes :
+      Resumes w o.point.state.world.acts activation o.point.state.activations o.beginning.layer o.point.control.layers
+      o.first
+  pub remains : Remains o.point o.first
+  pub numbers : ℕ → ℕ
+  pub among : IsAmong (outer_block w code o []) numbers p
+
+abbrev pub AreOuter : Surroundings → List Instr → Point → List Outer → Type 0
+AreOuter w code p [] = ⊤
+AreOuter w code p (o ∷ os) = IsOuter w code o p × AreOuter w code o.point os
 
 -- there it is the newest, over those that were active where it was called
 pub record IsBegun (k : Block) : Type 0 where
@@ -37,19 +127,10 @@ pub record IsBegun (k : Block) : Type 0 where
   pub resumes :
       Resumes k.call.surroundings k.call.point.state.world.acts activation k.call.point.state.activations
       k.call.beginning.layer k.call.point.control.layers k.first
-  pub acts : k.call.point.state.world.acts < k.first.state.world.acts
+  pub acts : 0 < k.first.state.world.acts
   -- and what lived there lives on
   pub remains : Remains k.call.point k.first
-
--- a point at which a statement of it begins: the blocks that it entered have been left, and registers that it doesn't
--- save are as they were
-pub record IsAmong (k : Block) (numbers : ℕ → ℕ) (p : Point) : Type 0 where
-  pub stands : Stands k.call.surroundings p
-  pub image : IsImage k.call.surroundings k.call.code p
-  pub later : Later k.first p
-  pub entries : p.control.entries ≡ k.first.control.entries
-  pub others : (n : ℕ) → k.call.beginning.layer.saved ≤ n → numbers n ≡ k.call.numbers n
-  pub words : (n : ℕ) → numbers n < 2 ^ 32
+  pub outer : AreOuter k.call.surroundings k.call.code k.call.point k.outers
 
 -- ---- what is aimed at
 
@@ -85,13 +166,47 @@ pub record LandsAt (k : Block) (labels : List Label) (acts credits : ℕ) (f : F
         Reach k.call.code credits f v 0 (services_of point)
         (λ b y. IsIn k.call.surroundings point numbers index b y)
 
+-- at a label of a block further out, once the blocks inside it have ended
+abbrev pub JumpsOut :
+    Surroundings → List Instr → List Outer → (acts credits : ℕ) → Family → Services → (height : ℕ) → Label → State →
+    Type 0
+JumpsOut w code [] acts credits f v height label s = ⊥
+JumpsOut w code (o ∷ os) acts credits f v height label s =
+    LandsAt (outer_block w code o os) o.labels acts credits f v height label s
+    ⊎ JumpsOut w code os acts credits f v height label (closed s)
+
+-- at a label by GOTO
+pub record JumpsTo (k : Block) (labels : List Label) (acts credits : ℕ) (f : Family) (v : Services) (height : ℕ)
+    (label : Label) (s : State) : Type 0
+  where
+    pub to :
+        LandsAt k labels acts credits f v height label s
+        ⊎ JumpsOut k.call.surroundings k.call.code k.outers acts credits f v height label (closed s)
+
+-- RETURN goes on at the end of the nearest block that is no begin block
+abbrev pub ReturnsOut :
+    Surroundings → List Instr → List Outer → (left' credits : ℕ) → Family → Services → Option BasicValue → State →
+    Type 0
+ReturnsOut w code [] left' credits f v r s = ⊥
+ReturnsOut w code (o ∷ os) left' credits f v r s =
+    either (is_begin o.beginning.layer.kind) (ReturnsOut w code os left' credits f v r (closed s))
+    (AtEnd (outer_call w code o) left' credits f v r s)
+
+pub record ReturnsTo (k : Block) (left' credits : ℕ) (f : Family) (v : Services) (r : Option BasicValue)
+    (s : State) : Type 0
+  where
+    pub to :
+        either (is_begin k.call.beginning.layer.kind)
+        (ReturnsOut k.call.surroundings k.call.code k.outers left' credits f v r (closed s))
+        (AtEnd k.call left' credits f v r s)
+
 -- behind a statement, at a label by GOTO, or at the end of the block by RETURN
 abbrev pub statement_aims : Block → List Label → (acts index wanted left' : ℕ) → Aims (Unit {0})
 statement_aims k labels acts index wanted left' =
     record {
       done = λ c f v r s. GoesOn k acts index wanted c f v s;
-      jumped = λ c f v height label s. LandsAt k labels acts c f v height label s;
-      returned = λ c f v r s. AtEnd k.call left' c f v r s;
+      jumped = λ c f v height label s. JumpsTo k labels acts c f v height label s;
+      returned = λ c f v r s. ReturnsTo k left' c f v r s;
     }
 
 abbrev pub size_in : Block → Y.Stmt → ℕ
@@ -141,6 +256,8 @@ pub record IsOwn (k : Block) (left' : ℕ) : Type 0 where
   pub enough : 2 ≤ left'
   pub function : k.call.function ≡ None
   pub begun : IsBegun k
+  pub kind : is_begin k.call.beginning.layer.kind ≡ false
+  pub registers : k.registers ≤ k.call.beginning.layer.saved
 
 -- a label of a list that it is carrying out stands at an index of the code
 pub record IsNear (k : Block) (labels : List Label) (label : Label) : Type 0 where

@@ -79,6 +79,7 @@ number_image input acts =
       signatures = map template_of (table_of number_program);
       input = input;
       acts = acts;
+      serials = 1;
     }
 
 pub record NumberRan : Type 0 where

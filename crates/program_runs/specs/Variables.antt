@@ -29,6 +29,7 @@ use Rattle.run_steps.specs.Reach.{Family, Reach}
 use Rattle.block_runs.specs.Machines.{AreIn, IsImage, IsIn}
 use Rattle.program_runs.specs.Calls.{AreMade, Callee, begun_at}
 use Rattle.program_runs.specs.Procedures.{layer_for}
+use Rattle.program_runs.specs.Statements.{Block, IsAmong, IsBegun}
 
 -- its index among the variables of its block, its declaration, the number of its signature, and where its name stands
 -- in the frame
@@ -118,6 +119,7 @@ pub record IsOnly (w : Surroundings) (c : Callee) (p : Point) (numbers : ℕ →
   pub made : c.made ≡ newest_made w.parts x
   pub table : table_number c.environment x.declared ≡ x.number
   pub parts : c.environment.parts ≡ w.parts
+  pub few : 1 ≤ w.serials
   pub declared :
       IsDeclared w (begun_at w c p numbers) x (layer_for w p numbers c.procedure c.calling) p.control.layers
 
@@ -125,3 +127,9 @@ abbrev pub OneMade : Type 0
 OneMade =
     (w : Surroundings) (code : List Instr) (c : Callee) (p : Point) (numbers : ℕ → ℕ) (x : Declared) →
     IsOnly w c p numbers x → AreMade w code c p numbers
+
+-- what holds of it at a block's first statement holds at each of the block's points
+abbrev pub OneAmong : Type 0
+OneAmong =
+    (k : Block) (c : Callee) (x : Declared) (p : Point) (numbers held : ℕ → ℕ) → IsBegun k → IsAmong k numbers p →
+    IsOnly k.call.surroundings c k.first held x → IsOnly k.call.surroundings c p held x

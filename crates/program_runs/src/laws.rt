@@ -7,7 +7,7 @@ ghost use Rattle.program_runs.specs.Rows.{ProgramRan};
 ghost use Rattle.program_runs.specs.Starts.{ImagesStart};
 ghost use Rattle.program_runs.specs.Statements.{ListsDo, StatementsDo};
 ghost use Rattle.program_runs.specs.VariableRows.{NumberRan};
-ghost use Rattle.program_runs.specs.Variables.{OneMade, VariablesMade};
+ghost use Rattle.program_runs.specs.Variables.{OneAmong, OneMade, VariablesMade};
 
 use granule_keeper::laws::granules_keep;
 
@@ -70,6 +70,11 @@ pub fn variables_made()
 /// A procedure with one variable makes it where its block begins.
 pub fn one_made()
     ensures { OneMade }
+{}
+
+/// If it can make it where the first statement of the block that calls it begins, it can wherever that calls it.
+pub fn one_among()
+    ensures { OneAmong }
 {}
 
 /// A worked row: a main procedure with one variable.

@@ -1,5 +1,5 @@
--- How far calls of services count: one makes at most one act, and nothing else changes what is shown; and it gives at most one
--- serial, where the run goes on. So in a run of fewer than 2^64 instructions neither count passes 64 bits.
+-- How far calls of services count: one makes at most one act, and nothing else changes what is shown; and it gives at
+-- most one serial, where the run goes on. So in a run of fewer than 2^64 instructions neither count passes 64 bits.
 use Rattle.std.specs.Prelude.{◌≡◌, ℕ, suc, ◌+◌, ◌≤◌, ◌⊎◌}
 use Rattle.rv_meaning.specs.Machine.{Loaded}
 use Rattle.pli_serving.specs.ServiceState.{Services}
@@ -10,7 +10,8 @@ use Rattle.image_runs.specs.Runs.{Whole, Run, Runs, Ended, Stopped, run_on}
 
 -- an answer beside the services before it
 abbrev pub CountsOnce : Services → Answer → Type 0
-CountsOnce v (Done v' m x y) = ((v'.world ≡ v.world) ⊎ (v'.world.acts ≡ suc v.world.acts)) × (v'.serials ≤ suc v.serials)
+CountsOnce v (Done v' m x y) =
+    ((v'.world ≡ v.world) ⊎ (v'.world.acts ≡ suc v.world.acts)) × (v'.serials ≤ suc v.serials)
 CountsOnce v (Ends v') = v'.world.acts ≡ suc v.world.acts
 CountsOnce v Bad = Unit {0}
 

@@ -6,10 +6,12 @@ use Rattle.pli_typing.specs.TypedTree as Y
 use Rattle.pli_meaning.specs.Codes.{subscript_code}
 use Rattle.pli_coding.specs.Registers.{frame_register, a0, a1, u0, u1, u2, u3}
 use Rattle.pli_coding.specs.Assembly.{BaseIn, Code}
-use Rattle.pli_coding.specs.Instructions.{add, subtract, move, load_word, store_word, service, status_tested, skip_where, error_raised}
+use Rattle.pli_coding.specs.Instructions.{add, subtract, move, load_word, store_word, service, status_tested}
+use Rattle.pli_coding.specs.Instructions.{skip_where, error_raised}
 use Rattle.pli_coding.specs.Frames.{buffer_lower, buffer_upper, automatic_place, list_place}
 use Rattle.pli_coding.specs.Environments.{Environment, Taken}
-use Rattle.pli_coding.specs.Locating.{Address, frame_in, place_behind, waiting_number, bound_loaded, direct_base, place_kept}
+use Rattle.pli_coding.specs.Locating.{Address, frame_in, place_behind, waiting_number, bound_loaded, direct_base}
+use Rattle.pli_coding.specs.Locating.{place_kept}
 use Rattle.pli_coding.specs.Locating.{subscript_given, subscript_counted, subscripts_counted, element_added}
 
 -- the distance of bounds that aren't both constant

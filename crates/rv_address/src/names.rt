@@ -17,8 +17,8 @@ use rv_assembly::registers;
 use rv_meaning::instr::Register;
 use std::alloc::AllocError;
 
-/// Where a name stands: in the frame at a level, in the list of arguments that this frame has, or in the static data of a variable of so
-/// many bytes, in front or at a place.
+/// Where a name stands: in the frame at a level, in the list of arguments that this frame has, or in the static data of
+/// a variable of so many bytes, in front or at a place.
 #[derive(Clone, Copy, PartialEq, Eq, Debug)]
 pub enum NamePlace {
     Frame {
@@ -144,7 +144,8 @@ fn argument_offset(
     register: Register,
     place: i32,
 ) -> Result<(), AllocError>
-    ensures { OnOk result (code.new ≡ code.old ++ form.argument_offset (environment_of environment.now) level register place) }
+    ensures { OnOk result (code.new ≡ code.old
+        ++ form.argument_offset (environment_of environment.now) level register place) }
 {
     frame_found(code, environment, level, register)?;
     code.load_word(
@@ -176,7 +177,8 @@ fn argument_word(
     register: Register,
     place: i32,
 ) -> Result<(), AllocError>
-    ensures { OnOk result (code.new ≡ code.old ++ form.argument_word (environment_of environment.now) level register place) }
+    ensures { OnOk result (code.new ≡ code.old
+        ++ form.argument_word (environment_of environment.now) level register place) }
 {
     frame_found(code, environment, level, register)?;
     list_loaded(code, environment, level, register)?;

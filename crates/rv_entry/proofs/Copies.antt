@@ -1,5 +1,6 @@
 -- The copies that stand for arguments, by their pieces and one after the other.
-use Rattle.std.proofs.Common.{◌≡◌, ◌<◌, ◌≤◌, ℕ, zero, suc, ◌+◌, Bool, true, false, true≢false, List, [], ◌∷◌, ◌++◌, length, drop, get_or, refl, sym, ap, ◌∙◌, append_assoc, append-nil, add-one, arith}
+use Rattle.std.proofs.Common.{◌≡◌, ◌<◌, ◌≤◌, ℕ, zero, suc, ◌+◌, Bool, true, false, true≢false, List, [], ◌∷◌, ◌++◌}
+use Rattle.std.proofs.Common.{length, drop, get_or, refl, sym, ap, ◌∙◌, append_assoc, append-nil, add-one, arith}
 use Rattle.std.specs.Prelude.{map, Option, slice_get, if◌then◌else◌}
 use Rattle.std.proofs.lemmas.List.{drop_all}
 use Rattle.rv_meaning.specs.declared.instr.BranchTest.TheVariants as Test
@@ -16,7 +17,10 @@ use Rattle.pli_coding.specs.Environments.{Environment, declaration_of}
 use Rattle.pli_coding.specs.Locating.{is_star_type, table_number}
 use Rattle.pli_coding.specs.Entries.{Copied, copied_declared, copied_parameters, copies_made, copy_made, if_copied}
 use Rattle.rv_entry.proofs.Steps.{copied_here, item_first, step}
-use Rattle.rv_entry.specs.Pieces.{argument_loaded, constant_signature, copied_of, copied_single, copy_begun, copy_named, copy_put, copy_skipped, copy_whole, lower_grown, one_copied, own_variable, parameter_copied, signature_asked, signature_found, signature_kept, signature_told, single_type, star_signature, value_taken}
+use Rattle.rv_entry.specs.Pieces.{argument_loaded, constant_signature, copied_of, copied_single, copy_begun, copy_named}
+use Rattle.rv_entry.specs.Pieces.{copy_put, copy_skipped, copy_whole, lower_grown, one_copied, own_variable}
+use Rattle.rv_entry.specs.Pieces.{parameter_copied, signature_asked, signature_found, signature_kept, signature_told}
+use Rattle.rv_entry.specs.Pieces.{single_type, star_signature, value_taken}
 
 -- ---- signatures
 

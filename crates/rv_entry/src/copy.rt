@@ -15,7 +15,10 @@ ghost use Rattle.pli_coding.specs.Entries as form;
 ghost use Rattle.rv_assembly.specs.View.{datum_of};
 ghost use Rattle.rv_address.specs.Around.{environment_of};
 ghost use Rattle.rv_address.specs.Places.{address_of};
-ghost use Rattle.rv_entry.specs.Pieces.{constant_signature, copied_of, copied_single, copy_begun, copy_named, copy_put, copy_reached, copy_skipped, copy_whole, name_put, name_taken, one_copied, parameter_copied, signature_asked, signature_found, signature_kept, signature_told, star_signature, value_taken, word_put};
+ghost use Rattle.rv_entry.specs.Pieces.{constant_signature, copied_of, copied_single, copy_begun, copy_named, copy_put};
+ghost use Rattle.rv_entry.specs.Pieces.{copy_reached, copy_skipped, copy_whole, name_put, name_taken, one_copied};
+ghost use Rattle.rv_entry.specs.Pieces.{parameter_copied, signature_asked, signature_found, signature_kept};
+ghost use Rattle.rv_entry.specs.Pieces.{signature_told, star_signature, value_taken, word_put};
 
 use crate::argument::{argument_loaded, place_kept};
 use crate::own::{lower_grown, own_variable, single_type};
@@ -269,7 +272,10 @@ fn copy_whole(
     variable: Variable,
     kind: LeafType,
 ) -> Result<(), AllocError>
-    ensures { OnOk result (code.new ≡ code.old ++ copy_whole (environment_of environment.now) (copied_of n (declaration_of (environment_of environment.now) (variable_of variable)) (leaf_type_of kind))) }
+    ensures { OnOk result (code.new ≡ code.old
+        ++ copy_whole (environment_of environment.now)
+        (copied_of n (declaration_of (environment_of environment.now) (variable_of variable))
+        (leaf_type_of kind))) }
 {
     copy_begun(alloc, code, environment, n, variable, kind)?;
     value_taken(code, n, kind)?;

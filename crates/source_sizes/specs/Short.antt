@@ -1,11 +1,13 @@
--- How many words the code has at most of what an expression of a source comes to, by the tokens that it is spelled with.
+-- How many words the code has at most of what an expression of a source comes to, by the tokens that it is spelled
+-- with.
 use Rattle.std.specs.Prelude.{ℕ, ◌+◌, ◌*◌, ◌≤◌, ⊤}
 use Rattle.pli_language.specs.Tree as T
 use Rattle.pli_typing.specs.TypedTree as Y
 use Rattle.pli_typing.specs.Judging.{Scope}
 use Rattle.pli_typing.specs.Converting.{Referent, Designates, Gives}
 use Rattle.pli_typing.specs.References.{expression, reference}
-use Rattle.code_sizes.specs.ExpressionSizes.{number_size, text_size, bit_size, pointer_size, offset_size, reference_size}
+use Rattle.code_sizes.specs.ExpressionSizes.{number_size, text_size, bit_size, pointer_size, offset_size}
+use Rattle.code_sizes.specs.ExpressionSizes.{reference_size}
 use Rattle.code_sizes.specs.ExpressionSizes.{name_size}
 use Rattle.tree_tokens.specs.TreeTokens.{expr_tokens, reference_tokens}
 

@@ -10,4 +10,5 @@ returns c = record {
   made = R.remains_made;
   assigned = R.remains_assigned;
   left = R.remains_left;
+  in_use = R.in_use_remains;
 }

@@ -17,4 +17,5 @@ returns-in_err-coded c =
 pub returns : goal.returns
 returns c =
     let q = c.in_ok-parsed.ensures in
-    compiled c.headline_so_far.ensures c.first_path_proved.ensures c.accepted_small.ensures q c.in_ok-scopes.ensures.accepted c.in_ok-coded.ensures c.in_ok-image.ensures
+    compiled c.headline_so_far.ensures c.first_path_proved.ensures c.accepted_small.ensures q
+    c.in_ok-scopes.ensures.accepted c.in_ok-coded.ensures c.in_ok-image.ensures

@@ -2,7 +2,7 @@ use Rattle.std.proofs.Common.{◌≡◌, Ok, length, subst}
 use Rattle.pli_meaning.specs.declared.outcome.End.TheVariants as E
 use Rattle.pli_meaning.specs.declared.outcome.Limit.TheVariants as L
 use Rattle.pli_serving.specs.ActsAndEnds.{run_ended}
-use Rattle.pli_services.specs.Flowing.{flowing, with_flow}
+use Rattle.pli_services.specs.Flowing.{flow_seen, flowing, with_flow}
 use Rattle.pli_storage.specs.Held.{holding, with_held}
 use Rattle.pli_storage.proofs.Replying.{replies_by}
 use Rattle.pli_making.specs.Making.{IsStarted, Starts, content_made, entered_with, with_both}
@@ -22,17 +22,18 @@ make_fresh-requires-clause-weighed g c =
 
 pub returns-in-Limited-clause-answers : goal.returns-in-Limited-clause-answers
 returns-in-Limited-clause-answers g c = λ c' answer starts.
-    let f = c.args.flow.now in
+    let f = (flow_seen g.O.OutputStream.output c.args.flow.now) in
     let h = c.args.held.now in
     let m = c.args.memory.now in
     let C = with_both g.K.AreaKeeper.keeper f h m c' in
     let same : answer ≡ run_ended (E.Limit L.Automatic) C.services = subst (λ (s : Started). Starts answer C c.args.wanted c.args.owner (Ok s)) c.in-Limited.is starts in
-    replies_by answer (run_ended (E.Limit L.Automatic) C.services) (flowing f (holding h c'.services)) m c.end_limited.result (flowing c.end_limited.new.flow (holding h c'.services)) m
+    replies_by answer (run_ended (E.Limit L.Automatic) C.services) (flowing f (holding h c'.services)) m
+    c.end_limited.result (flowing (flow_seen g.O.OutputStream.output c.end_limited.new.flow) (holding h c'.services)) m
     same (c.end_limited.ensures.answers (with_held g.K.AreaKeeper.keeper h m c'))
 
 pub returns-in-Ready-clause-answers : goal.returns-in-Ready-clause-answers
 returns-in-Ready-clause-answers g c = λ c' answer starts.
-    let f = c.args.flow.now in
+    let f = (flow_seen g.O.OutputStream.output c.args.flow.now) in
     let h = c.args.held.now in
     let m = c.args.memory.now in
     let w = c.args.wanted in

@@ -1,40 +1,33 @@
-use Rattle.std.proofs.Common.{◌≡◌, ◌*◌, ℕ, List, length, Some, ap, ◌∙◌, sym}
-use Rattle.pli_values.specs.declared.layout.Layout.{Layout}
-use Rattle.pli_environment.specs.Places.{image_layout}
-use Rattle.image_runs.specs.Runs.{shown_by}
-use Rattle.pli_run.proofs.Pictures.{started_code, started_run, started_meets, started_shows, unstarted_told}
-use Rattle.pli_run.proofs.Stepping.{runs_are, run_meets, run_refused, shown_where}
+use Rattle.std.proofs.Common.{[], refl, subst, sym}
+use Rattle.pli_run.proofs.Pictures.{unstarted_tells}
+use Rattle.pli_run.proofs.Told.{by_step_tells, told_of}
+use Rattle.pli_run.specs.Running.{Tells}
+use Rattle.image_runs.specs.Runs.{run_of}
 use Rattle.pli_run.proofs.run.run.Goals as goal
-
--- the layout of the services is that of the code that is run
-placed : {layout : Layout} {n m k : ℕ} → layout ≡ image_layout n → n ≡ m → m ≡ k → layout ≡ image_layout k
-placed e f g = e ∙ ap image_layout (f ∙ g)
-
-pub returns-in-Ran-clause-told : goal.returns-in-Ran-clause-told
-returns-in-Ran-clause-told c = λ valid p gs h tabled.
-    let services = c.in-Ok.ensures.services gs tabled.fit (c.table.ensures.value ∙ tabled.spelled) in
-    let start = started_run p gs c.args.image.now c.args.base c.args.input.now c.args.bound c.in-Ok-new.machine c.in-Ok.environment h c.in-Ok-new.ensures services in
-    let code = placed c.in-Ok.ensures.layout (ap (λ n. 4 * length n) c.code.ensures.value) (started_code c.args.image.now c.args.base c.in-Ok-new.machine c.in-Ok-new.ensures) in
-    let comes = runs_are _ _ _ _ _ _ code c.run_for-last.ensures.run in
-    ap shown_by start ∙ shown_where _ _ _ c.in-Ran.is comes ∙ ap Some (sym c.in-Ok-into_outcome.ensures)
-
-pub returns-in-Fault-clause-told : goal.returns-in-Fault-clause-told
-returns-in-Fault-clause-told c = λ valid p gs h tabled.
-    let services = c.in-Ok.ensures.services gs tabled.fit (c.table.ensures.value ∙ tabled.spelled) in
-    let code = placed c.in-Ok.ensures.layout (ap (λ n. 4 * length n) c.code.ensures.value) (started_code c.args.image.now c.args.base c.in-Ok-new.machine c.in-Ok-new.ensures) in
-    started_meets p gs c.args.image.now c.args.base c.args.input.now c.in-Ok-new.machine c.in-Ok.environment c.args.bound _ _ _ h c.in-Ok-new.ensures services (run_meets _ _ _ _ _ _ c.in-Ok-into_outcome.outcome code (rw c.in-Fault.is at c.run_for-last.ensures.run) c.in-Ok-into_outcome.ensures)
 
 pub returns-clause-told : goal.returns-clause-told
 returns-clause-told c = λ valid p gs h tabled.
-    let services = c.in-Ok.ensures.services gs tabled.fit (c.table.ensures.value ∙ tabled.spelled) in
-    let code = placed c.in-Ok.ensures.layout (ap (λ n. 4 * length n) c.code.ensures.value) (started_code c.args.image.now c.args.base c.in-Ok-new.machine c.in-Ok-new.ensures) in
-    started_shows p gs c.args.image.now c.args.base c.args.input.now c.in-Ok-new.machine c.in-Ok.environment c.args.bound _ _ h c.in-Ok-new.ensures services (run_refused _ _ _ _ _ c.in-Ok-into_outcome.outcome code (rw c.in-Refused.is at c.run_for-last.ensures.run) c.in-Ok-into_outcome.ensures)
+    subst (λ r. Tells (run_of p gs c.args.base c.args.input.now) c.args.bound r) (sym c.by_step.ensures)
+    (by_step_tells (run_of p gs c.args.base c.args.input.now) c.args.bound c.in-Ok-into_outcome.outcome
+    c.in-Ok-stopped.field-0.last
+    (told_of _ (record { agreed = λ _ _ _ _ _. tt; stays = λ _. tt; goes_on = λ _ _ _ _ _. tt }) c.args.image.now
+    c.args.base
+    _ _ c.args.bound c.in-Ok-stopped.field-0.last c.in-Ok-stopped.field-0.services c.in-Ok-stopped.ensures.stopped refl
+    refl
+    c.in-Ok-into_outcome.outcome c.in-Ok-into_outcome.outcome.output.items c.args.input.now []
+    c.in-Ok-into_outcome.ensures
+    c.in-Ok.ensures.begun tt p gs h tabled))
 
 pub returns-in_default-clause-told : goal.returns-in_default-clause-told
-returns-in_default-clause-told c = λ valid p gs h tabled. unstarted_told p gs c.args.base c.args.input.now c.args.bound c.unstarted.result c.unstarted.ensures
+returns-in_default-clause-told c = λ valid p gs h tabled.
+    unstarted_tells p gs c.args.base c.args.input.now c.args.bound c.unstarted.result c.unstarted.ensures
 
-pub returns-in_default-new-clause-told : goal.returns-in_default-new-clause-told
-returns-in_default-new-clause-told c = λ valid p gs h tabled. unstarted_told p gs c.args.base c.args.input.now c.args.bound c.unstarted-in_default-new.result c.unstarted-in_default-new.ensures
+pub returns-in_default-stopped-clause-told : goal.returns-in_default-stopped-clause-told
+returns-in_default-stopped-clause-told c = λ valid p gs h tabled.
+    unstarted_tells p gs c.args.base c.args.input.now c.args.bound c.unstarted-in_default-stopped.result
+    c.unstarted-in_default-stopped.ensures
 
 pub returns-in_default-into_outcome-clause-told : goal.returns-in_default-into_outcome-clause-told
-returns-in_default-into_outcome-clause-told c = λ valid p gs h tabled. unstarted_told p gs c.args.base c.args.input.now c.args.bound c.unstarted-in_default-into_outcome.result c.unstarted-in_default-into_outcome.ensures
+returns-in_default-into_outcome-clause-told c = λ valid p gs h tabled.
+    unstarted_tells p gs c.args.base c.args.input.now c.args.bound c.unstarted-in_default-into_outcome.result
+    c.unstarted-in_default-into_outcome.ensures

@@ -1,18 +1,23 @@
 use Rattle.std.proofs.Common.{◌∷◌}
 use Rattle.pli_serving.specs.Edits.{fixed_by}
 use Rattle.pli_edit.specs.FormatPlaces.{item_of}
+use Rattle.pli_services.specs.Shown.{world_of}
 use Rattle.pli_transmission.specs.Transmitting.{fixed_of, on_edit}
 use Rattle.pli_transmission.proofs.Replying.{answers_as, fixed_so}
 use Rattle.pli_transmission.proofs.fixed.fixed_next.Goals as goal
 
-pub returns-in-Some : goal.returns-in-Some
-returns-in-Some c = λ c' n below e d i.
+pub returns-in-Some-clause-answers : goal.returns-in-Some-clause-answers
+returns-in-Some-clause-answers g c = λ c' all agrees whole n below e d i.
     let x = c.args.first in
     let y = c.args.second in
     let place = c.args.edit.now.place in
-    let old = on_edit c.args.shown.now c.args.input.now c.args.edit.now below c' in
-    let new = on_edit c.fixed_field.new.shown c.fixed_field.new.input c.fixed_field.new.edit below c' in
+    let old = on_edit (world_of g.O.OutputStream.output c.args.shown.now) (g.I.InputStream.input c.args.input.now all)
+    c.args.edit.now below c' in
+    let new = on_edit (world_of g.O.OutputStream.output c.fixed_field.new.shown)
+    (g.I.InputStream.input c.fixed_field.new.input all) c.fixed_field.new.edit below c' in
     answers_as
-    (λ t. fixed_by t x y n.behind.direction n.item (n.behind ∷ below)) (λ t. fixed_of t x y place.direction c.in-Some.width (n.behind ∷ below)) old new c.fixed_field.result
-    (fixed_so old x y c.in-Some.width n.behind.direction place.direction n.item (item_of c.args.format) (n.behind ∷ below) d i c.in-Some.ensures)
-    (c.fixed_field.ensures c' n below e)
+    (λ t. fixed_by t x y n.behind.direction n.item (n.behind ∷ below))
+    (λ t. fixed_of t x y place.direction c.in-Some.width (n.behind ∷ below)) old new c.fixed_field.result
+    (fixed_so old x y c.in-Some.width n.behind.direction place.direction n.item (item_of c.args.format)
+    (n.behind ∷ below) d i c.in-Some.ensures)
+    (c.fixed_field.ensures.answers c' all agrees whole n below e)

@@ -1,163 +1,98 @@
-use Rattle.std.proofs.Common.{refl, arith, slice_index}
-use Rattle.pli_runtime.proofs.Carried.{by_controlled, by_held, by_level, by_memory, by_none, by_streams, by_taking}
-use Rattle.pli_runtime.proofs.Passing.{served_none}
-use Rattle.pli_runtime.specs.Running.{call_of}
+use Rattle.std.proofs.Common.{◌≡◌, false, [], refl, slice_index, sym, subst}
+use Rattle.pli_meaning.specs.InputLines.{first_input}
+use Rattle.pli_services.specs.Shown.{world_of}
+use Rattle.pli_runtime.proofs.Asking.{control_asks, fixed_asks, kept_unread, kept_with, skip_asks, text_asks}
+use Rattle.pli_runtime.proofs.Carried.{by_streams, by_taking}
 use Rattle.pli_runtime.proofs.runtime.Runtime.by_number.Goals as goal
 
-pub returns-in-2 : goal.returns-in-2
-returns-in-2 g c = rw c.in-2.is (by_level _ _ _ _ _ _ c.requires.standing c.end.ensures.answers c.end.ensures.height)
+pub returns-in-35-clause-carried : goal.returns-in-35-clause-carried
+returns-in-35-clause-carried g c = λ all agrees whole.
+    rw c.in-35.is (by_streams _ _ _ _ _ _ _ _ c.requires.standing (λ c'. c.control.ensures.answers c' all agrees whole))
 
-pub returns-in-3 : goal.returns-in-3
-returns-in-3 g c = rw c.in-3.is (c.signature.ensures)
+pub returns-in-35-clause-unread : goal.returns-in-35-clause-unread
+returns-in-35-clause-unread g c = λ none.
+    let mode = slice_index c.args.registers.now 11 in
+    c.control.ensures.unread (control_asks _ mode (rw c.in-35.is at none))
 
-pub returns-in-4 : goal.returns-in-4
-returns-in-4 g c = rw c.in-4.is (c.enter.ensures _ _ c.requires.standing)
+pub returns-in-35-clause-kept : goal.returns-in-35-clause-kept
+returns-in-35-clause-kept g c =
+    let broken = g.I.InputStream.has_failed in
+    let shown = world_of g.O.OutputStream.output in
+    kept_with c.control.result
+    (broken c.args.self.now.streams.input ≡ false → broken c.control.new.self.input ≡ false)
+    (shown c.control.new.shown ≡ shown c.args.self.now.flow.shown)
+    (c.args.memory.now ≡ c.args.memory.now) c.control.ensures.kept refl
 
-pub returns-in-5 : goal.returns-in-5
-returns-in-5 g c = rw c.in-5.is (c.leave.ensures _ _ c.requires.standing)
+pub returns-in-36-clause-carried : goal.returns-in-36-clause-carried
+returns-in-36-clause-carried g c = λ all agrees whole.
+    rw c.in-36.is (by_streams _ _ _ _ _ _ _ _ c.requires.standing (λ c'. c.fixed.ensures.answers c' all agrees whole))
 
-pub returns-in-6 : goal.returns-in-6
-returns-in-6 g c = rw c.in-6.is (c.unwind.ensures _ _ c.requires.standing)
+pub returns-in-36-clause-unread : goal.returns-in-36-clause-unread
+returns-in-36-clause-unread g c = λ none.
+    let mode = slice_index c.args.registers.now 11 in
+    c.fixed.ensures.unread (fixed_asks _ mode (rw c.in-36.is at none))
 
-pub returns-in-7 : goal.returns-in-7
-returns-in-7 g c = rw c.in-7.is (c.make.ensures)
+pub returns-in-36-clause-kept : goal.returns-in-36-clause-kept
+returns-in-36-clause-kept g c =
+    let broken = g.I.InputStream.has_failed in
+    let shown = world_of g.O.OutputStream.output in
+    kept_with c.fixed.result
+    (broken c.args.self.now.streams.input ≡ false → broken c.fixed.new.self.input ≡ false)
+    (shown c.fixed.new.shown ≡ shown c.args.self.now.flow.shown)
+    (c.args.memory.now ≡ c.args.memory.now) c.fixed.ensures.kept refl
 
-pub returns-in-8 : goal.returns-in-8
-returns-in-8 g c = rw c.in-8.is (c.find.ensures)
+pub returns-in-37-clause-carried : goal.returns-in-37-clause-carried
+returns-in-37-clause-carried g c = λ all agrees whole.
+    rw c.in-37.is (by_taking _ _ _ _ _ _ _ _ _ c.requires.standing (λ c'. c.text.ensures.answers c' all agrees whole))
 
-pub returns-in-9 : goal.returns-in-9
-returns-in-9 g c = rw c.in-9.is (by_memory _ _ _ _ _ _ c.requires.standing c.address.ensures c.address.auto.memory)
+pub returns-in-37-clause-unread : goal.returns-in-37-clause-unread
+returns-in-37-clause-unread g c = λ none.
+    let mode = slice_index c.args.registers.now 11 in
+    c.text.ensures.unread (text_asks _ mode (rw c.in-37.is at none))
 
-pub returns-in-10 : goal.returns-in-10
-returns-in-10 g c = rw c.in-10.is (c.allocate.ensures)
+pub returns-in-37-clause-kept : goal.returns-in-37-clause-kept
+returns-in-37-clause-kept g c =
+    let broken = g.I.InputStream.has_failed in
+    let shown = world_of g.O.OutputStream.output in
+    kept_with c.text.result
+    (broken c.args.self.now.streams.input ≡ false → broken c.text.new.self.input ≡ false)
+    (shown c.text.new.shown ≡ shown c.args.self.now.flow.shown)
+    (c.args.memory.now ≡ c.args.memory.now) c.text.ensures.kept refl
 
-pub returns-in-11 : goal.returns-in-11
-returns-in-11 g c = rw c.in-11.is (by_memory _ _ _ _ _ _ c.requires.standing c.free.ensures c.free.auto.memory)
+pub returns-in-39-clause-carried : goal.returns-in-39-clause-carried
+returns-in-39-clause-carried g c = λ all agrees whole.
+    rw c.in-39.is (by_streams _ _ _ _ _ _ _ _ c.requires.standing (λ c'. c.skip.ensures.answers c' all agrees whole))
 
-pub returns-in-12 : goal.returns-in-12
-returns-in-12 g c = rw c.in-12.is (by_memory _ _ _ _ _ _ c.requires.standing c.assign.ensures c.assign.auto.memory)
+pub returns-in-39-clause-unread : goal.returns-in-39-clause-unread
+returns-in-39-clause-unread g c = λ none.
+    let mode = slice_index c.args.registers.now 11 in
+    c.skip.ensures.unread (skip_asks _ mode (rw c.in-39.is at none))
 
-pub returns-in-13 : goal.returns-in-13
-returns-in-13 g c = rw c.in-13.is (by_memory _ _ _ _ _ _ c.requires.standing c.empty.ensures c.empty.auto.memory)
+pub returns-in-39-clause-kept : goal.returns-in-39-clause-kept
+returns-in-39-clause-kept g c =
+    let broken = g.I.InputStream.has_failed in
+    let shown = world_of g.O.OutputStream.output in
+    kept_with c.skip.result
+    (broken c.args.self.now.streams.input ≡ false → broken c.skip.new.self.input ≡ false)
+    (shown c.skip.new.shown ≡ shown c.args.self.now.flow.shown)
+    (c.args.memory.now ≡ c.args.memory.now) c.skip.ensures.kept refl
 
-pub returns-in-14 : goal.returns-in-14
-returns-in-14 g c = rw c.in-14.is (by_memory _ _ _ _ _ _ c.requires.standing c.locator.ensures c.locator.auto.memory)
+pub returns-in_default-clause-carried : goal.returns-in_default-clause-carried
+returns-in_default-clause-carried g c = λ all agrees whole.
+    rw c.by_other.ensures.unread (c.by_other.ensures.carried (g.I.InputStream.input c.args.self.now.streams.input all))
 
-pub returns-in-15 : goal.returns-in-15
-returns-in-15 g c = rw c.in-15.is (by_memory _ _ _ _ _ _ c.requires.standing c.refer.ensures c.refer.auto.memory)
+pub returns-in_default-clause-standing : goal.returns-in_default-clause-standing
+returns-in_default-clause-standing g c = (c.by_other.ensures.carried (first_input [])).standing
 
-pub returns-in-16 : goal.returns-in-16
-returns-in-16 g c =
-    rw c.in-16.is (by_held _ _ _ _ _ _ _ c.requires.standing c.push.ensures.answers c.push.auto.memory
-    c.push.ensures.kept c.push.ensures.as_many)
+pub returns-in_default-clause-layout : goal.returns-in_default-clause-layout
+returns-in_default-clause-layout g c = (c.by_other.ensures.carried (first_input [])).layout
 
-pub returns-in-17 : goal.returns-in-17
-returns-in-17 g c =
-    rw c.in-17.is (by_controlled _ _ _ _ _ _ _ c.requires.standing c.pop.ensures.answers c.pop.auto.memory
-    c.pop.ensures.kept c.pop.ensures.as_many)
+pub returns-in_default-clause-follows : goal.returns-in_default-clause-follows
+returns-in_default-clause-follows g c =
+    subst (λ i. g.I.InputStream.follows c.args.self.now.streams.input i) (sym c.by_other.ensures.unread)
+    (g.met.I.InputStream.stays c.args.self.now.streams.input)
 
-pub returns-in-18 : goal.returns-in-18
-returns-in-18 g c = rw c.in-18.is (by_memory _ _ _ _ _ _ c.requires.standing c.newest.ensures c.newest.auto.memory)
-
-pub returns-in-19 : goal.returns-in-19
-returns-in-19 g c =
-    rw c.in-19.is (by_memory _ _ _ _ _ _ c.requires.standing (c.count.ensures g.K.AreaKeeper.keeper c.args.memory.now)
-    refl)
-
-pub returns-in-20 : goal.returns-in-20
-returns-in-20 g c = rw c.in-20.is (c.push_text.ensures)
-
-pub returns-in-21 : goal.returns-in-21
-returns-in-21 g c = rw c.in-21.is (c.push_number.ensures _ _ c.requires.standing)
-
-pub returns-in-22 : goal.returns-in-22
-returns-in-22 g c = rw c.in-22.is (c.join_texts.ensures _ _ c.requires.standing)
-
-pub returns-in-23 : goal.returns-in-23
-returns-in-23 g c = rw c.in-23.is (c.cut_text.ensures _ _ c.requires.standing)
-
-pub returns-in-24 : goal.returns-in-24
-returns-in-24 g c = rw c.in-24.is (c.compare_texts.ensures _ _ c.requires.standing)
-
-pub returns-in-25 : goal.returns-in-25
-returns-in-25 g c = rw c.in-25.is (c.find_text.ensures _ _ c.requires.standing)
-
-pub returns-in-26 : goal.returns-in-26
-returns-in-26 g c = rw c.in-26.is (c.text_number.ensures _ _ c.requires.standing)
-
-pub returns-in-27 : goal.returns-in-27
-returns-in-27 g c = rw c.in-27.is (c.store_text.ensures)
-
-pub returns-in-28 : goal.returns-in-28
-returns-in-28 g c =
-    rw c.in-28.is (by_level _ _ _ _ _ _ c.requires.standing c.establish.ensures.answers c.establish.ensures.height)
-
-pub returns-in-29 : goal.returns-in-29
-returns-in-29 g c =
-    rw c.in-29.is (by_level _ _ _ _ _ _ c.requires.standing c.revert.ensures.answers c.revert.ensures.height)
-
-pub returns-in-30 : goal.returns-in-30
-returns-in-30 g c =
-    rw c.in-30.is (by_level _ _ _ _ _ _ c.requires.standing c.raise.ensures.answers c.raise.ensures.height)
-
-pub returns-in-31 : goal.returns-in-31
-returns-in-31 g c = rw c.in-31.is (c.return_from.ensures _ _ c.requires.standing)
-
-pub returns-in-32 : goal.returns-in-32
-returns-in-32 g c =
-    rw c.in-32.is (by_level _ _ _ _ _ _ c.requires.standing c.retry.ensures.answers c.retry.ensures.height)
-
-pub returns-in-33 : goal.returns-in-33
-returns-in-33 g c = rw c.in-33.is (by_level _ _ _ _ _ _ c.requires.standing c.oncode.ensures refl)
-
-pub returns-in-34 : goal.returns-in-34
-returns-in-34 g c = rw c.in-34.is (c.begin_edit.ensures)
-
-pub returns-in-35 : goal.returns-in-35
-returns-in-35 g c = rw c.in-35.is (by_streams _ _ _ _ _ _ _ c.requires.standing c.control.ensures)
-
-pub returns-in-36 : goal.returns-in-36
-returns-in-36 g c = rw c.in-36.is (by_streams _ _ _ _ _ _ _ c.requires.standing c.fixed.ensures)
-
-pub returns-in-37 : goal.returns-in-37
-returns-in-37 g c = rw c.in-37.is (by_taking _ _ _ _ _ _ _ _ c.requires.standing c.text.ensures)
-
-pub returns-in-38 : goal.returns-in-38
-returns-in-38 g c =
-    rw c.in-38.is (by_streams _ _ _ _ _ c.args.self.now.flow.shown _ c.requires.standing
-    (λ c'. c.end-in-38.ensures c' c.args.self.now.flow.shown))
-
-pub returns-in-39 : goal.returns-in-39
-returns-in-39 g c = rw c.in-39.is (by_streams _ _ _ _ _ _ _ c.requires.standing c.skip.ensures)
-
-pub returns-in-40 : goal.returns-in-40
-returns-in-40 g c = rw c.in-40.is (c.assign_part.ensures)
-
-pub returns-in-41 : goal.returns-in-41
-returns-in-41 g c = rw c.in-41.is (c.store_scalar.ensures)
-
-pub returns-in_default : goal.returns-in_default
-returns-in_default g c =
-    by_none _ _ _ _ c.requires.standing
-    (served_none c.args.number (call_of g.K.AreaKeeper.keeper c.args.self.now c.args.memory.now)
-    (slice_index c.args.registers.now) c.requires.no_act
-    (λ e. absurd (omega (arith, e))) (λ e. absurd (omega (arith, e))) (λ e. absurd (omega (arith, e)))
-    (λ e. absurd (omega (arith, e)))
-    (λ e. absurd (omega (arith, e))) (λ e. absurd (omega (arith, e))) (λ e. absurd (omega (arith, e)))
-    (λ e. absurd (omega (arith, e)))
-    (λ e. absurd (omega (arith, e))) (λ e. absurd (omega (arith, e))) (λ e. absurd (omega (arith, e)))
-    (λ e. absurd (omega (arith, e)))
-    (λ e. absurd (omega (arith, e))) (λ e. absurd (omega (arith, e))) (λ e. absurd (omega (arith, e)))
-    (λ e. absurd (omega (arith, e)))
-    (λ e. absurd (omega (arith, e))) (λ e. absurd (omega (arith, e))) (λ e. absurd (omega (arith, e)))
-    (λ e. absurd (omega (arith, e)))
-    (λ e. absurd (omega (arith, e))) (λ e. absurd (omega (arith, e))) (λ e. absurd (omega (arith, e)))
-    (λ e. absurd (omega (arith, e)))
-    (λ e. absurd (omega (arith, e))) (λ e. absurd (omega (arith, e))) (λ e. absurd (omega (arith, e)))
-    (λ e. absurd (omega (arith, e)))
-    (λ e. absurd (omega (arith, e))) (λ e. absurd (omega (arith, e))) (λ e. absurd (omega (arith, e)))
-    (λ e. absurd (omega (arith, e)))
-    (λ e. absurd (omega (arith, e))) (λ e. absurd (omega (arith, e))) (λ e. absurd (omega (arith, e)))
-    (λ e. absurd (omega (arith, e)))
-    (λ e. absurd (omega (arith, e))) (λ e. absurd (omega (arith, e))) (λ e. absurd (omega (arith, e)))
-    (λ e. absurd (omega (arith, e))))
+pub returns-in_default-clause-kept : goal.returns-in_default-clause-kept
+returns-in_default-clause-kept g c =
+    kept_unread g.I.InputStream.has_failed _ _ _ _ _ _ _ _ _ c.by_other.ensures.unread
+    (c.by_other.ensures.carried (first_input []))

@@ -1,9 +1,4 @@
 use Rattle.pli_runtime.proofs.runtime.Runtime.serve.Goals as goal
 
-pub returns : goal.returns
-returns g c = record {
-  served = c.act_or.ensures.served;
-  standing = c.act_or.ensures.standing;
-  layout =
-      c.act_or.ensures.layout;
-}
+pub returns-clause-served : goal.returns-clause-served
+returns-clause-served g c = λ all agrees whole. (c.act_or.ensures.carried all agrees whole).served

@@ -10,14 +10,16 @@ use Rattle.pli_transmission.proofs.Beginning.{begun_so}
 use Rattle.pli_transmission.proofs.Replying.{answers_as}
 use Rattle.pli_transmission.proofs.streams.Streams.begin.Goals as goal
 
-pub returns-in-Ok : goal.returns-in-Ok
-returns-in-Ok c = λ c' shown l m.
-    let old = with_streams shown c.args.self.now c' in
-    let new = with_streams shown c.begin_in.new.self c' in
+pub returns-in-Ok-clause-answers : goal.returns-in-Ok-clause-answers
+returns-in-Ok-clause-answers g c = λ c' world input l m.
+    let old = with_streams world input c.args.self.now.edits.items c' in
+    let new = with_streams world input c.begin_in.new.self.edits.items c' in
     let at = c.args.at in
     let mode = c.args.mode in
     let d = direction_shown c.in-Some.direction in
     let here : formats_at old at ≡ formats_at (call_on c'.layout c'.memory) at = c.format_lists_of_memory.ensures old at in
-    let there : formats_at (call_on c'.layout c'.memory) at ≡ option_map (λ nodes. items_of nodes.items) c.in-Ok.read = ap₂ (λ layout memory. formats_at (call_on layout memory) at) l m ∙ sym c.in-Ok.ensures.items in
-    answers_as (λ t. edit_begin_served t at mode) (λ t. or_bad (formats_at t at) (edit_begun t at mode d)) old new c.begin_in.result
-    (begun_so old at mode d c.in-Some.ensures) (c.begin_in.ensures c' shown (sym (here ∙ there)))
+    let there : formats_at (call_on c'.layout c'.memory) at ≡ option_map (λ nodes. items_of nodes.items) c.in-Ok.read =
+    ap₂ (λ layout memory. formats_at (call_on layout memory) at) l m ∙ sym c.in-Ok.ensures.items in
+    answers_as (λ t. edit_begin_served t at mode) (λ t. or_bad (formats_at t at) (edit_begun t at mode d)) old new
+    c.begin_in.result (begun_so old at mode d c.in-Some.ensures)
+    (c.begin_in.ensures.answers c' world input (sym (here ∙ there)))

@@ -1,0 +1,15 @@
+pub mod GivenLists
+pub mod ListBeginnings
+pub mod ListCalls
+pub mod CopyCode
+pub mod CopyMemory
+pub mod CopyPoints
+pub mod Copies
+pub mod ParameterCode
+pub mod Parameters
+pub mod CopyBlocks
+pub mod CopyCalls
+pub mod CopyKnown
+pub mod CopyFunctions
+pub mod CopyRows
+pub mod FunctionRows

@@ -1,0 +1,10 @@
+pub mod Lists
+pub mod ListBeginnings
+pub mod ListCalls
+pub mod Copies
+pub mod Parameters
+pub mod CopyCalls
+pub mod CopyFunctions
+pub mod CopyRows
+pub mod FunctionRows
+pub mod Laws

@@ -1,0 +1,11 @@
+pub mod Meaning
+pub mod Begins
+pub mod InnerVariables
+pub mod Unwinding
+pub mod OuterPoints
+pub mod FarGotos
+pub mod InnerNumbers
+pub mod ThroughReturns
+pub mod Rows
+pub mod LeaveRows
+pub mod OwnVariables

@@ -1,0 +1,7 @@
+pub mod BeginBlocks
+pub mod InnerVariables
+pub mod Unwinding
+pub mod FarGotos
+pub mod ThroughReturns
+pub mod Rows
+pub mod LeaveRows
