@@ -37,6 +37,15 @@ struct Spring<'a> {
 }
 
 impl<'a> Spring<'a> {
+    fn new(text: &'a [u8], step: usize, reads: usize) -> Spring<'a> {
+        Spring {
+            past: Past::new(),
+            rest: text,
+            step,
+            reads,
+        }
+    }
+
     fn pour(&mut self, buffer: &mut [u8]) -> Result<usize, Failed>
         ensures within { IfOk result (λ count. count ≤ length buffer.new) }
         ensures past { self.new.past ≡ self.old.past }
@@ -76,6 +85,16 @@ struct Bucket {
 }
 
 impl Bucket {
+    fn new(alloc: Global, room: usize, step: usize, writes: usize) -> Bucket {
+        Bucket {
+            past: Past::new(),
+            held: Vec::new(alloc),
+            room,
+            step,
+            writes,
+        }
+    }
+
     fn pour(&mut self, bytes: &[u8]) -> Result<usize, Failed>
         ensures within { IfOk result (λ count. count ≤ length bytes.now) }
         ensures past { self.new.past ≡ self.old.past }
@@ -99,25 +118,6 @@ impl Drain for Bucket {
         let outcome = self.pour(bytes);
         self.past.tell(&outcome, bytes);
         outcome
-    }
-}
-
-fn spring(text: &[u8], step: usize, reads: usize) -> Spring<'_> {
-    Spring {
-        past: Past::new(),
-        rest: text,
-        step,
-        reads,
-    }
-}
-
-fn bucket(alloc: Global, room: usize, step: usize, writes: usize) -> Bucket {
-    Bucket {
-        past: Past::new(),
-        held: Vec::new(alloc),
-        room,
-        step,
-        writes,
     }
 }
 
@@ -152,9 +152,10 @@ fn tell_sum(rt: &HostRuntime) -> Result<()> {
     let Ok(image) = compile(rt.alloc(), PUT_SUM.as_bytes()) else {
         return Ok(());
     };
-    tell_stream(rt, &image, spring(b"", 1, 1), bucket(rt.alloc(), 9, 9, 0))?;
-    tell_stream(rt, &image, spring(b"", 1, 1), bucket(rt.alloc(), 5, 9, 9))?;
-    tell_stream(rt, &image, spring(b"", 1, 1), bucket(rt.alloc(), 99, 1, 99))?;
+    let alloc = rt.alloc();
+    for drain in [Bucket::new(alloc, 9, 9, 0), Bucket::new(alloc, 5, 9, 9), Bucket::new(alloc, 99, 1, 99)] {
+        tell_stream(rt, &image, Spring::new(b"", 1, 1), drain)?;
+    }
     Ok(())
 }
 
@@ -165,8 +166,8 @@ fn tell_reads(rt: &HostRuntime) -> Result<()> {
         return Ok(());
     };
     for reads in 0..9 {
-        let feed = spring(b"12", 1, reads);
-        if tell_stream(rt, &image, feed, bucket(rt.alloc(), 99, 1, 99))? {
+        let feed = Spring::new(b"12", 1, reads);
+        if tell_stream(rt, &image, feed, Bucket::new(rt.alloc(), 99, 1, 99))? {
             break;
         }
     }
@@ -180,8 +181,8 @@ fn tell_writes(rt: &HostRuntime) -> Result<()> {
         return Ok(());
     };
     for writes in 0..30 {
-        let drain = bucket(rt.alloc(), 99, 99, writes);
-        if tell_stream(rt, &image, spring(b"", 1, 0), drain)? {
+        let drain = Bucket::new(rt.alloc(), 99, 99, writes);
+        if tell_stream(rt, &image, Spring::new(b"", 1, 0), drain)? {
             break;
         }
     }
