@@ -28,7 +28,7 @@ use Rattle.pli_coding.specs.Expressions.{are_few, elements_code, number_code, su
 use Rattle.pli_coding.specs.Expressions.{reference_code}
 use Rattle.pli_coding.specs.Storing.{word_stored, assignment_code}
 use Rattle.pli_coding.specs.Allocating.{allocation_code}
-use Rattle.pli_coding.specs.Temporaries.{number_words}
+use Rattle.pli_coding.specs.Temporaries.{number_takes}
 use Rattle.pli_coding.specs.Entries.{frame_begun}
 use Rattle.pli_coding.specs.Statements.{block_held}
 use Rattle.pli_coding.specs.Procedures.{end_reached, frame_returned}
@@ -134,8 +134,8 @@ eighth_number_waits_in_a_word :
     ≡ (0 ∷ 4 ∷ [])
 eighth_number_waits_in_a_word = refl
 
-number_words_count_each : number_words (deep 9) ≡ 9
-number_words_count_each = refl
+seven_take_registers : number_takes none_taken (deep 9) ≡ record { registers = 7; words = 2 }
+seven_take_registers = refl
 
 -- a sum below its left operand, against a negative right one
 sum_is_tested :

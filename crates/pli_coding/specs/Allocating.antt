@@ -9,12 +9,12 @@ use Rattle.pli_coding.specs.Registers.{zero_register, frame_register, a0, a1, a2
 use Rattle.pli_coding.specs.Assembly.{NumberWord, ExtentRoutine, CallTo, JumpTo, JumpBack, RaiseError, Code, size_of}
 use Rattle.pli_coding.specs.Instructions.{small, number, load_word, store_word, skip_where, service, tested_service}
 use Rattle.pli_coding.specs.Frames.{words_place}
-use Rattle.pli_coding.specs.Environments.{Environment, declaration_of, Taken, with_words}
+use Rattle.pli_coding.specs.Environments.{Environment, declaration_of, Taken, with_words, with_number, most_taken}
 use Rattle.pli_coding.specs.Arithmetic.{raised}
 use Rattle.pli_coding.specs.Locating.{NamePlace, FrameName, DataNumber, own_place, where_standing, name_offset}
 use Rattle.pli_coding.specs.Locating.{needs_number_word, number_loaded, based_number, controlled_number, waiting_name}
 use Rattle.pli_coding.specs.Expressions.{frame_given, standing_in, standing_name, pointer_code}
-use Rattle.pli_coding.specs.Temporaries.{pointer_words, reference_words}
+use Rattle.pli_coding.specs.Temporaries.{pointer_takes, reference_takes}
 use Rattle.pli_coding.specs.Storing.{area_name, word_stored, name_stored}
 use Rattle.pli_coding.specs.Extents.{refer_amount, initial_code}
 
@@ -134,24 +134,24 @@ abbrev pub freeings_code : Environment → Taken → List Y.Freeing → Code
 freeings_code e t [] = []
 freeings_code e t (f ∷ fs) = freeing_code e t f ++ freeings_code e t fs
 
--- ---- words that these take
+-- ---- what these take at most, behind what is taken already
 
-abbrev pub target_words : Y.LocatorTarget → ℕ
-target_words (Y.SetPointer r) = reference_words r
-target_words (Y.SetOffset r area) = suc (reference_words r)
+abbrev pub target_takes : Taken → Y.LocatorTarget → Taken
+target_takes t (Y.SetPointer r) = reference_takes t r
+target_takes t (Y.SetOffset r area) = reference_takes (with_number t) r
 
-abbrev pub allocation_words : Y.Allocation → ℕ
-allocation_words (Y.AllocateBased v area target) = 6 + target_words target
-allocation_words (Y.AllocateControlled v) = 2
+abbrev pub allocation_takes : Taken → Y.Allocation → Taken
+allocation_takes t (Y.AllocateBased v area target) = target_takes (with_words 4 (behind_amounts t)) target
+allocation_takes t (Y.AllocateControlled v) = behind_amounts t
 
-abbrev pub allocations_words : List Y.Allocation → ℕ
-allocations_words [] = 0
-allocations_words (a ∷ as') = max (allocation_words a) (allocations_words as')
+abbrev pub allocations_take : Taken → List Y.Allocation → Taken
+allocations_take t [] = t
+allocations_take t (a ∷ as') = most_taken (allocation_takes t a) (allocations_take t as')
 
-abbrev pub freeing_words : Y.Freeing → ℕ
-freeing_words (Y.FreeBased v locator area) = pointer_words locator
-freeing_words (Y.FreeControlled v) = 0
+abbrev pub freeing_takes : Taken → Y.Freeing → Taken
+freeing_takes t (Y.FreeBased v locator area) = pointer_takes t locator
+freeing_takes t (Y.FreeControlled v) = t
 
-abbrev pub freeings_words : List Y.Freeing → ℕ
-freeings_words [] = 0
-freeings_words (f ∷ fs) = max (freeing_words f) (freeings_words fs)
+abbrev pub freeings_take : Taken → List Y.Freeing → Taken
+freeings_take t [] = t
+freeings_take t (f ∷ fs) = most_taken (freeing_takes t f) (freeings_take t fs)

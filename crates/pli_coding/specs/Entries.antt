@@ -15,9 +15,9 @@ use Rattle.pli_coding.specs.Frames.{list_offset, list_place, argument_at, name_b
 use Rattle.pli_coding.specs.Frames.{constant_size, is_automatic, frame_bytes, last_place, automatic_place}
 use Rattle.pli_coding.specs.Frames.{temporary_bytes}
 use Rattle.pli_coding.specs.StaticForms.{size_datum}
-use Rattle.pli_coding.specs.Environments.{Environment, none_taken}
+use Rattle.pli_coding.specs.Environments.{Environment, Taken, none_taken, most_taken}
 use Rattle.pli_coding.specs.Locating.{own_place, table_number, Address, stored, is_star_type}
-use Rattle.pli_coding.specs.Extents.{extents_code, number_word, bytes_word, initial_code, extents_words}
+use Rattle.pli_coding.specs.Extents.{extents_code, number_word, bytes_word, initial_code, extents_take}
 use Rattle.pli_coding.specs.Allocating.{act_code}
 
 -- ---- frames
@@ -252,8 +252,11 @@ variables_made e line index (d ∷ ds) =
 abbrev pub variables_code : Environment → (line : ℕ) → Code
 variables_code e line = variables_made e line 0 (variables_of_block e.program e.block)
 
--- the temporaries of extents
-abbrev pub variables_words : List Y.DeclaredVariable → ℕ
-variables_words [] = 0
-variables_words (d ∷ ds) =
-    max (if is_automatic d.class then (if has_constant_size d then 0 else extents_words d) else 0) (variables_words ds)
+-- what making a variable takes: the temporaries of its extents
+abbrev pub variable_takes : Y.DeclaredVariable → Taken
+variable_takes d =
+    if is_automatic d.class then (if has_constant_size d then none_taken else extents_take none_taken d) else none_taken
+
+abbrev pub variables_take : List Y.DeclaredVariable → Taken
+variables_take [] = none_taken
+variables_take (d ∷ ds) = most_taken (variable_takes d) (variables_take ds)

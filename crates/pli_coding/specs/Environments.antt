@@ -1,6 +1,6 @@
 -- What is known around a piece of code: the program with its table, the parts of memory, and the block whose frame it runs in;
 -- and the temporaries in use.
-use Rattle.std.specs.Prelude.{ℕ, ◌+◌, Bool, ◌&&◌, ◌==◌, nat_lt, nat_le, List, [], ◌∷◌, None, unwrap_or, if◌then◌else◌}
+use Rattle.std.specs.Prelude.{ℕ, ◌+◌, max, Bool, ◌&&◌, ◌==◌, nat_lt, nat_le, List, [], ◌∷◌, None, unwrap_or, if◌then◌else◌}
 use Rattle.rv_meaning.specs.declared.instr.Register.{Register}
 use Rattle.rv_meaning.specs.Tables.{TableSignature}
 use Rattle.pli_typing.specs.TypedTree as Y
@@ -77,6 +77,10 @@ is_register_left t = nat_lt t.registers held_registers
 abbrev pub with_number : Taken → Taken
 with_number t =
     if is_register_left t then record t { registers = t.registers + 1 } else with_words 1 t
+
+-- as many of each as either takes
+abbrev pub most_taken : Taken → Taken → Taken
+most_taken a b = record { registers = max a.registers b.registers; words = max a.words b.words }
 
 abbrev pub save : Register → Taken → Code
 save r t =

@@ -14,10 +14,10 @@ use Rattle.pli_coding.specs.Assembly.{Datum, DataPlace, OffsetOf, Code}
 use Rattle.pli_coding.specs.Instructions.{immediate, shift, move, small, constant, number, load_word, store_word, skip_where, service, error_raised}
 use Rattle.pli_coding.specs.Frames.{greatest_area, capacity_of, words_place}
 use Rattle.pli_coding.specs.StaticForms.{size_datum, bounds_datum, same_extent, initial_datum}
-use Rattle.pli_coding.specs.Environments.{Environment, Taken, with_words}
+use Rattle.pli_coding.specs.Environments.{Environment, Taken, with_words, most_taken}
 use Rattle.pli_coding.specs.Locating.{table_number}
 use Rattle.pli_coding.specs.Expressions.{number_code}
-use Rattle.pli_coding.specs.Temporaries.{number_words}
+use Rattle.pli_coding.specs.Temporaries.{number_takes}
 
 -- ---- the four words
 
@@ -144,11 +144,11 @@ initial_given r (Some d) = OffsetOf r (DataPlace d) ∷ []
 abbrev pub initial_code : Register → Y.DeclaredVariable → Code
 initial_code r d = initial_given r (initial_datum d)
 
--- ---- words that these take
+-- ---- what these take at most, behind what is taken already
 
-abbrev pub evaluations_words : List Y.Evaluation → ℕ
-evaluations_words [] = 0
-evaluations_words (x ∷ xs) = max (number_words x.value) (evaluations_words xs)
+abbrev pub evaluations_take : Taken → List Y.Evaluation → Taken
+evaluations_take t [] = t
+evaluations_take t (x ∷ xs) = most_taken (number_takes t x.value) (evaluations_take t xs)
 
-abbrev pub extents_words : Y.DeclaredVariable → ℕ
-extents_words d = extent_words + evaluations_words d.evaluations
+abbrev pub extents_take : Taken → Y.DeclaredVariable → Taken
+extents_take t d = evaluations_take (with_words extent_words t) d.evaluations

@@ -11,11 +11,11 @@ use Rattle.pli_coding.specs.Assembly.{Plain, ProcedureEntry, ReturnPlace, Extent
 use Rattle.pli_coding.specs.Instructions.{move, small, number, plus, load_word, service, error_raised}
 use Rattle.pli_coding.specs.Frames.{result}
 use Rattle.pli_coding.specs.Environments.{BlockPlace, BlockOwner, Environment, in_frame, owned_by, none_taken}
-use Rattle.pli_coding.specs.Extents.{number_word, extents_code, refer_amount, extents_words}
+use Rattle.pli_coding.specs.Extents.{number_word, extents_code, refer_amount, extents_take}
 use Rattle.pli_coding.specs.Allocating.{act_code}
 use Rattle.pli_coding.specs.Entries.{all_restored, frame_begun, frame_ended, block_entered, block_left, list_kept}
 use Rattle.pli_coding.specs.Entries.{arguments_copied, variables_code}
-use Rattle.pli_coding.specs.Statements.{block_words, block_held, stmts_words, stmts_code}
+use Rattle.pli_coding.specs.Statements.{block_words, block_held, stmts_code}
 
 -- back to the caller
 abbrev pub frame_returned : (words held : ℕ) → Code
@@ -79,7 +79,7 @@ procedure_with e head body words held parameters type =
 
 abbrev pub procedure_in : Environment → Y.BlockHead → Y.Stmts → List ℕ → Option Y.LeafType → Code
 procedure_in e head body parameters type =
-    procedure_with e head body (block_words e head.number (stmts_words body)) (block_held e head.number body)
+    procedure_with e head body (block_words e head.number body) (block_held e head.number body)
     parameters type
 
 abbrev pub procedure_of_block : Environment → Y.Block → List ℕ → Option Y.LeafType → Code
@@ -95,10 +95,10 @@ procedures_code e (p ∷ ps) = procedure_of_block e p.block p.parameters p.resul
 -- block.
 
 abbrev pub routine_words : Y.DeclaredVariable → ℕ
-routine_words d = extents_words d
+routine_words d = (extents_take none_taken d).words
 
 abbrev pub routine_held : Y.DeclaredVariable → ℕ
-routine_held d = min held_registers (routine_words d)
+routine_held d = min held_registers (extents_take none_taken d).registers
 
 abbrev pub routine_begun : Environment → Y.DeclaredVariable → Code
 routine_begun e d = frame_begun (routine_words d) e.level 0 (Some (routine_held d))

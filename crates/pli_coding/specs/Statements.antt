@@ -15,16 +15,16 @@ use Rattle.pli_coding.specs.Registers.{u1, u2, u3}
 use Rattle.pli_coding.specs.Assembly.{Item, Plain, BaseIn, LabelPlace, ReturnPlace, Mark, OffsetAhead, JumpTo, JumpAhead, JumpBack, Code, size_of}
 use Rattle.pli_coding.specs.Instructions.{registers, add, move, small, number, plus, load_word, store_word, skip_where, service, tested_service, error_raised}
 use Rattle.pli_coding.specs.Frames.{own_offset, result, display, frame_end, words_place}
-use Rattle.pli_coding.specs.Environments.{Owner, BlockOwner, UnitOwner, Environment, in_frame, owned_by, block_around, Taken, none_taken, with_words}
+use Rattle.pli_coding.specs.Environments.{Owner, BlockOwner, UnitOwner, Environment, in_frame, owned_by, block_around, Taken, none_taken, with_words, with_number, most_taken}
 use Rattle.pli_coding.specs.Arithmetic.{condition_number, raised, sum_code, constant_added, fitted_code}
 use Rattle.pli_coding.specs.Locating.{frame_found, frame_in, waiting_name, Address, loaded, name_copied, in_own_frame, text_pushed, length_loaded}
 use Rattle.pli_coding.specs.Expressions.{type_in, address_in, number_code, text_code, bit_code, reference_code, call_code, stored_code}
-use Rattle.pli_coding.specs.Temporaries.{number_words, bit_words, reference_words, call_words, stored_words}
+use Rattle.pli_coding.specs.Temporaries.{number_takes, bit_takes, reference_takes, call_takes, stored_takes}
 use Rattle.pli_coding.specs.Storing.{word_stored, top_stored, assignment_code, elements_code, aggregate_code}
-use Rattle.pli_coding.specs.Storing.{area_code', emptied_code, assigned_words, elements_words, aggregate_words}
-use Rattle.pli_coding.specs.Allocating.{act_code, allocations_code, freeings_code, allocations_words, freeings_words}
-use Rattle.pli_coding.specs.Streams.{as_text, put_code, get_code, value_words, put_words, get_words}
-use Rattle.pli_coding.specs.Entries.{registers_restored, frame_begun, frame_ended, entered_without_texts, block_left, variables_code, variables_words}
+use Rattle.pli_coding.specs.Storing.{area_code', emptied_code, assigned_takes, elements_takes, aggregate_takes}
+use Rattle.pli_coding.specs.Allocating.{act_code, allocations_code, freeings_code, allocations_take, freeings_take}
+use Rattle.pli_coding.specs.Streams.{as_text, put_code, get_code, value_takes, put_takes, get_takes}
+use Rattle.pli_coding.specs.Entries.{registers_restored, frame_begun, frame_ended, entered_without_texts, block_left, variables_code, variables_take}
 
 -- ---- tests
 
@@ -261,11 +261,70 @@ abbrev pub unit_established : Condition → (unit : Code) → Code
 unit_established c unit =
     OffsetAhead a1 (size_of (service 28) + 3) ∷ condition_given c ∷ (service 28 ++ (JumpAhead (size_of unit) ∷ unit))
 
+-- ---- what statements take at most, behind what is taken already; a block among them has a frame of its own
+
+abbrev pub number_if_takes : Taken → Option Y.Number → Taken
+number_if_takes t None = t
+number_if_takes t (Some x) = number_takes t x
+
+abbrev pub bit_if_takes : Taken → Option Y.Bit → Taken
+bit_if_takes t None = t
+bit_if_takes t (Some x) = bit_takes t x
+
+-- the value waits while its target is reached
+abbrev pub counter_takes : Taken → Y.Counter → Taken
+counter_takes t (Y.NumberCounter precision r) = reference_takes (with_number t) r
+counter_takes t (Y.TextCounter r) = reference_takes (with_number t) r
+
+-- start, limit and step, which are evaluated before the first turn
+abbrev pub begun_takes : Taken → Y.Value → Option Y.Number → Y.Number → Taken
+begun_takes t start limit step = most_taken (value_takes t start) (most_taken (number_if_takes t limit) (number_takes t step))
+
+-- what each turn takes while limit and step wait
+abbrev pub turn_takes : Taken → Y.Counter → Option Y.Bit → (body : Taken) → Taken
+turn_takes t counter condition body = most_taken (counter_takes t counter) (most_taken (bit_if_takes t condition) body)
+
+abbrev mutual
+  pub stmt_takes : Taken → Y.Stmt → Taken
+  stmt_takes t (Y.Assign target source line) = assigned_takes t target source
+  stmt_takes t (Y.AssignElements target source line) = elements_takes t target source
+  stmt_takes t (Y.AssignAggregate target source line) = most_taken (aggregate_takes t target) (aggregate_takes t source)
+  stmt_takes t (Y.If condition unit line) = most_taken (bit_takes t condition) (stmt_takes t unit)
+  stmt_takes t (Y.IfElse condition unit otherwise line) =
+      most_taken (bit_takes t condition) (most_taken (stmt_takes t unit) (stmt_takes t otherwise))
+  stmt_takes t (Y.Do body line) = stmts_take t body
+  stmt_takes t (Y.DoWhile condition body line) = most_taken (bit_takes t condition) (stmts_take t body)
+  stmt_takes t (Y.DoOnce variable start condition body line) =
+      most_taken (assigned_takes t variable start) (most_taken (bit_if_takes t condition) (stmts_take t body))
+  stmt_takes t (Y.DoCount counter start limit step condition body line) =
+      most_taken (begun_takes (before_turns t) start limit step)
+      (turn_takes (in_turns t) counter condition (stmts_take (in_turns t) body))
+  stmt_takes t (Y.CallProcedure call line) = call_takes t call
+  stmt_takes t (Y.ReturnValue type source line) = stored_takes t source
+  stmt_takes t (Y.Allocate all line) = allocations_take t all
+  stmt_takes t (Y.Free all line) = freeings_take t all
+  stmt_takes t (Y.Get skip pairs line) = get_takes t pairs
+  stmt_takes t (Y.Put skip pairs line) = put_takes t pairs
+  stmt_takes t _ = t
+
+  pub stmts_take : Taken → Y.Stmts → Taken
+  stmts_take t (Y.EndOfList labels) = t
+  stmts_take t (Y.StmtThen labels first rest) = most_taken (stmt_takes t first) (stmts_take t rest)
+
+-- and a block, with what its variables' extents take
+abbrev pub block_takes : Y.Program → (block : ℕ) → Y.Stmts → Taken
+block_takes program block body = most_taken (variables_take (variables_of_block program block)) (stmts_take none_taken body)
+
+-- a simple unit declares nothing
+abbrev pub unit_takes : Y.Program → Y.BlockHead → Y.BlockKind → Y.Stmts → Taken
+unit_takes program head Y.SimpleUnit body = stmts_take none_taken body
+unit_takes program head _ body = block_takes program head.number body
+
 -- ---- blocks where they stand
 
 -- the words of a block's temporaries
-abbrev pub block_words : Environment → (block body : ℕ) → ℕ
-block_words e block body = max (variables_words (variables_of_block e.program block)) body
+abbrev pub block_words : Environment → (block : ℕ) → Y.Stmts → ℕ
+block_words e block body = (block_takes e.program block body).words
 
 abbrev pub begin_environment : Y.BlockHead → Environment → Environment
 begin_environment head e = in_frame head.number head.level e
@@ -290,9 +349,8 @@ owner_of_unit head _ = BlockOwner (record { number = head.number; level = head.l
 abbrev pub unit_environment : Y.BlockHead → Environment → Environment
 unit_environment head e = owned_by (owner_of_unit head head.kind) (in_frame head.number head.level e)
 
-abbrev pub unit_words : Environment → Y.BlockHead → Y.BlockKind → (body : ℕ) → ℕ
-unit_words e head Y.SimpleUnit body = body
-unit_words e head _ body = block_words e head.number body
+abbrev pub unit_words : Environment → Y.BlockHead → Y.BlockKind → Y.Stmts → ℕ
+unit_words e head kind body = (unit_takes e.program head kind body).words
 
 abbrev pub unit_mark : Y.BlockHead → Y.BlockKind → Code
 unit_mark head Y.SimpleUnit = []
@@ -312,53 +370,9 @@ unit_code e head words held body =
     ++ (unit_variables (unit_environment head e) head head.kind
     ++ (act_code head.line ++ (body ++ (unit_mark head head.kind ++ unit_left words held)))))
 
--- ---- words that statements take; a block among them has a frame of its own
-
-abbrev pub number_if : Option Y.Number → ℕ
-number_if None = 0
-number_if (Some x) = number_words x
-
-abbrev pub bit_if : Option Y.Bit → ℕ
-bit_if None = 0
-bit_if (Some x) = bit_words x
-
-abbrev pub counter_words : Y.Counter → ℕ
-counter_words (Y.NumberCounter precision r) = suc (reference_words r)
-counter_words (Y.TextCounter r) = suc (reference_words r)
-
-abbrev pub count_words : Y.Counter → Y.Value → Option Y.Number → Y.Number → Option Y.Bit → (body : ℕ) → ℕ
-count_words counter start limit step condition body =
-    max (3 + max (value_words start) (max (number_if limit) (number_words step)))
-    (2 + max (counter_words counter) (max (bit_if condition) body))
-
-abbrev mutual
-  pub stmt_words : Y.Stmt → ℕ
-  stmt_words (Y.Assign target source line) = assigned_words target source
-  stmt_words (Y.AssignElements target source line) = elements_words target source
-  stmt_words (Y.AssignAggregate target source line) = max (aggregate_words target) (aggregate_words source)
-  stmt_words (Y.If condition unit line) = max (bit_words condition) (stmt_words unit)
-  stmt_words (Y.IfElse condition unit otherwise line) = max (bit_words condition) (max (stmt_words unit) (stmt_words otherwise))
-  stmt_words (Y.Do body line) = stmts_words body
-  stmt_words (Y.DoWhile condition body line) = max (bit_words condition) (stmts_words body)
-  stmt_words (Y.DoOnce variable start condition body line) =
-      max (assigned_words variable start) (max (bit_if condition) (stmts_words body))
-  stmt_words (Y.DoCount counter start limit step condition body line) =
-      count_words counter start limit step condition (stmts_words body)
-  stmt_words (Y.CallProcedure call line) = call_words call
-  stmt_words (Y.ReturnValue type source line) = stored_words source
-  stmt_words (Y.Allocate all line) = allocations_words all
-  stmt_words (Y.Free all line) = freeings_words all
-  stmt_words (Y.Get skip pairs line) = get_words pairs
-  stmt_words (Y.Put skip pairs line) = put_words pairs
-  stmt_words _ = 0
-
-  pub stmts_words : Y.Stmts → ℕ
-  stmts_words (Y.EndOfList labels) = 0
-  stmts_words (Y.StmtThen labels first rest) = max (stmt_words first) (stmts_words rest)
-
--- ---- registers that procedures and on-units save. A block's code writes no more of them than its temporaries take
--- words, since each number counts among these; BEGIN blocks save none. A GOTO ends frames without restoring what they
--- saved: where one may come to a label, all are saved.
+-- ---- registers that procedures and on-units save: those that the block's temporaries take, and those of the BEGIN
+-- blocks in it, which save none. A GOTO ends frames without restoring what they saved: where one may come to a label,
+-- all are saved.
 
 abbrev pub labels_held : List (List ℕ) → ℕ
 labels_held [] = 0
@@ -375,7 +389,7 @@ abbrev mutual
   stmt_held program (Y.DoOnce variable start condition body line) = stmts_held program body
   stmt_held program (Y.DoCount counter start limit step condition body line) = stmts_held program body
   stmt_held program (Y.Begin (Y.BlockOf head body)) =
-      max (max (variables_words (variables_of_block program head.number)) (stmts_words body)) (stmts_held program body)
+      max (block_takes program head.number body).registers (stmts_held program body)
   stmt_held program _ = 0
 
   pub stmts_held : Y.Program → Y.Stmts → ℕ
@@ -383,15 +397,15 @@ abbrev mutual
   stmts_held program (Y.StmtThen labels first rest) =
       max (labels_held labels) (max (stmt_held program first) (stmts_held program rest))
 
--- the first so many registers, of a frame with so many words for temporaries
-abbrev pub held_with : Y.Program → (words : ℕ) → Y.Stmts → ℕ
-held_with program words body = min held_registers (max words (stmts_held program body))
+-- of a frame whose own temporaries take so many
+abbrev pub held_with : Y.Program → (registers : ℕ) → Y.Stmts → ℕ
+held_with program registers body = min held_registers (max registers (stmts_held program body))
 
 abbrev pub block_held : Environment → (block : ℕ) → Y.Stmts → ℕ
-block_held e block body = held_with e.program (block_words e block (stmts_words body)) body
+block_held e block body = held_with e.program (block_takes e.program block body).registers body
 
 abbrev pub unit_held : Environment → Y.BlockHead → Y.BlockKind → Y.Stmts → ℕ
-unit_held e head kind body = held_with e.program (unit_words e head kind (stmts_words body)) body
+unit_held e head kind body = held_with e.program (unit_takes e.program head kind body).registers body
 
 -- ---- statements
 
@@ -420,12 +434,12 @@ abbrev mutual
       ++ turns_code (turn_of e t counter limit (constant_step step) condition line (stmts_code e (in_turns t) body)))
   stmt_code e t (Y.Begin (Y.BlockOf head body)) =
       act_code head.line
-      ++ begin_code e head (block_words e head.number (stmts_words body)) (stmts_code (begin_environment head e) none_taken body)
+      ++ begin_code e head (block_words e head.number body) (stmts_code (begin_environment head e) none_taken body)
   stmt_code e t (Y.OnSystem c line) = act_code line ++ (condition_given c ∷ small a1 0 ∷ service 28)
   stmt_code e t (Y.OnUnit c (Y.BlockOf head body) line) =
       act_code line
       ++ unit_established c
-      (unit_code e head (unit_words e head head.kind (stmts_words body)) (unit_held e head head.kind body)
+      (unit_code e head (unit_words e head head.kind body) (unit_held e head head.kind body)
       (stmts_code (unit_environment head e) none_taken body))
   stmt_code e t (Y.CallProcedure call line) = act_code line ++ call_code e t call
   stmt_code e t (Y.Return line) = act_code line ++ returned_by e 0 e.owner

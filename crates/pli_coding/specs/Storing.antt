@@ -11,7 +11,7 @@ use Rattle.pli_coding.specs.Registers.{zero_register, frame_register, a0, a1, a2
 use Rattle.pli_coding.specs.Assembly.{Code}
 use Rattle.pli_coding.specs.Instructions.{small, number, store_word, skip_where, service, tested_service}
 use Rattle.pli_coding.specs.Frames.{word_in}
-use Rattle.pli_coding.specs.Environments.{Environment, Taken, with_words, with_number, save, fetch}
+use Rattle.pli_coding.specs.Environments.{Environment, Taken, with_words, with_number, most_taken, save, fetch}
 use Rattle.pli_coding.specs.Arithmetic.{raised}
 use Rattle.pli_coding.specs.Locating.{own_place, Located, located, name_offset, number_loaded, class_found}
 use Rattle.pli_coding.specs.Locating.{behind_locator, waiting_name, leaf_number, is_direct, are_simple, is_referred}
@@ -19,7 +19,7 @@ use Rattle.pli_coding.specs.Locating.{leaf_found, needs_buffer, subscripts_count
 use Rattle.pli_coding.specs.Locating.{text_stored, own_name}
 use Rattle.pli_coding.specs.Expressions.{given_in, type_in, address_in, reference_code, locator_code, subscripts_code}
 use Rattle.pli_coding.specs.Expressions.{stored_code, standing_in, pointer_code, pointer_to}
-use Rattle.pli_coding.specs.Temporaries.{reference_words, stored_words, located_words}
+use Rattle.pli_coding.specs.Temporaries.{reference_takes, stored_takes}
 
 -- ---- scalars
 
@@ -88,9 +88,6 @@ record_stored t word r = store_word frame_register r (record_place t word)
 -- the temporaries in use while a record is
 abbrev pub behind_record : Y.Reference → Taken → Taken
 behind_record (Y.Referring v locator part subscripts) t = behind_locator v (with_words record_words t)
-
-abbrev pub words_behind_record : Y.Reference → ℕ
-words_behind_record (Y.Referring v locator part subscripts) = record_words + located_words v
 
 abbrev pub extent_recorded : Taken → (is_referred : Bool) → Code
 extent_recorded t true = record_stored t 3 a0
@@ -196,13 +193,14 @@ area_code' e t target source =
 abbrev pub emptied_code : Environment → Taken → Y.Variable → Code
 emptied_code e t target = area_name e a0 t target ++ service 13
 
--- ---- words that these take
+-- ---- what these take at most, behind what is taken already
 
-abbrev pub assigned_words : Y.Reference → Y.Stored → ℕ
-assigned_words target source = max (stored_words source) (4 + reference_words target)
+abbrev pub assigned_takes : Taken → Y.Reference → Y.Stored → Taken
+assigned_takes t target source = most_taken (stored_takes t source) (reference_takes (behind_value source t) target)
 
-abbrev pub aggregate_words : Y.Reference → ℕ
-aggregate_words r = record_words + reference_words r
+-- with its record
+abbrev pub aggregate_takes : Taken → Y.Reference → Taken
+aggregate_takes t r = reference_takes (with_words record_words t) r
 
-abbrev pub elements_words : Y.Reference → Y.Stored → ℕ
-elements_words target source = max (stored_words source) (4 + aggregate_words target)
+abbrev pub elements_takes : Taken → Y.Reference → Y.Stored → Taken
+elements_takes t target source = most_taken (stored_takes t source) (aggregate_takes (behind_value source t) target)

@@ -26,13 +26,13 @@ use Rattle.pli_coding.specs.Instructions.{store_word, skip_where, choice, repeat
 use Rattle.pli_coding.specs.Instructions.{tested_service, status_tested}
 use Rattle.pli_coding.specs.Frames.{buffer, buffer_kind, buffer_size, word_in}
 use Rattle.pli_coding.specs.StaticForms.{formats_datum, shape_datum}
-use Rattle.pli_coding.specs.Environments.{Environment, declaration_of, Taken, with_words, with_number, save, fetch}
+use Rattle.pli_coding.specs.Environments.{Environment, declaration_of, Taken, with_words, with_number, most_taken, save, fetch}
 use Rattle.pli_coding.specs.Arithmetic.{raised, overflow_raised, fitted_code}
 use Rattle.pli_coding.specs.Locating.{own_place, leaf_number, is_direct, direct_base, direct_register, Address}
 use Rattle.pli_coding.specs.Locating.{address_of, loaded, stored, text_pushed, text_stored}
 use Rattle.pli_coding.specs.Expressions.{given_in, type_in, number_code, text_code, bit_code}
-use Rattle.pli_coding.specs.Temporaries.{number_words, text_words, bit_words, reference_words}
-use Rattle.pli_coding.specs.Storing.{word_stored, top_stored, behind_record, words_behind_record, record_code, record_given, aggregate_words}
+use Rattle.pli_coding.specs.Temporaries.{number_takes, text_takes, bit_takes, reference_takes}
+use Rattle.pli_coding.specs.Storing.{word_stored, top_stored, behind_record, record_code, record_given, aggregate_takes}
 
 -- ---- which data items a format list has
 
@@ -476,38 +476,38 @@ get_pairs e t (p ∷ ps) = get_pair e t p (size_of (get_pairs e t ps)) ++ get_pa
 abbrev pub get_code : Environment → Taken → Option ℕ → List Y.GetPair → Code
 get_code e t skip pairs = skip_option 0 skip ++ (get_pairs e t pairs ++ edit_ended)
 
--- ---- words that these take
+-- ---- what these take at most, behind what is taken already
 
-abbrev pub value_words : Y.Value → ℕ
-value_words (Y.NumberValue precision x) = max 1 (number_words x)
-value_words (Y.TextValue x) = text_words x
-value_words (Y.BitValue x) = max 1 (bit_words x)
-value_words _ = 0
+abbrev pub value_takes : Taken → Y.Value → Taken
+value_takes t (Y.NumberValue precision x) = most_taken (with_number t) (number_takes t x)
+value_takes t (Y.TextValue x) = text_takes t x
+value_takes t (Y.BitValue x) = most_taken (with_number t) (bit_takes t x)
+value_takes t _ = t
 
--- a record, the number, and up to two that wait; what is counted by its distance needs no more than two
-abbrev pub elements_words : Y.Reference → ℕ
-elements_words r = max (aggregate_words r) (words_behind_record r + 4)
+-- a record, the number of the next element, and up to two numbers that wait; what is counted by its distance needs no more
+abbrev pub elements_take : Taken → Y.Reference → Taken
+elements_take t r = most_taken (aggregate_takes t r) (with_number (with_number (free_in (elements_of t r))))
 
-abbrev pub put_item_words : Y.PutItem → ℕ
-put_item_words (Y.PutValue v) = value_words v
-put_item_words (Y.PutAggregate r) = elements_words r
+abbrev pub put_item_takes : Taken → Y.PutItem → Taken
+put_item_takes t (Y.PutValue v) = value_takes t v
+put_item_takes t (Y.PutAggregate r) = elements_take t r
 
-abbrev pub put_items_words : List Y.PutItem → ℕ
-put_items_words [] = 0
-put_items_words (i ∷ is) = max (put_item_words i) (put_items_words is)
+abbrev pub put_items_take : Taken → List Y.PutItem → Taken
+put_items_take t [] = t
+put_items_take t (i ∷ is) = most_taken (put_item_takes t i) (put_items_take t is)
 
-abbrev pub put_words : List Y.PutPair → ℕ
-put_words [] = 0
-put_words (p ∷ ps) = max (put_items_words p.items) (put_words ps)
+abbrev pub put_takes : Taken → List Y.PutPair → Taken
+put_takes t [] = t
+put_takes t (p ∷ ps) = most_taken (put_items_take t p.items) (put_takes t ps)
 
-abbrev pub get_item_words : Y.GetItem → ℕ
-get_item_words (Y.GetScalar r) = suc (reference_words r)
-get_item_words (Y.GetAggregate r) = elements_words r
+abbrev pub get_item_takes : Taken → Y.GetItem → Taken
+get_item_takes t (Y.GetScalar r) = reference_takes (with_number t) r
+get_item_takes t (Y.GetAggregate r) = elements_take t r
 
-abbrev pub get_items_words : List Y.GetItem → ℕ
-get_items_words [] = 0
-get_items_words (i ∷ is) = max (get_item_words i) (get_items_words is)
+abbrev pub get_items_take : Taken → List Y.GetItem → Taken
+get_items_take t [] = t
+get_items_take t (i ∷ is) = most_taken (get_item_takes t i) (get_items_take t is)
 
-abbrev pub get_words : List Y.GetPair → ℕ
-get_words [] = 0
-get_words (p ∷ ps) = max (get_items_words p.items) (get_words ps)
+abbrev pub get_takes : Taken → List Y.GetPair → Taken
+get_takes t [] = t
+get_takes t (p ∷ ps) = most_taken (get_items_take t p.items) (get_takes t ps)

@@ -1,107 +1,107 @@
--- How many words of a frame the temporaries of a form take at most; each number counts, whether a register or a word holds it.
-use Rattle.std.specs.Prelude.{ℕ, suc, ◌+◌, max, if◌then◌else◌}
+-- What the temporaries of a form take at most, registers and words of the frame, behind what is taken already.
 use Rattle.pli_typing.specs.TypedTree as Y
-use Rattle.pli_coding.specs.Locating.{locator_words, is_found_first}
+use Rattle.pli_coding.specs.Environments.{Taken, with_words, with_number, most_taken}
+use Rattle.pli_coding.specs.Locating.{behind_locator}
 use Rattle.pli_coding.specs.Expressions.{list_words}
 
--- what waits while subscripts are evaluated
-abbrev pub located_words : Y.Variable → ℕ
-located_words v = if is_found_first v.class then locator_words else 0
-
 abbrev mutual
-  pub number_words : Y.Number → ℕ
-  number_words (Y.NumberConstant n) = 0
-  number_words (Y.NumberIn r) = reference_words r
-  number_words (Y.NumberFrom c) = call_words c
-  number_words (Y.NumberOfText x) = text_words x
-  number_words (Y.NumberOfBit b) = bit_words b
-  number_words (Y.Signed sign x) = max 1 (number_words x)
-  number_words (Y.Calculated operator left right) = max (number_words left) (suc (number_words right))
-  number_words (Y.Absolute x) = max 1 (number_words x)
-  number_words (Y.SignOf x) = number_words x
-  number_words (Y.Extreme extremum first more) = max (number_words first) (suc (numbers_words more))
-  number_words (Y.Modulo dividend divisor) = max (number_words dividend) (suc (number_words divisor))
-  number_words (Y.Divided precision dividend divisor) = max (number_words dividend) (suc (number_words divisor))
-  number_words (Y.LengthOf x) = text_words x
-  number_words (Y.IndexOf searched sought) = max (text_words searched) (text_words sought)
-  number_words (Y.VerifyOf searched allowed) = max (text_words searched) (text_words allowed)
-  number_words (Y.LowerBound r dimension) = reference_words r
-  number_words (Y.UpperBound r dimension) = reference_words r
-  number_words (Y.ElementsOf r dimension) = max 1 (reference_words r)
-  number_words (Y.AllocationsOf v) = 0
-  number_words Y.OnCode = 0
+  pub number_takes : Taken → Y.Number → Taken
+  number_takes t (Y.NumberConstant n) = t
+  number_takes t (Y.NumberIn r) = reference_takes t r
+  number_takes t (Y.NumberFrom c) = call_takes t c
+  number_takes t (Y.NumberOfText x) = text_takes t x
+  number_takes t (Y.NumberOfBit b) = bit_takes t b
+  number_takes t (Y.Signed sign x) = most_taken (with_number t) (number_takes t x)
+  number_takes t (Y.Calculated operator left right) = most_taken (number_takes t left) (number_takes (with_number t) right)
+  number_takes t (Y.Absolute x) = most_taken (with_number t) (number_takes t x)
+  number_takes t (Y.SignOf x) = number_takes t x
+  number_takes t (Y.Extreme extremum first more) = most_taken (number_takes t first) (numbers_take (with_number t) more)
+  number_takes t (Y.Modulo dividend divisor) = most_taken (number_takes t dividend) (number_takes (with_number t) divisor)
+  number_takes t (Y.Divided precision dividend divisor) =
+      most_taken (number_takes t dividend) (number_takes (with_number t) divisor)
+  number_takes t (Y.LengthOf x) = text_takes t x
+  number_takes t (Y.IndexOf searched sought) = most_taken (text_takes t searched) (text_takes t sought)
+  number_takes t (Y.VerifyOf searched allowed) = most_taken (text_takes t searched) (text_takes t allowed)
+  number_takes t (Y.LowerBound r dimension) = reference_takes t r
+  number_takes t (Y.UpperBound r dimension) = reference_takes t r
+  number_takes t (Y.ElementsOf r dimension) = most_taken (with_number t) (reference_takes t r)
+  number_takes t (Y.AllocationsOf v) = t
+  number_takes t Y.OnCode = t
 
   -- one at a time
-  pub numbers_words : Y.Numbers → ℕ
-  numbers_words Y.NoNumber = 0
-  numbers_words (Y.NumberThen first rest) = max (number_words first) (numbers_words rest)
+  pub numbers_take : Taken → Y.Numbers → Taken
+  numbers_take t Y.NoNumber = t
+  numbers_take t (Y.NumberThen first rest) = most_taken (number_takes t first) (numbers_take t rest)
 
-  pub text_words : Y.Text → ℕ
-  text_words (Y.TextConstant bytes) = 0
-  text_words (Y.TextIn r) = reference_words r
-  text_words (Y.TextFrom c) = call_words c
-  text_words (Y.TextOfNumber precision x) = number_words x
-  text_words (Y.TextOfBit b) = bit_words b
-  text_words (Y.Joined left right) = max (text_words left) (text_words right)
-  text_words (Y.SubstringFrom x start) = max (text_words x) (number_words start)
-  text_words (Y.Substring x start count) = max (text_words x) (max (number_words start) (suc (number_words count)))
+  pub text_takes : Taken → Y.Text → Taken
+  text_takes t (Y.TextConstant bytes) = t
+  text_takes t (Y.TextIn r) = reference_takes t r
+  text_takes t (Y.TextFrom c) = call_takes t c
+  text_takes t (Y.TextOfNumber precision x) = number_takes t x
+  text_takes t (Y.TextOfBit b) = bit_takes t b
+  text_takes t (Y.Joined left right) = most_taken (text_takes t left) (text_takes t right)
+  text_takes t (Y.SubstringFrom x start) = most_taken (text_takes t x) (number_takes t start)
+  text_takes t (Y.Substring x start count) =
+      most_taken (text_takes t x) (most_taken (number_takes t start) (number_takes (with_number t) count))
 
-  pub bit_words : Y.Bit → ℕ
-  bit_words (Y.BitConstant b) = 0
-  bit_words (Y.BitIn r) = reference_words r
-  bit_words (Y.BitFrom c) = call_words c
-  bit_words (Y.BitOfText x) = text_words x
-  bit_words (Y.Negated x) = bit_words x
-  bit_words (Y.Combined operator left right) = max (bit_words left) (suc (bit_words right))
-  bit_words (Y.NumbersCompared comparison left right) = max (number_words left) (suc (number_words right))
-  bit_words (Y.TextsCompared comparison left right) = max (text_words left) (text_words right)
-  bit_words (Y.BitsCompared comparison left right) = max (bit_words left) (suc (bit_words right))
-  bit_words (Y.PointersCompared equal left right) = max (pointer_words left) (4 + pointer_words right)
-  bit_words (Y.OffsetsCompared equal left right) = max (offset_words left) (suc (offset_words right))
+  pub bit_takes : Taken → Y.Bit → Taken
+  bit_takes t (Y.BitConstant b) = t
+  bit_takes t (Y.BitIn r) = reference_takes t r
+  bit_takes t (Y.BitFrom c) = call_takes t c
+  bit_takes t (Y.BitOfText x) = text_takes t x
+  bit_takes t (Y.Negated x) = bit_takes t x
+  bit_takes t (Y.Combined operator left right) = most_taken (bit_takes t left) (bit_takes (with_number t) right)
+  bit_takes t (Y.NumbersCompared comparison left right) =
+      most_taken (number_takes t left) (number_takes (with_number t) right)
+  bit_takes t (Y.TextsCompared comparison left right) = most_taken (text_takes t left) (text_takes t right)
+  bit_takes t (Y.BitsCompared comparison left right) = most_taken (bit_takes t left) (bit_takes (with_number t) right)
+  bit_takes t (Y.PointersCompared equal left right) = most_taken (pointer_takes t left) (pointer_takes (with_words 4 t) right)
+  bit_takes t (Y.OffsetsCompared equal left right) = most_taken (offset_takes t left) (offset_takes (with_number t) right)
 
   -- with the four words of the name
-  pub pointer_words : Y.Pointer → ℕ
-  pointer_words Y.NullPointer = 4
-  pointer_words (Y.PointerIn r) = max 4 (reference_words r)
-  pointer_words (Y.PointerFrom c) = max 4 (call_words c)
-  pointer_words (Y.AddressOf r) = max 4 (reference_words r)
-  pointer_words (Y.PointerInto x area) = max 4 (offset_words x)
+  pub pointer_takes : Taken → Y.Pointer → Taken
+  pointer_takes t Y.NullPointer = with_words 4 t
+  pointer_takes t (Y.PointerIn r) = most_taken (with_words 4 t) (reference_takes t r)
+  pointer_takes t (Y.PointerFrom c) = most_taken (with_words 4 t) (call_takes t c)
+  pointer_takes t (Y.AddressOf r) = most_taken (with_words 4 t) (reference_takes t r)
+  pointer_takes t (Y.PointerInto x area) = most_taken (with_words 4 t) (offset_takes t x)
 
-  pub offset_words : Y.Offset → ℕ
-  offset_words Y.NullOffset = 0
-  offset_words (Y.OffsetIn r) = reference_words r
-  offset_words (Y.OffsetFrom c) = call_words c
-  offset_words (Y.OffsetInto x area) = pointer_words x
+  pub offset_takes : Taken → Y.Offset → Taken
+  offset_takes t Y.NullOffset = t
+  offset_takes t (Y.OffsetIn r) = reference_takes t r
+  offset_takes t (Y.OffsetFrom c) = call_takes t c
+  offset_takes t (Y.OffsetInto x area) = pointer_takes t x
 
-  pub reference_words : Y.Reference → ℕ
-  reference_words (Y.Referring v locator part subscripts) =
-      max (locator_value_words locator) (located_words v + subscripts_words subscripts)
+  pub reference_takes : Taken → Y.Reference → Taken
+  reference_takes t (Y.Referring v locator part subscripts) =
+      most_taken (locator_takes t locator) (subscripts_take (behind_locator v t) subscripts)
 
-  pub locator_value_words : Y.Locator → ℕ
-  locator_value_words Y.NotLocated = 0
-  locator_value_words (Y.LocatedBy p) = pointer_words p
+  pub locator_takes : Taken → Y.Locator → Taken
+  locator_takes t Y.NotLocated = t
+  locator_takes t (Y.LocatedBy p) = pointer_takes t p
 
   -- all of them wait
-  pub subscripts_words : Y.Numbers → ℕ
-  subscripts_words Y.NoNumber = 0
-  subscripts_words (Y.NumberThen first rest) = max (number_words first) (suc (subscripts_words rest))
+  pub subscripts_take : Taken → Y.Numbers → Taken
+  subscripts_take t Y.NoNumber = t
+  subscripts_take t (Y.NumberThen first rest) = most_taken (number_takes t first) (subscripts_take (with_number t) rest)
 
-  pub call_words : Y.Call → ℕ
-  call_words (Y.Calling procedure level as') = list_words as' + arguments_words as'
+  -- behind the list of its arguments
+  pub call_takes : Taken → Y.Call → Taken
+  call_takes t (Y.Calling procedure level as') = arguments_take (with_words (list_words as') t) as'
 
-  pub arguments_words : Y.Arguments → ℕ
-  arguments_words Y.NoArgument = 0
-  arguments_words (Y.ArgumentThen first rest) = max (argument_words first) (arguments_words rest)
+  pub arguments_take : Taken → Y.Arguments → Taken
+  arguments_take t Y.NoArgument = t
+  arguments_take t (Y.ArgumentThen first rest) = most_taken (argument_takes t first) (arguments_take t rest)
 
-  pub argument_words : Y.Argument → ℕ
-  argument_words (Y.ByReference r) = reference_words r
-  argument_words (Y.ByCopy type v) = stored_words v
-  argument_words (Y.ByOffsetInParameter p parameter) = pointer_words p
-  argument_words (Y.ByOffsetInAutomatic p) = pointer_words p
+  pub argument_takes : Taken → Y.Argument → Taken
+  argument_takes t (Y.ByReference r) = reference_takes t r
+  argument_takes t (Y.ByCopy type v) = stored_takes t v
+  argument_takes t (Y.ByOffsetInParameter p parameter) = pointer_takes t p
+  argument_takes t (Y.ByOffsetInAutomatic p) = pointer_takes t p
 
-  pub stored_words : Y.Stored → ℕ
-  stored_words (Y.StoredNumber precision x) = max 1 (number_words x)
-  stored_words (Y.StoredText x) = text_words x
-  stored_words (Y.StoredBit x) = bit_words x
-  stored_words (Y.StoredPointer x) = pointer_words x
-  stored_words (Y.StoredOffset x) = offset_words x
+  pub stored_takes : Taken → Y.Stored → Taken
+  stored_takes t (Y.StoredNumber precision x) = most_taken (with_number t) (number_takes t x)
+  stored_takes t (Y.StoredText x) = text_takes t x
+  stored_takes t (Y.StoredBit x) = bit_takes t x
+  stored_takes t (Y.StoredPointer x) = pointer_takes t x
+  stored_takes t (Y.StoredOffset x) = offset_takes t x
