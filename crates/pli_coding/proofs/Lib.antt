@@ -1,3 +1,8 @@
+pub mod TakesNeeds
+pub mod StatementBounds
+pub mod TakesBounds
+pub mod TakesMore
+pub mod Takes
 pub mod RowPieces
 mod CodeRows
 mod CountRows
