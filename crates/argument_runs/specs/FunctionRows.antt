@@ -15,7 +15,7 @@ use Rattle.pli_coding.specs.Images.{code_of, environment_of, linked_code, raise_
 use Rattle.pli_coding.specs.Linking.{links_of}
 use Rattle.pli_coding.specs.Procedures.{procedure_environment}
 use Rattle.pli_coding.specs.SignatureTable.{table_of}
-use Rattle.pli_coding.specs.Statements.{block_held, block_words, stmts_words}
+use Rattle.pli_coding.specs.Statements.{block_held, block_words}
 use Rattle.activation_relation.specs.Layers.{services_of}
 use Rattle.run_steps.specs.Reach.{Comes, never}
 use Rattle.program_runs.specs.Procedures.{Procedure, procedure_code}
@@ -107,7 +107,7 @@ applied_main =
     record {
       head = row_head 0 0 1;
       body = applied_body;
-      words = block_words applied_environment 0 (stmts_words applied_body);
+      words = block_words applied_environment 0 applied_body;
       saved = block_held applied_environment 0 applied_body;
       variables = variables_code applied_environment 1;
     }
@@ -117,7 +117,7 @@ applied_inner =
     record {
       head = row_head 1 1 2;
       body = inner_body;
-      words = block_words inner_environment 1 (stmts_words inner_body);
+      words = block_words inner_environment 1 inner_body;
       saved = block_held inner_environment 1 inner_body;
       variables = [];
     }

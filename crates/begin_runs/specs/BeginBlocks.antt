@@ -12,7 +12,7 @@ use Rattle.pli_coding.specs.Assembly.{Code, size_of}
 use Rattle.pli_coding.specs.Entries.{variables_code}
 use Rattle.pli_coding.specs.Environments.{Environment, none_taken}
 use Rattle.pli_coding.specs.Frames.{fixed_size, temporary_bytes}
-use Rattle.pli_coding.specs.Statements.{begin_environment, block_words, stmt_code, stmts_code, stmts_words}
+use Rattle.pli_coding.specs.Statements.{begin_environment, block_words, stmt_code, stmts_code}
 use Rattle.activation_relation.specs.CodeStores.{most_levels}
 use Rattle.activation_relation.specs.Frames.{lower_end, upper_top}
 use Rattle.activation_relation.specs.Landing.{Changed, resumed, with_units}
@@ -177,7 +177,7 @@ pub record IsBegin (k : Block) (x : Inner) (index more : ℕ) : Type 0 where
       Linked k.call.surroundings.links k.call.code index (stmt_code k.environment none_taken (begin_of x))
   pub kind : x.head.kind ≡ Y.BeginBlock
   -- the words and the code of its variables are those that the program's block has
-  pub words : block_words k.environment x.head.number (stmts_words x.body) ≡ x.words
+  pub words : block_words k.environment x.head.number x.body ≡ x.words
   pub variables : variables_code (environment_of k x) x.head.line ≡ x.variables
   -- it stands in the running block, and its frame fits between the stacks
   pub level : x.head.level ≡ suc k.call.beginning.layer.level

@@ -15,7 +15,7 @@ use Rattle.pli_coding.specs.Images.{code_of, environment_of, linked_code, raise_
 use Rattle.pli_coding.specs.Linking.{links_of}
 use Rattle.pli_coding.specs.Procedures.{procedure_environment}
 use Rattle.pli_coding.specs.SignatureTable.{table_of}
-use Rattle.pli_coding.specs.Statements.{block_held, block_words, stmts_words}
+use Rattle.pli_coding.specs.Statements.{block_held, block_words}
 use Rattle.activation_relation.specs.Layers.{services_of}
 use Rattle.run_steps.specs.Reach.{Comes, never}
 use Rattle.program_runs.specs.Procedures.{Procedure, procedure_code}
@@ -86,7 +86,7 @@ nest_main =
     record {
       head = row_head 0 0 1;
       body = nest_body;
-      words = block_words nest_environment 0 (stmts_words nest_body);
+      words = block_words nest_environment 0 nest_body;
       saved = block_held nest_environment 0 nest_body;
       variables = variables_code nest_environment 1;
     }
@@ -97,7 +97,7 @@ nest_inner head body more =
     record {
       head = head;
       body = body;
-      words = block_words nest_environment head.number (stmts_words body);
+      words = block_words nest_environment head.number body;
       variables = [];
       around = record { program = nest_program; enter = entered nest_program more; turns = suc more; line = 0 };
       made = λ q. q;

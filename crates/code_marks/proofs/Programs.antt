@@ -28,7 +28,7 @@ use Rattle.pli_coding.specs.Frames.{own_offset, lower_top, name_bytes, constant_
 use Rattle.pli_coding.specs.Frames.{argument_at}
 use Rattle.pli_coding.specs.Locating.{table_number}
 use Rattle.pli_coding.specs.Extents.{number_word}
-use Rattle.pli_coding.specs.Statements.{block_words, block_held, stmts_words}
+use Rattle.pli_coding.specs.Statements.{block_words, block_held}
 use Rattle.pli_coding.specs.Registers.{u0, u3}
 
 -- ---- arguments
@@ -160,7 +160,7 @@ procedure_marks : (e : Environment) (b : Y.Block) (ps : List ℕ) (result : Opti
     → Marking (P.procedure_of_block e b ps result) (block_symbols b)
 procedure_marks e (Y.BlockOf head body) ps result =
     let inside = P.procedure_environment head e in
-    let words = block_words inside head.number (stmts_words body) in
+    let words = block_words inside head.number body in
     let held = block_held inside head.number body in
     mark_then (ProcedureEntry head.number)
     (behind (begun_none inside head words held ps)

@@ -245,7 +245,7 @@ procedure_most e p = by p.block where
       ≤ procedure_size e.program (record p { block = b })
   by (Y.BlockOf head body) =
       let inside = R.procedure_environment head e in
-      body_most inside head body (G.block_words inside head.number (G.stmts_words body))
+      body_most inside head body (G.block_words inside head.number body)
       (G.block_held inside head.number body) p.parameters p.result (few_held _)
 
 procedures_most : (e : Environment) (ps : List Y.Procedure)

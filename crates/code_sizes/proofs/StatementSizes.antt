@@ -416,14 +416,14 @@ mutual
       count_most e t c start limit step condition line (G.stmts_code e (G.in_turns t) body) (stmts_size e.program body)
       (stmts_sized e (G.in_turns t) body)
   stmt_sized e t (Y.Begin (Y.BlockOf head body)) =
-      begin_most e head (G.block_words e head.number (G.stmts_words body))
+      begin_most e head (G.block_words e head.number body)
       (G.stmts_code (G.begin_environment head e) none_taken body) (stmts_size e.program body)
       (stmts_sized (G.begin_environment head e) none_taken body)
   stmt_sized e t (Y.OnSystem c line) =
       acts_most line (G.condition_given c ∷ small a1 0 ∷ service 28) 4 (omega arith)
   stmt_sized e t (Y.OnUnit c (Y.BlockOf head body) line) =
       let inner = G.unit_environment head e in
-      let words = G.unit_words e head head.kind (G.stmts_words body) in
+      let words = G.unit_words e head head.kind body in
       let held = G.unit_held e head head.kind body in
       let few : held ≤ 7 = few_held _ in
       let unit = unit_most e head words held (G.stmts_code inner none_taken body) (stmts_size e.program body) few

@@ -15,7 +15,7 @@ use Rattle.pli_coding.specs.Images.{code_of, environment_of, linked_code, raise_
 use Rattle.pli_coding.specs.Linking.{links_of}
 use Rattle.pli_coding.specs.Procedures.{procedure_environment}
 use Rattle.pli_coding.specs.SignatureTable.{table_of}
-use Rattle.pli_coding.specs.Statements.{block_held, block_words, stmts_words}
+use Rattle.pli_coding.specs.Statements.{block_held, block_words}
 use Rattle.activation_relation.specs.Layers.{services_of}
 use Rattle.run_steps.specs.Reach.{Comes, never}
 use Rattle.program_runs.specs.Procedures.{Procedure, procedure_code}
@@ -71,7 +71,7 @@ double_main =
     record {
       head = row_head 0 0 1;
       body = double_body;
-      words = block_words double_environment 0 (stmts_words double_body);
+      words = block_words double_environment 0 double_body;
       saved = block_held double_environment 0 double_body;
       variables = variables_code double_environment 1;
     }

@@ -15,7 +15,7 @@ use Rattle.pli_coding.specs.Images.{code_of, environment_of, linked_code, raise_
 use Rattle.pli_coding.specs.Linking.{links_of}
 use Rattle.pli_coding.specs.Procedures.{procedure_environment}
 use Rattle.pli_coding.specs.SignatureTable.{table_of}
-use Rattle.pli_coding.specs.Statements.{block_held, block_words, stmts_words}
+use Rattle.pli_coding.specs.Statements.{block_held, block_words}
 use Rattle.activation_relation.specs.Layers.{services_of}
 use Rattle.run_steps.specs.Reach.{Comes, never}
 use Rattle.program_runs.specs.Procedures.{Procedure, procedure_code}
@@ -95,7 +95,7 @@ local_main =
     record {
       head = row_head 0 0 1;
       body = local_body;
-      words = block_words local_environment 0 (stmts_words local_body);
+      words = block_words local_environment 0 local_body;
       saved = block_held local_environment 0 local_body;
       variables = variables_code local_environment 1;
     }
@@ -105,7 +105,7 @@ local_inner =
     record {
       head = row_head 1 1 2;
       body = inner_body;
-      words = block_words inner_environment 1 (stmts_words inner_body);
+      words = block_words inner_environment 1 inner_body;
       saved = block_held inner_environment 1 inner_body;
       variables = variables_code inner_environment 2;
     }

@@ -1,3 +1,4 @@
+pub mod StatementNeeds
 pub mod TakesNeeds
 pub mod StatementBounds
 pub mod TakesBounds

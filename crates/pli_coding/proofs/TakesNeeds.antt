@@ -17,7 +17,7 @@ locator_spares_by : (q : Bool) (t : Taken) → spare (cond q (with_words locator
 locator_spares_by true t = refl
 locator_spares_by false t = refl
 
-locator_spares : (v : Y.Variable) (t : Taken) → spare (behind_locator v t) ≡ spare t
+pub locator_spares : (v : Y.Variable) (t : Taken) → spare (behind_locator v t) ≡ spare t
 locator_spares v t = locator_spares_by (is_found_first v.class) t
 
 mutual

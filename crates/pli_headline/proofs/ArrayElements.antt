@@ -33,6 +33,8 @@ use Rattle.pli_coding.specs.Expressions.{given_in, number_code, reference_code, 
 use Rattle.pli_coding.specs.Locating as L
 use Rattle.pli_coding.specs.Storing.{is_near, word_stored}
 use Rattle.pli_coding.specs.Linking.{Links}
+use Rattle.pli_coding.specs.WordBounds.{spare}
+use Rattle.pli_coding.proofs.Takes.{none_spare, number_counts}
 use Rattle.pli_headline.specs.ProvedSoFar.{Names, constant_bounds, AreBounds, array_variable}
 use Rattle.run_steps.specs.Engine.{Base, address}
 use Rattle.run_steps.proofs.Linking.{size_append}
@@ -55,7 +57,7 @@ use Rattle.pli_headline.proofs.Raising.{Routines}
 use Rattle.pli_headline.proofs.Operators.{valued}
 use Rattle.pli_headline.proofs.Scalars.{IsNumeric, by_type, value_as, Fits, fits_wide, load_kind, store_kind}
 use Rattle.pli_headline.proofs.Variables.{whole_part, own, level_of, data_place, declared_in, type_by}
-use Rattle.pli_headline.proofs.Evaluations.{Kind, Evaluates, with_words_most}
+use Rattle.pli_headline.proofs.Evaluations.{Kind, Evaluates}
 use Rattle.pli_headline.proofs.ArrayPlaces.{AllWide, place_inside}
 use Rattle.pli_headline.proofs.ArrayMeant.{HoldsArray, element, designated_element, element_meant, element_checked, element_seen, element_state, element_stored}
 use Rattle.pli_headline.proofs.Subscripts.{AllGive, EvaluatesAll}
@@ -270,7 +272,7 @@ pub element_piece : {links : Links} {code : List Instr} {i : ℕ} {g : Ground} {
     List Bounds} {n : ℕ → ℤ} (closed : Closed code aims) (routines : Routines links code) (scope :
     ArrayScope g e s block j type bs n) (f : Family) (around : Around) (taken : Taken) (k words : ℕ) (first :
     Y.Number) (rest : Y.Numbers) → EvaluatesAll links code g v s k words e around (Y.NumberThen first rest)
-    → suc (given_in rest) ≡ length bs → taken.words + words ≤ g.words → Serving k s v around.line
+    → suc (given_in rest) ≡ length bs → taken.words + words ≤ g.words + spare taken → Serving k s v around.line
     → Linked links code i (element_code e taken (level_of block j) bs first rest)
     → ((b : Base) → At b i (Known g v h t nothing b) (f b))
     → ((is : List ℤ) (f' : Family) (h' t' : ℕ → ℕ) → is_within bs is ≡ true → Stays taken h t h' t'
@@ -426,7 +428,7 @@ stored_by_piece : (q : Bool) {links : Links} {code : List Instr} {i : ℕ} {g : 
     ℤ) (k words : ℕ) (first : Y.Number) (rest : Y.Numbers)
     → EvaluatesAll links code g v s k words e around (Y.NumberThen first rest)
     → L.are_simple e (Y.NumberThen first rest) ≡ q → suc (given_in rest) ≡ length bs → Fits type z
-    → taken.words + suc words ≤ g.words → Serving k s v around.line
+    → taken.words + suc words ≤ g.words + spare taken → Serving k s v around.line
     → ((p : ℕ) (b : Base) (h' : ℕ → ℕ) → reserved_are b g h' ≡ reserved_are b (g' p) h')
     → ((p : ℕ) → p < element_count bs → (t' : ℕ → ℕ) (b : Base) (m : List ℕ) → length m ≡ memory_size
     → g.memory t' b m
@@ -505,8 +507,8 @@ stored_by_piece false {links = links} {code = code} {i = i} {g = g} g' {v = v} {
     let e3 = size_append back last in
     let there : i + size_of put' + size_of a + size_of back + size_of last
     ≡ i + size_of (put' ++ (a ++ (back ++ last))) = omega (arith, e1, e2, e3) in
-    let more = with_words_most taken in
-    let one : is_register_left taken ≡ false → taken.words < g.words = λ none. omega (arith, room) in
+    let more = number_counts taken in
+    let one : is_register_left taken ≡ false → taken.words < g.words = λ none. let z = none_spare taken none in omega (arith, z, room) in
     let h1 = held_with taken (word z) h in
     let t1 = words_with taken (word z) t in
     let next' : V.Designated → Meaning (Unit {0}) = λ d. P.element_stored d (value_as type z) in
@@ -544,7 +546,7 @@ pub element_stored_piece : {links : Links} {code : List Instr} {i : ℕ} {g : Gr
     Temporaries g) (scope : ArrayScope g e s block j type bs n) (f : Family) (around : Around) (taken : Taken) (z :
     ℤ) (k words : ℕ) (first : Y.Number) (rest : Y.Numbers)
     → EvaluatesAll links code g v s k words e around (Y.NumberThen first rest) → suc (given_in rest) ≡ length bs
-    → Fits type z → taken.words + suc words ≤ g.words → Serving k s v around.line
+    → Fits type z → taken.words + suc words ≤ g.words + spare taken → Serving k s v around.line
     → ((p : ℕ) (b : Base) (h' : ℕ → ℕ) → reserved_are b g h' ≡ reserved_are b (g' p) h')
     → ((p : ℕ) → p < element_count bs → (t' : ℕ → ℕ) (b : Base) (m : List ℕ) → length m ≡ memory_size
     → g.memory t' b m

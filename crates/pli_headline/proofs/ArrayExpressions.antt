@@ -15,8 +15,8 @@ use Rattle.pli_serving.specs.ServiceState.{Services}
 use Rattle.pli_coding.specs.Assembly.{Code}
 use Rattle.pli_coding.specs.Environments.{Environment, Taken}
 use Rattle.pli_coding.specs.Expressions.{given_in, number_code, bit_code}
-use Rattle.pli_coding.specs.Temporaries.{number_words, bit_words, subscripts_words}
 use Rattle.pli_coding.specs.Linking.{Links}
+use Rattle.pli_coding.specs.WordBounds.{number_words, bit_words, subscripts_words}
 use Rattle.pli_headline.specs.ProvedSoFar.{Names}
 use Rattle.run_steps.specs.Bodies.{Ground}
 use Rattle.pli_headline.proofs.Serving.{Serving}

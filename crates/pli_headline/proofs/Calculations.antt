@@ -13,6 +13,7 @@ use Rattle.pli_coding.specs.Assembly.{size_of}
 use Rattle.pli_coding.specs.Environments.{Taken, is_register_left}
 use Rattle.pli_coding.specs.Arithmetic.{calculated_code}
 use Rattle.pli_coding.specs.Linking.{Links}
+use Rattle.pli_coding.proofs.Takes.{none_spare}
 use Rattle.run_steps.specs.Engine.{Base}
 use Rattle.run_steps.specs.Items.{Linked, At}
 use Rattle.run_steps.specs.Numbers.{IsWide}
@@ -36,5 +37,5 @@ pub calculated_operates : {links : Links} {code : List Instr} {g : Ground} {v : 
 calculated_operates {k = k} routines temps around serving operator x y wx wy =
     record {
       does = λ closed f taken room l at gone.
-          calculated_piece operator closed routines temps f around taken x y k wx wy (λ none. omega (arith, room)) l serving at gone;
+          calculated_piece operator closed routines temps f around taken x y k wx wy (λ none. let z = none_spare taken none in omega (arith, z, room)) l serving at gone;
     }

@@ -26,9 +26,9 @@ use Rattle.pli_coding.specs.Instructions.{move, plus, number, load_word, is_imme
 use Rattle.pli_coding.specs.Frames.{display, own_offset}
 use Rattle.pli_coding.specs.Allocating.{act_code}
 use Rattle.pli_coding.specs.Entries.{all_restored, frame_begun, frame_ended, block_left, variables_made}
-use Rattle.pli_coding.specs.Environments.{Environment, none_taken}
+use Rattle.pli_coding.specs.Environments.{Environment, Taken, none_taken, most_taken}
 use Rattle.pli_coding.specs.Expressions.{frame_given}
-use Rattle.pli_coding.specs.Statements.{held_with, stmts_words, stmts_code}
+use Rattle.pli_coding.specs.Statements.{held_with, stmts_take, stmts_code}
 use Rattle.pli_coding.specs.Procedures.{procedure_environment, procedure_in}
 use Rattle.pli_coding.specs.Linking.{Links, place_of}
 use Rattle.pli_headline.specs.ProvedSoFar.{Names, Types, ArePlain}
@@ -46,7 +46,7 @@ use Rattle.pli_headline.proofs.Serving.{Serving}
 use Rattle.pli_headline.proofs.Acts.{act_to, act_piece}
 use Rattle.pli_headline.proofs.Entered.{atop, procedure_way}
 use Rattle.pli_headline.proofs.Declares.{Makes, made_block, declares_from, code_joined}
-use Rattle.pli_headline.proofs.DeclaredBegins.{vars_of, no_words, ended_does}
+use Rattle.pli_headline.proofs.DeclaredBegins.{vars_of, none_taken_for, ended_does}
 use Rattle.pli_headline.proofs.StandingBytes.{ConstantsStand}
 use Rattle.pli_headline.proofs.Statements.{owner_level, Block, IsKnown, AllHold, counted_all, Enough, Does, further}
 use Rattle.pli_headline.proofs.CalledJumps.{ending_closed, comes_called}
@@ -66,6 +66,7 @@ use Rattle.pli_headline.proofs.CalledLeft.{ending_ground, called_ended, called_l
 use Rattle.run_steps.specs.Reach.{Family, Aims, Comes, Closed}
 use Rattle.run_steps.proofs.Reach.{before_closed, comes_on, onward}
 use Rattle.pli_headline.proofs.Scalars.{Values}
+use Rattle.pli_headline.specs.InnerWords.{body_words}
 
 -- ---- the code of the procedure
 
@@ -83,13 +84,13 @@ abbrev pub called_code : Environment → Y.BlockHead → (words held : ℕ) → 
 called_code e head words held body =
     Mark (ProcedureEntry head.number) ∷ (frame_begun words 1 0 (Some held) ++ called_behind e head words held body)
 
-abbrev code_with : Environment → Y.BlockHead → Y.Stmts → (level words : ℕ) → Code
-code_with e head body level words =
+abbrev code_with : Environment → Y.BlockHead → Y.Stmts → (level : ℕ) → Taken → Code
+code_with e head body level taken =
     Mark (ProcedureEntry head.number)
-    ∷ ((frame_begun words level 0 (Some (held_with e.program words body))
+    ∷ ((frame_begun taken.words level 0 (Some (held_with e.program taken.registers body))
     ++ (called_entry head.line ++ (called_variables e head ++ act_code head.line)))
     ++ (stmts_code (procedure_environment head e) none_taken body
-    ++ (Mark (ReturnPlace head.number) ∷ called_ended words (held_with e.program words body))))
+    ++ (Mark (ReturnPlace head.number) ∷ called_ended taken.words (held_with e.program taken.registers body))))
 
 joined : (frame enter made act code ended : Code) → (frame ++ (enter ++ (made ++ act))) ++ (code ++ ended) ≡ frame ++ (enter ++ ((made ++ (act ++ code)) ++ ended))
 joined frame enter made act code ended =
@@ -99,12 +100,12 @@ joined frame enter made act code ended =
 
 pub called_code_is : (e : Environment) (head : Y.BlockHead) (body : Y.Stmts) → head.level ≡ 1
     → ArePlain (vars_of e head) → procedure_in (procedure_environment head e) head body [] None
-    ≡ called_code e head (max 0 (stmts_words body)) (held_with e.program (max 0 (stmts_words body)) body) body
+    ≡ called_code e head (max 0 (body_words body)) (held_with e.program (max 0 (stmts_take none_taken body).registers) body) body
 called_code_is e head body next are =
-    let words = max 0 (stmts_words body) in
-    let held = held_with e.program words body in
-    ap (λ n. code_with e head body head.level (max n (stmts_words body))) (no_words (vars_of e head) are)
-    ∙ ap (λ level. code_with e head body level words) next
+    let words = max 0 (body_words body) in
+    let held = held_with e.program (max 0 (stmts_take none_taken body).registers) body in
+    ap (λ t. code_with e head body head.level (most_taken t (stmts_take none_taken body))) (none_taken_for (vars_of e head) are)
+    ∙ ap (λ level. code_with e head body level (most_taken none_taken (stmts_take none_taken body))) next
     ∙ ap (λ c. Mark (ProcedureEntry head.number) ∷ c)
     (joined (frame_begun words 1 0 (Some held)) (called_entry head.line) (called_variables e head)
     (act_code head.line) (stmts_code (procedure_environment head e) none_taken body)

@@ -28,7 +28,7 @@ use Rattle.pli_coding.specs.Extents.{initial_code}
 use Rattle.pli_coding.specs.Allocating.{act_code}
 use Rattle.pli_coding.specs.Entries.{frame_begun, block_entered, constant_made, variables_made, variables_code}
 use Rattle.pli_coding.specs.Entries.{all_saved, all_restored, registers_saved, registers_restored}
-use Rattle.pli_coding.specs.Statements.{stmt_code, stmts_code, stmts_words, block_words, marked, block_held}
+use Rattle.pli_coding.specs.Statements.{stmt_code, stmts_code, block_words, marked, block_held}
 use Rattle.pli_coding.specs.Procedures.{procedure_begun, procedure_ended, procedure_in}
 use Rattle.pli_coding.specs.Images.{raise_code, code_of}
 use Rattle.pli_headline.specs.ProvedSoFar.{main_names}
@@ -286,7 +286,7 @@ prologue_none e block line words count plain =
 pub program_names : (program : Y.Program) (block line : ℕ) (body : Y.Stmts) → AllNumbers program.variables → (alone : IsAlone program block line body) → alone.others ≡ [] → AreFirstStatements block (length (variables_of_block program block)) body → data_named (code_of parts program) ≡ stmts_data body
 program_names program block line body plain alone none are =
     let e = main_environment program block in
-    let words = block_words e block (stmts_words body) in
+    let words = block_words e block body in
     let count = block_held e block body in
     let begun = procedure_begun e (main_head block line) words count [] in
     let code = stmts_code e none_taken body in

@@ -4,7 +4,7 @@ use Rattle.std.specs.Prelude.{max}
 use Rattle.pli_typing.specs.TypedTree as Y
 use Rattle.pli_coding.specs.Environments.{Environment, Taken}
 use Rattle.pli_coding.specs.Storing as K
-use Rattle.pli_coding.specs.Temporaries.{reference_words}
+use Rattle.pli_coding.specs.WordBounds.{aggregate_words, reference_words}
 use Rattle.pli_headline.specs.ProvedSoFar.{Names, Types, AreAlike, AreAlikeTexts, AreCopied, array_variable, text_leaf}
 use Rattle.pli_headline.proofs.Scalars.{element_numeric}
 use Rattle.pli_headline.proofs.Variables.{HasTypes, own, whole}
@@ -30,7 +30,7 @@ alike_none e t block types target source has o =
 most_four : (x y : ℕ) → x ≡ 0 → y ≡ 0 → max (4 + x) (4 + y) ≤ 4
 most_four x y e e' = subst (λ u. max (4 + u) (4 + y) ≤ 4) (sym e) (subst (λ u. max 4 (4 + u) ≤ 4) (sym e') (omega arith))
 
-alike_words : (block : Names) (types : Types) (target source : Y.Reference) → AreAlike block types target source → max (K.aggregate_words target) (K.aggregate_words source) ≤ 4
+alike_words : (block : Names) (types : Types) (target source : Y.Reference) → AreAlike block types target source → max (aggregate_words target) (aggregate_words source) ≤ 4
 alike_words block types target source o =
     most_four (reference_words target) (reference_words source) (ap reference_words o.target_is.is) (ap reference_words o.source_is.is)
 
@@ -52,7 +52,7 @@ pub copies_none : (e : Environment) (t : Taken) (block : Names) (types : Types) 
 copies_none e t block types target source has (inl o) = alike_none e t block types target source has o
 copies_none e t block types target source has (inr o) = alike_texts_none e t block types target source has o
 
-pub copies_words : (block : Names) (types : Types) (target source : Y.Reference) → AreCopied block types target source → max (K.aggregate_words target) (K.aggregate_words source) ≤ 4
+pub copies_words : (block : Names) (types : Types) (target source : Y.Reference) → AreCopied block types target source → max (aggregate_words target) (aggregate_words source) ≤ 4
 copies_words block types target source (inl o) = alike_words block types target source o
 copies_words block types target source (inr o) =
     most_four (reference_words target) (reference_words source) (ap reference_words o.target_is.is) (ap reference_words o.source_is.is)

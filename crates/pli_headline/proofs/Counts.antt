@@ -26,12 +26,12 @@ use Rattle.pli_coding.specs.Environments.{Environment, Taken}
 use Rattle.pli_coding.specs.Expressions.{number_code}
 use Rattle.pli_coding.specs.Storing.{word_stored}
 use Rattle.pli_coding.specs.Frames.{words_place}
-use Rattle.pli_coding.specs.Temporaries.{number_words, reference_words}
 use Rattle.pli_coding.specs.Statements.{constant_step, step_place, in_turns, before_turns, limit_code, step_kept}
-use Rattle.pli_coding.specs.Statements.{step_code, number_if, limit_kept, while_kept, step_added, stepped_code}
+use Rattle.pli_coding.specs.Statements.{step_code, limit_kept, while_kept, step_added, stepped_code}
 use Rattle.pli_coding.specs.Statements.{turn_of, words_behind_condition, words_behind_limit, words_back, turns_code}
-use Rattle.pli_coding.specs.Statements.{bit_if}
 use Rattle.pli_coding.specs.Linking.{Links}
+use Rattle.pli_coding.specs.WordBounds.{number_words, reference_words, number_if, bit_if, spare}
+use Rattle.pli_coding.proofs.Takes.{none_spare}
 use Rattle.pli_headline.specs.ProvedSoFar.{Names, Types, IsProvedNumber, IsProvedNumberIf, IsProvedBitIf}
 use Rattle.pli_headline.proofs.Storages.{storage}
 use Rattle.run_steps.specs.Engine.{Base, address}
@@ -190,7 +190,7 @@ added_piece {i = i} {v = v} {h = h} {t = t} {s = s} {aims = aims} bl routines ar
     }) (record { reserved_stay = λ y u. refl; known_stay = λ b y u q. q; set = λ y u. refl })
     (front_of c d l4) at3)
     (λ f4 at4.
-    sum_piece closed routines.raises (bl.temps n) f4 around taken z step k wz ws (λ none. omega (arith, room, w))
+    sum_piece closed routines.raises (bl.temps n) f4 around taken z step k wz ws (λ none. let z = none_spare taken none in omega (arith, z, room, w))
     (back_of c d l4) serving
     (λ b. let o =
     at4 b in record {
@@ -204,14 +204,15 @@ added_piece {code = code} {i = i} {v = v} {s = s} {aims = aims} bl routines arou
     let w = bl.words_are n in
     subst (λ q. Comes code i f v aims (R.value_of around (checked 31 (z +ℤ q)) k s)) (sym at_step)
     (constant_piece closed routines.raises (bl.temps n) f around (in_turns bl.taken) z c k wz
-    (subst IsWide at_step ws) (λ none. omega (arith, room, w)) l serving at gone)
+    (subst IsWide at_step ws) (λ none. let z = none_spare (in_turns bl.taken) none in omega (arith, z, room, w)) l serving at gone)
 
 pub stepping_piece : {links : Links} {code : List Instr} {i : ℕ} {v : Services} {h t : ℕ → ℕ} {s : State} {aims :
     Aims (Unit {0})} {e : Environment} {block : Names} {types : Types} (bl : Block e block types) (routines :
     Standing bl links code) (around : Around) (line : ℕ) (r : Y.Reference) (p : ℕ) (fixed : Option ℤ) (step :
     ℤ) (closed : Closed code aims) (n : Values) (f : Family) (old k : ℕ) → line < 2 ^ 31 → p ≤ 31
     → IsProvedNumber block types (Y.NumberIn r) → IsWide step → StepWaits fixed step t (bl.taken.words + 1)
-    → bl.taken.words + 3 + reference_words r ≤ bl.words
+    → bl.taken.words + 3 ≤ bl.words
+    → bl.taken.words + 3 + reference_words r ≤ bl.words + spare bl.taken
     → Linked links code i (stepped_code e bl.taken (Y.NumberCounter p r) fixed line) → Serving k s v old
     → AllHold bl.frames bl.serials (storage v) (e.level ∷ bl.depths) s block types n
     → ((b : Base) → At b i (Known (bl.ground n) v h t nothing b) (f b))
@@ -226,7 +227,7 @@ pub stepping_piece : {links : Links} {code : List Instr} {i : ℕ} {v : Services
     → Comes code i f v aims (M.stepped (at_line around line) (Y.NumberCounter p r) step k s)
 unfolding M.stepped M.counter_number M.counter_value V.number ◌>>=◌ give
 stepping_piece {links = links} {code = code} {i = i} {v = v} {h = h} {t = t} {s = s} {aims = aims} {e = e} {block =
-    block} {types = types} bl routines around line r p fixed step closed n f old k fits few mine ws at_step room l
+    block} {types = types} bl routines around line r p fixed step closed n f old k fits few mine ws at_step low room l
     serving all at goal =
     let here = at_line around line in
     let taken = in_turns bl.taken in
@@ -265,11 +266,11 @@ stepping_piece {links = links} {code = code} {i = i} {v = v} {h = h} {t = t} {s 
     comes_on k (R.value_of here (checked 31 (z +ℤ step)) k s) next2
     (added_piece bl routines here fixed step z (before_closed k next2 closed) n f2 k wz ws
     (step_stays fixed step t t2 (bl.taken.words + 1) (stays2.words (bl.taken.words + 1) (omega arith)) at_step)
-    (omega (arith, room)) (front_of d q l5) serving1 at2
+    low (front_of d q l5) serving1 at2
     (λ z2 f5 w2 at5.
     comes_on k (M.counter_value here (Y.NumberCounter p r) z2 k s) store
     (comes_on k (R.value_of here (checked p z2) k s) as_value
-    (fitted_piece (before_closed k as_value (before_closed k store closed)) routines.raises (bl.temps n) f5 here taken p z2 k few w2 (λ none. omega (arith, room, w)) (back_of d q l5) serving1 at5
+    (fitted_piece (before_closed k as_value (before_closed k store closed)) routines.raises (bl.temps n) f5 here taken p z2 k few w2 (λ none. let z = none_spare taken none in omega (arith, z, room, w)) (back_of d q l5) serving1 at5
     (λ f6 fits6 at6. record {
       to =
           subst (λ u. Comes code u f6 v1 aims (M.assigned here r (BasicNumber z2) k s)) (sym there)
@@ -282,7 +283,7 @@ stepping_piece {links = links} {code = code} {i = i} {v = v} {h = h} {t = t} {s 
 pub record Counts {e : Environment} {block : Names} {types : Types} (bl : Block e block types) (links : Links) (code : List Instr) (r : Y.Reference) (p : ℕ) : Type 1 where
   pub takes : Takes (turning bl) links code r (Y.FixedLeaf p)
   pub reads : IsProvedNumber block types (Y.NumberIn r)
-  pub room : bl.taken.words + 3 + reference_words r ≤ bl.words
+  pub room : bl.taken.words + 3 + reference_words r ≤ bl.words + spare bl.taken
 
 -- the code of a turn behind what begins it
 abbrev pub turn_rest : {e : Environment} {block : Names} {types : Types} → Block e block types → (r : Y.Reference)
@@ -309,7 +310,7 @@ pub head_piece : {e : Environment} {block : Names} {types : Types} (bl : Block e
     List Instr} (routines : Standing bl links code) (around : Around) (r : Y.Reference) (p : ℕ) (limit :
     Option Y.Number) (most : Option ℤ) (fixed : Option ℤ) (step : ℤ) (condition : Option Y.Bit) (line : ℕ) (c :
     Code) (part : Meaning (Unit {0})) → Counts bl links code r p → IsWide step → IsProvedBitIf block types condition
-    → bl.taken.words + 3 ≤ bl.words → bl.taken.words + 2 + bit_if condition ≤ bl.words → line < 2 ^ 31
+    → bl.taken.words + 3 ≤ bl.words → bl.taken.words + 2 + bit_if condition ≤ bl.words + spare bl.taken → line < 2 ^ 31
     → Does (turning bl) links code around.turns c part → (turns : ℕ) {i : ℕ} {s : State} {v : Services} {h t :
     ℕ → ℕ} {aims : Aims (Unit {0})} (closed : Closed code aims) (credits old : ℕ) (n : Values) (f : Family) (k : ℕ)
     → k < turns + v.world.acts → credits + size_of (act_code line) ≤ cost code
@@ -385,7 +386,7 @@ head_piece {e} {block} {types} bl {links} {code} routines around r p limit most 
     comes_on k (M.within_limit here (Y.NumberCounter p r) most step k s') conditions
     (within_piece bl routines here r p limit most fixed step (words_behind_limit u)
     (before_closed k conditions (before_closed k branch closed)) n f1 k counts.reads waits ws at_step
-    (omega (arith, some)) (omega (arith, inside, over1)) (front_of lim (con ++ (c ++ (sp ++ jump))) l1) serving1
+    (omega (arith, room)) (omega (arith, some)) (omega (arith, inside, over1)) (front_of lim (con ++ (c ++ (sp ++ jump))) l1) serving1
     all1 at1 (
       (λ f2 h2 t2 stays2 at2.
           condition_piece bl routines here condition (words_behind_condition u) (before_closed k branch closed) n f2 k is room' (omega (arith, inside, over2)) (front_of con (c ++ (sp ++ jump)) l2) serving1 all1 at2 (
@@ -398,7 +399,7 @@ head_piece {e} {block} {types} bl {links} {code} routines around r p limit most 
                 let stays04 = stays_then stays2 (stays_then stays3 stays4) in
                 stepping_piece bl routines around line r p fixed step (before_closed k goes closed) n4 f4 line4 k fits
                 (takes.old s4' (storage v4) n4 all4).1.0 counts.reads ws
-                (step_stays fixed step t t4 (w + 1) (stays04.words (w + 1) (omega arith)) at_step) some
+                (step_stays fixed step t t4 (w + 1) (stays04.words (w + 1) (omega arith)) at_step) room some
                 (front_of sp jump l4) serving4 all4 at4
                 (λ z f5 h5 t5 wz unpaused stays5 serving5 at5.
                 onward (before_closed k goes closed) (back_piece i5 f5 (words_back u) i back (record { reserved_stay = λ y x. refl; known_stay = λ b y x q. q; set = λ y x. refl }) (back_of sp jump l4) at5)
@@ -443,7 +444,7 @@ other_place : (i k : ℕ) → k < i → (i == k) ≡ false
 other_place i k h = grind (arith, nat_tests)
 
 -- a value is evaluated while three words may wait, and kept in one of them
-pub word_kept : {X : Type 0} (kind : Kind X) {words : ℕ} {part : Taken → Code} {meaning : Meaning X} {links : Links} {code : List Instr} {i : ℕ} {v : Services} {h t : ℕ → ℕ} {s : State} {aims : Aims X} {e : Environment} {block : Names} {types : Types} (bl : Block e block types) (n : Values) (j : ℕ) (closed : Closed code aims) (f : Family) (k : ℕ) → Evaluates kind links code (bl.ground n) v s k words part meaning → bl.taken.words + 3 + words ≤ bl.words → j < bl.words → Linked links code i (part (before_turns bl.taken) ++ store_word frame_register a0 (words_place j 1)) → ((b : Base) → At b i (Known (bl.ground n) v h t nothing b) (f b)) → ((x : X) (f' : Family) (h' t' : ℕ → ℕ) → kind.Fits x → Stays (before_turns bl.taken) h t h' t' → ((b : Base) → At b (i + size_of (part (before_turns bl.taken) ++ store_word frame_register a0 (words_place j 1))) (Known (bl.ground n) v h' (put t' j (kind.word_of x)) nothing b) (f' b)) → aims.done (i + size_of (part (before_turns bl.taken) ++ store_word frame_register a0 (words_place j 1))) f' v x s) → Comes code i f v aims (meaning k s)
+pub word_kept : {X : Type 0} (kind : Kind X) {words : ℕ} {part : Taken → Code} {meaning : Meaning X} {links : Links} {code : List Instr} {i : ℕ} {v : Services} {h t : ℕ → ℕ} {s : State} {aims : Aims X} {e : Environment} {block : Names} {types : Types} (bl : Block e block types) (n : Values) (j : ℕ) (closed : Closed code aims) (f : Family) (k : ℕ) → Evaluates kind links code (bl.ground n) v s k words part meaning → bl.taken.words + 3 + words ≤ bl.words + spare bl.taken → j < bl.words → Linked links code i (part (before_turns bl.taken) ++ store_word frame_register a0 (words_place j 1)) → ((b : Base) → At b i (Known (bl.ground n) v h t nothing b) (f b)) → ((x : X) (f' : Family) (h' t' : ℕ → ℕ) → kind.Fits x → Stays (before_turns bl.taken) h t h' t' → ((b : Base) → At b (i + size_of (part (before_turns bl.taken) ++ store_word frame_register a0 (words_place j 1))) (Known (bl.ground n) v h' (put t' j (kind.word_of x)) nothing b) (f' b)) → aims.done (i + size_of (part (before_turns bl.taken) ++ store_word frame_register a0 (words_place j 1))) f' v x s) → Comes code i f v aims (meaning k s)
 word_kept kind {part = part} {i = i} {v = v} {s = s} {aims = aims} bl n j closed f k x room inside l at goal =
     let a = part (before_turns bl.taken) in
     let c = store_word frame_register a0 (words_place j 1) in
@@ -457,20 +458,20 @@ word_kept kind {part = part} {i = i} {v = v} {s = s} {aims = aims} bl n j closed
     (subst (λ u. aims.done u (reached r) v z s) (sym place)
     (goal z (reached r) h1 t1 fits stays (λ b. record { pc = (reached_holds r b).pc ∙ ap (address b) place; holds = (reached_holds r b).holds }))))
 
-number_kept : {links : Links} {code : List Instr} {i : ℕ} {v : Services} {h t : ℕ → ℕ} {s : State} {aims : Aims ℤ} {e : Environment} {block : Names} {types : Types} (bl : Block e block types) (routines : Standing bl links code) (around : Around) (x : Y.Number) (n : Values) (j : ℕ) (closed : Closed code aims) (f : Family) (k : ℕ) → IsProvedNumber block types x → bl.taken.words + 3 + number_words x ≤ bl.words → j < bl.words → Linked links code i (number_code e (before_turns bl.taken) x ++ store_word frame_register a0 (words_place j 1)) → Serving k s v around.line → AllHold bl.frames bl.serials (storage v) (e.level ∷ bl.depths) s block types n → ((b : Base) → At b i (Known (bl.ground n) v h t nothing b) (f b)) → ((z : ℤ) (f' : Family) (h' t' : ℕ → ℕ) → IsWide z → Stays (before_turns bl.taken) h t h' t' → ((b : Base) → At b (i + size_of (number_code e (before_turns bl.taken) x ++ store_word frame_register a0 (words_place j 1))) (Known (bl.ground n) v h' (put t' j (word z)) nothing b) (f' b)) → aims.done (i + size_of (number_code e (before_turns bl.taken) x ++ store_word frame_register a0 (words_place j 1))) f' v z s) → Comes code i f v aims (V.number around x k s)
+number_kept : {links : Links} {code : List Instr} {i : ℕ} {v : Services} {h t : ℕ → ℕ} {s : State} {aims : Aims ℤ} {e : Environment} {block : Names} {types : Types} (bl : Block e block types) (routines : Standing bl links code) (around : Around) (x : Y.Number) (n : Values) (j : ℕ) (closed : Closed code aims) (f : Family) (k : ℕ) → IsProvedNumber block types x → bl.taken.words + 3 + number_words x ≤ bl.words + spare bl.taken → j < bl.words → Linked links code i (number_code e (before_turns bl.taken) x ++ store_word frame_register a0 (words_place j 1)) → Serving k s v around.line → AllHold bl.frames bl.serials (storage v) (e.level ∷ bl.depths) s block types n → ((b : Base) → At b i (Known (bl.ground n) v h t nothing b) (f b)) → ((z : ℤ) (f' : Family) (h' t' : ℕ → ℕ) → IsWide z → Stays (before_turns bl.taken) h t h' t' → ((b : Base) → At b (i + size_of (number_code e (before_turns bl.taken) x ++ store_word frame_register a0 (words_place j 1))) (Known (bl.ground n) v h' (put t' j (word z)) nothing b) (f' b)) → aims.done (i + size_of (number_code e (before_turns bl.taken) x ++ store_word frame_register a0 (words_place j 1))) f' v z s) → Comes code i f v aims (V.number around x k s)
 number_kept {e = e} bl routines around x n j closed f k is room inside l serving all at goal =
     word_kept number_kind bl n j closed f k (number_does x {e = e} {around = around} (setting bl routines n all serving) is) room inside l at goal
 
-limit_kept_piece : {links : Links} {code : List Instr} {i : ℕ} {v : Services} {h t : ℕ → ℕ} {s : State} {aims : Aims (Option ℤ)} {e : Environment} {block : Names} {types : Types} (bl : Block e block types) (routines : Standing bl links code) (around : Around) (limit : Option Y.Number) (n : Values) (closed : Closed code aims) (f : Family) (k : ℕ) → IsProvedNumberIf block types limit → bl.taken.words + 3 + number_if limit ≤ bl.words → Linked links code i (limit_code e bl.taken limit) → Serving k s v around.line → AllHold bl.frames bl.serials (storage v) (e.level ∷ bl.depths) s block types n → ((b : Base) → At b i (Known (bl.ground n) v h t nothing b) (f b)) → ((most : Option ℤ) (f' : Family) (h' t' : ℕ → ℕ) → LimitWaits limit most t' bl.taken.words → Stays bl.taken h t h' t' → t' (bl.taken.words + 2) ≡ t (bl.taken.words + 2) → ((b : Base) → At b (i + size_of (limit_code e bl.taken limit)) (Known (bl.ground n) v h' t' nothing b) (f' b)) → aims.done (i + size_of (limit_code e bl.taken limit)) f' v most s) → Comes code i f v aims (M.limit_of around limit k s)
+limit_kept_piece : {links : Links} {code : List Instr} {i : ℕ} {v : Services} {h t : ℕ → ℕ} {s : State} {aims : Aims (Option ℤ)} {e : Environment} {block : Names} {types : Types} (bl : Block e block types) (routines : Standing bl links code) (around : Around) (limit : Option Y.Number) (n : Values) (closed : Closed code aims) (f : Family) (k : ℕ) → IsProvedNumberIf block types limit → bl.taken.words + 3 ≤ bl.words → bl.taken.words + 3 + number_if limit ≤ bl.words + spare bl.taken → Linked links code i (limit_code e bl.taken limit) → Serving k s v around.line → AllHold bl.frames bl.serials (storage v) (e.level ∷ bl.depths) s block types n → ((b : Base) → At b i (Known (bl.ground n) v h t nothing b) (f b)) → ((most : Option ℤ) (f' : Family) (h' t' : ℕ → ℕ) → LimitWaits limit most t' bl.taken.words → Stays bl.taken h t h' t' → t' (bl.taken.words + 2) ≡ t (bl.taken.words + 2) → ((b : Base) → At b (i + size_of (limit_code e bl.taken limit)) (Known (bl.ground n) v h' t' nothing b) (f' b)) → aims.done (i + size_of (limit_code e bl.taken limit)) f' v most s) → Comes code i f v aims (M.limit_of around limit k s)
 unfolding M.limit_of ◌>>=◌ give
-limit_kept_piece {i = i} {v = v} {h = h} {t = t} {s = s} {aims = aims} bl routines around None n closed f k is room l serving all at goal =
+limit_kept_piece {i = i} {v = v} {h = h} {t = t} {s = s} {aims = aims} bl routines around None n closed f k is low room l serving all at goal =
     let same : i ≡ i + 0 = omega arith in
     record { to = subst (λ u. aims.done u f v None s) (sym same) (goal None f h t tt (stays_same bl.taken h t) refl (λ b. record { pc = (at b).pc ∙ ap (address b) same; holds = (at b).holds })) }
-limit_kept_piece {h = h} {t = t} {s = s} bl routines around (Some x) n closed f k is room l serving all at goal =
+limit_kept_piece {h = h} {t = t} {s = s} bl routines around (Some x) n closed f k is low room l serving all at goal =
     let w = bl.taken.words in
     let next' : ℤ → Meaning (Option ℤ) = λ z. give (Some z) in
     comes_on k (V.number around x k s) next'
-    (number_kept bl routines around x n w (before_closed k next' closed) f k is room (omega (arith, room)) l serving all at
+    (number_kept bl routines around x n w (before_closed k next' closed) f k is room (omega (arith, low)) l serving all at
     (λ z f1 h1 t1 wz stays at1.
     record {
       to =
@@ -483,7 +484,7 @@ step_kept_piece : {links : Links} {code : List Instr} {i : ℕ} {v : Services} {
     Aims ℤ} {e : Environment} {block : Names} {types : Types} (bl : Block e block types) (routines :
     Standing bl links code) (around : Around) (step : Y.Number) (fixed : Option ℤ) (n : Values) (closed :
     Closed code aims) (f : Family) (k : ℕ) → constant_step step ≡ fixed → IsProvedNumber block types step
-    → bl.taken.words + 3 + number_words step ≤ bl.words → Linked links code i (step_kept e bl.taken step fixed)
+    → bl.taken.words + 3 ≤ bl.words → bl.taken.words + 3 + number_words step ≤ bl.words + spare bl.taken → Linked links code i (step_kept e bl.taken step fixed)
     → Serving k s v around.line → AllHold bl.frames bl.serials (storage v) (e.level ∷ bl.depths) s block types n
     → ((b : Base) → At b i (Known (bl.ground n) v h t nothing b) (f b))
     → ((by : ℤ) (f' : Family) (h' t' : ℕ → ℕ) → IsWide by → StepWaits fixed by t' (bl.taken.words + 1)
@@ -493,9 +494,9 @@ step_kept_piece : {links : Links} {code : List Instr} {i : ℕ} {v : Services} {
     (f' b)) → aims.done (i + size_of (step_kept e bl.taken step fixed)) f' v by s)
     → Comes code i f v aims (V.number around step k s)
 unfolding give
-step_kept_piece bl routines around step None n closed f k is iss room l serving all at goal =
+step_kept_piece bl routines around step None n closed f k is iss low room l serving all at goal =
     let w = bl.taken.words in
-    number_kept bl routines around step n (w + 1) closed f k iss room (omega (arith, room)) l serving all at
+    number_kept bl routines around step n (w + 1) closed f k iss room (omega (arith, low)) l serving all at
     (λ by f2 h2 t2 wide stays2 at2.
     goal by f2 h2 (put t2 (w + 1) (word by)) wide (put_same t2 (w + 1) (word by))
     (put_other t2 (w + 1) (word by) w (omega arith) ∙ stays2.words w (omega arith))
@@ -503,7 +504,7 @@ step_kept_piece bl routines around step None n closed f k is iss room l serving 
     ∙ stays2.words (w + 2) (omega arith))
     (stays_then (stays_fewer 3 stays2) (stays_kept bl.taken h2 t2 (w + 1) (word by) (omega arith))) at2)
 step_kept_piece {code = code} {i = i} {v = v} {h = h} {t = t} {s = s} {aims = aims} {block = block} {types =
-    types} bl routines around step (Some z) n closed f k is iss room l serving all at goal =
+    types} bl routines around step (Some z) n closed f k is iss low room l serving all at goal =
     let constant = constant_means block types step z iss is in
     let same : i ≡ i + 0 = omega arith in
     subst (Comes code i f v aims) (sym (constant.means around k s))
@@ -523,7 +524,7 @@ pub limits_piece : {links : Links} {code : List Instr} {i : ℕ} {v : Services} 
     Standing bl links code) (around : Around) (limit : Option Y.Number) (step : Y.Number) (n : Values) (next' :
     Option ℤ → ℤ → Meaning (Unit {0})) (closed : Closed code aims) (f : Family) (k : ℕ)
     → IsProvedNumberIf block types limit → IsProvedNumber block types step
-    → bl.taken.words + 3 + number_if limit ≤ bl.words → bl.taken.words + 3 + number_words step ≤ bl.words
+    → bl.taken.words + 3 ≤ bl.words → bl.taken.words + 3 + number_if limit ≤ bl.words + spare bl.taken → bl.taken.words + 3 + number_words step ≤ bl.words + spare bl.taken
     → Linked links code i (limit_code e bl.taken limit)
     → Linked links code (i + size_of (limit_code e bl.taken limit)) (step_code e bl.taken step)
     → Serving k s v around.line → AllHold bl.frames bl.serials (storage v) (e.level ∷ bl.depths) s block types n
@@ -538,15 +539,15 @@ pub limits_piece : {links : Links} {code : List Instr} {i : ℕ} {v : Services} 
     → Comes code i f v aims
     (((M.limit_of around limit) >>= (λ most. (V.number around step) >>= (λ by. next' most by))) k s)
 unfolding ◌>>=◌
-limits_piece {s = s} bl routines around limit step n next' closed f k isl iss rooml rooms l1 l2 serving all at goal =
+limits_piece {s = s} bl routines around limit step n next' closed f k isl iss low rooml rooms l1 l2 serving all at goal =
     let w = bl.taken.words in
     let steps : Option ℤ → Meaning (Unit {0}) = λ most. (V.number around step) >>= (λ by. next' most by) in
     comes_on k (M.limit_of around limit k s) steps
-    (limit_kept_piece bl routines around limit n (before_closed k steps closed) f k isl rooml l1 serving all at
+    (limit_kept_piece bl routines around limit n (before_closed k steps closed) f k isl low rooml l1 serving all at
     (λ most f1 h1 t1 waits stays1 start1 at1.
     comes_on k (V.number around step k s) (λ by. next' most by)
     (step_kept_piece bl routines around step (constant_step step) n (before_closed k (λ by. next' most by) closed) f1
-    k refl iss rooms l2 serving all at1
+    k refl iss low rooms l2 serving all at1
     (λ by f2 h2 t2 wide kept limit_same start_same stays2 at2.
     goal most by f2 h2 t2 wide (limit_stays limit most t1 t2 w limit_same waits) kept (start_same ∙ start1)
     (stays_then stays1 stays2) at2))))

@@ -26,10 +26,12 @@ use Rattle.pli_coding.specs.Instructions.{number, service}
 use Rattle.pli_coding.specs.Allocating.{act_code}
 use Rattle.pli_coding.specs.Environments.{Environment, Taken, is_register_left, with_number, save, fetch}
 use Rattle.pli_coding.specs.Expressions.{stored_code}
-use Rattle.pli_coding.specs.Storing.{elements_code, elements_words, record_code, record_given}
-use Rattle.pli_coding.specs.Temporaries.{number_words, bit_words, reference_words}
+use Rattle.pli_coding.specs.Storing.{elements_takes, elements_code, record_code, record_given}
 use Rattle.pli_coding.specs.SignatureTable.{table_of}
 use Rattle.pli_coding.specs.Linking.{Links}
+use Rattle.pli_coding.specs.WordBounds.{number_words, bit_words, spare}
+use Rattle.pli_coding.proofs.Takes.{number_least}
+use Rattle.pli_coding.proofs.TakesNeeds.{bit_needs, stored_needs}
 use Rattle.pli_headline.specs.ProvedSoFar.{Names, Types, Kind, text_leaf, types_of, declared_kind, array_variable, IsWhole, IsProvedNumber, IsProvedBit}
 use Rattle.pli_headline.proofs.Storages.{storage, Storage, Serials, stored_changed}
 use Rattle.run_steps.specs.Engine.{address}
@@ -66,6 +68,7 @@ use Rattle.run_steps.specs.Reach.{Comes}
 use Rattle.run_steps.proofs.Reach.{before_closed, comes_on}
 use Rattle.pli_headline.proofs.TextArrayMeant.{HoldsTexts, texts_aside}
 use Rattle.pli_headline.proofs.TextArrayStates.{texts_apart}
+use Rattle.pli_headline.proofs.TakenRooms.{record_grows}
 
 -- ---- what variables hold then
 
@@ -128,17 +131,9 @@ own_place at whole' above room =
       above_code = omega (arith, above);
     }
 
-words_by : (q : Bool) (t : Taken) → (cond q (record t { registers = t.registers + 1 }) (record t { words = t.words + 1 })).words ≤ t.words + 1
-words_by true t = omega arith
-words_by false t = omega arith
-
--- one more number takes a word at most
-number_taken : (t : Taken) → (with_number t).words ≤ t.words + 1
-number_taken t = words_by (is_register_left t) t
-
 -- ---- the statement
 
-elements_does : {e : Environment} {block : Names} {types : Types} (bl : Block e block types) (links : Links) (code : List Instr) (routines : Standing bl links code) (around : Around) (j : ℕ) {type : Y.LeafType} (b : Bounds) (bs : List Bounds) (source : Y.Stored) (line due : ℕ) (below : IsArrayAt types j type b bs) → level_of block j ≡ 0 → ((v : Services) (s : State) (k : ℕ) (n : Values) → AllHold bl.frames bl.serials (storage v) (e.level ∷ bl.depths) s block types n → Serving k s v line → Stores links code (bl.ground n) v s k due type (λ taken. stored_code e taken source) (V.stored_value (at_line around line) source)) → elements_code e bl.taken (whole (own block j)) source ≡ stored_code e bl.taken source ++ (save a0 bl.taken ++ (record_code e (with_number bl.taken) (whole (own block j)) ++ (record_given e (with_number bl.taken) ++ (number a1 0 ++ (fetch a2 bl.taken ++ service 41))))) → bl.taken.words + due ≤ bl.words → bl.taken.words + 5 ≤ bl.words → line < 2 ^ 31 → Does bl links code around.turns (act_code line ++ elements_code e bl.taken (whole (own block j)) source) (M.statement around (Y.AssignElements (whole (own block j)) source line))
+elements_does : {e : Environment} {block : Names} {types : Types} (bl : Block e block types) (links : Links) (code : List Instr) (routines : Standing bl links code) (around : Around) (j : ℕ) {type : Y.LeafType} (b : Bounds) (bs : List Bounds) (source : Y.Stored) (line due : ℕ) (below : IsArrayAt types j type b bs) → level_of block j ≡ 0 → ((v : Services) (s : State) (k : ℕ) (n : Values) → AllHold bl.frames bl.serials (storage v) (e.level ∷ bl.depths) s block types n → Serving k s v line → Stores links code (bl.ground n) v s k due type (λ taken. stored_code e taken source) (V.stored_value (at_line around line) source)) → elements_code e bl.taken (whole (own block j)) source ≡ stored_code e bl.taken source ++ (save a0 bl.taken ++ (record_code e (with_number bl.taken) (whole (own block j)) ++ (record_given e (with_number bl.taken) ++ (number a1 0 ++ (fetch a2 bl.taken ++ service 41))))) → bl.taken.words + due ≤ bl.words + spare bl.taken → (with_number bl.taken).words + 4 ≤ bl.words → line < 2 ^ 31 → Does bl links code around.turns (act_code line ++ elements_code e bl.taken (whole (own block j)) source) (M.statement around (Y.AssignElements (whole (own block j)) source line))
 unfolding M.statement ◌>>=◌ ◌>>◌
 elements_does {e} {block} {types} bl links code routines around j {type} b bs source line due below outermost stores into room some fits =
     record {
@@ -168,7 +163,7 @@ elements_does {e} {block} {types} bl links code routines around j {type} b bs so
           let w = bl.words_are n in
           let g = bl.ground n in
           let count = element_count (b ∷ bs) in
-          let more_words = number_taken taken in
+          let least = number_least taken in
           let free = bl.ends in
           let under = on.under in
           let above = g.above_code in
@@ -180,7 +175,7 @@ elements_does {e} {block} {types} bl links code routines around j {type} b bs so
           let few = numbered.few in
           let some' = count_some (b ∷ bs) on.bounds in
           let near : base + place + 16 ≤ 14 * 2 ^ 20 = omega (arith, under, free) in
-          let room' : (with_number taken).words + 4 ≤ g.words = omega (arith, more_words, some, w) in
+          let room' : (with_number taken).words + 4 ≤ g.words = omega (arith, some, w) in
           comes_on k (act counted k s) next'
           (act_piece (before_closed k next' closed) f line old k fits (front_of front behind l) serving at
           (λ f1 serving1 at1.
@@ -200,7 +195,7 @@ elements_does {e} {block} {types} bl links code routines around j {type} b bs so
           let shape : shape_at v1.signatures num ≡ Some (array_shape type (b ∷ bs)) = ap (λ ts. shape_at ts num) (all1.stored.table ∙ ap (λ p. map template_of (table_of p)) bl.named) ∙ numbered_shape (table_of e.program) kind numbered in
           subst (Comes code (i + size_of front + size_of a) f2 v1 aims) (sym (elements_meant here z k mine))
           (filling_piece (bl.ground n') closed (bl.temps n) f2 taken (level == e.level) level base place num x change
-          (λ none. omega (arith, some, w)) room' few (word_small z (fits_wide type z fits2)) (bl.reaches n j below.0)
+          (λ none. omega (arith, least, some, w)) room' few (word_small z (fits_wide type z fits2)) (bl.reaches n j below.0)
           (own_place base na.aligned high na.room) (omega (arith, near)) (own_place g.frame g.whole (omega (arith, above)) (omega (arith, framed, tall, free)))
           (λ t' b' m held. na.own n t' b' m held)
           (λ t' b' m held. subst (λ u. load 4 m (u + 36) ≡ u) (sym framed) (bl.own n t' b' m held))
@@ -226,10 +221,10 @@ elements_does {e} {block} {types} bl links code routines around j {type} b bs so
 
 -- ---- of a number or a bit
 
-pub elements_number_does : {e : Environment} {block : Names} {types : Types} (bl : Block e block types) (links : Links) (code : List Instr) (routines : Standing bl links code) (around : Around) (r : Y.Reference) (p : ℕ) (x : Y.Number) (line : ℕ) → IsWhole block types (Y.FixedLeaf p) r → IsProvedNumber block types x → bl.taken.words + elements_words r (Y.StoredNumber p x) ≤ bl.words → line < 2 ^ 31 → Does bl links code around.turns (act_code line ++ elements_code e bl.taken r (Y.StoredNumber p x)) (M.statement around (Y.AssignElements r (Y.StoredNumber p x) line))
+pub elements_number_does : {e : Environment} {block : Names} {types : Types} (bl : Block e block types) (links : Links) (code : List Instr) (routines : Standing bl links code) (around : Around) (r : Y.Reference) (p : ℕ) (x : Y.Number) (line : ℕ) → IsWhole block types (Y.FixedLeaf p) r → IsProvedNumber block types x → (elements_takes bl.taken r (Y.StoredNumber p x)).words ≤ bl.words → line < 2 ^ 31 → Does bl links code around.turns (act_code line ++ elements_code e bl.taken r (Y.StoredNumber p x)) (M.statement around (Y.AssignElements r (Y.StoredNumber p x) line))
 elements_number_does {e} {block} {types} bl links code routines around r p x line o is room fits =
-    let a = le-max_left (max 1 (number_words x)) (4 + (4 + reference_words r)) in
-    let d = le-max_right (max 1 (number_words x)) (4 + (4 + reference_words r)) in
+    let a = stored_needs bl.taken (Y.StoredNumber p x) in
+    let d = record_grows (with_number bl.taken) r in
     let at : IsArrayAt types o.index (Y.FixedLeaf p) o.bound o.bounds = (o.declared, tt) in
     let some = count_some (o.bound ∷ o.bounds) (bl.arrays o.index (Y.FixedLeaf p) o.bound o.bounds at).bounds in
     subst (λ q. Does bl links code around.turns (act_code line ++ elements_code e bl.taken q (Y.StoredNumber p x)) (M.statement around (Y.AssignElements q (Y.StoredNumber p x) line))) (sym o.is)
@@ -237,10 +232,10 @@ elements_number_does {e} {block} {types} bl links code routines around r p x lin
     (λ v s k n all serving. number_stores {e = e} {block = block} {types = types} {held = n} {around = at_line around line} p x ((all.arrays o.index (Y.FixedLeaf p) o.bound o.bounds at).fits 0 some).0 (setting_at bl routines (at_line around line) n all serving) is)
     refl (omega (arith, a, room)) (omega (arith, d, room)) fits)
 
-pub elements_bit_does : {e : Environment} {block : Names} {types : Types} (bl : Block e block types) (links : Links) (code : List Instr) (routines : Standing bl links code) (around : Around) (r : Y.Reference) (x : Y.Bit) (line : ℕ) → IsWhole block types Y.BitLeaf r → IsProvedBit block types x → bl.taken.words + elements_words r (Y.StoredBit x) ≤ bl.words → line < 2 ^ 31 → Does bl links code around.turns (act_code line ++ elements_code e bl.taken r (Y.StoredBit x)) (M.statement around (Y.AssignElements r (Y.StoredBit x) line))
+pub elements_bit_does : {e : Environment} {block : Names} {types : Types} (bl : Block e block types) (links : Links) (code : List Instr) (routines : Standing bl links code) (around : Around) (r : Y.Reference) (x : Y.Bit) (line : ℕ) → IsWhole block types Y.BitLeaf r → IsProvedBit block types x → (elements_takes bl.taken r (Y.StoredBit x)).words ≤ bl.words → line < 2 ^ 31 → Does bl links code around.turns (act_code line ++ elements_code e bl.taken r (Y.StoredBit x)) (M.statement around (Y.AssignElements r (Y.StoredBit x) line))
 elements_bit_does {e} {block} {types} bl links code routines around r x line o is room fits =
-    let a = le-max_left (bit_words x) (4 + (4 + reference_words r)) in
-    let d = le-max_right (bit_words x) (4 + (4 + reference_words r)) in
+    let a = bit_needs bl.taken x in
+    let d = record_grows (with_number bl.taken) r in
     let at : IsArrayAt types o.index Y.BitLeaf o.bound o.bounds = (o.declared, tt) in
     subst (λ q. Does bl links code around.turns (act_code line ++ elements_code e bl.taken q (Y.StoredBit x)) (M.statement around (Y.AssignElements q (Y.StoredBit x) line))) (sym o.is)
     (elements_does bl links code routines around o.index o.bound o.bounds (Y.StoredBit x) line (bit_words x) at o.outermost

@@ -17,6 +17,8 @@ use Rattle.pli_coding.specs.Instructions.{move, skip_where}
 use Rattle.pli_coding.specs.Environments.{Taken, is_register_left, with_number, save, fetch}
 use Rattle.pli_coding.specs.Arithmetic.{extreme_code}
 use Rattle.pli_coding.specs.Linking.{Links}
+use Rattle.pli_coding.specs.WordBounds.{spare}
+use Rattle.pli_coding.proofs.Takes.{none_spare, number_counts}
 use Rattle.run_steps.specs.Engine.{Base, address}
 use Rattle.run_steps.proofs.Linking.{size_append}
 use Rattle.run_steps.specs.Items.{Linked, At}
@@ -30,7 +32,7 @@ use Rattle.run_steps.specs.Temporaries.{Temporaries, Stays, held_with, words_wit
 use Rattle.run_steps.proofs.Temporaries.{stays_same, stays_then, stays_saved, stays_less, waiting_saved}
 use Rattle.run_steps.proofs.Temporaries.{waiting_kept, save_piece, fetch_piece}
 use Rattle.pli_headline.proofs.Operators.{valued, paired, sum_zero}
-use Rattle.pli_headline.proofs.Evaluations.{number_kind, Evaluates, with_words_most}
+use Rattle.pli_headline.proofs.Evaluations.{number_kind, Evaluates}
 use Rattle.run_steps.specs.Reach.{Family, Aims, Comes, Closed}
 use Rattle.run_steps.proofs.Reach.{before_closed, comes_on, onward}
 
@@ -80,7 +82,7 @@ extreme_size Y.Least = refl
 
 -- from a value in a0, the code of further ones leaves the extreme of all
 pub record Follows (links : Links) (code : List Instr) (g : Ground) (v : Services) (s : State) (k : ℕ) (words : ℕ) (extremum : Y.Extremum) (part : Taken → Code) (meaning : Meaning (List ℤ)) : Type 1 where
-  pub does : {i : ℕ} {h t : ℕ → ℕ} {aims : Aims (List ℤ)} (closed : Closed code aims) (f : Family) (taken : Taken) (a : ℤ) → IsWide a → taken.words + suc words ≤ g.words → Linked links code i (part taken) → ((b : Base) → At b i (Known g v h t (valued (word a)) b) (f b)) → ((zs : List ℤ) (f' : Family) (h' t' : ℕ → ℕ) → IsWide (extreme extremum a zs) → Stays taken h t h' t' → ((b : Base) → At b (i + size_of (part taken)) (Known g v h' t' (valued (word (extreme extremum a zs))) b) (f' b)) → aims.done (i + size_of (part taken)) f' v zs s) → Comes code i f v aims (meaning k s)
+  pub does : {i : ℕ} {h t : ℕ → ℕ} {aims : Aims (List ℤ)} (closed : Closed code aims) (f : Family) (taken : Taken) (a : ℤ) → IsWide a → taken.words + suc words ≤ g.words + spare taken → Linked links code i (part taken) → ((b : Base) → At b i (Known g v h t (valued (word a)) b) (f b)) → ((zs : List ℤ) (f' : Family) (h' t' : ℕ → ℕ) → IsWide (extreme extremum a zs) → Stays taken h t h' t' → ((b : Base) → At b (i + size_of (part taken)) (Known g v h' t' (valued (word (extreme extremum a zs))) b) (f' b)) → aims.done (i + size_of (part taken)) f' v zs s) → Comes code i f v aims (meaning k s)
 
 pub follows_none : {links : Links} {code : List Instr} {g : Ground} {v : Services} {s : State} {k : ℕ} (extremum : Y.Extremum) → Follows links code g v s k 0 extremum (λ taken. []) (give [])
 unfolding give
@@ -108,7 +110,7 @@ follows_next {links = links} {code = code} {g = g} {v = v} {s = s} {k = k} temps
           let d = rest taken in
           let m1 = le-max_left m n in
           let m2 = le-max_right m n in
-          let w = with_words_most taken in
+          let w = number_counts taken in
           let l2 = back_of put' (c ++ (back ++ (x ++ d))) l in
           let l3 = back_of c (back ++ (x ++ d)) l2 in
           let l4 = back_of back (x ++ d) l3 in
@@ -122,7 +124,7 @@ follows_next {links = links} {code = code} {g = g} {v = v} {s = s} {k = k} temps
           let mid : j + size_of x ≡ j + 2 = omega (arith, two) in
           let place : j + 2 + size_of d ≡ i + size_of (next_part extremum first rest taken) = omega (arith, e1, e2, e3, e4, two) in
           let l6 = subst (λ u. Linked links code u d) mid l5 in
-          let left : is_register_left taken ≡ false → taken.words < g.words = λ none. omega (arith, room) in
+          let left : is_register_left taken ≡ false → taken.words < g.words = λ none. let z = none_spare taken none in omega (arith, z, room) in
           let h1 = held_with taken (word a) h in
           let t1 = words_with taken (word a) t in
           let next' : ℤ → Meaning (List ℤ) = λ z. more >>= (λ zs. give (z ∷ zs)) in

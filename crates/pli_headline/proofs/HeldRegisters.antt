@@ -6,8 +6,8 @@ use Rattle.pli_coding.specs.Assembly.{size_of}
 use Rattle.pli_coding.specs.Entries.{all_saved, all_restored}
 use Rattle.pli_coding.specs.Statements.{held_with}
 
-pub held_few : (program : Y.Program) (words : ℕ) (body : Y.Stmts) → held_with program words body ≤ 7
-held_few program words body = omega arith
+pub held_few : (program : Y.Program) (registers : ℕ) (body : Y.Stmts) → held_with program registers body ≤ 7
+held_few program registers body = omega arith
 
 pub saved_size : (count : ℕ) → count ≤ 7 → size_of (all_saved u0 count) ≡ suc count
 saved_size zero few = refl

@@ -10,7 +10,7 @@ use Rattle.pli_coding.specs.Frames.{automatic_place}
 use Rattle.pli_coding.specs.SignatureTable.{table_of}
 use Rattle.pli_coding.specs.Allocating.{act_code}
 use Rattle.pli_coding.specs.Entries.{frame_begun, variables_made, variables_code}
-use Rattle.pli_coding.specs.Statements.{block_words, stmts_words, stmts_code, block_held}
+use Rattle.pli_coding.specs.Statements.{block_words, stmts_code, block_held}
 use Rattle.pli_coding.specs.Procedures.{procedure_ended, procedure_in, procedures_code, routines_code}
 use Rattle.pli_coding.specs.Linking.{links_of}
 use Rattle.pli_coding.specs.Images.{environment_of, start_code, raise_code, code_of, linked_code, picture_of}
@@ -77,7 +77,7 @@ program_named program block line body (Some d) alone named =
     let e = environment_of parts program in
     let mine = main_environment program block in
     let head = main_head block line in
-    let words = block_words mine block (stmts_words body) in
+    let words = block_words mine block body in
     let held = block_held mine block body in
     let fb = frame_begun words 0 0 (Some held) in
     let ec = entry_code line in

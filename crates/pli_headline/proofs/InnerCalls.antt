@@ -13,13 +13,13 @@ use Rattle.pli_meaning.specs.Raising.{Around}
 use Rattle.pli_meaning.specs.Executing as M
 use Rattle.pli_meaning.specs.Executing.{labels_in}
 use Rattle.pli_coding.specs.Assembly.{ProcedureEntry}
-use Rattle.pli_coding.specs.Environments.{BlockPlace, Taken, Owner, Environment, in_frame, owned_by}
+use Rattle.pli_coding.specs.Environments.{BlockPlace, Taken, none_taken, Owner, Environment, in_frame, owned_by}
 use Rattle.pli_meaning.specs.StorageState.{most_activations}
 use Rattle.pli_coding.specs.Frames.{temporary_bytes, words_place}
 use Rattle.pli_coding.specs.Images.{blocks_among, blocks_of, place_of_head, environment_of}
 use Rattle.pli_coding.specs.Linking.{Links}
 use Rattle.pli_coding.specs.Procedures.{procedure_environment, procedure_in}
-use Rattle.pli_coding.specs.Statements.{stmt_code, stmts_code, stmts_words, held_with}
+use Rattle.pli_coding.specs.Statements.{stmts_take, stmt_code, stmts_code, held_with}
 use Rattle.pli_headline.specs.Headline.{parts}
 use Rattle.pli_headline.specs.ProvedSoFar.{Names, Types, types_of, main_labels, main_outer, AllJumpAround, is_number, number_times, AllOnce, IsCallable, IsInner, AreInner, main_names}
 use Rattle.run_steps.proofs.Numbers.{below_small}
@@ -49,6 +49,7 @@ use Rattle.pli_headline.proofs.UnitStanding.{Tells}
 use Rattle.pli_headline.proofs.InnerUnits.{Done, fewer_signals, signals_with}
 use Rattle.pli_headline.proofs.PlainInside.{declare_plain}
 use Rattle.pli_headline.proofs.HeldRegisters.{held_few}
+use Rattle.pli_headline.specs.InnerWords.{body_words}
 
 -- ---- the statements of a procedure that is called
 
@@ -67,7 +68,7 @@ labels_called head next named among =
     }
 
 -- once its variables are made
-called_does : {program : Y.Program} {block : ℕ} {all : List (ℕ × Label)} {called : List ℕ} {procedure : Y.Procedure} (q : IsInner program block all called procedure) (can : IsCallable program called q.head q.body) {links : Links} {code : List Instr} {o : Owner} {number level : ℕ} (bl : Block (owned_by o (in_frame number level (main_environment program block))) (main_names program block) (types_of (variables_of_block program block))) (callee : Callee bl) → callee.words ≡ max 0 (stmts_words q.body) → length bl.depths < most_activations → suc (length bl.depths) < most_activations → bl.stack.free + 4000 * (500 - length bl.depths) ≤ 14 * 2 ^ 20 → Standing bl links code → (named : LabelsStand (main_environment program block) links all block true) → ((b : BlockPlace) → IsAmong b (place_of_head q.head ∷ blocks_among q.body) → IsAmong b (blocks_of program.procedures)) → IsEndMarkedOnce links q.head.number → (bound : ℕ) → Calls (main_environment program block) (main_names program block) (types_of (variables_of_block program block)) all block bound links code called → Signals (main_environment program block) (main_names program block) (types_of (variables_of_block program block)) all block bound links code called → Tells (main_environment program block) (main_names program block) (types_of (variables_of_block program block)) all block called links code bl.base bl.frames.known → (has : HasMain block (main_labels program.procedures) level number bl.labels bl.outer) → (makes : CalleeMakes bl callee q.head q.level block (main_labels program.procedures) has) → CalleeDoes bl callee q.head q.level block (main_labels program.procedures) has makes links code bound q.body
+called_does : {program : Y.Program} {block : ℕ} {all : List (ℕ × Label)} {called : List ℕ} {procedure : Y.Procedure} (q : IsInner program block all called procedure) (can : IsCallable program called q.head q.body) {links : Links} {code : List Instr} {o : Owner} {number level : ℕ} (bl : Block (owned_by o (in_frame number level (main_environment program block))) (main_names program block) (types_of (variables_of_block program block))) (callee : Callee bl) → callee.words ≡ max 0 (body_words q.body) → length bl.depths < most_activations → suc (length bl.depths) < most_activations → bl.stack.free + 4000 * (500 - length bl.depths) ≤ 14 * 2 ^ 20 → Standing bl links code → (named : LabelsStand (main_environment program block) links all block true) → ((b : BlockPlace) → IsAmong b (place_of_head q.head ∷ blocks_among q.body) → IsAmong b (blocks_of program.procedures)) → IsEndMarkedOnce links q.head.number → (bound : ℕ) → Calls (main_environment program block) (main_names program block) (types_of (variables_of_block program block)) all block bound links code called → Signals (main_environment program block) (main_names program block) (types_of (variables_of_block program block)) all block bound links code called → Tells (main_environment program block) (main_names program block) (types_of (variables_of_block program block)) all block called links code bl.base bl.frames.known → (has : HasMain block (main_labels program.procedures) level number bl.labels bl.outer) → (makes : CalleeMakes bl callee q.head q.level block (main_labels program.procedures) has) → CalleeDoes bl callee q.head q.level block (main_labels program.procedures) has makes links code bound q.body
 called_does {program} {block} {all} {called} q can {links} {code} {o} {number} {level} bl callee words deep deeper space standing named known ended bound calls signals tells has makes back h0 t0 serial =
     let e = owned_by o (in_frame number level (main_environment program block)) in
     let outer = main_names program block in
@@ -88,8 +89,8 @@ called_does {program} {block} {all} {called} q can {links} {code} {o} {number} {
     let depths = ap (λ (ds : List ℕ). length ds) made.depths in
     let place = callee.place in
     let few = can.few in
-    let most' = le-max_right 0 (stmts_words body) in
-    let low = most 0 (stmts_words body) 800 (omega arith) (omega (arith, few)) in
+    let most' = le-max_right 0 (body_words body) in
+    let low = most 0 (body_words body) 800 (omega arith) (omega (arith, few)) in
     let standing' : Standing mb links code = record {
       raises = standing.raises;
       constants = made_constants vars cb m serial (λ n. constants_moved (λ t. t0) (λ t b m' held. held.kept.0) (standing.constants n));
@@ -102,7 +103,7 @@ called_does {program} {block} {all} {called} q can {links} {code} {o} {number} {
     (subst (λ n. AllJumpAround head.number n all blocks main' (main' ∷ []) (labels_in body) body) (sym next) q.jumps)) in
     subst (λ tk. Does mb links code (suc bound) (stmts_code (procedure_environment head e) tk body) (M.list (inner_around program bound head.line) body)) made.taken
     (body_does mb links code standing' (inner_around program bound head.line) refl {small = true} {taken = 0} {bound = bound}
-    (labels_called head next named (known (place_of_head head) (inl refl))) body q.statements jumps (omega (arith, most', words, w, ap (λ (tk : Taken). tk.words) made.taken))
+    (labels_called head next named (known (place_of_head head) (inl refl))) body q.statements jumps (subst (λ tk. (stmts_take tk body).words ≤ mb.words) (sym made.taken) (omega (arith, most', words, w)))
     ((omega (arith, place, words, low, space, deeper, free, depths, few), omega (arith, few)), omega (arith, deeper, depths)) (declare_plain program body standing.known.plain)
     (inner_entering program bound head.line) (omega arith) (λ b h. known b (inr h)) can.calls
     (record {
@@ -123,14 +124,14 @@ one_does : (program : Y.Program) (block line : ℕ) (body : Y.Stmts) (alone : Is
 one_does program block line body alone {all} {called} {procedure} q can {links} {code} {o} {number} {level} bl at l later once ended found named known deep space few standing tells taken has around same {more} entering below line' fits =
     let e = owned_by o (in_frame number level (main_environment program block)) in
     let head = q.head in
-    let words = max 0 (stmts_words q.body) in
+    let words = max 0 (body_words q.body) in
     let small' = can.few in
-    let low : words ≤ 800 = most 0 (stmts_words q.body) 800 (omega arith) (omega (arith, small')) in
-    let held = held_with program words q.body in
+    let low : words ≤ 800 = most 0 (body_words q.body) 800 (omega arith) (omega (arith, small')) in
+    let held = held_with program (max 0 (stmts_take none_taken q.body).registers) q.body in
     let callee : Callee bl = record {
       words = words;
       held = held;
-      few = held_few program words q.body;
+      few = held_few _ _ _;
       at =
           bl.stack.free + temporary_bytes words;
       place = refl;

@@ -10,17 +10,18 @@ use Rattle.pli_coding.specs.Arithmetic.{fitted_code}
 use Rattle.pli_coding.specs.Expressions.{number_code, bit_code, text_code}
 use Rattle.pli_coding.specs.Storing.{word_stored, stored_into}
 use Rattle.pli_coding.specs.Allocating.{act_code}
-use Rattle.pli_headline.specs.InnerWords.{inner_words, all_inner_words}
-use Rattle.pli_coding.specs.Temporaries.{number_words, bit_words, reference_words}
+use Rattle.pli_headline.specs.InnerWords.{body_words, inner_words, all_inner_words}
 use Rattle.pli_headline.specs.ProvedSoFar.{Names, Types, ArePlain, IsProvedStatement, AreProvedStatements, IsProvedBitIf, names_in, types_in}
 use Rattle.pli_coding.specs.Procedures.{procedure_begun, procedure_ended, procedure_in}
 use Rattle.run_steps.proofs.Linking.{size_append}
 use Rattle.pli_coding.specs.Entries.{frame_begun, frame_ended, block_left, entered_without_texts, variables_code}
 use Rattle.pli_coding.specs.Statements.{begin_environment, begin_code, if_met, while_met, block_words, stmt_code}
-use Rattle.pli_coding.specs.Statements.{stmts_code, stmt_words, stmts_words, marked, once_code, bit_if, in_turns}
-use Rattle.pli_coding.specs.Statements.{number_if, start_code, limit_code, constant_step, step_code, started_code}
+use Rattle.pli_coding.specs.Statements.{stmts_code, marked, once_code, in_turns}
+use Rattle.pli_coding.specs.Statements.{start_code, limit_code, constant_step, step_code, started_code}
 use Rattle.pli_coding.specs.Statements.{turn_of, turns_code, words_back, words_behind_limit, words_behind_condition}
 use Rattle.pli_coding.specs.Statements.{limit_kept, while_kept, stepped_code, block_held}
+use Rattle.pli_coding.specs.WordBounds.{number_words, bit_words, reference_words, stmt_words, stmts_words, bit_if, number_if, value_words}
+use Rattle.pli_coding.proofs.StatementBounds.{statements_bound, block_bound}
 use Rattle.pli_headline.proofs.Variables.{HasTypes}
 use Rattle.pli_headline.proofs.DeclaredNames.{named_in, has_in}
 use Rattle.pli_headline.proofs.PieceSizes.{most}
@@ -28,7 +29,6 @@ use Rattle.pli_headline.proofs.Sizes.{number_size, bit_size, text_size, act_size
 use Rattle.pli_headline.proofs.Sizes.{limit_words_size, step_words_size, condition_words_size, statement_size}
 use Rattle.pli_headline.proofs.WholeSizes.{no_variable_words}
 use Rattle.pli_headline.proofs.Sizes.{target_size, start_words_size, text_target_size}
-use Rattle.pli_coding.specs.Streams.{value_words}
 use Rattle.pli_headline.proofs.PlainInside.{DeclaresPlain, DeclarePlain}
 
 most_more : (a b d n : ℕ) → a + d ≤ n → b + d ≤ n → max a b + d ≤ n
@@ -148,7 +148,7 @@ mutual
       omega (arith, m, s1, s2, s8, s9, s10, s11)
   inside_size e t block types named has (Y.Begin (Y.BlockOf head body)) is bare =
       let e' = begin_environment head e in
-      let words = block_words e head.number (stmts_words body) in
+      let words = block_words e head.number body in
       let c = stmts_code e' none_taken body in
       let ended = block_left 0 ++ frame_ended words in
       let made = variables_code e' head.line in
@@ -161,7 +161,8 @@ mutual
       let s4 = size_append made (c ++ ended) in
       let s5 = size_append c ended in
       let four = act_size head.line in
-      most_more _ _ _ _ (omega (arith, m, four, s1, s2, s3, s4, s5)) (omega (arith, m, four, s1, s2, s3, s4, s5))
+      let few = statements_bound none_taken body in
+      most_more _ _ _ _ (omega (arith, few, m, four, s1, s2, s3, s4, s5)) (omega (arith, few, m, four, s1, s2, s3, s4, s5))
   inside_size e t block types named has (Y.Goto level label line) is bare = omega arith
   inside_size e t block types named has (Y.CallProcedure (Y.Calling procedure level Y.NoArgument) line) is bare = omega arith
   inside_size e t block types named has (Y.Return line) is bare = omega arith
@@ -340,7 +341,7 @@ mutual
       omega (arith, a, four, s1))
   statement_inner e t block types named has (Y.Begin (Y.BlockOf head body)) is bare =
       let e' = begin_environment head e in
-      let words = block_words e head.number (stmts_words body) in
+      let words = block_words e head.number body in
       let c = stmts_code e' none_taken body in
       let ended = block_left 0 ++ frame_ended words in
       let made = variables_code e' head.line in
@@ -353,7 +354,8 @@ mutual
       let s4 = size_append made (c ++ ended) in
       let s5 = size_append c ended in
       let four = act_size head.line in
-      let a : max 0 (stmts_words body) + all_inner_words body ≤ size_of (stmt_code e t (Y.Begin (Y.BlockOf head body))) = most_more _ _ _ _ (omega (arith, m, four, s1, s2, s3, s4, s5)) (omega (arith, m, four, s1, s2, s3, s4, s5)) in
+      let few = statements_bound none_taken body in
+      let a : max 0 (body_words body) + all_inner_words body ≤ size_of (stmt_code e t (Y.Begin (Y.BlockOf head body))) = most_more _ _ _ _ (omega (arith, few, m, four, s1, s2, s3, s4, s5)) (omega (arith, few, m, four, s1, s2, s3, s4, s5)) in
       omega (arith, a)
   statement_inner e t block types named has (Y.Goto level label line) is bare = omega arith
   statement_inner e t block types named has (Y.CallProcedure (Y.Calling procedure level Y.NoArgument) line) is bare = omega arith
@@ -385,9 +387,9 @@ mutual
       both_most _ _ _ _ _ (omega (arith, a, s1, s2)) (omega (arith, c, s1, s2)) (omega (arith, a, c', s1, s2)) (omega (arith, a', c, s1, s2))
 
 -- they are fewer than the words of the procedure's code
-pub procedure_inner : (e : Environment) (head : Y.BlockHead) (block : Names) (types : Types) (body : Y.Stmts) → block.program ≡ e.program → HasTypes e block types → ArePlain (variables_of_block e.program head.number) → AreProvedStatements block types body → DeclarePlain e.program body → block_words e head.number (stmts_words body) + all_inner_words body ≤ size_of (procedure_in e head body [] None)
+pub procedure_inner : (e : Environment) (head : Y.BlockHead) (block : Names) (types : Types) (body : Y.Stmts) → block.program ≡ e.program → HasTypes e block types → ArePlain (variables_of_block e.program head.number) → AreProvedStatements block types body → DeclarePlain e.program body → block_words e head.number body + all_inner_words body ≤ size_of (procedure_in e head body [] None)
 procedure_inner e head block types body named has plain are bare =
-    let words = block_words e head.number (stmts_words body) in
+    let words = block_words e head.number body in
     let held = block_held e head.number body in
     let begun = procedure_begun e head words held [] in
     let code = stmts_code e none_taken body in
@@ -396,4 +398,5 @@ procedure_inner e head block types body named has plain are bare =
     let n = statements_inner e none_taken block types named has body are bare in
     let s1 = size_append begun (code ++ ended) in
     let s2 = size_append code ended in
-    most_more _ _ _ _ (omega (arith, none, n, s1, s2)) (omega (arith, n, s1, s2))
+    let b = block_bound e.program head.number body in
+    most_more _ _ _ _ (omega (arith, b, none, n, s1, s2)) (omega (arith, n, s1, s2))

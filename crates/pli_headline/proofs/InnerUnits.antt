@@ -16,12 +16,13 @@ use Rattle.pli_meaning.specs.StorageState.{most_activations}
 use Rattle.pli_coding.specs.Environments.{BlockPlace, Taken, Environment, none_taken}
 use Rattle.pli_coding.specs.Frames.{fixed_size, frame_end, temporary_bytes}
 use Rattle.pli_coding.specs.Linking.{Links}
-use Rattle.pli_coding.specs.Statements.{owner_of_unit, unit_environment, stmt_code, stmts_code, stmt_words}
-use Rattle.pli_coding.specs.Statements.{stmts_words, held_with}
-use Rattle.pli_coding.specs.Temporaries.{number_words, bit_words, text_words, reference_words}
+use Rattle.pli_coding.specs.Statements.{owner_of_unit, unit_environment, stmt_code, stmts_code}
+use Rattle.pli_coding.specs.Statements.{stmt_takes, stmts_take, held_with}
 use Rattle.pli_headline.specs.ProvedSoFar.{Types, OuterBlock, main_labels, main_outer, times, IsOutward, JumpsAround, IsSimple, IsUnitBody, IsProvedStatement, AreProvedStatements, AllJumpAround, CallsAmong, AllCallAmong, Names, names_in, types_in, unit_declares, inner_bytes, bytes_of}
-use Rattle.pli_headline.specs.InnerWords.{all_inner_words}
+use Rattle.pli_headline.specs.InnerWords.{body_words, all_inner_words}
 use Rattle.pli_coding.specs.Images.{blocks_among}
+use Rattle.pli_coding.specs.WordBounds.{spare}
+use Rattle.pli_coding.proofs.TakesNeeds.{bit_needs, text_needs, reference_needs, stored_needs}
 use Rattle.pli_headline.proofs.StandingBytes.{ConstantsStand, constants_moved}
 use Rattle.pli_headline.proofs.PieceSizes.{most}
 use Rattle.pli_headline.proofs.InnerLevels.{IsAmong}
@@ -52,12 +53,13 @@ use Rattle.pli_headline.proofs.Putting.{put_does}
 use Rattle.pli_headline.proofs.Getting.{get_does, get_skip_does}
 use Rattle.pli_headline.proofs.MainOutlets.{HasMain, main_of}
 use Rattle.pli_headline.proofs.UnitRuns.{unit_block, Raisable, unit_raises, signal_unit_does}
-use Rattle.pli_headline.proofs.UnitStanding.{program_around, words_of_unit, Tells}
+use Rattle.pli_headline.proofs.UnitStanding.{program_around, taken_by_unit, Tells}
 use Rattle.pli_headline.proofs.Narrowing.{narrows_self, narrows_in}
 use Rattle.pli_headline.proofs.ProvedStatements.{standing_within, Calls, Signals, entering_at, body_does}
 use Rattle.pli_headline.proofs.TextElementAssignments.{assign_text_part_does}
 use Rattle.pli_headline.proofs.PlainInside.{DeclarePlain}
 use Rattle.pli_headline.proofs.HeldRegisters.{held_few}
+use Rattle.pli_headline.proofs.TakenRooms.{behind_number, record_grows, put_room, get_room}
 
 -- calls and signals do what they mean, so many blocks deep at most
 abbrev pub Done : Environment → (block : Names) → Types → (all : List (ℕ × Label)) → (procedure bound : ℕ) → Links → List Instr → (may : List ℕ) → Type 1
@@ -65,19 +67,19 @@ Done e block types all procedure bound links code may = Calls e block types all 
 
 -- ---- a single statement
 
-simple_does : {e : Environment} {block : Names} {types : Types} (bl : Block e block types) (links : Links) (code : List Instr) (routines : Standing bl links code) (around : Around) → around.program ≡ e.program → {all : List (ℕ × Label)} {procedure : ℕ} {may : List ℕ} {bound : ℕ} → Done e block types all procedure bound links code may → Tells e block types all procedure may links code bl.base bl.frames.known → HasMain procedure (main_labels e.program.procedures) e.level e.block bl.labels bl.outer → length bl.depths < most_activations → bl.stack.free + 4000 * (500 - length bl.depths) ≤ 14 * 2 ^ 20 → bl.words < 2 ^ 22 → {more : ℕ} → Entering e.program around more → more ≤ bound → (x : Y.Stmt) → IsSimple x → IsProvedStatement block types x → bl.taken.words + stmt_words x ≤ bl.words → CallsAmong e.program may false 0 x → ((number : ℕ) (label : Label) → times number label all ≡ 1 → IsMarkedOnce links number label) → e.level ≤ 100 → JumpsAround e.block e.level all e.blocks (main_outer procedure e.program.procedures) bl.outer [] x → ((level : ℕ) (label : Label) → IsOutward e.block level label all e.blocks bl.outer → level ≡ 0) → Does bl links code around.turns (stmt_code e bl.taken x) (M.statement around x)
+simple_does : {e : Environment} {block : Names} {types : Types} (bl : Block e block types) (links : Links) (code : List Instr) (routines : Standing bl links code) (around : Around) → around.program ≡ e.program → {all : List (ℕ × Label)} {procedure : ℕ} {may : List ℕ} {bound : ℕ} → Done e block types all procedure bound links code may → Tells e block types all procedure may links code bl.base bl.frames.known → HasMain procedure (main_labels e.program.procedures) e.level e.block bl.labels bl.outer → length bl.depths < most_activations → bl.stack.free + 4000 * (500 - length bl.depths) ≤ 14 * 2 ^ 20 → bl.words < 2 ^ 22 → {more : ℕ} → Entering e.program around more → more ≤ bound → (x : Y.Stmt) → IsSimple x → IsProvedStatement block types x → (stmt_takes bl.taken x).words ≤ bl.words → CallsAmong e.program may false 0 x → ((number : ℕ) (label : Label) → times number label all ≡ 1 → IsMarkedOnce links number label) → e.level ≤ 100 → JumpsAround e.block e.level all e.blocks (main_outer procedure e.program.procedures) bl.outer [] x → ((level : ℕ) (label : Label) → IsOutward e.block level label all e.blocks bl.outer → level ≡ 0) → Does bl links code around.turns (stmt_code e bl.taken x) (M.statement around x)
 simple_does bl links code routines around same can tells has deep space narrow entering least (Y.Null line) simple is room calls once few jumps low = null_does bl links code around line is
 simple_does bl links code routines around same can tells has deep space narrow entering least (Y.Assign target (Y.StoredNumber precision x) line) simple is room calls once few jumps low =
-    let a = le-max_left (max 1 (number_words x)) (4 + reference_words target) in
-    let d = le-max_right (max 1 (number_words x)) (4 + reference_words target) in
+    let a = stored_needs bl.taken (Y.StoredNumber precision x) in
+    let d = behind_number bl.taken target in
     assign_number_part_does bl links code routines around target precision x line is.0 is.1.0 (omega (arith, a, room)) (omega (arith, d, room)) is.1.1
 simple_does bl links code routines around same can tells has deep space narrow entering least (Y.Assign target (Y.StoredBit x) line) simple is room calls once few jumps low =
-    let a = le-max_left (bit_words x) (4 + reference_words target) in
-    let d = le-max_right (bit_words x) (4 + reference_words target) in
+    let a = bit_needs bl.taken x in
+    let d = behind_number bl.taken target in
     assign_bit_part_does bl links code routines around target x line is.0 is.1.0 (omega (arith, d, room)) (omega (arith, a, room)) is.1.1
 simple_does bl links code routines around same can tells has deep space narrow entering least (Y.Assign target (Y.StoredText x) line) simple is room calls once few jumps low =
-    let a = le-max_left (text_words x) (4 + reference_words target) in
-    let d = le-max_right (text_words x) (4 + reference_words target) in
+    let a = text_needs bl.taken x in
+    let d = reference_needs bl.taken target in
     assign_text_part_does bl links code routines around target x line is.0 is.1.0 (omega (arith, a, room)) (omega (arith, d, room)) is.1.1
 simple_does bl links code routines around same can tells has deep space narrow entering least (Y.Assign target source line) simple is room calls once few jumps low = absurd is
 simple_does bl links code routines around same can tells has deep space narrow entering least (Y.AssignElements target (Y.StoredNumber precision x) line) simple is room calls once few jumps low =
@@ -88,7 +90,8 @@ simple_does bl links code routines around same can tells has deep space narrow e
     elements_text_does bl links code routines around target x line is.0 is.1.0 room is.1.1
 simple_does bl links code routines around same can tells has deep space narrow entering least (Y.AssignElements target source line) simple is room calls once few jumps low = absurd is
 simple_does bl links code routines around same can tells has deep space narrow entering least (Y.AssignAggregate target source line) simple is room calls once few jumps low =
-    copies_does bl links code routines around target source line is.0 room is.1
+    let a = record_grows bl.taken target in
+    copies_does bl links code routines around target source line is.0 (omega (arith, a, room)) is.1
 simple_does {e} bl links code routines around same can tells has deep space narrow {more} entering least (Y.CallProcedure (Y.Calling number level Y.NoArgument) line) simple is room calls once few jumps low =
     subst (λ n. Does bl links code around.turns (stmt_code e bl.taken (Y.CallProcedure (Y.Calling number n Y.NoArgument) line)) (M.statement around (Y.CallProcedure (Y.Calling number n Y.NoArgument) line))) (sym is.0)
     (can.0 e.owner e.block e.level bl deep space narrow routines tells (omega (arith, room)) has around same more entering least number calls.1 line is.1)
@@ -108,13 +111,13 @@ simple_does bl links code routines around same can tells has deep space narrow e
 simple_does bl links code routines around same can tells has deep space narrow entering least (Y.OnSystem condition line) simple is room calls once few jumps low = on_system_does bl links code around condition line is
 simple_does bl links code routines around same can tells has deep space narrow entering least (Y.Revert condition line) simple is room calls once few jumps low = revert_does bl links code around condition line is
 simple_does bl links code routines around same can tells has deep space narrow entering least (Y.Put None pairs line) simple is room calls once few jumps low =
-    put_does bl links code routines around pairs line is.0 is.1 room
+    put_does bl links code routines around pairs line is.0 is.1 (put_room bl.taken pairs bl.words room)
 simple_does bl links code routines around same can tells has deep space narrow entering least (Y.Put (Some n) pairs line) simple is room calls once few jumps low =
-    put_skip_does bl links code routines around n pairs line is.0.0 is.0.1 is.1.0 is.1.1 room
+    put_skip_does bl links code routines around n pairs line is.0.0 is.0.1 is.1.0 is.1.1 (put_room bl.taken pairs bl.words room)
 simple_does {e} bl links code routines around same can tells has deep space narrow {more} entering least (Y.Get None pairs line) simple is room calls once few jumps low =
-    get_does bl links code routines around same pairs line (can.1 e.owner e.block e.level bl deep space narrow routines tells has (at_line around line) same more (entering_at line entering) least C.Endfile endfile_code (lit< tt) refl) is.0 is.1 room
+    get_does bl links code routines around same pairs line (can.1 e.owner e.block e.level bl deep space narrow routines tells has (at_line around line) same more (entering_at line entering) least C.Endfile endfile_code (lit< tt) refl) is.0 is.1 (get_room bl.taken pairs bl.words room)
 simple_does {e} bl links code routines around same can tells has deep space narrow {more} entering least (Y.Get (Some n) pairs line) simple is room calls once few jumps low =
-    get_skip_does bl links code routines around same n pairs line (can.1 e.owner e.block e.level bl deep space narrow routines tells has (at_line around line) same more (entering_at line entering) least C.Endfile endfile_code (lit< tt) refl) is.0.0 is.0.1 is.1.0 is.1.1 room
+    get_skip_does bl links code routines around same n pairs line (can.1 e.owner e.block e.level bl deep space narrow routines tells has (at_line around line) same more (entering_at line entering) least C.Endfile endfile_code (lit< tt) refl) is.0.0 is.0.1 is.1.0 is.1.1 (get_room bl.taken pairs bl.words room)
 simple_does bl links code routines around same can tells has deep space narrow entering least _ simple is room calls once few jumps low = absurd simple
 
 -- ---- a unit that is raised
@@ -138,11 +141,11 @@ standing_raised {bl = bl} callee kind back h0 t0 head next main mains has ds siz
       known = known_in (owner_of_unit head head.kind) head.number head.level s.known;
     }
 
-words_few : (kind : Y.BlockKind) (body : ℕ) → words_of_unit kind body ≤ body
+words_few : (kind : Y.BlockKind) (body : Taken) → (taken_by_unit kind body).words ≤ body.words
 words_few Y.SimpleUnit body = omega arith
-words_few Y.UnitBlock body = most 0 body body (omega arith) (omega arith)
-words_few Y.ProcedureBlock body = most 0 body body (omega arith) (omega arith)
-words_few Y.BeginBlock body = most 0 body body (omega arith) (omega arith)
+words_few Y.UnitBlock body = omega arith
+words_few Y.ProcedureBlock body = omega arith
+words_few Y.BeginBlock body = omega arith
 
 is_unit : (kind : Y.BlockKind) (body : Y.Stmts) → IsUnitBody kind body → IsUnitKind kind
 is_unit Y.SimpleUnit body what = inl refl
@@ -150,19 +153,18 @@ is_unit Y.UnitBlock body what = inr refl
 is_unit _ body what = absurd what
 
 -- its statements, where calls and signals in it do what they mean
-body_by : {e : Environment} {block : Names} {types : Types} (bl : Block e block types) {links : Links} {code : List Instr} (standing : Standing bl links code) {all : List (ℕ × Label)} {procedure : ℕ} {may : List ℕ} (m : ℕ) → Done e block types all procedure m links code may → Tells e block types all procedure may links code bl.base bl.frames.known → (has : HasMain procedure (main_labels e.program.procedures) e.level e.block bl.labels bl.outer) → suc (length bl.depths) < most_activations → bl.stack.free + 4000 * (500 - length bl.depths) ≤ 14 * 2 ^ 20 → (head : Y.BlockHead) (next : head.level ≡ 1) (ds : List Y.DeclaredVariable) → (IsOwned (owner_of_unit head head.kind) → frame_end e.parts e.program head.number head.level ≡ fixed_size head.level 0 + bytes_of ds) → (kind : Y.BlockKind) → head.kind ≡ kind → ds ≡ unit_declares e.program head kind → (body : Y.Stmts) → IsUnitBody kind body → AreProvedStatements (names_in block types head (unit_declares e.program head kind)) (types_in types (unit_declares e.program head kind)) body → AllJumpAround head.number head.level all e.blocks (main_outer procedure e.program.procedures) (main_outer procedure e.program.procedures ∷ []) (labels_in body) body → DeclarePlain e.program body → AllCallAmong e.program may false 0 body → 4 * (stmts_words body + all_inner_words body) + (bytes_of ds + inner_bytes e.program body) ≤ 3200 → ((number : ℕ) (label : Label) → times number label all ≡ 1 → IsMarkedOnce links number label) → (head.kind ≡ Y.UnitBlock → LabelsStand (unit_environment head (program_around e)) links all procedure false) → ((b : BlockPlace) → IsAmong b (blocks_among body) → IsAmong b e.blocks) → (callee : Callee bl) → callee.words ≡ words_of_unit kind (stmts_words body) → (entered : Way) (back : Base → ℕ) (h0 t0 : ℕ → ℕ) (makes : Makes (unit_block bl callee entered back h0 t0 head next procedure (main_labels e.program.procedures) has) 0 ds) (serial : ℕ) → Does (made_block (unit_block bl callee entered back h0 t0 head next procedure (main_labels e.program.procedures) has) ds makes serial) links code (suc m) (stmts_code (unit_environment head e) none_taken body) (M.list (inner_around e.program m head.line) body)
+body_by : {e : Environment} {block : Names} {types : Types} (bl : Block e block types) {links : Links} {code : List Instr} (standing : Standing bl links code) {all : List (ℕ × Label)} {procedure : ℕ} {may : List ℕ} (m : ℕ) → Done e block types all procedure m links code may → Tells e block types all procedure may links code bl.base bl.frames.known → (has : HasMain procedure (main_labels e.program.procedures) e.level e.block bl.labels bl.outer) → suc (length bl.depths) < most_activations → bl.stack.free + 4000 * (500 - length bl.depths) ≤ 14 * 2 ^ 20 → (head : Y.BlockHead) (next : head.level ≡ 1) (ds : List Y.DeclaredVariable) → (IsOwned (owner_of_unit head head.kind) → frame_end e.parts e.program head.number head.level ≡ fixed_size head.level 0 + bytes_of ds) → (kind : Y.BlockKind) → head.kind ≡ kind → ds ≡ unit_declares e.program head kind → (body : Y.Stmts) → IsUnitBody kind body → AreProvedStatements (names_in block types head (unit_declares e.program head kind)) (types_in types (unit_declares e.program head kind)) body → AllJumpAround head.number head.level all e.blocks (main_outer procedure e.program.procedures) (main_outer procedure e.program.procedures ∷ []) (labels_in body) body → DeclarePlain e.program body → AllCallAmong e.program may false 0 body → 4 * (body_words body + all_inner_words body) + (bytes_of ds + inner_bytes e.program body) ≤ 3200 → ((number : ℕ) (label : Label) → times number label all ≡ 1 → IsMarkedOnce links number label) → (head.kind ≡ Y.UnitBlock → LabelsStand (unit_environment head (program_around e)) links all procedure false) → ((b : BlockPlace) → IsAmong b (blocks_among body) → IsAmong b e.blocks) → (callee : Callee bl) → callee.words ≡ (taken_by_unit kind (stmts_take none_taken body)).words → (entered : Way) (back : Base → ℕ) (h0 t0 : ℕ → ℕ) (makes : Makes (unit_block bl callee entered back h0 t0 head next procedure (main_labels e.program.procedures) has) 0 ds) (serial : ℕ) → Does (made_block (unit_block bl callee entered back h0 t0 head next procedure (main_labels e.program.procedures) has) ds makes serial) links code (suc m) (stmts_code (unit_environment head e) none_taken body) (M.list (inner_around e.program m head.line) body)
 body_by {e} bl {links} {code} standing {all} {procedure} m can tells has deeper space head next ds sized Y.SimpleUnit kind none (Y.StmtThen [] x (Y.EndOfList [])) what proved jumps inside calls few once labels blocks callee words entered back h0 t0 makes serial =
     let mains = main_labels e.program.procedures in
     let body = Y.StmtThen [] x (Y.EndOfList []) in
     let here = inner_around e.program m head.line in
     let cb = unit_block bl callee entered back h0 t0 head next procedure mains has in
-    let first = le-max_left (stmt_words x) 0 in
     let place = callee.place in
     let T : List Y.DeclaredVariable → Type 1 = λ vs. ((IsOwned (owner_of_unit head head.kind) → frame_end e.parts e.program head.number head.level ≡ fixed_size head.level 0 + bytes_of vs) → (made : Makes cb 0 vs) → Does (made_block cb vs made serial) links code (suc m) (stmts_code (unit_environment head e) none_taken body) (M.list here body)) in
     subst T (sym none)
     (λ sized' made.
     listed cb here body
-    (simple_does (within [] cb) links code (standing_within [] (standing_raised callee entered back h0 t0 head next procedure mains has [] sized' made serial standing)) here refl can tells (inr (inl (refl, (refl, λ label among. among)))) deeper (omega (arith, place, words, few, space, deeper)) (omega (arith, words, few)) (inner_entering e.program m head.line) (omega arith) x what proved.0 (omega (arith, words, first)) calls.0 once (omega (arith, next)) jumps.0 (main_level head.number all e.blocks (main_of procedure mains) refl), tt))
+    (simple_does (within [] cb) links code (standing_within [] (standing_raised callee entered back h0 t0 head next procedure mains has [] sized' made serial standing)) here refl can tells (inr (inl (refl, (refl, λ label among. among)))) deeper (omega (arith, place, words, few, space, deeper)) (omega (arith, words, few)) (inner_entering e.program m head.line) (omega arith) x what proved.0 (omega (arith, words)) calls.0 once (omega (arith, next)) jumps.0 (main_level head.number all e.blocks (main_of procedure mains) refl), tt))
     sized makes
 body_by {e} {block} {types} bl {links} {code} standing {all} {procedure} {may} m can tells has deeper space head next ds sized Y.UnitBlock kind are body what proved jumps inside calls few once labels blocks callee words entered back h0 t0 makes serial =
     let mains = main_labels e.program.procedures in
@@ -174,15 +176,15 @@ body_by {e} {block} {types} bl {links} {code} standing {all} {procedure} {may} m
     let free = made.free in
     let depths = ap (λ (us : List ℕ). length us) made.depths in
     let place = callee.place in
-    let most' = le-max_right 0 (stmts_words body) in
-    let low = most 0 (stmts_words body) 800 (omega arith) (omega (arith, few)) in
+    let most' = le-max_right 0 (body_words body) in
+    let low = most 0 (body_words body) 800 (omega arith) (omega (arith, few)) in
     let proved' : AreProvedStatements (names_in block types head ds) (types_in types ds) body = subst (λ vs. AreProvedStatements (names_in block types head vs) (types_in types vs) body) (sym are) proved in
     let high : AllJumpAround head.number head.level all e.blocks main' mb.outer (labels_in body ++ mb.labels) body =
     subst (λ os. AllJumpAround head.number head.level all e.blocks main' os (labels_in body ++ mb.labels) body) (sym made.outer)
     (subst (λ ls. AllJumpAround head.number head.level all e.blocks main' (main' ∷ []) ls body) (sym (ap (λ ls. labels_in body ++ ls) made.labels ∙ append-nil (labels_in body))) jumps) in
     subst (λ tk. Does mb links code (suc m) (stmts_code (unit_environment head e) tk body) (M.list (inner_around e.program m head.line) body)) made.taken
     (body_does mb links code (standing_raised callee entered back h0 t0 head next procedure mains has ds sized makes serial standing) (inner_around e.program m head.line) refl {small = true} {taken = 0} {bound = m}
-    (labels kind) body proved' high (omega (arith, most', words, w, ap (λ (tk : Taken). tk.words) made.taken))
+    (labels kind) body proved' high (subst (λ tk. (stmts_take tk body).words ≤ mb.words) (sym made.taken) (omega (arith, most', words, w)))
     ((omega (arith, place, words, low, space, deeper, free, depths, few), omega (arith, few)), omega (arith, deeper, depths)) inside
     (inner_entering e.program m head.line) (omega arith) blocks calls
     (record {
@@ -202,14 +204,14 @@ unit_raisable {e} {block} {types} bl {links} {code} standing {procedure = proced
     let q = (tells c frame u at known).1 in
     let mains = main_labels e.program.procedures in
     let vars = unit_declares e.program q.head q.head.kind in
-    let words = words_of_unit q.head.kind (stmts_words q.body) in
+    let words = (taken_by_unit q.head.kind (stmts_take none_taken q.body)).words in
     let few = q.few in
-    let small' = words_few q.head.kind (stmts_words q.body) in
+    let small' = words_few q.head.kind (stmts_take none_taken q.body) in
     let callee : Callee bl = record {
       words = words;
-      held = held_with e.program words q.body;
+      held = held_with e.program (taken_by_unit q.head.kind (stmts_take none_taken q.body)).registers q.body;
       few =
-          held_few e.program words q.body;
+          held_few _ _ _;
       at = bl.stack.free + temporary_bytes words;
       place = refl;
       room =

@@ -18,7 +18,7 @@ use Rattle.pli_coding.specs.StaticForms.{initial_datum}
 use Rattle.pli_coding.specs.Extents.{initial_given, initial_code}
 use Rattle.pli_coding.specs.Allocating.{act_code}
 use Rattle.pli_coding.specs.Entries.{frame_begun, block_entered, constant_made, variables_made, variables_code, adjustable_made}
-use Rattle.pli_coding.specs.Statements.{stmts_code, stmts_words, block_words, block_held}
+use Rattle.pli_coding.specs.Statements.{stmts_code, block_words, block_held}
 use Rattle.pli_coding.specs.Procedures.{procedure_begun, procedure_ended, procedure_in}
 use Rattle.pli_coding.specs.Images.{blocks_among, blocks_of_procedure, with_blocks, blocks_of, environment_of, raise_code, code_of}
 use Rattle.pli_coding.specs.Linking.{links_of}
@@ -101,7 +101,7 @@ program_symbols block labels others =
 program_marks : (program : Y.Program) (block line : ℕ) (body : Y.Stmts) → AllPlain program.variables → (all : List (ℕ × Label)) (called : List ℕ) (alone : IsAlone program block line body) → AreProvedStatements (main_names program block) (types_of (variables_of_block program block)) body → DeclarePlain program body → AreInner program block all called alone.others → Marks (code_of parts program) (program_symbols block (all_stands block body) alone.others)
 program_marks program block line body plain all called alone are bare others =
     let e = main_environment program block in
-    let words = block_words e block (stmts_words body) in
+    let words = block_words e block body in
     let held = block_held e block body in
     let begun = procedure_begun e (main_head block line) words held [] in
     let code = stmts_code e none_taken body in

@@ -1,3 +1,4 @@
+pub mod TakenRooms
 pub mod Promises
 pub mod HeldRegisters
 pub mod Activations

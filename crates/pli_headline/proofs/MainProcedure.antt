@@ -10,7 +10,7 @@ use Rattle.pli_meaning.specs.StorageState.{State}
 use Rattle.pli_meaning.specs.Making as K
 use Rattle.pli_coding.specs.Frames.{parameters_in, fixed_size, first_variable, variable_place, automatic_place, last_place, frame_bytes}
 use Rattle.pli_coding.specs.Environments.{Environment}
-use Rattle.pli_coding.specs.Statements.{block_words, stmts_words, block_held}
+use Rattle.pli_coding.specs.Statements.{block_words, block_held}
 use Rattle.pli_coding.specs.Procedures.{procedure_environment}
 use Rattle.pli_coding.specs.Images.{environment_of, static_if, number_if, statics_of_block, statics_code}
 use Rattle.pli_headline.specs.Headline.{parts}
@@ -52,7 +52,7 @@ abbrev pub main_environment : Y.Program → (block : ℕ) → Environment
 main_environment program block = procedure_environment (main_head block 0) (environment_of parts program)
 
 abbrev pub main_words : Y.Program → (block : ℕ) → Y.Stmts → ℕ
-main_words program block body = block_words (main_environment program block) block (stmts_words body)
+main_words program block body = block_words (main_environment program block) block body
 
 abbrev pub main_held : Y.Program → (block : ℕ) → Y.Stmts → ℕ
 main_held program block body = block_held (main_environment program block) block body

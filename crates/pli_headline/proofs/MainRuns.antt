@@ -190,7 +190,7 @@ statements_piece {links = links} {code = code} {i = i} {h = h} {t = t} known pro
     None in
     let around = main_around program k line in
     let f = main_frame (main_words program block body) (main_sizes program block) (main_count program block) small' few in
-    let most = held_few program (main_words program block body) body in
+    let most = held_few _ _ _ in
     let aims = inside (to_finish code k) newest_ended in
     let next' : Unit {0} → Meaning (Unit {0}) = λ u. M.end_reached around false in
     let closed = before_closed k next' (inside_closed newest_ended (to_finish_closed code k)) in
@@ -382,7 +382,7 @@ procedure_piece {links} {code} known program block line body first input all alo
     let next' : Unit {0} → Meaning (Unit {0}) = λ u. main_body program k line body in
     let closed = inside_closed newest_ended (to_finish_closed code k) in
     comes_on k (K.variables_made (main_around program k line) 0 (variables_of_block program block) k (main_state (main_kind program block) input 0)) next'
-    (onward (before_closed k next' closed) (begun entry first v f held g (held_few program words body) refl
+    (onward (before_closed k next' closed) (begun entry first v f held g (held_few program _ body) refl
     (omega arith) refl len lf at) (λ g1 at1.
     onward (before_closed k next' closed) (entered_piece (entry + size_of fb) f first (λ j. Counted (pos 0)) table (main_kind program block) input line g1 low le at1) (λ g2 at2.
     variables_piece (before_closed k next' closed) (main_around program k line) program block line words small' first input (main_kind program block) k n zeros t fits

@@ -30,7 +30,7 @@ use Rattle.pli_coding.specs.Allocating.{act_code}
 use Rattle.pli_coding.specs.Entries.{frame_begun, entered_without_texts}
 use Rattle.pli_coding.specs.Environments.{Environment, in_frame, owned_by, none_taken}
 use Rattle.pli_coding.specs.Statements.{condition_given, unit_variables, owner_of_unit, unit_words, unit_mark}
-use Rattle.pli_coding.specs.Statements.{unit_left, stmts_words, stmt_code, stmts_code, unit_held}
+use Rattle.pli_coding.specs.Statements.{unit_left, stmt_code, stmts_code, unit_held}
 use Rattle.pli_coding.specs.Linking.{Links, upper_part, lower_part}
 use Rattle.pli_headline.specs.ProvedSoFar.{Types, Names}
 use Rattle.run_steps.specs.Engine.{Base, HasAt, address, call_at}
@@ -104,12 +104,12 @@ unit_known known u at base (a ∷ as') (x ∷ xs) nested one framed k =
 
 abbrev pub unit_by : Environment → Y.BlockHead → Y.Stmts → (kind : Y.BlockKind) → (level : ℕ) → Code
 unit_by e head body kind level =
-    frame_begun (unit_words e head kind (stmts_words body)) level 0 (Some (unit_held e head kind body))
+    frame_begun (unit_words e head kind body) level 0 (Some (unit_held e head kind body))
     ++ (entered_without_texts 2 head.line
     ++ (unit_variables (owned_by (owner_of_unit head kind) (in_frame head.number head.level e)) head kind
     ++ (act_code head.line
     ++ (stmts_code (owned_by (owner_of_unit head kind) (in_frame head.number head.level e)) none_taken body
-    ++ (unit_mark head kind ++ unit_left (unit_words e head kind (stmts_words body)) (unit_held e head kind body))))))
+    ++ (unit_mark head kind ++ unit_left (unit_words e head kind body) (unit_held e head kind body))))))
 
 not_zero : (i : ℕ) → 0 < i → (4 * i == 0) ≡ false
 not_zero i some = grind (arith, nat_tests)

@@ -14,7 +14,7 @@ use Rattle.pli_coding.specs.Frames.{frame_below, temporary_bytes}
 use Rattle.pli_coding.specs.Environments.{Environment, none_taken}
 use Rattle.pli_coding.specs.Allocating.{act_code}
 use Rattle.pli_coding.specs.Entries.{frame_begun, block_entered, variables_code, all_restored}
-use Rattle.pli_coding.specs.Statements.{stmts_code, stmts_words, block_words, block_held}
+use Rattle.pli_coding.specs.Statements.{stmts_code, block_words, block_held}
 use Rattle.pli_coding.specs.Procedures.{procedure_environment, procedure_begun, procedure_ended, procedure_in, procedures_code}
 use Rattle.pli_coding.specs.Images.{blocks_of}
 use Rattle.pli_coding.specs.Linking.{marks_from}
@@ -65,7 +65,7 @@ procedure_symbols (p ∷ ps) = block_symbols p.block ++ procedure_symbols ps
 procedure_marks : (e : Environment) (block : Names) (types : Types) (head : Y.BlockHead) (body : Y.Stmts) → block.program ≡ e.program → HasTypes e block types → ArePlain (variables_of_block e.program head.number) → AreProvedStatements (names_in block types head (variables_of_block block.program head.number)) (types_in types (variables_of_block block.program head.number)) body → DeclarePlain e.program body → Marks (procedure_in (procedure_environment head e) head body [] None) (block_symbols (Y.BlockOf head body))
 procedure_marks e block types head body named has declaring are bare =
     let e' = procedure_environment head e in
-    let words = block_words e' head.number (stmts_words body) in
+    let words = block_words e' head.number body in
     let held = block_held e' head.number body in
     let begun = procedure_begun e' head words held [] in
     let code = stmts_code e' none_taken body in

@@ -16,7 +16,7 @@ use Rattle.pli_coding.specs.Entries.{all_saved, frame_begun, frame_ended, block_
 use Rattle.pli_coding.specs.Entries.{variables_made, variables_code, all_restored}
 use Rattle.pli_coding.specs.Extents.{initial_code}
 use Rattle.pli_coding.specs.Allocating.{act_code}
-use Rattle.pli_coding.specs.Statements.{block_words, stmts_words, stmts_code, block_held}
+use Rattle.pli_coding.specs.Statements.{block_words, stmts_code, block_held}
 use Rattle.pli_coding.specs.Procedures.{procedure_begun, procedure_ended, procedure_in}
 use Rattle.pli_coding.specs.Images.{raise_code, code_of, linked_code}
 use Rattle.pli_coding.specs.Linking.{links_of}
@@ -136,9 +136,9 @@ prologue_most e block line count words held few at has =
 
 procedure_most : (e : Environment) (block line count : ℕ) (body : Y.Stmts) → e.block ≡ block → HasPlain e block count → AreFirstStatements block count body → size_of (procedure_in (outermost e) (main_head block line) body [] None) ≤ 49 + (40 * count + 40 * stmts_nodes body)
 procedure_most e block line count body at has are =
-    let words = block_words (outermost e) block (stmts_words body) in
+    let words = block_words (outermost e) block body in
     let held = block_held (outermost e) block body in
-    let few = held_few e.program words body in
+    let few = held_few e.program _ body in
     let begun = procedure_begun (outermost e) (main_head block line) words held [] in
     let code = stmts_code (outermost e) none_taken body in
     let ended = procedure_ended (outermost e) (main_head block line) words held None in

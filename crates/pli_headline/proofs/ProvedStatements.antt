@@ -15,11 +15,13 @@ use Rattle.pli_meaning.specs.Executing.{labels_in}
 use Rattle.pli_coding.specs.Environments.{BlockOwner, BlockPlace, Environment, Taken, in_frame, Owner, owned_by}
 use Rattle.pli_coding.specs.Frames.{fixed_size, frame_end, temporary_bytes}
 use Rattle.pli_meaning.specs.StorageState.{most_activations}
-use Rattle.pli_coding.specs.Storing.{assigned_words}
-use Rattle.pli_coding.specs.Statements.{owner_of_unit, unit_environment, number_if, bit_if, stmt_code, stmts_code, stmt_words, stmts_words}
-use Rattle.pli_coding.specs.Temporaries.{number_words, bit_words, reference_words, text_words}
+use Rattle.pli_coding.specs.Statements.{owner_of_unit, unit_environment, before_turns, in_turns, stmt_takes, stmts_take, stmt_code, stmts_code}
 use Rattle.pli_coding.specs.Images.{place_of_head, place_of_unit, blocks_in, blocks_among}
 use Rattle.pli_coding.specs.Linking.{Links}
+use Rattle.pli_coding.specs.WordBounds.{spare}
+use Rattle.pli_coding.proofs.TakesMore.{number_grows}
+use Rattle.pli_coding.proofs.TakesNeeds.{number_needs, text_needs, bit_needs, reference_needs, stored_needs}
+use Rattle.pli_coding.proofs.StatementNeeds.{number_if_needs, bit_if_needs, value_needs}
 use Rattle.pli_headline.specs.ProvedSoFar.{Names, names_in, types_in, unit_declares, IsShallow, ArePlain, bytes_of, bytes_in, inner_bytes, Types, OuterBlock, main_labels, main_outer, IsProvedStatement, AreProvedStatements, JumpsAround, AllJumpAround, is_number, CallsAmong, AllCallAmong}
 use Rattle.pli_headline.specs.EndUnits.{HasUnitFor, main_catches_end}
 use Rattle.pli_meaning.specs.DeclaredShapes.{variables_of_block}
@@ -27,7 +29,8 @@ use Rattle.pli_headline.proofs.Statements.{owner_level, IsOwned, known_in, Stand
 use Rattle.pli_headline.proofs.Ifs.{if_does, if_else_does}
 use Rattle.pli_headline.proofs.Catching.{within, listed}
 use Rattle.pli_headline.proofs.InnerLevels.{IsAmong, among_front, among_back}
-use Rattle.pli_headline.specs.InnerWords.{inner_words, all_inner_words}
+use Rattle.pli_headline.proofs.TakenRooms.{behind_number, record_grows, put_room, get_room}
+use Rattle.pli_headline.specs.InnerWords.{body_words, inner_words, all_inner_words}
 use Rattle.pli_headline.proofs.InnerFrames.{Inner, other_level, inner_block}
 use Rattle.pli_headline.proofs.BeginMeant.{Entering, inner_around, inner_entering}
 use Rattle.pli_headline.proofs.Begins.{inner_of, begin_does}
@@ -63,7 +66,6 @@ use Rattle.pli_headline.proofs.TextsAssignments.{elements_text_does}
 use Rattle.pli_headline.proofs.TextCopiesAssignments.{copies_does}
 use Rattle.pli_headline.proofs.ElementAssignments.{assign_number_part_does, assign_bit_part_does}
 use Rattle.pli_headline.proofs.CountStarts.{counted_does}
-use Rattle.pli_coding.specs.Streams.{value_words}
 use Rattle.pli_headline.proofs.TextElementAssignments.{assign_text_part_does}
 use Rattle.pli_headline.proofs.PlainInside.{DeclaresPlain, DeclarePlain}
 
@@ -232,19 +234,19 @@ return_by false bl links code around line number fits few owner ended home =
     home_does bl links code around line few fits (home refl)
 
 mutual
-  pub statement_does : {e : Environment} {block : Names} {types : Types} (bl : Block e block types) (links : Links) (code : List Instr) (routines : Standing bl links code) (around : Around) (same : around.program ≡ e.program) {all : List (ℕ × Label)} {procedure : ℕ} {main returns small : Bool} {taken : ℕ} {may : List ℕ} {bound : ℕ} {outer : Names} {outers : Types} (named : LabelsStand e links all procedure main) (x : Y.Stmt) → IsProvedStatement block types x → JumpsAround e.block e.level all e.blocks (main_outer procedure e.program.procedures) bl.outer bl.labels x → bl.taken.words + stmt_words x ≤ bl.words → Room small taken bl.stack.free (length bl.depths) (inner_words x) (bytes_in e.program x) e.level → DeclaresPlain e.program x → {more : ℕ} → Entering e.program around more → more ≤ bound → ((b : BlockPlace) → IsAmong b (blocks_in x) → IsAmong b e.blocks) → CallsAmong e.program may returns taken x → Ways e outer outers block types bl.words bound small taken bl.labels bl.outer bl.base bl.frames.known all procedure links code main returns may → Does bl links code around.turns (stmt_code e bl.taken x) (M.statement around x)
+  pub statement_does : {e : Environment} {block : Names} {types : Types} (bl : Block e block types) (links : Links) (code : List Instr) (routines : Standing bl links code) (around : Around) (same : around.program ≡ e.program) {all : List (ℕ × Label)} {procedure : ℕ} {main returns small : Bool} {taken : ℕ} {may : List ℕ} {bound : ℕ} {outer : Names} {outers : Types} (named : LabelsStand e links all procedure main) (x : Y.Stmt) → IsProvedStatement block types x → JumpsAround e.block e.level all e.blocks (main_outer procedure e.program.procedures) bl.outer bl.labels x → (stmt_takes bl.taken x).words ≤ bl.words → Room small taken bl.stack.free (length bl.depths) (inner_words x) (bytes_in e.program x) e.level → DeclaresPlain e.program x → {more : ℕ} → Entering e.program around more → more ≤ bound → ((b : BlockPlace) → IsAmong b (blocks_in x) → IsAmong b e.blocks) → CallsAmong e.program may returns taken x → Ways e outer outers block types bl.words bound small taken bl.labels bl.outer bl.base bl.frames.known all procedure links code main returns may → Does bl links code around.turns (stmt_code e bl.taken x) (M.statement around x)
   statement_does bl links code routines around same named (Y.Null line) is jumps room space bare entering least known calls ways = null_does bl links code around line is
   statement_does bl links code routines around same named (Y.Assign target (Y.StoredNumber precision x) line) is jumps room space bare entering least known calls ways =
-      let a = le-max_left (max 1 (number_words x)) (4 + reference_words target) in
-      let d = le-max_right (max 1 (number_words x)) (4 + reference_words target) in
+      let a = stored_needs bl.taken (Y.StoredNumber precision x) in
+      let d = behind_number bl.taken target in
       assign_number_part_does bl links code routines around target precision x line is.0 is.1.0 (omega (arith, a, room)) (omega (arith, d, room)) is.1.1
   statement_does bl links code routines around same named (Y.Assign target (Y.StoredBit x) line) is jumps room space bare entering least known calls ways =
-      let a = le-max_left (bit_words x) (4 + reference_words target) in
-      let d = le-max_right (bit_words x) (4 + reference_words target) in
+      let a = bit_needs bl.taken x in
+      let d = behind_number bl.taken target in
       assign_bit_part_does bl links code routines around target x line is.0 is.1.0 (omega (arith, d, room)) (omega (arith, a, room)) is.1.1
   statement_does bl links code routines around same named (Y.Assign target (Y.StoredText x) line) is jumps room space bare entering least known calls ways =
-      let a = le-max_left (text_words x) (4 + reference_words target) in
-      let d = le-max_right (text_words x) (4 + reference_words target) in
+      let a = text_needs bl.taken x in
+      let d = reference_needs bl.taken target in
       assign_text_part_does bl links code routines around target x line is.0 is.1.0 (omega (arith, a, room)) (omega (arith, d, room)) is.1.1
   statement_does bl links code routines around same named (Y.AssignElements target (Y.StoredNumber precision x) line) is jumps room space bare entering least known calls ways =
       elements_number_does bl links code routines around target precision x line is.0 is.1.0 room is.1.1
@@ -253,95 +255,73 @@ mutual
   statement_does bl links code routines around same named (Y.AssignElements target (Y.StoredText x) line) is jumps room space bare entering least known calls ways =
       elements_text_does bl links code routines around target x line is.0 is.1.0 room is.1.1
   statement_does bl links code routines around same named (Y.AssignAggregate target source line) is jumps room space bare entering least known calls ways =
-      copies_does bl links code routines around target source line is.0 room is.1
+      let a = record_grows bl.taken target in
+      copies_does bl links code routines around target source line is.0 (omega (arith, a, room)) is.1
   statement_does bl links code routines around same named (Y.If condition unit line) is jumps room space bare entering least known calls ways =
-      let a = le-max_left (bit_words condition) (stmt_words unit) in
-      let d = le-max_right (bit_words condition) (stmt_words unit) in
+      let a = bit_needs bl.taken condition in
       if_does bl links code routines around condition unit line is.0 (omega (arith, a, room)) is.1.1
-      (statement_does bl links code routines around same named unit is.1.0 jumps (omega (arith, d, room)) space bare entering least known calls ways)
+      (statement_does bl links code routines around same named unit is.1.0 jumps (omega (arith, room)) space bare entering least known calls ways)
   statement_does {e} bl links code routines around same {all} {procedure} {main} {small = small} {taken = filled} named (Y.IfElse condition unit otherwise line) is jumps room space bare entering least known calls ways =
-      let most = max (stmt_words unit) (stmt_words otherwise) in
-      let a = le-max_left (bit_words condition) most in
-      let d = le-max_right (bit_words condition) most in
-      let d1 = le-max_left (stmt_words unit) (stmt_words otherwise) in
-      let d2 = le-max_right (stmt_words unit) (stmt_words otherwise) in
+      let a = bit_needs bl.taken condition in
       let i1 = le-max_left (inner_words unit) (inner_words otherwise) in
       let i2 = le-max_right (inner_words unit) (inner_words otherwise) in
       let b1 = le-max_left (bytes_in e.program unit) (bytes_in e.program otherwise) in
       let b2 = le-max_right (bytes_in e.program unit) (bytes_in e.program otherwise) in
       if_else_does bl links code routines around condition unit otherwise line is.0 (omega (arith, a, room)) is.1.1.1
-      (statement_does bl links code routines around same named unit is.1.0 jumps.0 (omega (arith, d, d1, room))
+      (statement_does bl links code routines around same named unit is.1.0 jumps.0 (omega (arith, room))
       (room_less small filled bl.stack.free (length bl.depths) (max (inner_words unit) (inner_words otherwise)) (inner_words unit) (max (bytes_in e.program unit) (bytes_in e.program otherwise)) (bytes_in e.program unit) e.level i1 b1 space) bare.0 entering least (λ b h. known b (among_front b (blocks_in unit) (blocks_in otherwise) h)) calls.0 ways)
-      (statement_does bl links code routines around same named otherwise is.1.1.0 jumps.1 (omega (arith, d, d2, room))
+      (statement_does bl links code routines around same named otherwise is.1.1.0 jumps.1 (omega (arith, room))
       (room_less small filled bl.stack.free (length bl.depths) (max (inner_words unit) (inner_words otherwise)) (inner_words otherwise) (max (bytes_in e.program unit) (bytes_in e.program otherwise)) (bytes_in e.program otherwise) e.level i2 b2 space) bare.1 entering least (λ b h. known b (among_back b (blocks_in unit) (blocks_in otherwise) h)) calls.1 ways)
   statement_does bl links code routines around same named (Y.Do body line) is jumps room space bare entering least known calls ways =
       do_does bl links code around body line is.1
       (listed bl around body (each_does (within (labels_in body) bl) links code (standing_within (labels_in body) routines) around same named body is.0 jumps room space bare entering least known calls (ways_within (labels_in body) ways)))
   statement_does bl links code routines around same named (Y.DoWhile condition body line) is jumps room space bare entering least known calls ways =
-      let a = le-max_left (bit_words condition) (stmts_words body) in
-      let d = le-max_right (bit_words condition) (stmts_words body) in
+      let a = bit_needs bl.taken condition in
       while_does bl links code routines around condition body line is.0 (omega (arith, a, room)) is.1.1
-      (listed bl around body (each_does (within (labels_in body) bl) links code (standing_within (labels_in body) routines) around same named body is.1.0 jumps (omega (arith, d, room)) space bare entering least known calls (ways_within (labels_in body) ways)))
+      (listed bl around body (each_does (within (labels_in body) bl) links code (standing_within (labels_in body) routines) around same named body is.1.0 jumps (omega (arith, room)) space bare entering least known calls (ways_within (labels_in body) ways)))
   statement_does bl links code routines around same named (Y.DoOnce target (Y.StoredNumber precision x) condition body line) is jumps room space bare entering least known calls ways =
-      let most = max (bit_if condition) (stmts_words body) in
-      let a = le-max_left (assigned_words target (Y.StoredNumber precision x)) most in
-      let d = le-max_right (assigned_words target (Y.StoredNumber precision x)) most in
-      let a1 = le-max_left (max 1 (number_words x)) (4 + reference_words target) in
-      let a2 = le-max_right (max 1 (number_words x)) (4 + reference_words target) in
-      let d1 = le-max_left (bit_if condition) (stmts_words body) in
-      let d2 = le-max_right (bit_if condition) (stmts_words body) in
-      once_does bl links code routines around target (Y.StoredNumber precision x) condition body line is.1.0 (omega (arith, d, d1, room)) is.1.1.1
-      (assign_number_part_does bl links code routines around target precision x line is.0.0 is.0.1 (omega (arith, a, a1, room)) (omega (arith, a, a2, room)) is.1.1.1)
-      (listed bl around body (each_does (within (labels_in body) bl) links code (standing_within (labels_in body) routines) around same named body is.1.1.0 jumps (omega (arith, d, d2, room)) space bare entering least known calls (ways_within (labels_in body) ways)))
+      let a = stored_needs bl.taken (Y.StoredNumber precision x) in
+      let d = behind_number bl.taken target in
+      let d1 = bit_if_needs bl.taken condition in
+      once_does bl links code routines around target (Y.StoredNumber precision x) condition body line is.1.0 (omega (arith, d1, room)) is.1.1.1
+      (assign_number_part_does bl links code routines around target precision x line is.0.0 is.0.1 (omega (arith, a, room)) (omega (arith, d, room)) is.1.1.1)
+      (listed bl around body (each_does (within (labels_in body) bl) links code (standing_within (labels_in body) routines) around same named body is.1.1.0 jumps (omega (arith, room)) space bare entering least known calls (ways_within (labels_in body) ways)))
   statement_does bl links code routines around same named (Y.DoOnce target (Y.StoredBit x) condition body line) is jumps room space bare entering least known calls ways =
-      let most = max (bit_if condition) (stmts_words body) in
-      let a = le-max_left (assigned_words target (Y.StoredBit x)) most in
-      let d = le-max_right (assigned_words target (Y.StoredBit x)) most in
-      let a1 = le-max_left (bit_words x) (4 + reference_words target) in
-      let a2 = le-max_right (bit_words x) (4 + reference_words target) in
-      let d1 = le-max_left (bit_if condition) (stmts_words body) in
-      let d2 = le-max_right (bit_if condition) (stmts_words body) in
-      once_does bl links code routines around target (Y.StoredBit x) condition body line is.1.0 (omega (arith, d, d1, room)) is.1.1.1
-      (assign_bit_part_does bl links code routines around target x line is.0.0 is.0.1 (omega (arith, a, a2, room)) (omega (arith, a, a1, room)) is.1.1.1)
-      (listed bl around body (each_does (within (labels_in body) bl) links code (standing_within (labels_in body) routines) around same named body is.1.1.0 jumps (omega (arith, d, d2, room)) space bare entering least known calls (ways_within (labels_in body) ways)))
+      let a = bit_needs bl.taken x in
+      let d = behind_number bl.taken target in
+      let d1 = bit_if_needs bl.taken condition in
+      once_does bl links code routines around target (Y.StoredBit x) condition body line is.1.0 (omega (arith, d1, room)) is.1.1.1
+      (assign_bit_part_does bl links code routines around target x line is.0.0 is.0.1 (omega (arith, d, room)) (omega (arith, a, room)) is.1.1.1)
+      (listed bl around body (each_does (within (labels_in body) bl) links code (standing_within (labels_in body) routines) around same named body is.1.1.0 jumps (omega (arith, room)) space bare entering least known calls (ways_within (labels_in body) ways)))
   statement_does bl links code routines around same named (Y.DoOnce target (Y.StoredText x) condition body line) is jumps room space bare entering least known calls ways =
-      let most = max (bit_if condition) (stmts_words body) in
-      let a = le-max_left (assigned_words target (Y.StoredText x)) most in
-      let d = le-max_right (assigned_words target (Y.StoredText x)) most in
-      let a1 = le-max_left (text_words x) (4 + reference_words target) in
-      let a2 = le-max_right (text_words x) (4 + reference_words target) in
-      let d1 = le-max_left (bit_if condition) (stmts_words body) in
-      let d2 = le-max_right (bit_if condition) (stmts_words body) in
-      once_does bl links code routines around target (Y.StoredText x) condition body line is.1.0 (omega (arith, d, d1, room)) is.1.1.1
-      (assign_text_part_does bl links code routines around target x line is.0.0 is.0.1 (omega (arith, a, a1, room)) (omega (arith, a, a2, room)) is.1.1.1)
-      (listed bl around body (each_does (within (labels_in body) bl) links code (standing_within (labels_in body) routines) around same named body is.1.1.0 jumps (omega (arith, d, d2, room)) space bare entering least known calls (ways_within (labels_in body) ways)))
+      let a = text_needs bl.taken x in
+      let d = reference_needs bl.taken target in
+      let d1 = bit_if_needs bl.taken condition in
+      once_does bl links code routines around target (Y.StoredText x) condition body line is.1.0 (omega (arith, d1, room)) is.1.1.1
+      (assign_text_part_does bl links code routines around target x line is.0.0 is.0.1 (omega (arith, a, room)) (omega (arith, d, room)) is.1.1.1)
+      (listed bl around body (each_does (within (labels_in body) bl) links code (standing_within (labels_in body) routines) around same named body is.1.1.0 jumps (omega (arith, room)) space bare entering least known calls (ways_within (labels_in body) ways)))
   statement_does bl links code routines around same named (Y.DoCount (Y.NumberCounter precision target) start limit step condition body line) is jumps room space bare entering least known calls ways =
-      let first = 3 + max (value_words start) (max (number_if limit) (number_words step)) in
-      let second = 2 + max (suc (reference_words target)) (max (bit_if condition) (stmts_words body)) in
-      let m1 = le-max_left first second in
-      let m2 = le-max_right first second in
-      let a1 = le-max_left (value_words start) (max (number_if limit) (number_words step)) in
-      let a2 = le-max_right (value_words start) (max (number_if limit) (number_words step)) in
-      let a4 = le-max_left (number_if limit) (number_words step) in
-      let a5 = le-max_right (number_if limit) (number_words step) in
-      let d0 = le-max_left (suc (reference_words target)) (max (bit_if condition) (stmts_words body)) in
-      let d1 = le-max_right (suc (reference_words target)) (max (bit_if condition) (stmts_words body)) in
-      let d2 = le-max_left (bit_if condition) (stmts_words body) in
-      let d3 = le-max_right (bit_if condition) (stmts_words body) in
-      counted_does bl links code routines around target precision start limit step condition body line is.0.0 (omega (arith, room, m2, d0)) is.0.1 is.1.0.0 is.1.0.1 is.1.1.0
-      (omega (arith, room, m1, a1)) (omega (arith, room, m1, a2, a4)) (omega (arith, room, m1, a2, a5)) (omega (arith, room, m2, d1, d2)) is.1.1.1.1
-      (listed (turning bl) around body (each_does (within (labels_in body) (turning bl)) links code (standing_within (labels_in body) (standing_turning routines)) around same named body is.1.1.1.0 jumps (omega (arith, room, m2, d1, d3)) space bare entering least known calls (ways_within (labels_in body) ways)))
+      let b = before_turns bl.taken in
+      let a1 = value_needs b start in
+      let a2 = number_if_needs b limit in
+      let a3 = number_needs b step in
+      let a4 = number_grows b step in
+      let d1 = behind_number (in_turns bl.taken) target in
+      let d2 = bit_if_needs (in_turns bl.taken) condition in
+      counted_does bl links code routines around target precision start limit step condition body line is.0.0 (omega (arith, room, a4)) (omega (arith, room, d1)) is.0.1 is.1.0.0 is.1.0.1 is.1.1.0
+      (omega (arith, room, a1)) (omega (arith, room, a2)) (omega (arith, room, a3)) (omega (arith, room, d2)) is.1.1.1.1
+      (listed (turning bl) around body (each_does (within (labels_in body) (turning bl)) links code (standing_within (labels_in body) (standing_turning routines)) around same named body is.1.1.1.0 jumps (omega (arith, room)) space bare entering least known calls (ways_within (labels_in body) ways)))
   statement_does {e} {block} {types} bl links code routines around same {all} {procedure} {main} {returns} {small = small} {taken = filled} {may = may} {bound = bound} {outer = outer} {outers = outers} named (Y.Begin (Y.BlockOf head body)) is jumps room space bare {more} entering least known calls ways =
       let vars = variables_of_block e.program head.number in
       let next = jumps.0.0 in
       let deep = jumps.0.1 in
       let shallow : e.level < 100 = omega (arith, next, deep) in
       let own' : OuterBlock = record { level = e.level; number = e.block; labels = bl.labels } in
-      let words = max 0 (stmts_words body) in
+      let words = max 0 (body_words body) in
       let fits = room_frame small filled bl.stack.free (length bl.depths) words (all_inner_words body) (bytes_of vars) (inner_bytes e.program body) e.level shallow space in
       let inner = inner_of bl words shallow (omega (arith, fits)) in
       let here : (more' : ℕ) → Around = λ more'. inner_around e.program more' head.line in
-      let most = le-max_right 0 (stmts_words body) in
+      let most = le-max_right 0 (body_words body) in
       by_declared vars
       (λ none.
       let here' : variables_of_block block.program head.number ≡ [] = ap (λ p. variables_of_block p head.number) bl.named ∙ none in
@@ -380,7 +360,7 @@ mutual
       } in
       subst (λ tk. Does mb links code (suc more') (stmts_code (in_frame head.number head.level e) tk body) (M.list (here more') body)) taken
       (listed mb (here more') body
-      (each_does (within (labels_in body) mb) links code (standing_within (labels_in body) standing) (here more') refl {bound = bound} (inner_labels_stand named head.number head.level next deep (known (place_of_head head) (inl refl))) body are high (omega (arith, most, w, ap (λ (tk : Taken). tk.words) taken))
+      (each_does (within (labels_in body) mb) links code (standing_within (labels_in body) standing) (here more') refl {bound = bound} (inner_labels_stand named head.number head.level next deep (known (place_of_head head) (inl refl))) body are high (subst (λ tk. (stmts_take tk body).words ≤ mb.words) (sym taken) (omega (arith, most, w)))
       (subst (λ d. Room small (filled + bytes_of vars) mb.stack.free d (all_inner_words body) (inner_bytes e.program body) head.level) (sym (ap (λ (ds : List ℕ). length ds) depths))
       (subst (λ fr. Room small (filled + bytes_of vars) fr (suc (length bl.depths)) (all_inner_words body) (inner_bytes e.program body) head.level) (sym free')
       (room_inner small filled bl.stack.free (length bl.depths) words (all_inner_words body) (bytes_of vars) (inner_bytes e.program body) e.level head.level shallow next deeper space)))
@@ -448,44 +428,42 @@ mutual
         linked = subst (Linked links code i) (unit_is e head body bare.0 jumps.1.0) l;
       }))
   statement_does bl links code routines around same named (Y.Put None pairs line) is jumps room space bare entering least known calls ways =
-      put_does bl links code routines around pairs line is.0 is.1 room
+      put_does bl links code routines around pairs line is.0 is.1 (put_room bl.taken pairs bl.words room)
   statement_does bl links code routines around same named (Y.Put (Some n) pairs line) is jumps room space bare entering least known calls ways =
-      put_skip_does bl links code routines around n pairs line is.0.0 is.0.1 is.1.0 is.1.1 room
+      put_skip_does bl links code routines around n pairs line is.0.0 is.0.1 is.1.0 is.1.1 (put_room bl.taken pairs bl.words room)
   statement_does bl links code routines around same named (Y.Get None pairs line) is jumps room space bare entering least known (inl none) ways =
-      get_does bl links code routines around same pairs line (none_raises bl links code (at_line around line) C.Endfile endfile_code (none_ends bl ways.tells none)) is.0 is.1 room
+      get_does bl links code routines around same pairs line (none_raises bl links code (at_line around line) C.Endfile endfile_code (none_ends bl ways.tells none)) is.0 is.1 (get_room bl.taken pairs bl.words room)
   statement_does {e} bl links code routines around same {all} {procedure} {small = small} {taken = filled} named (Y.Get None pairs line) is jumps room space bare {more} entering least known (inr shallow) ways =
       let mains = main_labels e.program.procedures in
       get_does bl links code routines around same pairs line
       (through_raises bl ways.narrows procedure mains ways.mains
       (λ n0 x. ways.signals e.owner e.block e.level (narrowed bl ways.narrows n0 x procedure mains ways.mains) (room_deep small filled bl.stack.free (length bl.depths) 0 0 e.level space) (room_calls small filled bl.stack.free (length bl.depths) 0 0 e.level shallow space) ways.narrow (standing_narrowed ways.narrows n0 x procedure mains ways.mains routines) ways.tells (narrowed_has bl procedure mains ways.mains) (at_line around line) same more (entering_at line entering) least C.Endfile endfile_code (lit< tt) refl))
-      is.0 is.1 room
+      is.0 is.1 (get_room bl.taken pairs bl.words room)
   statement_does bl links code routines around same named (Y.Get (Some n) pairs line) is jumps room space bare entering least known (inl none) ways =
-      get_skip_does bl links code routines around same n pairs line (none_raises bl links code (at_line around line) C.Endfile endfile_code (none_ends bl ways.tells none)) is.0.0 is.0.1 is.1.0 is.1.1 room
+      get_skip_does bl links code routines around same n pairs line (none_raises bl links code (at_line around line) C.Endfile endfile_code (none_ends bl ways.tells none)) is.0.0 is.0.1 is.1.0 is.1.1 (get_room bl.taken pairs bl.words room)
   statement_does {e} bl links code routines around same {all} {procedure} {small = small} {taken = filled} named (Y.Get (Some n) pairs line) is jumps room space bare {more} entering least known (inr shallow) ways =
       let mains = main_labels e.program.procedures in
       get_skip_does bl links code routines around same n pairs line
       (through_raises bl ways.narrows procedure mains ways.mains
       (λ n0 x. ways.signals e.owner e.block e.level (narrowed bl ways.narrows n0 x procedure mains ways.mains) (room_deep small filled bl.stack.free (length bl.depths) 0 0 e.level space) (room_calls small filled bl.stack.free (length bl.depths) 0 0 e.level shallow space) ways.narrow (standing_narrowed ways.narrows n0 x procedure mains ways.mains routines) ways.tells (narrowed_has bl procedure mains ways.mains) (at_line around line) same more (entering_at line entering) least C.Endfile endfile_code (lit< tt) refl))
-      is.0.0 is.0.1 is.1.0 is.1.1 room
+      is.0.0 is.0.1 is.1.0 is.1.1 (get_room bl.taken pairs bl.words room)
   statement_does bl links code routines around same named _ is jumps room space bare entering least known calls ways = absurd is
 
-  pub each_does : {e : Environment} {block : Names} {types : Types} (bl : Block e block types) (links : Links) (code : List Instr) (routines : Standing bl links code) (around : Around) (same : around.program ≡ e.program) {all : List (ℕ × Label)} {procedure : ℕ} {main returns small : Bool} {taken : ℕ} {may : List ℕ} {bound : ℕ} {outer : Names} {outers : Types} (named : LabelsStand e links all procedure main) (body : Y.Stmts) → AreProvedStatements block types body → AllJumpAround e.block e.level all e.blocks (main_outer procedure e.program.procedures) bl.outer bl.labels body → bl.taken.words + stmts_words body ≤ bl.words → Room small taken bl.stack.free (length bl.depths) (all_inner_words body) (inner_bytes e.program body) e.level → DeclarePlain e.program body → {more : ℕ} → Entering e.program around more → more ≤ bound → ((b : BlockPlace) → IsAmong b (blocks_among body) → IsAmong b e.blocks) → AllCallAmong e.program may returns taken body → Ways e outer outers block types bl.words bound small taken bl.labels bl.outer bl.base bl.frames.known all procedure links code main returns may → EachDoes bl links code around body
+  pub each_does : {e : Environment} {block : Names} {types : Types} (bl : Block e block types) (links : Links) (code : List Instr) (routines : Standing bl links code) (around : Around) (same : around.program ≡ e.program) {all : List (ℕ × Label)} {procedure : ℕ} {main returns small : Bool} {taken : ℕ} {may : List ℕ} {bound : ℕ} {outer : Names} {outers : Types} (named : LabelsStand e links all procedure main) (body : Y.Stmts) → AreProvedStatements block types body → AllJumpAround e.block e.level all e.blocks (main_outer procedure e.program.procedures) bl.outer bl.labels body → (stmts_take bl.taken body).words ≤ bl.words → Room small taken bl.stack.free (length bl.depths) (all_inner_words body) (inner_bytes e.program body) e.level → DeclarePlain e.program body → {more : ℕ} → Entering e.program around more → more ≤ bound → ((b : BlockPlace) → IsAmong b (blocks_among body) → IsAmong b e.blocks) → AllCallAmong e.program may returns taken body → Ways e outer outers block types bl.words bound small taken bl.labels bl.outer bl.base bl.frames.known all procedure links code main returns may → EachDoes bl links code around body
   each_does bl links code routines around same named (Y.EndOfList labels) are jumps room space bare entering least known calls ways = tt
   each_does {e} bl links code routines around same {all} {procedure} {main} {small = small} {taken = filled} named (Y.StmtThen labels first rest) are jumps room space bare entering least known calls ways =
-      let a = le-max_left (stmt_words first) (stmts_words rest) in
-      let c = le-max_right (stmt_words first) (stmts_words rest) in
       let i1 = le-max_left (inner_words first) (all_inner_words rest) in
       let i2 = le-max_right (inner_words first) (all_inner_words rest) in
       let b1 = le-max_left (bytes_in e.program first) (inner_bytes e.program rest) in
       let b2 = le-max_right (bytes_in e.program first) (inner_bytes e.program rest) in
       let words = max (inner_words first) (all_inner_words rest) in
       let bytes = max (bytes_in e.program first) (inner_bytes e.program rest) in (
-        statement_does bl links code routines around same named first are.0 jumps.0 (omega (arith, a, room)) (room_less small filled bl.stack.free (length bl.depths) words (inner_words first) bytes (bytes_in e.program first) e.level i1 b1 space) bare.0 entering least (λ b h. known b (among_front b (blocks_in first) (blocks_among rest) h)) calls.0 ways,
-        each_does bl links code routines around same named rest are.1 jumps.1 (omega (arith, c, room)) (room_less small filled bl.stack.free (length bl.depths) words (all_inner_words rest) bytes (inner_bytes e.program rest) e.level i2 b2 space) bare.1 entering least (λ b h. known b (among_back b (blocks_in first) (blocks_among rest) h)) calls.1 ways,
+        statement_does bl links code routines around same named first are.0 jumps.0 (omega (arith, room)) (room_less small filled bl.stack.free (length bl.depths) words (inner_words first) bytes (bytes_in e.program first) e.level i1 b1 space) bare.0 entering least (λ b h. known b (among_front b (blocks_in first) (blocks_among rest) h)) calls.0 ways,
+        each_does bl links code routines around same named rest are.1 jumps.1 (omega (arith, room)) (room_less small filled bl.stack.free (length bl.depths) words (all_inner_words rest) bytes (inner_bytes e.program rest) e.level i2 b2 space) bare.1 entering least (λ b h. known b (among_back b (blocks_in first) (blocks_among rest) h)) calls.1 ways,
       )
 
 -- the statements of a block
-pub body_does : {e : Environment} {block : Names} {types : Types} (bl : Block e block types) (links : Links) (code : List Instr) (routines : Standing bl links code) (around : Around) (same : around.program ≡ e.program) {all : List (ℕ × Label)} {procedure : ℕ} {main returns small : Bool} {taken : ℕ} {may : List ℕ} {bound : ℕ} {outer : Names} {outers : Types} (named : LabelsStand e links all procedure main) (body : Y.Stmts) → AreProvedStatements block types body → AllJumpAround e.block e.level all e.blocks (main_outer procedure e.program.procedures) bl.outer (labels_in body ++ bl.labels) body → bl.taken.words + stmts_words body ≤ bl.words → Room small taken bl.stack.free (length bl.depths) (all_inner_words body) (inner_bytes e.program body) e.level → DeclarePlain e.program body → {more : ℕ} → Entering e.program around more → more ≤ bound → ((b : BlockPlace) → IsAmong b (blocks_among body) → IsAmong b e.blocks) → AllCallAmong e.program may returns taken body → Ways e outer outers block types bl.words bound small taken (labels_in body ++ bl.labels) bl.outer bl.base bl.frames.known all procedure links code main returns may → Does bl links code around.turns (stmts_code e bl.taken body) (M.list around body)
+pub body_does : {e : Environment} {block : Names} {types : Types} (bl : Block e block types) (links : Links) (code : List Instr) (routines : Standing bl links code) (around : Around) (same : around.program ≡ e.program) {all : List (ℕ × Label)} {procedure : ℕ} {main returns small : Bool} {taken : ℕ} {may : List ℕ} {bound : ℕ} {outer : Names} {outers : Types} (named : LabelsStand e links all procedure main) (body : Y.Stmts) → AreProvedStatements block types body → AllJumpAround e.block e.level all e.blocks (main_outer procedure e.program.procedures) bl.outer (labels_in body ++ bl.labels) body → (stmts_take bl.taken body).words ≤ bl.words → Room small taken bl.stack.free (length bl.depths) (all_inner_words body) (inner_bytes e.program body) e.level → DeclarePlain e.program body → {more : ℕ} → Entering e.program around more → more ≤ bound → ((b : BlockPlace) → IsAmong b (blocks_among body) → IsAmong b e.blocks) → AllCallAmong e.program may returns taken body → Ways e outer outers block types bl.words bound small taken (labels_in body ++ bl.labels) bl.outer bl.base bl.frames.known all procedure links code main returns may → Does bl links code around.turns (stmts_code e bl.taken body) (M.list around body)
 body_does bl links code routines around same named body are jumps room space bare entering least known calls ways =
     listed bl around body
     (each_does (within (labels_in body) bl) links code (standing_within (labels_in body) routines) around same named body are jumps room space bare entering least known calls ways)

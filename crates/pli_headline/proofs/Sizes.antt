@@ -21,20 +21,18 @@ use Rattle.pli_coding.specs.Expressions.{number_code, extremes_code, bit_code, t
 use Rattle.pli_coding.specs.Expressions.{subscripts_code, given_in, type_in, address_in}
 use Rattle.pli_coding.specs.Storing.{stored_into, is_near, word_stored, top_stored, record_code, record_given}
 use Rattle.pli_coding.specs.Storing.{first_leaf, aggregate_code}
-use Rattle.pli_coding.specs.Streams.{has_fixed, get_item_words, get_items_words, get_words, value_put, number_put}
+use Rattle.pli_coding.specs.Streams.{has_fixed, value_put, number_put}
 use Rattle.pli_coding.specs.Streams.{text_put, as_text, item_put, items_put, edit_begun, edit_ended, put_pair}
-use Rattle.pli_coding.specs.Streams.{put_pairs, put_item_words, put_items_words, put_words, skip_option, field_stored}
+use Rattle.pli_coding.specs.Streams.{put_pairs, skip_option, field_stored}
 use Rattle.pli_coding.specs.Streams.{field_awaited, number_got, bit_got, item_got, items_got, get_pair, get_pairs}
-use Rattle.pli_coding.specs.Streams.{value_words, text_got}
+use Rattle.pli_coding.specs.Streams.{text_got}
 use Rattle.pli_coding.specs.Allocating.{act_code}
-use Rattle.pli_coding.specs.Statements.{if_met, while_met, stmt_code, stmts_code, stmt_words}
-use Rattle.pli_coding.specs.Statements.{stmts_words, marked, once_code, bit_if, in_turns, before_turns, number_if}
+use Rattle.pli_coding.specs.Statements.{if_met, while_met, stmt_code, stmts_code}
+use Rattle.pli_coding.specs.Statements.{marked, once_code, in_turns, before_turns}
 use Rattle.pli_coding.specs.Statements.{start_code, limit_code, constant_step, step_kept, step_code, started_code}
 use Rattle.pli_coding.specs.Statements.{start_place, step_place, limit_place, turn_of, turns_code, words_back}
 use Rattle.pli_coding.specs.Statements.{words_behind_limit, words_behind_condition, limit_kept, while_kept}
 use Rattle.pli_coding.specs.Statements.{stepped_code}
-use Rattle.pli_coding.specs.Temporaries.{number_words, numbers_words, text_words, bit_words, reference_words}
-use Rattle.pli_coding.specs.Temporaries.{subscripts_words}
 use Rattle.pli_headline.specs.ProvedSoFar.{Names, Types, IsProvedNumber, AreProvedNumbers}
 use Rattle.pli_headline.specs.ProvedSoFar.{IsProvedBit, IsProvedText, IsProvedItem, AreProvedItems, AreProvedPairs}
 use Rattle.pli_headline.specs.ProvedSoFar.{IsProvedGetItem, AreProvedGetItems, AreProvedGetPairs, IsProvedStatement}
@@ -56,6 +54,7 @@ use Rattle.pli_coding.specs.Locating.{loaded, stored, reached, found_reached, fr
 use Rattle.pli_coding.specs.Locating.{leaf_number, is_simple, are_simple, less_lower, range_loaded, place_kept}
 use Rattle.pli_coding.specs.Locating.{counted_in, subscript_counted, subscript_given, subscripts_counted, text_pushed}
 use Rattle.pli_coding.specs.Locating.{text_stored}
+use Rattle.pli_coding.specs.WordBounds.{get_item_words, get_items_words, get_words, put_item_words, put_items_words, put_words, value_words, stmt_words, stmts_words, bit_if, number_if, number_words, numbers_words, text_words, bit_words, reference_words, subscripts_words}
 use Rattle.pli_headline.proofs.Targets.{part_type}
 use Rattle.pli_headline.proofs.PieceSizes.{most, own_words, asked_words, displaced_by, saved_size, both_size, two_size}
 

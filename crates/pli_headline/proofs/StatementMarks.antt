@@ -32,7 +32,7 @@ use Rattle.pli_coding.specs.Statements.{step_code, start_loaded, started_code, c
 use Rattle.pli_coding.specs.Statements.{limit_tested, limit_kept, while_kept, step_added, stepped_code, turn_of}
 use Rattle.pli_coding.specs.Statements.{turns_code, words_behind_limit, words_behind_condition, words_back}
 use Rattle.pli_coding.specs.Statements.{signal_code, unwound_to, returned_by, goto_outer, goto_code, marked}
-use Rattle.pli_coding.specs.Statements.{stmt_code, stmts_code, stmts_words, block_words, begin_environment}
+use Rattle.pli_coding.specs.Statements.{stmt_code, stmts_code, block_words, begin_environment}
 use Rattle.pli_coding.specs.Statements.{begin_code, condition_given, unit_established, unit_left, unit_variables}
 use Rattle.pli_coding.specs.Statements.{owner_of_unit, unit_words, unit_mark, unit_held}
 use Rattle.pli_coding.specs.Locating.{own_place, frame_found, frame_in, table_number}
@@ -367,7 +367,7 @@ unit_marks : (e : Environment) (head : Y.BlockHead) (body : Y.Stmts) → ArePlai
 unit_marks e head body are marks =
     let e' = owned_by (owner_of_unit head head.kind) (in_frame head.number head.level e) in
     let c = stmts_code e' none_taken body in
-    let words = unit_words e head head.kind (stmts_words body) in
+    let words = unit_words e head head.kind body in
     let count = unit_held e head head.kind body in
     let frame = frame_begun words head.level 0 (Some count) in
     let enter = entered_without_texts 2 head.line in
@@ -471,7 +471,7 @@ mutual
   statement_marks e t block types (Y.Begin (Y.BlockOf head body)) named has is bare =
       let e' = begin_environment head e in
       let c = stmts_code e' none_taken body in
-      let words = block_words e head.number (stmts_words body) in
+      let words = block_words e head.number body in
       let ss = places_of (all_stands head.number body) in
       behind (act_code head.line) (begin_code e head words c) ss (act_none head.line) (begin_marks e head words c ss bare.0 (statements_mark e' none_taken (names_in block types head (variables_of_block block.program head.number)) (types_in types (variables_of_block block.program head.number)) body (named_in block types head (variables_of_block block.program head.number) named) (has_in e block types head named bare.0 has) is.1.1 bare.1))
   statement_marks e t block types (Y.CallProcedure (Y.Calling procedure level Y.NoArgument) line) named has is bare =

@@ -18,6 +18,8 @@ use Rattle.pli_coding.specs.Environments.{Environment, Taken, is_register_left, 
 use Rattle.pli_coding.specs.Locating.{is_simple, are_simple, simple_loaded, subscript_given}
 use Rattle.pli_coding.specs.Expressions.{given_in, number_code, subscripts_code}
 use Rattle.pli_coding.specs.Linking.{Links}
+use Rattle.pli_coding.specs.WordBounds.{spare}
+use Rattle.pli_coding.proofs.Takes.{none_spare, number_counts}
 use Rattle.run_steps.specs.Engine.{Base, address}
 use Rattle.run_steps.proofs.Linking.{size_append}
 use Rattle.run_steps.specs.Items.{Linked, At}
@@ -30,7 +32,7 @@ use Rattle.run_steps.proofs.Temporaries.{stays_same, stays_then, stays_saved, st
 use Rattle.run_steps.specs.Temporaries.{held_with, words_with, nothing}
 use Rattle.run_steps.proofs.Temporaries.{waiting_saved, waiting_kept, save_piece}
 use Rattle.run_steps.proofs.Temporaries.{fetch_piece}
-use Rattle.pli_headline.proofs.Evaluations.{number_kind, Evaluates, with_words_most}
+use Rattle.pli_headline.proofs.Evaluations.{number_kind, Evaluates}
 use Rattle.pli_headline.proofs.ArrayPlaces.{AllWide, lower_first, upper_second}
 use Rattle.run_steps.specs.Reach.{Family, Reach, Aims, Comes, Closed}
 use Rattle.run_steps.proofs.Reach.{before_closed, comes_on, onward}
@@ -75,7 +77,7 @@ pub record AllSimple (links : Links) (code : List Instr) (g : Ground) (v : Servi
 pub record EvaluatesAll (links : Links) (code : List Instr) (g : Ground) (v : Services) (s : State) (k : ℕ) (words :
     ℕ) (e : Environment) (around : Around) (xs : Y.Numbers) : Type 1 where
   pub does : {i : ℕ} {h t : ℕ → ℕ} {aims : Aims (List ℤ)} (closed : Closed code aims) (f : Family) (taken : Taken)
-      → taken.words + words ≤ g.words → Linked links code i (subscripts_code e taken xs)
+      → taken.words + words ≤ g.words + spare taken → Linked links code i (subscripts_code e taken xs)
       → ((b : Base) → At b i (Known g v h t nothing b) (f b))
       → ((zs : List ℤ) (f' : Family) (h' t' : ℕ → ℕ) → AllWide zs → length zs ≡ given_in xs → Stays taken h t h' t'
       → AllGive links code g v e taken h' t' xs zs
@@ -119,7 +121,7 @@ next_does : (q : Bool) {links : Links} {code : List Instr} {g : Ground} {v : Ser
     → (q ≡ true → AllSimple links code g v s k e around rest)
     → Evaluates number_kind links code g v s k m (λ taken. number_code e taken first) (V.number around first)
     → EvaluatesAll links code g v s k n e around rest → {i : ℕ} {h t : ℕ → ℕ} {aims : Aims (List ℤ)} (closed :
-    Closed code aims) (f : Family) (taken : Taken) → taken.words + max m (suc n) ≤ g.words
+    Closed code aims) (f : Family) (taken : Taken) → taken.words + max m (suc n) ≤ g.words + spare taken
     → Linked links code i (both_code q e taken first rest) → ((b : Base) → At b i (Known g v h t nothing b) (f b))
     → ((z : ℤ) (zs : List ℤ) (f' : Family) (h' t' : ℕ → ℕ) → IsWide z → AllWide zs → length zs ≡ given_in rest
     → Stays taken h t h' t' → Gives links code g v h' t' (first_given q e taken first) z
@@ -148,12 +150,12 @@ next_does false {g = g} {v = v} {s = s} {k = k} {e = e'} {around = around} temps
     let c = subscripts_code e' (with_number taken) rest in
     let m1 = le-max_left m (suc n) in
     let m2 = le-max_right m (suc n) in
-    let more = with_words_most taken in
+    let more = number_counts taken in
     let l2 = back_of a (put' ++ c) l in
     let e1 = size_append a (put' ++ c) in
     let e2 = size_append put' c in
     let place : i + size_of a + size_of put' + size_of c ≡ i + size_of (a ++ (put' ++ c)) = omega (arith, e1, e2) in
-    let some : is_register_left taken ≡ false → taken.words < g.words = λ none. omega (arith, room, m2) in
+    let some : is_register_left taken ≡ false → taken.words < g.words = λ none. let z = none_spare taken none in omega (arith, z, room, m2) in
     let behind : ℤ → Meaning (List ℤ) = λ z. (V.numbers around rest) >>= (λ zs. give (z ∷ zs)) in
     comes_on k (V.number around first k s) behind
     (e.does (before_closed k behind closed) f taken (omega (arith, room, m1)) (front_of a (put' ++ c) l) at

@@ -17,8 +17,8 @@ use Rattle.pli_coding.specs.Assembly.{size_of}
 use Rattle.pli_coding.specs.Environments.{Environment}
 use Rattle.pli_coding.specs.Expressions.{given_in, type_in}
 use Rattle.pli_coding.specs.Storing.{word_stored}
-use Rattle.pli_coding.specs.Temporaries.{subscripts_words}
 use Rattle.pli_coding.specs.Linking.{Links}
+use Rattle.pli_coding.specs.WordBounds.{subscripts_words, spare}
 use Rattle.pli_headline.specs.ProvedSoFar.{Names, Types, Kind, alone, IsAssigned, IsProvedNumber, AreProvedNumbers, IsPart}
 use Rattle.pli_headline.proofs.Storages.{storage, Storage}
 use Rattle.run_steps.specs.Engine.{Base}
@@ -77,7 +77,7 @@ scalar_serving : {k : ℕ} {s : State} {v : Services} {line : ℕ} (type : Y.Lea
 scalar_serving type j values z o =
     record { world = o.world; running = o.running; line_is = o.line_is; input = o.input; allowed = o.allowed; fits = o.fits; nested = o.nested; waiting = o.waiting; places = o.places }
 
-pub scalar_takes : {e : Environment} {block : Names} {types : Types} (bl : Block e block types) (links : Links) (code : List Instr) (j : ℕ) {type : Y.LeafType} (below : slice_get types j ≡ Some (alone type)) → IsNumeric type → bl.taken.words + 1 ≤ bl.words → Takes bl links code (whole (own block j)) type
+pub scalar_takes : {e : Environment} {block : Names} {types : Types} (bl : Block e block types) (links : Links) (code : List Instr) (j : ℕ) {type : Y.LeafType} (below : slice_get types j ≡ Some (alone type)) → IsNumeric type → bl.taken.words + 1 ≤ bl.words + spare bl.taken → Takes bl links code (whole (own block j)) type
 scalar_takes {e} {block} {types} bl links code j {type} below numeric room =
     record {
       old = λ s xs n hold. (n.numbers j, (hold.numbers j (type, below) numeric).fits);
@@ -93,7 +93,7 @@ element_serving : {k : ℕ} {s : State} {v : Services} {line : ℕ} (type : Y.Le
 element_serving type bs serial values is z o =
     record { world = o.world; running = o.running; line_is = o.line_is; input = o.input; allowed = o.allowed; fits = o.fits; nested = o.nested; waiting = o.waiting; places = o.places }
 
-pub element_takes : {e : Environment} {block : Names} {types : Types} (bl : Block e block types) (links : Links) (code : List Instr) (routines : Standing bl links code) (j : ℕ) {type : Y.LeafType} (b : Bounds) (bs : List Bounds) (first : Y.Number) (rest : Y.Numbers) (below : IsArrayAt types j type b bs) → given_in rest ≡ length bs → AreProvedNumbers block types (Y.NumberThen first rest) → bl.taken.words + suc (subscripts_words (Y.NumberThen first rest)) ≤ bl.words → Takes bl links code (element block j first rest) type
+pub element_takes : {e : Environment} {block : Names} {types : Types} (bl : Block e block types) (links : Links) (code : List Instr) (routines : Standing bl links code) (j : ℕ) {type : Y.LeafType} (b : Bounds) (bs : List Bounds) (first : Y.Number) (rest : Y.Numbers) (below : IsArrayAt types j type b bs) → given_in rest ≡ length bs → AreProvedNumbers block types (Y.NumberThen first rest) → bl.taken.words + suc (subscripts_words (Y.NumberThen first rest)) ≤ bl.words + spare bl.taken → Takes bl links code (element block j first rest) type
 element_takes {e} {block} {types} bl links code routines j {type} b bs first rest below many are room =
     let xs = Y.NumberThen first rest in
     let on = bl.arrays j type b bs below in

@@ -1,6 +1,7 @@
 -- Assignments of texts to elements of arrays, and to a variable or an element.
 use Rattle.std.proofs.Common.{◌≡◌, ℕ, suc, ◌+◌, ◌*◌, ◌^◌, ◌<◌, ◌≤◌, inl, inr, List, ◌∷◌, ◌++◌, length, Bool, true, refl, sym, ap, ◌∙◌, subst, arith}
 use Rattle.std.specs.Prelude.{ℤ}
+use Rattle.std.proofs.Math.Nat.{le-max_right}
 use Rattle.rv_meaning.specs.declared.instr.Instr.{Instr}
 use Rattle.pli_typing.specs.Signatures.{Bounds, element_count}
 use Rattle.pli_typing.specs.TypedTree as Y
@@ -21,8 +22,8 @@ use Rattle.pli_coding.specs.Allocating.{act_code}
 use Rattle.pli_coding.specs.Environments.{Environment}
 use Rattle.pli_coding.specs.Expressions.{given_in, text_code}
 use Rattle.pli_coding.specs.Storing.{top_stored, assigned_code}
-use Rattle.pli_coding.specs.Temporaries.{text_words, subscripts_words, reference_words}
 use Rattle.pli_coding.specs.Linking.{Links}
+use Rattle.pli_coding.specs.WordBounds.{text_words, subscripts_words, reference_words, spare}
 use Rattle.pli_headline.specs.ProvedSoFar.{Names, Types, IsPart, IsProvedText, AreProvedNumbers, AreSubscripts, IsAssignedText, text_leaf}
 use Rattle.pli_headline.proofs.Storages.{storage, Storage, Serials, stored_changed}
 use Rattle.run_steps.specs.Engine.{Base, address}
@@ -42,7 +43,7 @@ use Rattle.pli_headline.proofs.EditTexts.{at_other_texts}
 use Rattle.pli_headline.proofs.ArrayMeant.{element}
 use Rattle.pli_headline.proofs.ArrayStates.{scalar_apart, scalar_beside, text_beside}
 use Rattle.pli_headline.proofs.ArrayMeant.{array_beside}
-use Rattle.pli_headline.proofs.ElementAssignments.{setting_at, subscripts_fit}
+use Rattle.pli_headline.proofs.ElementAssignments.{setting_at}
 use Rattle.pli_headline.proofs.TextPlaces.{text_kind_of}
 use Rattle.pli_headline.proofs.TextsKept.{text_kept_as, kept_length}
 use Rattle.pli_headline.proofs.TextArraysStay.{text_stride, text_within}
@@ -81,7 +82,7 @@ text_serving varying most bs serial values is text o =
     record { world = o.world; running = o.running; line_is = o.line_is; input = o.input; allowed = o.allowed; fits = o.fits; nested = o.nested; waiting = o.waiting; places = o.places }
 
 -- the top text is assigned to an element
-pub element_assigned_piece : {e : Environment} {block : Names} {types : Types} (bl : Block e block types) {links : Links} {code : List Instr} (routines : Standing bl links code) {i : ℕ} {v : Services} {h t : ℕ → ℕ} {s : State} {aims : Aims (Unit {0})} (closed : Closed code aims) (f : Family) (around : Around) (j : ℕ) (varying : Bool) (most : ℕ) (b : Bounds) (bs : List Bounds) (first : Y.Number) (rest : Y.Numbers) (text : List ℕ) (n : Values) (k : ℕ) (below : IsTextArrayAt types j varying most b bs) → given_in rest ≡ length bs → AreProvedNumbers block types (Y.NumberThen first rest) → bl.taken.words + subscripts_words (Y.NumberThen first rest) ≤ bl.words → Linked links code i (top_stored e bl.taken (element block j first rest)) → Serving k s v around.line → (all : AllHold bl.frames bl.serials (storage v) (e.level ∷ bl.depths) s block types n) → ((c : Base) → At c i (Known (bl.ground n) (pushed (TextEntry text) v) h t nothing c) (f c)) → ((s' : State) (n' : Values) (h' t' : ℕ → ℕ) (f' : Family) → Serving k s' v around.line → AllHold bl.frames bl.serials (storage v) (e.level ∷ bl.depths) s' block types n' → Stays bl.taken h t h' t' → ((c : Base) → At c (i + size_of (top_stored e bl.taken (element block j first rest))) (Known (bl.ground n') v h' t' nothing c) (f' c)) → aims.done (i + size_of (top_stored e bl.taken (element block j first rest))) f' v tt s') → Comes code i f (pushed (TextEntry text) v) aims (M.assigned around (element block j first rest) (BasicText text) k s)
+pub element_assigned_piece : {e : Environment} {block : Names} {types : Types} (bl : Block e block types) {links : Links} {code : List Instr} (routines : Standing bl links code) {i : ℕ} {v : Services} {h t : ℕ → ℕ} {s : State} {aims : Aims (Unit {0})} (closed : Closed code aims) (f : Family) (around : Around) (j : ℕ) (varying : Bool) (most : ℕ) (b : Bounds) (bs : List Bounds) (first : Y.Number) (rest : Y.Numbers) (text : List ℕ) (n : Values) (k : ℕ) (below : IsTextArrayAt types j varying most b bs) → given_in rest ≡ length bs → AreProvedNumbers block types (Y.NumberThen first rest) → bl.taken.words + subscripts_words (Y.NumberThen first rest) ≤ bl.words + spare bl.taken → Linked links code i (top_stored e bl.taken (element block j first rest)) → Serving k s v around.line → (all : AllHold bl.frames bl.serials (storage v) (e.level ∷ bl.depths) s block types n) → ((c : Base) → At c i (Known (bl.ground n) (pushed (TextEntry text) v) h t nothing c) (f c)) → ((s' : State) (n' : Values) (h' t' : ℕ → ℕ) (f' : Family) → Serving k s' v around.line → AllHold bl.frames bl.serials (storage v) (e.level ∷ bl.depths) s' block types n' → Stays bl.taken h t h' t' → ((c : Base) → At c (i + size_of (top_stored e bl.taken (element block j first rest))) (Known (bl.ground n') v h' t' nothing c) (f' c)) → aims.done (i + size_of (top_stored e bl.taken (element block j first rest))) f' v tt s') → Comes code i f (pushed (TextEntry text) v) aims (M.assigned around (element block j first rest) (BasicText text) k s)
 element_assigned_piece {e} {block} {types} bl routines {v = v} closed f around j varying most b bs first rest text n k below many are room l serving all at goal =
     let mine = all.text_arrays j varying most b bs below in
     let on = bl.text_arrays j varying most b bs below in
@@ -102,7 +103,7 @@ element_assigned_piece {e} {block} {types} bl routines {v = v} closed f around j
     (λ is f1 h1 t1 inside stays1 at1.
     goal (text_element_state _ varying most (b ∷ bs) (bl.serials.of j) mine.values is text) (with_text_of n j (element_place (b ∷ bs) is) kept) h1 t1 f1 (text_serving varying most (b ∷ bs) (bl.serials.of j) mine.values is text serving) (text_element_all j varying most b bs is text below inside on.short all) stays1 at1)
 
-text_element_does : {e : Environment} {block : Names} {types : Types} (bl : Block e block types) (links : Links) (code : List Instr) (routines : Standing bl links code) (around : Around) (j : ℕ) (varying : Bool) (most : ℕ) (b : Bounds) (bs : List Bounds) (first : Y.Number) (rest : Y.Numbers) (x : Y.Text) (line : ℕ) → IsTextArrayAt types j varying most b bs → given_in rest ≡ length bs → AreProvedNumbers block types (Y.NumberThen first rest) → IsProvedText block types x → bl.taken.words + text_words x ≤ bl.words → bl.taken.words + subscripts_words (Y.NumberThen first rest) ≤ bl.words → line < 2 ^ 31 → Does bl links code around.turns (act_code line ++ assigned_code e bl.taken (element block j first rest) (Y.StoredText x)) (M.statement around (Y.Assign (element block j first rest) (Y.StoredText x) line))
+text_element_does : {e : Environment} {block : Names} {types : Types} (bl : Block e block types) (links : Links) (code : List Instr) (routines : Standing bl links code) (around : Around) (j : ℕ) (varying : Bool) (most : ℕ) (b : Bounds) (bs : List Bounds) (first : Y.Number) (rest : Y.Numbers) (x : Y.Text) (line : ℕ) → IsTextArrayAt types j varying most b bs → given_in rest ≡ length bs → AreProvedNumbers block types (Y.NumberThen first rest) → IsProvedText block types x → bl.taken.words + text_words x ≤ bl.words + spare bl.taken → bl.taken.words + subscripts_words (Y.NumberThen first rest) ≤ bl.words + spare bl.taken → line < 2 ^ 31 → Does bl links code around.turns (act_code line ++ assigned_code e bl.taken (element block j first rest) (Y.StoredText x)) (M.statement around (Y.Assign (element block j first rest) (Y.StoredText x) line))
 unfolding M.statement V.stored_value give ◌>>=◌ ◌>>◌
 text_element_does {e} {block} {types} bl links code routines around j varying most b bs first rest x line below many are is room some fits =
     record {
@@ -141,13 +142,14 @@ text_element_does {e} {block} {types} bl links code routines around j varying mo
 
 -- ---- a variable or an element
 
-pub assign_text_part_does : {e : Environment} {block : Names} {types : Types} (bl : Block e block types) (links : Links) (code : List Instr) (routines : Standing bl links code) (around : Around) (r : Y.Reference) (x : Y.Text) (line : ℕ) → IsAssignedText block types r → IsProvedText block types x → bl.taken.words + text_words x ≤ bl.words → bl.taken.words + (4 + reference_words r) ≤ bl.words → line < 2 ^ 31 → Does bl links code around.turns (act_code line ++ assigned_code e bl.taken r (Y.StoredText x)) (M.statement around (Y.Assign r (Y.StoredText x) line))
+pub assign_text_part_does : {e : Environment} {block : Names} {types : Types} (bl : Block e block types) (links : Links) (code : List Instr) (routines : Standing bl links code) (around : Around) (r : Y.Reference) (x : Y.Text) (line : ℕ) → IsAssignedText block types r → IsProvedText block types x → bl.taken.words + text_words x ≤ bl.words + spare bl.taken → bl.taken.words + reference_words r ≤ bl.words + spare bl.taken → line < 2 ^ 31 → Does bl links code around.turns (act_code line ++ assigned_code e bl.taken r (Y.StoredText x)) (M.statement around (Y.Assign r (Y.StoredText x) line))
 assign_text_part_does {e} {block} {types} bl links code routines around r x line target is room more fits = by_part target.0.part
   where
     by_part : IsPart block types (text_leaf target.0.varying target.0.most) r → Does bl links code around.turns (act_code line ++ assigned_code e bl.taken r (Y.StoredText x)) (M.statement around (Y.Assign r (Y.StoredText x) line))
     by_part (inl o) = assign_text_does bl links code routines around target.0.varying target.0.most r x line o is room fits
     by_part (inr o) =
         let are : AreProvedNumbers block types (Y.NumberThen o.first o.rest) = subst (AreSubscripts block types) o.is target.1 in
-        let enough = subscripts_fit block o.index o.first o.rest r bl.taken.words bl.words o.is more in
+        let most = le-max_right 0 (0 + subscripts_words (Y.NumberThen o.first o.rest)) in
+        let same = ap reference_words o.is in
         subst (λ q. Does bl links code around.turns (act_code line ++ assigned_code e bl.taken q (Y.StoredText x)) (M.statement around (Y.Assign q (Y.StoredText x) line))) (sym o.is)
-        (text_element_does bl links code routines around o.index target.0.varying target.0.most o.bound o.bounds o.first o.rest x line o.declared o.many are is room (omega (arith, enough)) fits)
+        (text_element_does bl links code routines around o.index target.0.varying target.0.most o.bound o.bounds o.first o.rest x line o.declared o.many are is room (omega (arith, more, most, same)) fits)

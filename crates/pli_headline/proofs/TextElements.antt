@@ -33,10 +33,10 @@ use Rattle.pli_coding.specs.Instructions.{shift, registers, add, subtract, plus,
 use Rattle.pli_coding.specs.Frames.{has_constant_size, display}
 use Rattle.pli_coding.specs.Environments.{Environment, Taken}
 use Rattle.pli_coding.specs.Expressions.{given_in, reference_code, subscripts_code, text_code, type_in, address_in}
-use Rattle.pli_coding.specs.Temporaries.{subscripts_words, text_words}
 use Rattle.pli_coding.specs.Storing.{top_stored}
 use Rattle.pli_coding.specs.Locating as L
 use Rattle.pli_coding.specs.Linking.{Links}
+use Rattle.pli_coding.specs.WordBounds.{subscripts_words, text_words, spare}
 use Rattle.pli_headline.specs.ProvedSoFar.{Names, constant_bounds, AreBounds, array_variable, text_leaf}
 use Rattle.run_steps.specs.Engine.{Base, address, most_code}
 use Rattle.run_steps.proofs.Linking.{size_append}
@@ -304,7 +304,7 @@ pub text_element_piece : {links : Links} {code : List Instr} {i : ℕ} {g : Grou
     List Bounds} {texts : ℕ → List ℕ} (closed : Closed code aims) (routines : Routines links code) (scope :
     TextArrayScope g e s block j varying most bs texts) (f : Family) (around : Around) (taken : Taken) (k :
     ℕ) (first : Y.Number) (rest : Y.Numbers) → AllEvaluate links code g v s k e around (Y.NumberThen first rest)
-    → suc (given_in rest) ≡ length bs → taken.words + subscripts_words (Y.NumberThen first rest) ≤ g.words
+    → suc (given_in rest) ≡ length bs → taken.words + subscripts_words (Y.NumberThen first rest) ≤ g.words + spare taken
     → Serving k s v around.line
     → Linked links code i (text_element_code e taken (level_of block j) varying most bs first rest)
     → ((b : Base) → At b i (Known g v h t nothing b) (f b))
@@ -437,7 +437,7 @@ pub text_element_stored_piece : {links : Links} {code : List Instr} {i : ℕ} {g
     Routines links code) (scope : TextArrayScope g e s block j varying most bs texts) (f : Family) (around :
     Around) (taken : Taken) (text : List ℕ) (k : ℕ) (first : Y.Number) (rest : Y.Numbers)
     → AllEvaluate links code g (pushed (TextEntry text) v) s k e around (Y.NumberThen first rest)
-    → suc (given_in rest) ≡ length bs → taken.words + subscripts_words (Y.NumberThen first rest) ≤ g.words
+    → suc (given_in rest) ≡ length bs → taken.words + subscripts_words (Y.NumberThen first rest) ≤ g.words + spare taken
     → Serving k s (pushed (TextEntry text) v) around.line
     → ((p : ℕ) (b : Base) (h' : ℕ → ℕ) → reserved_are b g h' ≡ reserved_are b (g' p) h')
     → ((p : ℕ) → p < element_count bs → (t' : ℕ → ℕ) (b : Base) (m : List ℕ) → length m ≡ memory_size

@@ -22,6 +22,8 @@ use Rattle.pli_coding.specs.Environments.{Taken, save, fetch, with_number, is_re
 use Rattle.pli_coding.specs.Expressions.{constant_pushed}
 use Rattle.pli_coding.specs.Streams as C
 use Rattle.pli_coding.specs.Linking.{Links}
+use Rattle.pli_coding.specs.WordBounds.{spare}
+use Rattle.pli_coding.proofs.Takes.{none_spare, number_counts}
 use Rattle.pli_headline.specs.ProvedSoFar.{IsPrecision}
 use Rattle.run_steps.specs.Engine.{Base, address, call_at}
 use Rattle.run_steps.proofs.Linking.{size_append}
@@ -37,7 +39,7 @@ use Rattle.run_steps.proofs.Temporaries.{waiting_kept, waiting_saved, save_piece
 use Rattle.run_steps.proofs.Temporaries.{stays_then, stays_saved, stays_less}
 use Rattle.pli_headline.proofs.Serving.{Serving}
 use Rattle.pli_headline.proofs.Raising.{Routines, small_is}
-use Rattle.pli_headline.proofs.Evaluations.{number_kind, bit_kind, Evaluates, with_words_most}
+use Rattle.pli_headline.proofs.Evaluations.{number_kind, bit_kind, Evaluates}
 use Rattle.pli_headline.proofs.StandingBytes.{ConstantsStand}
 use Rattle.pli_headline.proofs.EditItems.{signed-word}
 use Rattle.pli_headline.proofs.EditTexts.{at_other_texts, number_text_is, bit_text_is, word_as_text}
@@ -55,7 +57,7 @@ Texted g k h t v s i aims =
     (text : List ℕ) (f' : Family) (h' t' : ℕ → ℕ) → IsShort text → Stays k h t h' t' → ((b : Base) → At b i (Known g (pushed (TextEntry text) v) h' t' nothing b) (f' b)) → aims.done i f' (pushed (TextEntry text) v) text s
 
 pub record EvaluatesText (links : Links) (code : List Instr) (g : Ground) (v : Services) (s : State) (k : ℕ) (words : ℕ) (part : Taken → Code) (meaning : Meaning (List ℕ)) : Type 1 where
-  pub does : {i : ℕ} {h t : ℕ → ℕ} {aims : Aims (List ℕ)} (closed : Closed code aims) (f : Family) (taken : Taken) → taken.words + words ≤ g.words → Linked links code i (part taken) → ((b : Base) → At b i (Known g v h t nothing b) (f b)) → Texted g taken h t v s (i + size_of (part taken)) aims → Comes code i f v aims (meaning k s)
+  pub does : {i : ℕ} {h t : ℕ → ℕ} {aims : Aims (List ℕ)} (closed : Closed code aims) (f : Family) (taken : Taken) → taken.words + words ≤ g.words + spare taken → Linked links code i (part taken) → ((b : Base) → At b i (Known g v h t nothing b) (f b)) → Texted g taken h t v s (i + size_of (part taken)) aims → Comes code i f v aims (meaning k s)
 
 -- ---- what services 22 and 23 answer
 
@@ -237,7 +239,7 @@ part_evaluates {code = code} {g = g} {v = v} {s = s} {k = k} temps m n p routine
           let m2 = le-max_right m (max n (suc p)) in
           let m3 = le-max_left n (suc p) in
           let m4 = le-max_right n (suc p) in
-          let more = with_words_most taken in
+          let more = number_counts taken in
           let l1 = back_of a r1 l in
           let l2 = back_of c r2 l1 in
           let l3 = back_of put' r3 l2 in
@@ -250,7 +252,7 @@ part_evaluates {code = code} {g = g} {v = v} {s = s} {k = k} temps m n p routine
           let e4 = size_append d r4 in
           let e5 = size_append back (mode ++ cut) in
           let place : i + size_of a + size_of c + size_of put' + size_of d + 1 + size_of back + 1 + 5 ≡ i + size_of (a ++ r1) = omega (arith, e1, e2, e3, e4, e5) in
-          let one : is_register_left taken ≡ false → taken.words < g.words = λ none. omega (arith, room, m2, m4) in
+          let one : is_register_left taken ≡ false → taken.words < g.words = λ none. let z = none_spare taken none in omega (arith, z, room, m2, m4) in
           let rest : List ℕ → Meaning (List ℕ) = λ whole. two >>= (λ from. three' >>= (λ many. R.or_error around substring_code (substring whole from many))) in
           comes_on k (meant k s) rest
           (x.does (before_closed k rest closed) f taken (omega (arith, room, m1)) (front_of a r1 l) at

@@ -21,10 +21,11 @@ use Rattle.pli_coding.specs.Assembly.{size_of}
 use Rattle.pli_coding.specs.Allocating.{act_code}
 use Rattle.pli_coding.specs.Environments.{Environment}
 use Rattle.pli_coding.specs.Expressions.{text_code}
-use Rattle.pli_coding.specs.Storing.{elements_code, elements_words}
-use Rattle.pli_coding.specs.Temporaries.{text_words, reference_words}
+use Rattle.pli_coding.specs.Storing.{elements_takes, elements_code}
 use Rattle.pli_coding.specs.SignatureTable.{table_of}
 use Rattle.pli_coding.specs.Linking.{Links}
+use Rattle.pli_coding.specs.WordBounds.{text_words, spare}
+use Rattle.pli_coding.proofs.TakesNeeds.{text_needs}
 use Rattle.pli_headline.specs.ProvedSoFar.{Names, Types, Kind, text_leaf, IsWholeText, IsProvedText}
 use Rattle.pli_headline.proofs.Storages.{storage, Storage, Serials, stored_changed}
 use Rattle.run_steps.specs.Engine.{address}
@@ -57,6 +58,7 @@ use Rattle.pli_headline.proofs.TextsFilled.{texts_filled, filled_numbers, filled
 use Rattle.pli_headline.proofs.TextsServed.{texts_answer}
 use Rattle.pli_headline.proofs.TextsCode.{text_filling, text_filling_is}
 use Rattle.pli_headline.proofs.TextsPieces.{text_filling_piece}
+use Rattle.pli_headline.proofs.TakenRooms.{record_grows}
 
 -- ---- what variables hold then
 
@@ -102,7 +104,7 @@ texts_all {frames = frames} {serials = serials} {s = s} {block = block} {types =
 
 -- ---- the statement
 
-text_does_all : {e : Environment} {block : Names} {types : Types} (bl : Block e block types) (links : Links) (code : List Instr) (routines : Standing bl links code) (around : Around) (j : ℕ) (varying : Bool) (most : ℕ) (b : Bounds) (bs : List Bounds) (x : Y.Text) (line : ℕ) (below : IsTextArrayAt types j varying most b bs) → level_of block j ≡ 0 → IsProvedText block types x → bl.taken.words + text_words x ≤ bl.words → bl.taken.words + 4 ≤ bl.words → line < 2 ^ 31 → Does bl links code around.turns (act_code line ++ elements_code e bl.taken (whole (own block j)) (Y.StoredText x)) (M.statement around (Y.AssignElements (whole (own block j)) (Y.StoredText x) line))
+text_does_all : {e : Environment} {block : Names} {types : Types} (bl : Block e block types) (links : Links) (code : List Instr) (routines : Standing bl links code) (around : Around) (j : ℕ) (varying : Bool) (most : ℕ) (b : Bounds) (bs : List Bounds) (x : Y.Text) (line : ℕ) (below : IsTextArrayAt types j varying most b bs) → level_of block j ≡ 0 → IsProvedText block types x → bl.taken.words + text_words x ≤ bl.words + spare bl.taken → bl.taken.words + 4 ≤ bl.words → line < 2 ^ 31 → Does bl links code around.turns (act_code line ++ elements_code e bl.taken (whole (own block j)) (Y.StoredText x)) (M.statement around (Y.AssignElements (whole (own block j)) (Y.StoredText x) line))
 unfolding M.statement V.stored_value give ◌>>=◌ ◌>>◌
 text_does_all {e} {block} {types} bl links code routines around j varying most b bs x line below outermost is room some fits =
     record {
@@ -189,10 +191,10 @@ text_does_all {e} {block} {types} bl links code routines around j varying most b
           })))));
     }
 
-pub elements_text_does : {e : Environment} {block : Names} {types : Types} (bl : Block e block types) (links : Links) (code : List Instr) (routines : Standing bl links code) (around : Around) (r : Y.Reference) (x : Y.Text) (line : ℕ) → IsWholeText block types r → IsProvedText block types x → bl.taken.words + elements_words r (Y.StoredText x) ≤ bl.words → line < 2 ^ 31 → Does bl links code around.turns (act_code line ++ elements_code e bl.taken r (Y.StoredText x)) (M.statement around (Y.AssignElements r (Y.StoredText x) line))
+pub elements_text_does : {e : Environment} {block : Names} {types : Types} (bl : Block e block types) (links : Links) (code : List Instr) (routines : Standing bl links code) (around : Around) (r : Y.Reference) (x : Y.Text) (line : ℕ) → IsWholeText block types r → IsProvedText block types x → (elements_takes bl.taken r (Y.StoredText x)).words ≤ bl.words → line < 2 ^ 31 → Does bl links code around.turns (act_code line ++ elements_code e bl.taken r (Y.StoredText x)) (M.statement around (Y.AssignElements r (Y.StoredText x) line))
 elements_text_does {e} {block} {types} bl links code routines around r x line w is room fits =
     let o = w.whole in
-    let a = le-max_left (text_words x) (4 + (4 + reference_words r)) in
-    let d = le-max_right (text_words x) (4 + (4 + reference_words r)) in
+    let a = text_needs bl.taken x in
+    let d = record_grows bl.taken r in
     subst (λ q. Does bl links code around.turns (act_code line ++ elements_code e bl.taken q (Y.StoredText x)) (M.statement around (Y.AssignElements q (Y.StoredText x) line))) (sym o.is)
     (text_does_all bl links code routines around o.index w.varying w.most o.bound o.bounds x line o.declared o.outermost is (omega (arith, a, room)) (omega (arith, d, room)) fits)

@@ -19,9 +19,9 @@ use Rattle.pli_coding.specs.Instructions.{registers, load_word, skip_where}
 use Rattle.pli_coding.specs.Environments.{Environment, Taken}
 use Rattle.pli_coding.specs.Expressions.{number_code, bit_code}
 use Rattle.pli_coding.specs.Statements.{limit_place, step_place, in_turns, counter_read, passed, passed_by}
-use Rattle.pli_coding.specs.Statements.{limit_tested, limit_kept, while_kept, bit_if}
-use Rattle.pli_coding.specs.Temporaries.{reference_words}
+use Rattle.pli_coding.specs.Statements.{limit_tested, limit_kept, while_kept}
 use Rattle.pli_coding.specs.Linking.{Links}
+use Rattle.pli_coding.specs.WordBounds.{bit_if, reference_words, spare}
 use Rattle.pli_headline.specs.ProvedSoFar.{Names, Types, IsProvedBitIf, IsProvedNumber}
 use Rattle.pli_headline.proofs.Storages.{storage}
 use Rattle.run_steps.specs.Engine.{Base, address}
@@ -108,7 +108,8 @@ pub within_piece : {links : Links} {code : List Instr} {i : ℕ} {v : Services} 
     Standing bl links code) (around : Around) (r : Y.Reference) (p : ℕ) (limit : Option Y.Number) (most :
     Option ℤ) (fixed : Option ℤ) (step : ℤ) (behind : ℕ) (closed : Closed code aims) (n : Values) (f : Family) (k : ℕ)
     → IsProvedNumber block types (Y.NumberIn r) → LimitWaits limit most t bl.taken.words → IsWide step
-    → StepWaits fixed step t (bl.taken.words + 1) → bl.taken.words + 2 + reference_words r ≤ bl.words
+    → StepWaits fixed step t (bl.taken.words + 1) → bl.taken.words + 2 ≤ bl.words
+    → bl.taken.words + 2 + reference_words r ≤ bl.words + spare bl.taken
     → i + size_of (limit_kept e bl.taken (Y.NumberCounter p r) limit fixed behind) + behind ≤ length code
     → Linked links code i (limit_kept e bl.taken (Y.NumberCounter p r) limit fixed behind) → Serving k s v around.line
     → AllHold bl.frames bl.serials (storage v) (e.level ∷ bl.depths) s block types n
@@ -118,11 +119,11 @@ pub within_piece : {links : Links} {code : List Instr} {i : ℕ} {v : Services} 
     → Comes code i f v aims (M.within_limit around (Y.NumberCounter p r) most step k s)
 unfolding M.within_limit M.counter_number V.number ◌>>=◌ give
 within_piece {i = i} {v = v} {h = h} {t = t} {s = s} {aims = aims} bl routines around r p None None fixed step behind
-    closed n f k mine waits ws at_step room inside l serving all at met =
+    closed n f k mine waits ws at_step low room inside l serving all at met =
     let same : i ≡ i + 0 = omega arith in
     record { to = subst (λ u. aims.done u f v true s) (sym same) (met.0 f h t (stays_same (in_turns bl.taken) h t) (λ b. record { pc = (at b).pc ∙ ap (address b) same; holds = (at b).holds })) }
 within_piece {code = code} {i = i} {v = v} {h = h} {t = t} {s = s} {aims = aims} {e = e} {block = block} {types =
-    types} bl routines around r p (Some x) (Some limit) fixed step behind closed n f k mine waits ws at_step room
+    types} bl routines around r p (Some x) (Some limit) fixed step behind closed n f k mine waits ws at_step low room
     inside l serving all at met =
     let a = number_code e (in_turns bl.taken) (Y.NumberIn r) in
     let c = limit_tested bl.taken fixed behind in
@@ -135,14 +136,14 @@ within_piece {code = code} {i = i} {v = v} {h = h} {t = t} {s = s} {aims = aims}
     (λ z f1 h1 t1 wz stays at1.
     subst (Comes code (i + size_of a) f1 v aims) (given_as_chosen (has_not_passed limit step z) k s)
     (limit_piece s k (give true) (give false) closed (bl.temps n) f1 bl.taken fixed limit step z behind waits.0 ws wz
-    (omega (arith, room, w)) (stays.words bl.taken.words (omega arith) ∙ waits.1)
+    (omega (arith, low, w)) (stays.words bl.taken.words (omega arith) ∙ waits.1)
     (step_stays fixed step t t1 (bl.taken.words + 1) (stays.words (bl.taken.words + 1) (omega arith)) at_step)
     (omega (arith, inside, place')) (back_of a c l) at1
     (λ f2 at2. record { to = subst (λ u. aims.done u f2 v true s) (sym place) (met.0 f2 h1 t1 stays (λ b. record { pc = (at2 b).pc ∙ ap (address b) place; holds = (at2 b).holds })) })
     (λ f2 at2. record { to = subst (λ u. aims.done u f2 v false s) (sym place') (met.1 f2 h1 t1 stays (λ b. record { pc = (at2 b).pc ∙ ap (address b) place'; holds = (at2 b).holds })) }))))
-within_piece bl routines around r p None (Some limit) fixed step behind closed n f k mine waits ws at_step room inside
+within_piece bl routines around r p None (Some limit) fixed step behind closed n f k mine waits ws at_step low room inside
     l serving all at met = absurd waits
-within_piece bl routines around r p (Some x) None fixed step behind closed n f k mine waits ws at_step room inside l
+within_piece bl routines around r p (Some x) None fixed step behind closed n f k mine waits ws at_step low room inside l
     serving all at met = absurd waits
 
 -- ---- WHILE
@@ -161,7 +162,7 @@ kept_by {i = i} {v = v} {aims = aims} s false closed f behind inside l at met ov
     let there : i + 1 + (2 + behind) ≡ i + 3 + behind = omega arith in
     closed.done r false s (closed.done q false s (subst (λ u. aims.done u (reached q) v false s) (sym there) (over (reached q) (λ b. let o = reached_holds q b in record { pc = o.pc ∙ ap (address b) there; holds = o.holds }))))
 
-pub condition_piece : {links : Links} {code : List Instr} {i : ℕ} {v : Services} {h t : ℕ → ℕ} {s : State} {aims : Aims Bool} {e : Environment} {block : Names} {types : Types} (bl : Block e block types) (routines : Standing bl links code) (around : Around) (condition : Option Y.Bit) (behind : ℕ) (closed : Closed code aims) (n : Values) (f : Family) (k : ℕ) → IsProvedBitIf block types condition → bl.taken.words + 2 + bit_if condition ≤ bl.words → i + size_of (while_kept e bl.taken condition behind) + behind ≤ length code → Linked links code i (while_kept e bl.taken condition behind) → Serving k s v around.line → AllHold bl.frames bl.serials (storage v) (e.level ∷ bl.depths) s block types n → ((b : Base) → At b i (Known (bl.ground n) v h t nothing b) (f b)) → Met bl n v s h t (i + size_of (while_kept e bl.taken condition behind)) (i + size_of (while_kept e bl.taken condition behind) + behind) aims → Comes code i f v aims (M.condition_met around condition k s)
+pub condition_piece : {links : Links} {code : List Instr} {i : ℕ} {v : Services} {h t : ℕ → ℕ} {s : State} {aims : Aims Bool} {e : Environment} {block : Names} {types : Types} (bl : Block e block types) (routines : Standing bl links code) (around : Around) (condition : Option Y.Bit) (behind : ℕ) (closed : Closed code aims) (n : Values) (f : Family) (k : ℕ) → IsProvedBitIf block types condition → bl.taken.words + 2 + bit_if condition ≤ bl.words + spare bl.taken → i + size_of (while_kept e bl.taken condition behind) + behind ≤ length code → Linked links code i (while_kept e bl.taken condition behind) → Serving k s v around.line → AllHold bl.frames bl.serials (storage v) (e.level ∷ bl.depths) s block types n → ((b : Base) → At b i (Known (bl.ground n) v h t nothing b) (f b)) → Met bl n v s h t (i + size_of (while_kept e bl.taken condition behind)) (i + size_of (while_kept e bl.taken condition behind) + behind) aims → Comes code i f v aims (M.condition_met around condition k s)
 unfolding M.condition_met give
 condition_piece {i = i} {v = v} {h = h} {t = t} {s = s} {aims = aims} bl routines around None behind closed n f k is room inside l serving all at met =
     let same : i ≡ i + 0 = omega arith in

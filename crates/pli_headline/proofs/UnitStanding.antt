@@ -10,10 +10,10 @@ use Rattle.pli_meaning.specs.Executing.{labels_in}
 use Rattle.pli_coding.specs.Assembly.{Code}
 use Rattle.pli_coding.specs.Allocating.{act_code}
 use Rattle.pli_coding.specs.Entries.{frame_begun, entered_without_texts}
-use Rattle.pli_coding.specs.Environments.{BlockPlace, UnitOwner, Environment, in_frame, owned_by, none_taken}
+use Rattle.pli_coding.specs.Environments.{BlockPlace, UnitOwner, Environment, in_frame, owned_by, Taken, none_taken, most_taken}
 use Rattle.pli_coding.specs.Images.{blocks_among}
-use Rattle.pli_coding.specs.Statements.{unit_environment, unit_variables, unit_words, unit_mark, unit_left}
-use Rattle.pli_coding.specs.Statements.{stmts_words, stmts_code, held_with}
+use Rattle.pli_coding.specs.Statements.{unit_environment, unit_variables, unit_takes, unit_mark, unit_left}
+use Rattle.pli_coding.specs.Statements.{stmts_take, stmts_code, held_with}
 use Rattle.pli_coding.specs.Linking.{Links}
 use Rattle.pli_headline.specs.ProvedSoFar.{Types, main_outer, times, IsLine, IsUnitBody, AreProvedStatements, AllJumpAround, AllCallAmong, ArePlain, Names, names_in, types_in, unit_declares, inner_bytes, bytes_of}
 use Rattle.pli_headline.specs.EndUnits.{HasUnitFor}
@@ -23,19 +23,20 @@ use Rattle.pli_headline.proofs.InnerLevels.{IsAmong}
 use Rattle.pli_headline.proofs.Statements.{IsMarkedOnce}
 use Rattle.pli_headline.proofs.Gotos.{LabelsStand}
 use Rattle.pli_headline.proofs.Declares.{code_joined}
-use Rattle.pli_headline.proofs.DeclaredBegins.{no_words}
+use Rattle.pli_headline.proofs.DeclaredBegins.{none_taken_for}
 use Rattle.pli_headline.proofs.UnitRuns.{unit_with, unit_made}
 use Rattle.pli_headline.proofs.OnUnits.{unit_by}
 use Rattle.pli_headline.proofs.PlainInside.{DeclarePlain}
+use Rattle.pli_headline.specs.InnerWords.{body_words}
 
 -- the program around a block, whatever the block
 abbrev pub program_around : Environment → Environment
 program_around e = owned_by UnitOwner (in_frame 0 0 e)
 
 -- the words of its temporaries
-abbrev pub words_of_unit : Y.BlockKind → (body : ℕ) → ℕ
-words_of_unit Y.SimpleUnit body = body
-words_of_unit _ body = max 0 body
+abbrev pub taken_by_unit : Y.BlockKind → (body : Taken) → Taken
+taken_by_unit Y.SimpleUnit body = body
+taken_by_unit _ body = most_taken none_taken body
 
 pub record UnitStands (e : Environment) (block : Names) (types : Types) (all : List (ℕ × Label)) (procedure : ℕ) (may : List ℕ) (links : Links) (code : List Instr) (c : Condition) (u : Y.Block) (at : ℕ) : Type 0 where
   pub condition : HasUnitFor e.program c
@@ -50,7 +51,7 @@ pub record UnitStands (e : Environment) (block : Names) (types : Types) (all : L
   pub declares : ArePlain (unit_declares e.program head head.kind)
   pub inside : DeclarePlain e.program body
   pub calls : AllCallAmong e.program may false 0 body
-  pub few : 4 * (stmts_words body + all_inner_words body) + (bytes_of (unit_declares e.program head head.kind) + inner_bytes e.program body) ≤ 3200
+  pub few : 4 * (body_words body + all_inner_words body) + (bytes_of (unit_declares e.program head head.kind) + inner_bytes e.program body) ≤ 3200
   pub once : (number : ℕ) (label : Label) → times number label all ≡ 1 → IsMarkedOnce links number label
   pub labels : head.kind ≡ Y.UnitBlock → LabelsStand (unit_environment head e) links all procedure false
   pub blocks : (b : BlockPlace) → IsAmong b (blocks_among body) → IsAmong b e.blocks
@@ -59,8 +60,8 @@ pub record UnitStands (e : Environment) (block : Names) (types : Types) (all : L
   pub later : 19 ≤ index
   pub linked :
       Linked links code index
-      (unit_with (words_of_unit head.kind (stmts_words body))
-      (held_with e.program (words_of_unit head.kind (stmts_words body)) body) head.line (unit_made e head head.kind)
+      (unit_with (taken_by_unit head.kind (stmts_take none_taken body)).words
+      (held_with e.program (taken_by_unit head.kind (stmts_take none_taken body)).registers body) head.line (unit_made e head head.kind)
       (stmts_code (unit_environment head e) none_taken body) (unit_mark head head.kind))
 
 -- a block's units are such, in the frame of the main procedure
@@ -70,18 +71,18 @@ Tells e block types all procedure may links code base known =
 
 -- ---- the code of one
 
-abbrev code_with : Y.Program → Y.BlockHead → Y.Stmts → (made statements mark : Code) → (words level : ℕ) → Code
-code_with program head body made statements mark words level =
-    frame_begun words level 0 (Some (held_with program words body))
+abbrev code_with : Y.Program → Y.BlockHead → Y.Stmts → (made statements mark : Code) → (taken : Taken) (level : ℕ) → Code
+code_with program head body made statements mark taken level =
+    frame_begun taken.words level 0 (Some (held_with program taken.registers body))
     ++ (entered_without_texts 2 head.line
-    ++ (made ++ (act_code head.line ++ (statements ++ (mark ++ unit_left words (held_with program words body))))))
+    ++ (made ++ (act_code head.line ++ (statements ++ (mark ++ unit_left taken.words (held_with program taken.registers body))))))
 
 -- no words are needed for its variables
-words_are : (e : Environment) (head : Y.BlockHead) (kind : Y.BlockKind) (body : ℕ) → ArePlain (unit_declares e.program head kind) → unit_words e head kind body ≡ words_of_unit kind body
-words_are e head Y.SimpleUnit body are = refl
-words_are e head Y.UnitBlock body are = ap (λ n. max n body) (no_words (variables_of_block e.program head.number) are)
-words_are e head Y.ProcedureBlock body are = ap (λ n. max n body) (no_words (variables_of_block e.program head.number) are)
-words_are e head Y.BeginBlock body are = ap (λ n. max n body) (no_words (variables_of_block e.program head.number) are)
+taken_is : (e : Environment) (head : Y.BlockHead) (kind : Y.BlockKind) (body : Y.Stmts) → ArePlain (unit_declares e.program head kind) → unit_takes e.program head kind body ≡ taken_by_unit kind (stmts_take none_taken body)
+taken_is e head Y.SimpleUnit body are = refl
+taken_is e head Y.UnitBlock body are = ap (λ t. most_taken t (stmts_take none_taken body)) (none_taken_for (variables_of_block e.program head.number) are)
+taken_is e head Y.ProcedureBlock body are = ap (λ t. most_taken t (stmts_take none_taken body)) (none_taken_for (variables_of_block e.program head.number) are)
+taken_is e head Y.BeginBlock body are = ap (λ t. most_taken t (stmts_take none_taken body)) (none_taken_for (variables_of_block e.program head.number) are)
 
 made_is : (e : Environment) (head : Y.BlockHead) (kind : Y.BlockKind) → unit_variables (unit_environment head e) head kind ≡ unit_made e head kind
 made_is e head Y.SimpleUnit = refl
@@ -95,18 +96,18 @@ joined frame enter made act statements ended =
 
 pub unit_is : (e : Environment) (head : Y.BlockHead) (body : Y.Stmts)
     → ArePlain (unit_declares e.program head head.kind) → head.level ≡ 1 → unit_by e head body head.kind head.level
-    ≡ unit_with (words_of_unit head.kind (stmts_words body))
-    (held_with e.program (words_of_unit head.kind (stmts_words body)) body) head.line (unit_made e head head.kind)
+    ≡ unit_with (taken_by_unit head.kind (stmts_take none_taken body)).words
+    (held_with e.program (taken_by_unit head.kind (stmts_take none_taken body)).registers body) head.line (unit_made e head head.kind)
     (stmts_code (unit_environment head e) none_taken body) (unit_mark head head.kind)
 unit_is e head body are level =
     let st = stmts_code (unit_environment head e) none_taken body in
     let mark = unit_mark head head.kind in
     let made = unit_made e head head.kind in
-    let words = words_of_unit head.kind (stmts_words body) in
-    let held = held_with e.program words body in
-    ap (λ n. code_with e.program head body (unit_variables (unit_environment head e) head head.kind) st mark n
-    head.level) (words_are e head head.kind (stmts_words body) are)
-    ∙ ap (λ c. code_with e.program head body c st mark words head.level) (made_is e head head.kind)
-    ∙ ap (λ l. code_with e.program head body made st mark words l) level
-    ∙ joined (frame_begun words 1 0 (Some held)) (entered_without_texts 2 head.line) made (act_code head.line) st
-    (mark ++ unit_left words held)
+    let taken = taken_by_unit head.kind (stmts_take none_taken body) in
+    let held = held_with e.program taken.registers body in
+    ap (λ t. code_with e.program head body (unit_variables (unit_environment head e) head head.kind) st mark t
+    head.level) (taken_is e head head.kind body are)
+    ∙ ap (λ c. code_with e.program head body c st mark taken head.level) (made_is e head head.kind)
+    ∙ ap (λ l. code_with e.program head body made st mark taken l) level
+    ∙ joined (frame_begun taken.words 1 0 (Some held)) (entered_without_texts 2 head.line) made (act_code head.line) st
+    (mark ++ unit_left taken.words held)

@@ -10,12 +10,11 @@ use Rattle.pli_meaning.specs.Executing.{meaning, run}
 use Rattle.pli_meaning.specs.Pictures.{first_bytes}
 use Rattle.pli_serving.specs.ServiceState.{first_services}
 use Rattle.pli_coding.specs.SignatureTable.{table_of}
-use Rattle.pli_coding.specs.Entries.{variables_words}
-use Rattle.pli_coding.specs.Statements.{stmts_words}
 use Rattle.pli_coding.specs.Assembly.{size_of}
 use Rattle.pli_coding.specs.Procedures.{procedure_in}
 use Rattle.pli_coding.specs.Linking.{links_of}
 use Rattle.pli_coding.specs.Images.{code_of, linked_code, picture_of}
+use Rattle.pli_coding.specs.Entries.{variables_take}
 use Rattle.pli_headline.specs.ProvedSoFar.{all_labels, procedure_labels, IsProvedSoFar, main_names}
 use Rattle.pli_headline.specs.Headline.{parts, FitsMemory, HeadlineSoFar}
 use Rattle.run_steps.specs.Engine.{most_code}
@@ -24,7 +23,7 @@ use Rattle.pli_headline.proofs.Promises.{Laws, Comes_at, from_flow, Works, promi
 use Rattle.pli_headline.proofs.InitialPlaced.{data_stand}
 use Rattle.pli_headline.proofs.Marks.{others_code, others_of, Placed, placed}
 use Rattle.pli_headline.proofs.WholeSizes.{procedure_size, first_length}
-use Rattle.pli_headline.specs.InnerWords.{all_inner_words}
+use Rattle.pli_headline.specs.InnerWords.{body_words, all_inner_words}
 use Rattle.pli_headline.proofs.InnerSizes.{procedure_inner}
 use Rattle.pli_headline.proofs.MainProcedure.{main_head, alone_of, main_environment, main_words, main_sizes, main_plain, declared_at}
 use Rattle.pli_headline.proofs.PlainNumbers.{length_types}
@@ -144,7 +143,7 @@ body_done program is fits k few =
     (links_of (code_of parts program)) (code_for program)
     (placed_for program is fits).routines (known_of program is) (main_around program k line) refl is.called k
     (labels_of program is) is.block.statements is.block.jumps
-    (le-max_right (variables_words (variables_of_block program block)) (stmts_words is.body))
+    (le-max_right (variables_take (variables_of_block program block)).words (body_words is.body))
     (room_for program is fits few) is.block.few (declare_plain program is.body is.plain) (record { enter = refl; turns = refl }) (omega arith) (blocks_known program block line is.body alone) is.block.calls (calls_done program is fits k) (λ c frame u at k'. k') (λ c u at k'. (refl, k'))
     (data_stand (code_of parts program) fits (some_code program is fits))
 

@@ -14,15 +14,15 @@ use Rattle.pli_meaning.specs.DeclaredShapes.{variables_of_block}
 use Rattle.pli_meaning.specs.Pictures.{Picture, first_bytes}
 use Rattle.pli_coding.specs.Assembly.{size_of}
 use Rattle.pli_coding.specs.Environments.{Environment, none_taken}
-use Rattle.pli_coding.specs.Statements.{block_words, stmts_code, stmts_words, block_held}
+use Rattle.pli_coding.specs.Statements.{block_words, stmts_code, block_held}
 use Rattle.pli_headline.specs.ProvedSoFar.{Names, ArePlain, Types, AreProvedStatements, array_variable}
-use Rattle.pli_coding.specs.Entries.{variables_words}
 use Rattle.pli_coding.specs.Procedures.{procedure_begun, procedure_ended, procedure_in}
+use Rattle.pli_coding.specs.WordBounds.{stmts_words, variables_words, extents_words}
+use Rattle.pli_coding.proofs.StatementBounds.{block_bound}
 use Rattle.pli_headline.specs.Headline.{FitsMemory}
 use Rattle.pli_headline.proofs.Scalars.{by_plain}
 use Rattle.run_steps.proofs.Linking.{size_append}
 use Rattle.pli_headline.proofs.Variables.{HasTypes}
-use Rattle.pli_coding.specs.Extents.{extents_words}
 use Rattle.pli_headline.proofs.ArrayFrames.{held_constant}
 use Rattle.pli_headline.proofs.PieceSizes.{most}
 use Rattle.pli_headline.proofs.Sizes.{statements_size}
@@ -42,9 +42,9 @@ no_variable_words (d ∷ ds) are =
 pub procedure_size : (e : Environment) (head : Y.BlockHead) (block : Names) (types : Types) (body : Y.Stmts)
     → HasTypes e block types → ArePlain (variables_of_block e.program head.number)
     → AreProvedStatements block types body
-    → block_words e head.number (stmts_words body) ≤ size_of (procedure_in e head body [] None)
+    → block_words e head.number body ≤ size_of (procedure_in e head body [] None)
 procedure_size e head block types body has plain are =
-    let words = block_words e head.number (stmts_words body) in
+    let words = block_words e head.number body in
     let held = block_held e head.number body in
     let begun = procedure_begun e head words held [] in
     let code = stmts_code e none_taken body in
@@ -54,7 +54,8 @@ procedure_size e head block types body has plain are =
     let s1 = size_append begun (code ++ ended) in
     let s2 = size_append code ended in
     let room : stmts_words body ≤ size_of (procedure_in e head body [] None) = omega (arith, n, s1, s2) in
-    most _ _ _ (omega (arith, none)) room
+    let b = block_bound e.program head.number body in
+    omega (arith, b, none, room)
 
 -- ---- the first memory
 

@@ -4,11 +4,9 @@ use Rattle.std.proofs.Common.{if◌then◌else◌, arith}
 use Rattle.pli_typing.specs.TypedTree as Y
 use Rattle.pli_typing.specs.Resolving.{typed_tree}
 use Rattle.pli_meaning.specs.DeclaredShapes.{variables_of_block, procedure_numbered, head_of}
-use Rattle.pli_coding.specs.Entries.{variables_words}
-use Rattle.pli_coding.specs.Extents.{evaluations_words, extents_words}
 use Rattle.pli_coding.specs.Frames.{fixed_size, temporary_bytes, is_automatic, has_constant_size, parameters_in}
 use Rattle.pli_coding.specs.Frames.{parameters_of_block}
-use Rattle.pli_coding.specs.Temporaries.{number_words}
+use Rattle.pli_coding.specs.WordBounds.{variables_words, evaluations_words, extents_words, number_words}
 use Rattle.pli_frames.specs.Blocks.{BlockWords, blocks_of}
 use Rattle.pli_frames.specs.Plans.{BlockFrame, frame_with, frame_by_kind, frame_of, planned}
 use Rattle.well_formed_trees.specs.Every.{Every}

@@ -15,13 +15,12 @@ use Rattle.pli_typing.specs.Builtins.{substring, constant_within, is_zero, divid
 use Rattle.pli_typing.specs.Builtins.{of_dimension, is_controlled, allocations_of, of_controlled, has_name}
 use Rattle.pli_typing.specs.Builtins.{bad_pointer, address_of, address, own_offset, pointer_into, offset_into}
 use Rattle.pli_typing.specs.Builtins.{without_arguments, builtin_called}
-use Rattle.pli_coding.specs.Temporaries.{number_words, numbers_words, text_words, pointer_words, offset_words}
-use Rattle.pli_coding.specs.Temporaries.{reference_words}
 use Rattle.well_formed_trees.specs.Every.{Every}
 use Rattle.well_formed_trees.proofs.Lists.{HoldsIf}
 use Rattle.small_frames.specs.Within.{ValueWithin, Within}
 use Rattle.small_frames.proofs.ValuesWithin.{OperandWithin, operand_within, wanted_within, number_operand_within}
 use Rattle.small_frames.proofs.ValuesWithin.{text_operand_within, pointer_operand_within}
+use Rattle.pli_coding.specs.WordBounds.{number_words, numbers_words, text_words, pointer_words, offset_words, reference_words}
 
 abbrev pub AllWithin : (words : ℕ) → List Operand → Type 0
 AllWithin w os = Every (OperandWithin w) os

@@ -20,7 +20,6 @@ use Rattle.pli_typing.specs.Resolving.{typed_tree}
 use Rattle.pli_typing.specs.Variables.{WrittenExtent, WrittenCheck, is_open, if_open, open_in_bound, open_in_size}
 use Rattle.pli_typing.specs.Variables.{open_in_attribute, open_in, written_extents}
 use Rattle.pli_typing.specs.Variables.{variables_in, declarations_at, variable_meant}
-use Rattle.pli_coding.specs.Temporaries.{number_words}
 use Rattle.well_formed_trees.specs.Every.{Every}
 use Rattle.well_formed_trees.specs.Spelled.{RangedIf, ItemsHave}
 use Rattle.well_formed_trees.specs.Surroundings.{Table, variables_of_block}
@@ -37,6 +36,7 @@ use Rattle.small_frames.specs.Light.{LightBound, LightSize, LightAttribute, HasL
 use Rattle.small_frames.proofs.ValuesWithin.{within_more, number_operand_within}
 use Rattle.small_frames.proofs.ExpressionsWithin.{weight_least, expressions_within}
 use Rattle.small_frames.proofs.DeclaredLight.{LightHeld, BlockLight, all_blocks_light, variables_light}
+use Rattle.pli_coding.specs.WordBounds.{number_words}
 
 -- ---- the extents of a variable
 

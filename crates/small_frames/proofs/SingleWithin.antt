@@ -29,10 +29,9 @@ use Rattle.pli_typing.specs.SingleStatements.{called_found, call_statement, retu
 use Rattle.pli_typing.specs.SingleStatements.{result_around, condition, number_at, step_or_one, turns_of, turns_with}
 use Rattle.pli_typing.specs.SingleStatements.{turns, assign_statement}
 use Rattle.pli_coding.specs.Statements as S
-use Rattle.pli_coding.specs.Statements.{stmt_words}
 use Rattle.pli_coding.specs.Storing as R
 use Rattle.pli_coding.specs.Streams as G
-use Rattle.pli_coding.specs.Temporaries.{number_words, bit_words, reference_words}
+use Rattle.pli_coding.specs.WordBounds.{stmt_words, number_words, bit_words, reference_words}
 use Rattle.pli_frames.specs.Blocks.{blocks_in}
 use Rattle.well_formed_trees.specs.Spelled.{RangedIf}
 use Rattle.well_formed_trees.proofs.Lists.{HoldsIf}

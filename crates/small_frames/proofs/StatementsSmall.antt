@@ -14,8 +14,6 @@ use Rattle.pli_typing.specs.SingleStatements.{goto_statement, call_statement, re
 use Rattle.pli_typing.specs.SingleStatements.{allocate_statement, free_statement, get_statement, put_statement}
 use Rattle.pli_typing.specs.Resolving.{statement, statements, unit_of, procedure_of, behind_stmt, behind_item}
 use Rattle.pli_typing.specs.Resolving.{typed_tree, resolved, outermost_context, block_variables}
-use Rattle.pli_coding.specs.Statements.{stmt_words, stmts_words}
-use Rattle.pli_coding.specs.Temporaries.{bit_words}
 use Rattle.pli_frames.specs.Blocks.{BlockWords, blocks_in, blocks_among, blocks_of_block, blocks_of}
 use Rattle.well_formed_trees.specs.Every.{Every}
 use Rattle.well_formed_trees.specs.Spelled.{StmtHas, ItemsHave}
@@ -27,6 +25,7 @@ use Rattle.small_frames.proofs.LevelsShallow.{LevelsFew, levels_few}
 use Rattle.small_frames.proofs.SingleWithin.{SingleWithin, TurnsWithin, assign_within, call_light, return_light}
 use Rattle.small_frames.proofs.SingleWithin.{goto_within, condition_light, turns_light}
 use Rattle.small_frames.proofs.StorageWithin.{allocate_light, free_light, get_light, put_light}
+use Rattle.pli_coding.specs.WordBounds.{stmt_words, stmts_words, bit_words}
 
 -- ---- what is small
 

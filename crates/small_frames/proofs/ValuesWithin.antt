@@ -17,11 +17,10 @@ use Rattle.pli_typing.specs.Converting.{stored_as, operand_stored}
 use Rattle.pli_typing.specs.Operators.{prefixed, infixed, ComparedAs, AsNumbers, AsTexts, AsBits, AsPointers}
 use Rattle.pli_typing.specs.Operators.{AsOffsets, Compared, is_locator, pointers_compared, offsets_compared}
 use Rattle.pli_typing.specs.Operators.{values_compared, kinds_compared, half_compared, compared, equality, comparison}
-use Rattle.pli_coding.specs.Temporaries.{number_words, text_words, bit_words, pointer_words, offset_words}
-use Rattle.pli_coding.specs.Temporaries.{reference_words, stored_words}
 use Rattle.well_formed_trees.proofs.Lists.{HoldsIf}
 use Rattle.small_frames.specs.Weights.{right_words}
 use Rattle.small_frames.specs.Within.{ValueWithin, Within}
+use Rattle.pli_coding.specs.WordBounds.{number_words, text_words, bit_words, pointer_words, offset_words, reference_words, stored_words}
 
 -- ---- more words
 
