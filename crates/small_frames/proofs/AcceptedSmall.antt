@@ -6,7 +6,11 @@ use Rattle.pli_typing.specs.Resolving.{typed_tree}
 use Rattle.pli_meaning.specs.DeclaredShapes.{variables_of_block, procedure_numbered, head_of}
 use Rattle.pli_coding.specs.Frames.{fixed_size, temporary_bytes, is_automatic, has_constant_size, parameters_in}
 use Rattle.pli_coding.specs.Frames.{parameters_of_block}
+use Rattle.pli_coding.specs.Environments.{none_taken}
+use Rattle.pli_coding.specs.Extents.{extents_take}
+use Rattle.pli_coding.specs.Entries.{variables_take}
 use Rattle.pli_coding.specs.WordBounds.{variables_words, evaluations_words, extents_words, number_words}
+use Rattle.pli_coding.proofs.StatementBounds.{extents_bound, variables_bound}
 use Rattle.pli_frames.specs.Blocks.{BlockWords, blocks_of}
 use Rattle.pli_frames.specs.Plans.{BlockFrame, frame_with, frame_by_kind, frame_of, planned}
 use Rattle.well_formed_trees.specs.Every.{Every}
@@ -70,15 +74,18 @@ routines_within : (level : ℕ) → level ≤ 16 → (ds : List Y.DeclaredVariab
     → Every (λ d. routine_bytes level d ≤ 2368) ds
 routines_within level l [] h = tt
 routines_within level l (d ∷ ds) h =
-    (extent_bytes (extents_words d) level (extents_few d h.0) l, routines_within level l ds h.1)
+    let few = extents_few d h.0 in
+    let most = extents_bound none_taken d in
+    (extent_bytes (extents_take none_taken d).words level (omega (arith, few, most)) l, routines_within level l ds h.1)
 
 with_within : (program : Y.Program) → AreExtentsSmall program → (head : Y.BlockHead) (words parameters : ℕ)
     (ds : List Y.DeclaredVariable) → head.level ≤ 16 → words ≤ 1165 → parameters ≤ 16 → variables_words ds ≤ 533
     → IsFrameWithin 4896 2368 program (frame_with head words parameters ds)
-with_within program e head words parameters ds l w p v = (
-  frame_bytes (max (variables_words ds) words) head.level parameters (omega (arith, w, v)) l p,
-  routines_within head.level l (variables_of_block program head.number) (e head.number),
-)
+with_within program e head words parameters ds l w p v =
+    let most = variables_bound ds in (
+      frame_bytes (max (variables_take ds).words words) head.level parameters (omega (arith, w, v, most)) l p,
+      routines_within head.level l (variables_of_block program head.number) (e head.number),
+    )
 
 declaring_within : (program : Y.Program) → AreExtentsSmall program → SmallProcedures program.procedures
     → (b : BlockWords) → IsShort b

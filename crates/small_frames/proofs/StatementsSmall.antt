@@ -25,7 +25,9 @@ use Rattle.small_frames.proofs.LevelsShallow.{LevelsFew, levels_few}
 use Rattle.small_frames.proofs.SingleWithin.{SingleWithin, TurnsWithin, assign_within, call_light, return_light}
 use Rattle.small_frames.proofs.SingleWithin.{goto_within, condition_light, turns_light}
 use Rattle.small_frames.proofs.StorageWithin.{allocate_light, free_light, get_light, put_light}
+use Rattle.pli_coding.specs.Environments.{none_taken}
 use Rattle.pli_coding.specs.WordBounds.{stmt_words, stmts_words, bit_words}
+use Rattle.pli_coding.proofs.StatementBounds.{statement_bound, statements_bound}
 
 -- ---- what is small
 
@@ -90,7 +92,10 @@ do_small u l (CountedTurns counter start limit step b) ss line h k =
 
 begin_small : (u : ℕ) → u ≤ 64 → (head : Y.BlockHead) → head.level ≤ 15 → (ss : Y.Stmts) → AreSmall u ss
     → IsSmall u (Y.Begin (Y.BlockOf head ss))
-begin_small u l head v ss k = let words = k.0 in (omega (arith, l), ((omega (arith, words), omega (arith, v)), k.1))
+begin_small u l head v ss k =
+    let words = k.0 in
+    let most = statements_bound none_taken ss in
+    (omega (arith, l), ((omega (arith, words, most), omega (arith, v)), k.1))
 
 -- a statement by itself is a block's
 unit_short : (c : Context) → LevelsFew c.scope.blocks → (line u : ℕ) (on : Condition) (s : Y.Stmt) → IsSmall u s
@@ -98,8 +103,9 @@ unit_short : (c : Context) → LevelsFew c.scope.blocks → (line u : ℕ) (on :
 unit_short c v line u on (Y.Begin (Y.BlockOf head body)) h = (h.1.0, h.1.1)
 unit_short c v line u on s h =
     let words = h.0 in
+    let most = statement_bound none_taken s in
     let level = v c.scope.block in
-    ((omega (arith, words), omega (arith, level)), every_both IsShort (blocks_in s) [] h.1 tt)
+    ((omega (arith, words, most), omega (arith, level)), every_both IsShort (blocks_in s) [] h.1 tt)
 
 unit_small : (c : Context) → LevelsFew c.scope.blocks → (line u : ℕ) → u ≤ 64 → (on : Condition) (s : Y.Stmt)
     → IsSmall (suc u) s → IsSmall u (Y.OnUnit on (unit_of c line s) line)
@@ -119,8 +125,9 @@ procedure_small : (c : Context) → LevelsFew c.scope.blocks → (number : ℕ) 
     (u : ℕ) → AreSmall u ss → length head.parameters ≤ 16 → SmallProcedure (procedure_of c number head ss)
 procedure_small c v number head ss u k h =
     let words = k.0 in
+    let most = statements_bound none_taken ss in
     let level = v number in
-    (((omega (arith, words), omega (arith, level)), k.1), parameters_few c.scope.blocks number head.parameters h)
+    (((omega (arith, words, most), omega (arith, level)), k.1), parameters_few c.scope.blocks number head.parameters h)
 
 both_small : (ps qs : List Y.Procedure) → SmallProcedures ps → SmallProcedures qs → SmallProcedures (ps ++ qs)
 both_small ps qs h k = every_both SmallProcedure ps qs h k
