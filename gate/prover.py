@@ -11,6 +11,7 @@ STATUS_OF_TIMEOUT = 124
 A_PLACE = r"(note: )?\S+:\d+:\d+:"
 UNREAD = r"is not in scope|has no field|is no name|operand is missing|expected the end|cannot continue"
 NAMELESS = r"is not in scope|has no field|that can be named"
+WITHOUT_PROOF = r"note: src/|fn \S+: (not proved|no proof)"
 NO_CALL = r"^(warning: no call of `(?![^`]*::fn::)|note: the search for empty contracts did not end)"
 
 
@@ -38,8 +39,9 @@ def run(share, words, folder, notes, most=None):
 def reasons(said, most=20):
     """The lines of what rt said that tell why it failed."""
     lines = said.rstrip().split("\n")
-    errors = [it for it in lines if re.match(A_PLACE, it) and ": error" in it][:most]
-    return "".join(f"\n    {it[:300]}" for it in errors or lines[-6:])
+    errors = [it for it in lines if re.match(A_PLACE, it) and ": error" in it]
+    without = [it for it in lines if re.match(WITHOUT_PROOF, it)]
+    return "".join(f"\n    {it[:300]}" for it in (errors or without or lines[-6:])[:most])
 
 
 def told(status, said):

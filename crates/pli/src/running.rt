@@ -15,7 +15,10 @@ use std::fs;
 
 // How the input is called.
 fn input_name<'a>(matches: &'a ArgMatches<'_>) -> &'a str {
-    matches.get_str(command::INPUT).unwrap_or("stdin")
+    match matches.get_str(command::INPUT) {
+        Some(name) => name,
+        None => "stdin",
+    }
 }
 
 fn bound_and_base(matches: &ArgMatches<'_>) -> (u64, u32) {
