@@ -1,16 +1,11 @@
 -- Bounds for the words of a frame that temporaries take, by the form alone: as if each number waited in a word.
-use Rattle.std.specs.Prelude.{ℕ, suc, ◌+◌, ◌-◌, max, List, [], ◌∷◌, Option, Some, None, if◌then◌else◌}
+use Rattle.std.specs.Prelude.{ℕ, suc, ◌+◌, max, List, [], ◌∷◌, Option, Some, None, if◌then◌else◌}
 use Rattle.pli_typing.specs.TypedTree as Y
-use Rattle.pli_coding.specs.Environments.{Taken}
 use Rattle.pli_coding.specs.Frames.{has_constant_size, is_automatic}
 use Rattle.pli_coding.specs.Locating.{locator_words, is_found_first}
 use Rattle.pli_coding.specs.Expressions.{list_words}
 use Rattle.pli_coding.specs.Storing.{record_words}
 use Rattle.pli_coding.specs.Extents.{extent_words}
-
--- how many of the seven registers for numbers hold nothing
-abbrev pub spare : Taken → ℕ
-spare t = 7 - t.registers
 
 -- what waits while subscripts are evaluated
 abbrev pub located_words : Y.Variable → ℕ

@@ -20,7 +20,7 @@ use Rattle.pli_coding.specs.Environments.{Environment, Taken}
 use Rattle.pli_coding.specs.Expressions.{given_in, stored_code}
 use Rattle.pli_coding.specs.Storing.{word_stored, stored_into, assigned_code}
 use Rattle.pli_coding.specs.Linking.{Links}
-use Rattle.pli_coding.specs.WordBounds.{spare}
+use Rattle.temporary_bounds.specs.Spare.{spare}
 use Rattle.pli_headline.specs.ProvedSoFar.{Names}
 use Rattle.run_steps.specs.Engine.{Base, address}
 use Rattle.run_steps.proofs.Linking.{size_append}

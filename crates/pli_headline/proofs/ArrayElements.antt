@@ -33,8 +33,8 @@ use Rattle.pli_coding.specs.Expressions.{given_in, number_code, reference_code, 
 use Rattle.pli_coding.specs.Locating as L
 use Rattle.pli_coding.specs.Storing.{is_near, word_stored}
 use Rattle.pli_coding.specs.Linking.{Links}
-use Rattle.pli_coding.specs.WordBounds.{spare}
-use Rattle.pli_coding.proofs.Takes.{none_spare, number_counts}
+use Rattle.temporary_bounds.specs.Spare.{spare}
+use Rattle.temporary_bounds.proofs.Takes.{none_spare, number_counts}
 use Rattle.pli_headline.specs.ProvedSoFar.{Names, constant_bounds, AreBounds, array_variable}
 use Rattle.run_steps.specs.Engine.{Base, address}
 use Rattle.run_steps.proofs.Linking.{size_append}

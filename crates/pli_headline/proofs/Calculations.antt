@@ -13,7 +13,7 @@ use Rattle.pli_coding.specs.Assembly.{size_of}
 use Rattle.pli_coding.specs.Environments.{Taken, is_register_left}
 use Rattle.pli_coding.specs.Arithmetic.{calculated_code}
 use Rattle.pli_coding.specs.Linking.{Links}
-use Rattle.pli_coding.proofs.Takes.{none_spare}
+use Rattle.temporary_bounds.proofs.Takes.{none_spare}
 use Rattle.run_steps.specs.Engine.{Base}
 use Rattle.run_steps.specs.Items.{Linked, At}
 use Rattle.run_steps.specs.Numbers.{IsWide}

@@ -12,8 +12,8 @@ use Rattle.pli_coding.specs.Registers.{a0, u1}
 use Rattle.pli_coding.specs.Assembly.{Code, size_of}
 use Rattle.pli_coding.specs.Environments.{Taken, is_register_left, with_number, save, fetch}
 use Rattle.pli_coding.specs.Linking.{Links}
-use Rattle.pli_coding.specs.WordBounds.{spare}
-use Rattle.pli_coding.proofs.Takes.{none_spare, number_counts}
+use Rattle.temporary_bounds.specs.Spare.{spare}
+use Rattle.temporary_bounds.proofs.Takes.{none_spare, number_counts}
 use Rattle.image_runs.specs.Runs.{Whole}
 use Rattle.run_steps.specs.Engine.{Base, address}
 use Rattle.run_steps.proofs.Linking.{size_append}

@@ -34,8 +34,9 @@ use Rattle.pli_coding.specs.Storing.{word_stored, top_stored}
 use Rattle.pli_coding.specs.Streams as C
 use Rattle.pli_coding.specs.Streams.{has_fixed, has_text, controls_carried_out, awaited_before, field_awaited, field_stored, bit_got, text_got}
 use Rattle.pli_coding.specs.Linking.{Links}
-use Rattle.pli_coding.specs.WordBounds.{get_item_words, reference_words, subscripts_words, spare}
-use Rattle.pli_coding.proofs.Takes.{none_spare}
+use Rattle.pli_coding.specs.WordBounds.{get_item_words, reference_words, subscripts_words}
+use Rattle.temporary_bounds.specs.Spare.{spare}
+use Rattle.temporary_bounds.proofs.Takes.{none_spare}
 use Rattle.pli_headline.specs.ProvedSoFar.{Names, Types, IsReadBy, IsProvedGetItem, AreProvedFormats, HasData, HaveWidths, text_leaf, alone, IsTarget, AreSubscripts, AreProvedNumbers, IsPart}
 use Rattle.pli_headline.proofs.Since.{since_closed, comes_since}
 use Rattle.pli_headline.proofs.HeldPlaces.{next_length}

@@ -21,8 +21,8 @@ use Rattle.pli_coding.specs.Statements.{stmt_takes, stmts_take, held_with}
 use Rattle.pli_headline.specs.ProvedSoFar.{Types, OuterBlock, main_labels, main_outer, times, IsOutward, JumpsAround, IsSimple, IsUnitBody, IsProvedStatement, AreProvedStatements, AllJumpAround, CallsAmong, AllCallAmong, Names, names_in, types_in, unit_declares, inner_bytes, bytes_of}
 use Rattle.pli_headline.specs.InnerWords.{body_words, all_inner_words}
 use Rattle.pli_coding.specs.Images.{blocks_among}
-use Rattle.pli_coding.specs.WordBounds.{spare}
-use Rattle.pli_coding.proofs.TakesNeeds.{bit_needs, text_needs, reference_needs, stored_needs}
+use Rattle.temporary_bounds.specs.Spare.{spare}
+use Rattle.temporary_bounds.proofs.TakesNeeds.{bit_needs, text_needs, reference_needs, stored_needs}
 use Rattle.pli_headline.proofs.StandingBytes.{ConstantsStand, constants_moved}
 use Rattle.pli_headline.proofs.PieceSizes.{most}
 use Rattle.pli_headline.proofs.InnerLevels.{IsAmong}

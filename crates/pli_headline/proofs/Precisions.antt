@@ -22,7 +22,7 @@ use Rattle.pli_coding.specs.Instructions.{move, shift, registers, skip_where}
 use Rattle.pli_coding.specs.Environments.{Taken, is_register_left}
 use Rattle.pli_coding.specs.Arithmetic.{overflow_raised, zero_divide_raised, quotient_checked, narrowed_code, fitted_code, divided_code}
 use Rattle.pli_coding.specs.Linking.{Links}
-use Rattle.pli_coding.proofs.Takes.{none_spare}
+use Rattle.temporary_bounds.proofs.Takes.{none_spare}
 use Rattle.run_steps.specs.Engine.{Base, address}
 use Rattle.run_steps.proofs.Linking.{size_append}
 use Rattle.run_steps.specs.Items.{Linked, At}

@@ -18,10 +18,10 @@ use Rattle.pli_meaning.specs.StorageState.{most_activations}
 use Rattle.pli_coding.specs.Statements.{owner_of_unit, unit_environment, before_turns, in_turns, stmt_takes, stmts_take, stmt_code, stmts_code}
 use Rattle.pli_coding.specs.Images.{place_of_head, place_of_unit, blocks_in, blocks_among}
 use Rattle.pli_coding.specs.Linking.{Links}
-use Rattle.pli_coding.specs.WordBounds.{spare}
-use Rattle.pli_coding.proofs.TakesMore.{number_grows}
-use Rattle.pli_coding.proofs.TakesNeeds.{number_needs, text_needs, bit_needs, reference_needs, stored_needs}
-use Rattle.pli_coding.proofs.StatementNeeds.{number_if_needs, bit_if_needs, value_needs}
+use Rattle.temporary_bounds.specs.Spare.{spare}
+use Rattle.temporary_bounds.proofs.TakesMore.{number_grows}
+use Rattle.temporary_bounds.proofs.TakesNeeds.{number_needs, text_needs, bit_needs, reference_needs, stored_needs}
+use Rattle.temporary_bounds.proofs.StatementNeeds.{number_if_needs, bit_if_needs, value_needs}
 use Rattle.pli_headline.specs.ProvedSoFar.{Names, names_in, types_in, unit_declares, IsShallow, ArePlain, bytes_of, bytes_in, inner_bytes, Types, OuterBlock, main_labels, main_outer, IsProvedStatement, AreProvedStatements, JumpsAround, AllJumpAround, is_number, CallsAmong, AllCallAmong}
 use Rattle.pli_headline.specs.EndUnits.{HasUnitFor, main_catches_end}
 use Rattle.pli_meaning.specs.DeclaredShapes.{variables_of_block}

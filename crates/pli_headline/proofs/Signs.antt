@@ -18,7 +18,7 @@ use Rattle.pli_coding.specs.Registers.{a0, u1}
 use Rattle.pli_coding.specs.Instructions.{shift, registers, subtract, lowest_number, skip_where}
 use Rattle.pli_coding.specs.Arithmetic.{overflow_raised, signed_code, absolute_code, sign_code}
 use Rattle.pli_coding.specs.Linking.{Links}
-use Rattle.pli_coding.proofs.Takes.{none_spare}
+use Rattle.temporary_bounds.proofs.Takes.{none_spare}
 use Rattle.run_steps.specs.Engine.{address}
 use Rattle.run_steps.proofs.Items.{straight}
 use Rattle.run_steps.specs.Numbers.{IsWide, least_word}

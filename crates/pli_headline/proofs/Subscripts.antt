@@ -18,8 +18,8 @@ use Rattle.pli_coding.specs.Environments.{Environment, Taken, is_register_left, 
 use Rattle.pli_coding.specs.Locating.{is_simple, are_simple, simple_loaded, subscript_given}
 use Rattle.pli_coding.specs.Expressions.{given_in, number_code, subscripts_code}
 use Rattle.pli_coding.specs.Linking.{Links}
-use Rattle.pli_coding.specs.WordBounds.{spare}
-use Rattle.pli_coding.proofs.Takes.{none_spare, number_counts}
+use Rattle.temporary_bounds.specs.Spare.{spare}
+use Rattle.temporary_bounds.proofs.Takes.{none_spare, number_counts}
 use Rattle.run_steps.specs.Engine.{Base, address}
 use Rattle.run_steps.proofs.Linking.{size_append}
 use Rattle.run_steps.specs.Items.{Linked, At}

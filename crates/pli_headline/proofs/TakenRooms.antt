@@ -5,11 +5,12 @@ use Rattle.pli_coding.specs.Environments.{Taken, with_words, with_number}
 use Rattle.pli_coding.specs.Temporaries.{reference_takes}
 use Rattle.pli_coding.specs.Storing.{record_words, aggregate_takes}
 use Rattle.pli_coding.specs.Streams.{put_takes, get_takes}
-use Rattle.pli_coding.specs.WordBounds.{reference_words, put_words, get_words, spare}
-use Rattle.pli_coding.proofs.Takes.{number_counts}
-use Rattle.pli_coding.proofs.TakesMore.{reference_grows}
-use Rattle.pli_coding.proofs.TakesNeeds.{reference_needs}
-use Rattle.pli_coding.proofs.StatementNeeds.{put_needs, get_needs}
+use Rattle.pli_coding.specs.WordBounds.{reference_words, put_words, get_words}
+use Rattle.temporary_bounds.specs.Spare.{spare}
+use Rattle.temporary_bounds.proofs.Takes.{number_counts}
+use Rattle.temporary_bounds.proofs.TakesMore.{reference_grows}
+use Rattle.temporary_bounds.proofs.TakesNeeds.{reference_needs}
+use Rattle.temporary_bounds.proofs.StatementNeeds.{put_needs, get_needs}
 
 pub behind_number : (t : Taken) (r : Y.Reference)
     → t.words + suc (reference_words r) ≤ (reference_takes (with_number t) r).words + spare t

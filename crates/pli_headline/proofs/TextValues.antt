@@ -24,7 +24,7 @@ use Rattle.pli_coding.specs.Instructions.{small, move, service, tested_service}
 use Rattle.pli_coding.specs.Environments.{Taken}
 use Rattle.pli_coding.specs.Arithmetic.{compared_code}
 use Rattle.pli_coding.specs.Linking.{Links}
-use Rattle.pli_coding.specs.WordBounds.{spare}
+use Rattle.temporary_bounds.specs.Spare.{spare}
 use Rattle.run_steps.specs.Engine.{Base, address, call_at}
 use Rattle.run_steps.proofs.Linking.{size_append}
 use Rattle.run_steps.specs.Items.{Linked, At}

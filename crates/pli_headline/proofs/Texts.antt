@@ -22,8 +22,8 @@ use Rattle.pli_coding.specs.Environments.{Taken, save, fetch, with_number, is_re
 use Rattle.pli_coding.specs.Expressions.{constant_pushed}
 use Rattle.pli_coding.specs.Streams as C
 use Rattle.pli_coding.specs.Linking.{Links}
-use Rattle.pli_coding.specs.WordBounds.{spare}
-use Rattle.pli_coding.proofs.Takes.{none_spare, number_counts}
+use Rattle.temporary_bounds.specs.Spare.{spare}
+use Rattle.temporary_bounds.proofs.Takes.{none_spare, number_counts}
 use Rattle.pli_headline.specs.ProvedSoFar.{IsPrecision}
 use Rattle.run_steps.specs.Engine.{Base, address, call_at}
 use Rattle.run_steps.proofs.Linking.{size_append}

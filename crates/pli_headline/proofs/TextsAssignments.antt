@@ -24,8 +24,9 @@ use Rattle.pli_coding.specs.Expressions.{text_code}
 use Rattle.pli_coding.specs.Storing.{elements_takes, elements_code}
 use Rattle.pli_coding.specs.SignatureTable.{table_of}
 use Rattle.pli_coding.specs.Linking.{Links}
-use Rattle.pli_coding.specs.WordBounds.{text_words, spare}
-use Rattle.pli_coding.proofs.TakesNeeds.{text_needs}
+use Rattle.pli_coding.specs.WordBounds.{text_words}
+use Rattle.temporary_bounds.specs.Spare.{spare}
+use Rattle.temporary_bounds.proofs.TakesNeeds.{text_needs}
 use Rattle.pli_headline.specs.ProvedSoFar.{Names, Types, Kind, text_leaf, IsWholeText, IsProvedText}
 use Rattle.pli_headline.proofs.Storages.{storage, Storage, Serials, stored_changed}
 use Rattle.run_steps.specs.Engine.{address}

@@ -18,7 +18,7 @@ use Rattle.pli_coding.specs.Statements.{block_words, stmts_code, block_held}
 use Rattle.pli_headline.specs.ProvedSoFar.{Names, ArePlain, Types, AreProvedStatements, array_variable}
 use Rattle.pli_coding.specs.Procedures.{procedure_begun, procedure_ended, procedure_in}
 use Rattle.pli_coding.specs.WordBounds.{stmts_words, variables_words, extents_words}
-use Rattle.pli_coding.proofs.StatementBounds.{block_bound}
+use Rattle.temporary_bounds.proofs.StatementBounds.{block_bound}
 use Rattle.pli_headline.specs.Headline.{FitsMemory}
 use Rattle.pli_headline.proofs.Scalars.{by_plain}
 use Rattle.run_steps.proofs.Linking.{size_append}

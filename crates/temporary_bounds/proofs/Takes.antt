@@ -2,7 +2,7 @@
 use Rattle.std.proofs.Common.{◌≡◌, ℕ, ◌+◌, ◌-◌, ◌≤◌, Bool, true, false, refl, ltb-true, ltb-false, arith}
 use Rattle.std.specs.Prelude.{◌<◌, cond, nat_lt}
 use Rattle.pli_coding.specs.Registers.{held_registers}
-use Rattle.pli_coding.specs.WordBounds.{spare}
+use Rattle.temporary_bounds.specs.Spare.{spare}
 use Rattle.pli_coding.specs.Environments.{Taken, with_words, with_number, most_taken, is_register_left}
 
 -- no more registers and words are taken

@@ -7,7 +7,7 @@ use Rattle.pli_coding.specs.Expressions.{list_words}
 use Rattle.pli_coding.specs.Temporaries.{number_takes, numbers_take, text_takes, bit_takes, pointer_takes, offset_takes}
 use Rattle.pli_coding.specs.Temporaries.{reference_takes, locator_takes, subscripts_take, call_takes, arguments_take}
 use Rattle.pli_coding.specs.Temporaries.{argument_takes, stored_takes}
-use Rattle.pli_coding.proofs.Takes.{Fewer, number_least, number_fewer, words_fewer, most_fewer}
+use Rattle.temporary_bounds.proofs.Takes.{Fewer, number_least, number_fewer, words_fewer, most_fewer}
 
 -- ---- no less than before
 

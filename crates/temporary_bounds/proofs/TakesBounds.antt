@@ -10,7 +10,7 @@ use Rattle.pli_coding.specs.Temporaries.{argument_takes, stored_takes}
 use Rattle.pli_coding.specs.WordBounds.{number_words, numbers_words, text_words, bit_words, pointer_words, offset_words}
 use Rattle.pli_coding.specs.WordBounds.{reference_words, locator_value_words, subscripts_words, call_words, located_words}
 use Rattle.pli_coding.specs.WordBounds.{arguments_words, argument_words, stored_words}
-use Rattle.pli_coding.proofs.Takes.{number_most}
+use Rattle.temporary_bounds.proofs.Takes.{number_most}
 
 locator_words_by : (q : Bool) (t : Taken)
     → (cond q (with_words locator_words t) t).words ≡ t.words + cond q locator_words 0

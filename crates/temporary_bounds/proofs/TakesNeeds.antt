@@ -9,9 +9,10 @@ use Rattle.pli_coding.specs.Temporaries.{reference_takes, locator_takes, subscri
 use Rattle.pli_coding.specs.Temporaries.{argument_takes, stored_takes}
 use Rattle.pli_coding.specs.WordBounds.{number_words, numbers_words, text_words, bit_words, pointer_words, offset_words}
 use Rattle.pli_coding.specs.WordBounds.{reference_words, locator_value_words, subscripts_words, call_words, located_words}
-use Rattle.pli_coding.specs.WordBounds.{arguments_words, argument_words, stored_words, spare}
-use Rattle.pli_coding.proofs.Takes.{number_counts}
-use Rattle.pli_coding.proofs.TakesBounds.{locator_words_are}
+use Rattle.pli_coding.specs.WordBounds.{arguments_words, argument_words, stored_words}
+use Rattle.temporary_bounds.specs.Spare.{spare}
+use Rattle.temporary_bounds.proofs.Takes.{number_counts}
+use Rattle.temporary_bounds.proofs.TakesBounds.{locator_words_are}
 
 locator_spares_by : (q : Bool) (t : Taken) → spare (cond q (with_words locator_words t) t) ≡ spare t
 locator_spares_by true t = refl

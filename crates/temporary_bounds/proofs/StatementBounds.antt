@@ -15,9 +15,9 @@ use Rattle.pli_coding.specs.Entries.{variable_takes, variables_take}
 use Rattle.pli_coding.specs.Statements.{before_turns, in_turns, number_if_takes, bit_if_takes, counter_takes, begun_takes}
 use Rattle.pli_coding.specs.Statements.{turn_takes, stmt_takes, stmts_take, block_takes}
 use Rattle.pli_coding.specs.WordBounds as W
-use Rattle.pli_coding.proofs.Takes.{number_most}
-use Rattle.pli_coding.proofs.TakesBounds.{number_bound, text_bound, bit_bound, pointer_bound, reference_bound, call_bound}
-use Rattle.pli_coding.proofs.TakesBounds.{stored_bound, locator_words_are}
+use Rattle.temporary_bounds.proofs.Takes.{number_most}
+use Rattle.temporary_bounds.proofs.TakesBounds.{number_bound, text_bound, bit_bound, pointer_bound, reference_bound, call_bound}
+use Rattle.temporary_bounds.proofs.TakesBounds.{stored_bound, locator_words_are}
 
 -- ---- assignments
 

@@ -7,10 +7,10 @@ use Rattle.pli_coding.specs.Streams.{free_in, elements_of, value_takes, elements
 use Rattle.pli_coding.specs.Streams.{put_takes, get_item_takes, get_items_take, get_takes}
 use Rattle.pli_coding.specs.Statements.{number_if_takes, bit_if_takes}
 use Rattle.pli_coding.specs.WordBounds as W
-use Rattle.pli_coding.specs.WordBounds.{spare}
-use Rattle.pli_coding.proofs.Takes.{number_counts}
-use Rattle.pli_coding.proofs.TakesBounds.{locator_words_are}
-use Rattle.pli_coding.proofs.TakesNeeds.{number_needs, text_needs, bit_needs, reference_needs, locator_spares}
+use Rattle.temporary_bounds.specs.Spare.{spare}
+use Rattle.temporary_bounds.proofs.Takes.{number_counts}
+use Rattle.temporary_bounds.proofs.TakesBounds.{locator_words_are}
+use Rattle.temporary_bounds.proofs.TakesNeeds.{number_needs, text_needs, bit_needs, reference_needs, locator_spares}
 
 pub number_if_needs : (t : Taken) (x : Option Y.Number) → t.words + W.number_if x ≤ (number_if_takes t x).words + spare t
 number_if_needs t None = omega arith
