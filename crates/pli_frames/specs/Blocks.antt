@@ -3,7 +3,8 @@ use Rattle.std.specs.Prelude.{ℕ, List, [], ◌∷◌, ◌++◌}
 use Rattle.std.specs.List.{flat_map}
 use Rattle.pli_typing.specs.TypedTree as Y
 use Rattle.pli_typing.specs.TypedStatementView.{block_head_of}
-use Rattle.pli_coding.specs.Statements.{stmts_words}
+use Rattle.pli_coding.specs.Environments.{none_taken}
+use Rattle.pli_coding.specs.Statements.{stmts_take}
 use Rattle.pli_frames.specs.declared.body.BlockWords.{BlockWords as BlockWordsHeld}
 
 pub record BlockWords : Type 0 where
@@ -14,7 +15,7 @@ abbrev pub block_words_of : BlockWordsHeld → BlockWords
 block_words_of b = record { head = block_head_of b.head; words = b.words }
 
 abbrev pub with_words : Y.BlockHead → Y.Stmts → BlockWords
-with_words head body = record { head = head; words = stmts_words body }
+with_words head body = record { head = head; words = (stmts_take none_taken body).words }
 
 abbrev mutual
   pub blocks_in : Y.Stmt → List BlockWords

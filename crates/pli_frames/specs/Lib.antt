@@ -1,4 +1,5 @@
 pub mod Blocks
 pub mod Parts
 pub mod Plans
+pub mod TakenView
 pub mod Turns

@@ -4,7 +4,7 @@ use Rattle.pli_typing.specs.TypedTree as Y
 use Rattle.pli_typing.specs.TypedStatementView.{block_head_of}
 use Rattle.pli_meaning.specs.DeclaredShapes.{variables_of_block, head_of}
 use Rattle.pli_coding.specs.Frames.{frame_bytes, fixed_size, last_place, variable_place, parameters_of_block}
-use Rattle.pli_coding.specs.Entries.{variables_words}
+use Rattle.pli_coding.specs.Entries.{variables_take}
 use Rattle.pli_frames.specs.Blocks.{BlockWords, blocks_of}
 use Rattle.pli_frames.specs.Parts.{parts}
 use Rattle.pli_frames.specs.declared.frame.BlockFrame.{BlockFrame as BlockFrameHeld}
@@ -31,7 +31,7 @@ abbrev pub frame_with : Y.BlockHead → (words parameters : ℕ) → List Y.Decl
 frame_with head words parameters ds =
     record {
       head = head;
-      words = max (variables_words ds) words;
+      words = max (variables_take ds).words words;
       parameters = parameters;
       places = places_from (fixed_size head.level parameters) ds;
       end = variable_place parts (fixed_size head.level parameters) ds (length ds);

@@ -1,9 +1,16 @@
--- The words that a DO takes, by what it says of its turns.
-use Rattle.std.specs.Prelude.{ℕ, max}
+-- What a DO takes, by what it says of its turns.
 use Rattle.pli_typing.specs.SingleStatements.{Turns, OneTurn, CountedTurns}
-use Rattle.pli_coding.specs.Storing.{assigned_words}
-use Rattle.pli_coding.specs.Statements.{bit_if, count_words}
+use Rattle.pli_coding.specs.Environments.{Taken, most_taken}
+use Rattle.pli_coding.specs.Storing.{assigned_takes}
+use Rattle.pli_coding.specs.Statements.{before_turns, in_turns, begun_takes, turn_takes, bit_if_takes}
 
-abbrev pub words_of_turns : Turns → (body : ℕ) → ℕ
-words_of_turns (OneTurn variable start condition) body = max (assigned_words variable start) (max (bit_if condition) body)
-words_of_turns (CountedTurns counter start limit step condition) body = count_words counter start limit step condition body
+-- the temporaries in use behind which the body begins
+abbrev pub behind_turns : Turns → Taken → Taken
+behind_turns (OneTurn variable start condition) t = t
+behind_turns (CountedTurns counter start limit step condition) t = in_turns t
+
+abbrev pub turns_take : Taken → Turns → (body : Taken) → Taken
+turns_take t (OneTurn variable start condition) body =
+    most_taken (assigned_takes t variable start) (most_taken (bit_if_takes t condition) body)
+turns_take t (CountedTurns counter start limit step condition) body =
+    most_taken (begun_takes (before_turns t) start limit step) (turn_takes (in_turns t) counter condition body)

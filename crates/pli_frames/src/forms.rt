@@ -1,15 +1,17 @@
-// How many words the temporaries of a statement's parts take at most.
+// What the temporaries of a statement's parts take at most, behind what is taken already.
 
-ghost use Rattle.std.specs.Prelude.{◌≡◌, suc, ◌+◌, max, map, IfOk};
+ghost use Rattle.std.specs.Prelude.{◌≡◌, map, IfOk};
 ghost use Rattle.pli_typing.specs.TypedView.{reference_of, stored_of, value_of};
 ghost use Rattle.pli_typing.specs.TypedStatementView.{target_of, allocation_of, freeing_of, get_item_of, put_item_of, get_pair_of, put_pair_of};
 ghost use Rattle.pli_coding.specs.Storing as storing;
 ghost use Rattle.pli_coding.specs.Allocating as allocating;
 ghost use Rattle.pli_coding.specs.Streams as streams;
+ghost use Rattle.pli_frames.specs.TakenView.{taken_of};
 
-use crate::words::{
-    bit_words, located_words, more, number_words, pointer_words, reference_words, stored_words,
-    text_words,
+use crate::taken::{Taken, none_taken};
+use crate::temporaries::{
+    behind_locator, bit_takes, number_takes, pointer_takes, reference_takes, stored_takes,
+    text_takes,
 };
 use pli_typing::typed::{
     Allocation, Freeing, GetItem, GetPair, LocatorTarget, PutItem, PutPair, Reference, Stored,
@@ -17,171 +19,196 @@ use pli_typing::typed::{
 };
 use std::alloc::AllocError;
 
-/// Of a scalar assignment.
-pub fn assigned_words(target: &Reference, source: &Stored) -> Result<u32, AllocError>
-    ensures { IfOk result (λ n. n ≡ storing.assigned_words (reference_of target.now) (stored_of source.now)) }
+/// The temporaries in use behind a value that waits.
+#[tactic(auto, unfolding(pli_typing::specs::TypedView::stored_of))]
+pub fn behind_value(source: &Stored, taken: Taken) -> Result<Taken, AllocError>
+    ensures { IfOk result (λ t. taken_of t ≡ storing.behind_value (stored_of source.now) (taken_of taken)) }
 {
-    let target = more(4, reference_words(target)?)?;
-    Ok(stored_words(source)?.max(target))
-}
-
-/// Of an aggregate that is assigned, with its record.
-pub fn aggregate_words(aggregate: &Reference) -> Result<u32, AllocError>
-    ensures { IfOk result (λ n. n ≡ storing.aggregate_words (reference_of aggregate.now)) }
-{
-    more(4, reference_words(aggregate)?)
-}
-
-/// Of one value into each element of an array.
-pub fn elements_words(target: &Reference, source: &Stored) -> Result<u32, AllocError>
-    ensures { IfOk result (λ n. n ≡ storing.elements_words (reference_of target.now) (stored_of source.now)) }
-{
-    let target = more(4, aggregate_words(target)?)?;
-    Ok(stored_words(source)?.max(target))
-}
-
-fn target_words(target: &LocatorTarget) -> Result<u32, AllocError>
-    ensures { IfOk result (λ n. n ≡ allocating.target_words (target_of target.now)) }
-{
-    match target {
-        LocatorTarget::Pointer(reference) => reference_words(reference),
-        LocatorTarget::Offset { target, .. } => more(1, reference_words(target)?),
+    match source {
+        Stored::Number { .. } => taken.with_number(),
+        Stored::Text(_) => Ok(taken),
+        Stored::Bit(_) => taken.with_number(),
+        Stored::Pointer(_) => taken.with_words(4),
+        Stored::Offset(_) => taken.with_number(),
     }
 }
 
-fn allocation_words(allocation: &Allocation) -> Result<u32, AllocError>
-    ensures { IfOk result (λ n. n ≡ allocating.allocation_words (allocation_of allocation.now)) }
+/// The temporaries in use while a record of this aggregate is.
+#[tactic(auto, unfolding(pli_typing::specs::TypedView::reference_of))]
+pub fn behind_record(reference: &Reference, taken: Taken) -> Result<Taken, AllocError>
+    ensures { IfOk result (λ t. taken_of t ≡ storing.behind_record (reference_of reference.now) (taken_of taken)) }
 {
+    let found = taken.with_words(4)?;
+    match reference {
+        Reference::Plain { variable, .. } => behind_locator(*variable, found),
+        Reference::Located { variable, .. } => behind_locator(*variable, found),
+    }
+}
+
+/// Of a scalar assignment.
+pub fn assigned_takes(
+    taken: Taken,
+    target: &Reference,
+    source: &Stored,
+) -> Result<Taken, AllocError>
+    ensures { IfOk result (λ t. taken_of t ≡ storing.assigned_takes (taken_of taken) (reference_of target.now) (stored_of source.now)) }
+{
+    let behind = behind_value(source, taken)?;
+    Ok(stored_takes(taken, source)?.most(reference_takes(behind, target)?))
+}
+
+/// Of an aggregate that is assigned, with its record.
+pub fn aggregate_takes(taken: Taken, aggregate: &Reference) -> Result<Taken, AllocError>
+    ensures { IfOk result (λ t. taken_of t ≡ storing.aggregate_takes (taken_of taken) (reference_of aggregate.now)) }
+{
+    reference_takes(taken.with_words(4)?, aggregate)
+}
+
+/// Of one value into each element of an array.
+pub fn elements_takes(
+    taken: Taken,
+    target: &Reference,
+    source: &Stored,
+) -> Result<Taken, AllocError>
+    ensures { IfOk result (λ t. taken_of t ≡ storing.elements_takes (taken_of taken) (reference_of target.now) (stored_of source.now)) }
+{
+    let behind = behind_value(source, taken)?;
+    Ok(stored_takes(taken, source)?.most(aggregate_takes(behind, target)?))
+}
+
+fn target_takes(taken: Taken, target: &LocatorTarget) -> Result<Taken, AllocError>
+    ensures { IfOk result (λ t. taken_of t ≡ allocating.target_takes (taken_of taken) (target_of target.now)) }
+{
+    match target {
+        LocatorTarget::Pointer(reference) => reference_takes(taken, reference),
+        LocatorTarget::Offset { target, .. } => reference_takes(taken.with_number()?, target),
+    }
+}
+
+fn allocation_takes(taken: Taken, allocation: &Allocation) -> Result<Taken, AllocError>
+    ensures { IfOk result (λ t. taken_of t ≡ allocating.allocation_takes (taken_of taken) (allocation_of allocation.now)) }
+{
+    let behind = taken.with_words(2)?;
     match allocation {
-        Allocation::Based { target, .. } => more(6, target_words(target)?),
-        Allocation::Controlled(_) => Ok(2),
+        Allocation::Based { target, .. } => target_takes(behind.with_words(4)?, target),
+        Allocation::Controlled(_) => Ok(behind),
     }
 }
 
 /// Of ALLOCATE.
-#[tactic(auto, using(crate::proofs::Most::next_allocation, crate::proofs::Most::none_left, std::proofs::lemmas::List::drop_all))]
-pub fn allocations_words(all: &[Allocation]) -> Result<u32, AllocError>
-    ensures { IfOk result (λ n. n ≡ allocating.allocations_words (map allocation_of all.now)) }
+#[tactic(auto, using(crate::proofs::Most::next_allocation, std::proofs::lemmas::List::drop_all))]
+pub fn allocations_take(taken: Taken, all: &[Allocation]) -> Result<Taken, AllocError>
+    ensures { IfOk result (λ t. taken_of t ≡ allocating.allocations_take (taken_of taken) (map allocation_of all.now)) }
 {
-    let mut words = 0;
+    let mut most = none_taken();
     for one in all {
-        words = words.max(allocation_words(one)?);
+        most = most.most(allocation_takes(taken, one)?);
     }
-    Ok(words)
+    Ok(most.most(taken))
 }
 
-fn freeing_words(freeing: &Freeing) -> Result<u32, AllocError>
-    ensures { IfOk result (λ n. n ≡ allocating.freeing_words (freeing_of freeing.now)) }
+fn freeing_takes(taken: Taken, freeing: &Freeing) -> Result<Taken, AllocError>
+    ensures { IfOk result (λ t. taken_of t ≡ allocating.freeing_takes (taken_of taken) (freeing_of freeing.now)) }
 {
     match freeing {
-        Freeing::Based { locator, .. } => pointer_words(locator),
-        Freeing::Controlled(_) => Ok(0),
+        Freeing::Based { locator, .. } => pointer_takes(taken, locator),
+        Freeing::Controlled(_) => Ok(taken),
     }
 }
 
 /// Of FREE.
-#[tactic(auto, using(crate::proofs::Most::next_freeing, crate::proofs::Most::none_left, std::proofs::lemmas::List::drop_all))]
-pub fn freeings_words(all: &[Freeing]) -> Result<u32, AllocError>
-    ensures { IfOk result (λ n. n ≡ allocating.freeings_words (map freeing_of all.now)) }
+#[tactic(auto, using(crate::proofs::Most::next_freeing, std::proofs::lemmas::List::drop_all))]
+pub fn freeings_take(taken: Taken, all: &[Freeing]) -> Result<Taken, AllocError>
+    ensures { IfOk result (λ t. taken_of t ≡ allocating.freeings_take (taken_of taken) (map freeing_of all.now)) }
 {
-    let mut words = 0;
+    let mut most = none_taken();
     for one in all {
-        words = words.max(freeing_words(one)?);
+        most = most.most(freeing_takes(taken, one)?);
     }
-    Ok(words)
+    Ok(most.most(taken))
 }
 
 /// Of a value that PUT writes, or a start of DO.
-pub fn value_words(value: &Value) -> Result<u32, AllocError>
-    ensures { IfOk result (λ n. n ≡ streams.value_words (value_of value.now)) }
+pub fn value_takes(taken: Taken, value: &Value) -> Result<Taken, AllocError>
+    ensures { IfOk result (λ t. taken_of t ≡ streams.value_takes (taken_of taken) (value_of value.now)) }
 {
     match value {
-        Value::Number { value, .. } => Ok(1u32.max(number_words(value)?)),
-        Value::Text(text) => text_words(text),
-        Value::Bit(bit) => Ok(1u32.max(bit_words(bit)?)),
-        _ => Ok(0),
+        Value::Number { value, .. } => Ok(taken.with_number()?.most(number_takes(taken, value)?)),
+        Value::Text(text) => text_takes(taken, text),
+        Value::Bit(bit) => Ok(taken.with_number()?.most(bit_takes(taken, bit)?)),
+        _ => Ok(taken),
     }
 }
 
-/// The words behind which an aggregate's elements are counted.
-#[tactic(auto, unfolding(pli_typing::specs::TypedView::reference_of))]
-fn words_behind_record(aggregate: &Reference) -> Result<u32, AllocError>
-    ensures { IfOk result (λ n. n ≡ storing.words_behind_record (reference_of aggregate.now)) }
+/// Of an aggregate in GET and PUT: behind its record the number of the next element, and up to two numbers that wait.
+fn elements_take(taken: Taken, aggregate: &Reference) -> Result<Taken, AllocError>
+    ensures { IfOk result (λ t. taken_of t ≡ streams.elements_take (taken_of taken) (reference_of aggregate.now)) }
 {
-    match aggregate {
-        Reference::Plain { variable, .. } => more(4, located_words(*variable)),
-        Reference::Located { variable, .. } => more(4, located_words(*variable)),
-    }
+    let next = behind_record(aggregate, taken)?.with_words(2)?;
+    let counted = next.with_number()?.with_number()?;
+    Ok(aggregate_takes(taken, aggregate)?.most(counted))
 }
 
-/// Of an aggregate in GET and PUT.
-fn streamed_words(aggregate: &Reference) -> Result<u32, AllocError>
-    ensures { IfOk result (λ n. n ≡ streams.elements_words (reference_of aggregate.now)) }
-{
-    let counted = more(words_behind_record(aggregate)?, 4)?;
-    Ok(aggregate_words(aggregate)?.max(counted))
-}
-
-fn put_item_words(item: &PutItem) -> Result<u32, AllocError>
-    ensures { IfOk result (λ n. n ≡ streams.put_item_words (put_item_of item.now)) }
+fn put_item_takes(taken: Taken, item: &PutItem) -> Result<Taken, AllocError>
+    ensures { IfOk result (λ t. taken_of t ≡ streams.put_item_takes (taken_of taken) (put_item_of item.now)) }
 {
     match item {
-        PutItem::Value(value) => value_words(value),
-        PutItem::Aggregate(aggregate) => streamed_words(aggregate),
+        PutItem::Value(value) => value_takes(taken, value),
+        PutItem::Aggregate(aggregate) => elements_take(taken, aggregate),
     }
 }
 
-#[tactic(auto, using(crate::proofs::Most::next_put_item, crate::proofs::Most::none_left, std::proofs::lemmas::List::drop_all))]
-fn put_items_words(all: &[PutItem]) -> Result<u32, AllocError>
-    ensures { IfOk result (λ n. n ≡ streams.put_items_words (map put_item_of all.now)) }
+#[tactic(auto, using(crate::proofs::Most::next_put_item, std::proofs::lemmas::List::drop_all))]
+fn put_items_take(taken: Taken, all: &[PutItem]) -> Result<Taken, AllocError>
+    ensures { IfOk result (λ t. taken_of t ≡ streams.put_items_take (taken_of taken) (map put_item_of all.now)) }
 {
-    let mut words = 0;
+    let mut most = none_taken();
     for one in all {
-        words = words.max(put_item_words(one)?);
+        most = most.most(put_item_takes(taken, one)?);
     }
-    Ok(words)
+    Ok(most.most(taken))
 }
 
 /// Of PUT.
-#[tactic(auto, using(crate::proofs::Most::next_put_pair, crate::proofs::Most::none_left, std::proofs::lemmas::List::drop_all))]
-pub fn put_words(all: &[PutPair]) -> Result<u32, AllocError>
-    ensures { IfOk result (λ n. n ≡ streams.put_words (map put_pair_of all.now)) }
+#[tactic(auto, using(crate::proofs::Most::next_put_pair, std::proofs::lemmas::List::drop_all))]
+pub fn put_takes(taken: Taken, all: &[PutPair]) -> Result<Taken, AllocError>
+    ensures { IfOk result (λ t. taken_of t ≡ streams.put_takes (taken_of taken) (map put_pair_of all.now)) }
 {
-    let mut words = 0;
+    let mut most = none_taken();
     for one in all {
-        words = words.max(put_items_words(&one.items)?);
+        most = most.most(put_items_take(taken, &one.items)?);
     }
-    Ok(words)
+    Ok(most.most(taken))
 }
 
-fn get_item_words(item: &GetItem) -> Result<u32, AllocError>
-    ensures { IfOk result (λ n. n ≡ streams.get_item_words (get_item_of item.now)) }
+fn get_item_takes(taken: Taken, item: &GetItem) -> Result<Taken, AllocError>
+    ensures { IfOk result (λ t. taken_of t ≡ streams.get_item_takes (taken_of taken) (get_item_of item.now)) }
 {
     match item {
-        GetItem::Scalar(reference) => more(1, reference_words(reference)?),
-        GetItem::Aggregate(aggregate) => streamed_words(aggregate),
+        GetItem::Scalar(reference) => reference_takes(taken.with_number()?, reference),
+        GetItem::Aggregate(aggregate) => elements_take(taken, aggregate),
     }
 }
 
-#[tactic(auto, using(crate::proofs::Most::next_get_item, crate::proofs::Most::none_left, std::proofs::lemmas::List::drop_all))]
-fn get_items_words(all: &[GetItem]) -> Result<u32, AllocError>
-    ensures { IfOk result (λ n. n ≡ streams.get_items_words (map get_item_of all.now)) }
+#[tactic(auto, using(crate::proofs::Most::next_get_item, std::proofs::lemmas::List::drop_all))]
+fn get_items_take(taken: Taken, all: &[GetItem]) -> Result<Taken, AllocError>
+    ensures { IfOk result (λ t. taken_of t ≡ streams.get_items_take (taken_of taken) (map get_item_of all.now)) }
 {
-    let mut words = 0;
+    let mut most = none_taken();
     for one in all {
-        words = words.max(get_item_words(one)?);
+        most = most.most(get_item_takes(taken, one)?);
     }
-    Ok(words)
+    Ok(most.most(taken))
 }
 
 /// Of GET.
-#[tactic(auto, using(crate::proofs::Most::next_get_pair, crate::proofs::Most::none_left, std::proofs::lemmas::List::drop_all))]
-pub fn get_words(all: &[GetPair]) -> Result<u32, AllocError>
-    ensures { IfOk result (λ n. n ≡ streams.get_words (map get_pair_of all.now)) }
+#[tactic(auto, using(crate::proofs::Most::next_get_pair, std::proofs::lemmas::List::drop_all))]
+pub fn get_takes(taken: Taken, all: &[GetPair]) -> Result<Taken, AllocError>
+    ensures { IfOk result (λ t. taken_of t ≡ streams.get_takes (taken_of taken) (map get_pair_of all.now)) }
 {
-    let mut words = 0;
+    let mut most = none_taken();
     for one in all {
-        words = words.max(get_items_words(&one.items)?);
+        most = most.most(get_items_take(taken, &one.items)?);
     }
-    Ok(words)
+    Ok(most.most(taken))
 }

@@ -1,15 +1,17 @@
 // Frames of blocks: the fixed part, and behind it the block's variables.
 
-ghost use Rattle.std.specs.Prelude.{◌≡◌, [], ◌∷◌, max, map, length, IfOk};
+ghost use Rattle.std.specs.Prelude.{◌≡◌, map, length, IfOk};
 ghost use Rattle.pli_typing.specs.TypedStatementView.{block_head_of, declared_variable_of, evaluation_of};
 ghost use Rattle.pli_coding.specs.Entries as entries;
 ghost use Rattle.pli_coding.specs.Extents as extents;
 ghost use Rattle.pli_coding.specs.Frames as form;
 ghost use Rattle.pli_frames.specs.Parts.{parts};
 ghost use Rattle.pli_frames.specs.Plans.{frame_shown, frame_with, places_from};
+ghost use Rattle.pli_frames.specs.TakenView.{taken_of};
 
 use crate::size::{LAST_PLACE, frame_bytes, has_constant_size, is_automatic};
-use crate::words::{more, number_words};
+use crate::taken::{Taken, none_taken};
+use crate::temporaries::number_takes;
 use pli_typing::statement::BlockHead;
 use pli_typing::typed::{DeclaredVariable, Evaluation};
 use std::alloc::{AllocError, Global};
@@ -41,43 +43,44 @@ pub fn fixed_size(level: usize, parameters: usize) -> Result<u32, AllocError>
     Ok((bytes + 15) / 16 * 16)
 }
 
-#[tactic(auto, using(crate::proofs::Most::next_evaluation, crate::proofs::Most::none_left, std::proofs::lemmas::List::drop_all))]
-fn evaluations_words(all: &[Evaluation]) -> Result<u32, AllocError>
-    ensures { IfOk result (λ n. n ≡ extents.evaluations_words (map evaluation_of all.now)) }
+#[tactic(auto, using(crate::proofs::Most::next_evaluation, std::proofs::lemmas::List::drop_all))]
+fn evaluations_take(taken: Taken, all: &[Evaluation]) -> Result<Taken, AllocError>
+    ensures { IfOk result (λ t. taken_of t ≡ extents.evaluations_take (taken_of taken) (map evaluation_of all.now)) }
 {
-    let mut words = 0;
+    let mut most = none_taken();
     for one in all {
-        words = words.max(number_words(&one.value)?);
+        most = most.most(number_takes(taken, &one.value)?);
     }
-    Ok(words)
+    Ok(most.most(taken))
 }
 
-/// The words that the extents of a variable take as they are evaluated.
-pub fn extents_words(variable: &DeclaredVariable) -> Result<u32, AllocError>
-    ensures { IfOk result (λ n. n ≡ extents.extents_words (declared_variable_of variable.now)) }
+/// What the extents of a variable take as they are evaluated.
+pub fn extents_take(taken: Taken, variable: &DeclaredVariable) -> Result<Taken, AllocError>
+    ensures { IfOk result (λ t. taken_of t ≡ extents.extents_take (taken_of taken) (declared_variable_of variable.now)) }
 {
-    more(4, evaluations_words(&variable.evaluations)?)
+    evaluations_take(taken.with_words(4)?, &variable.evaluations)
 }
 
-/// The words that making a variable takes.
-fn variable_words(variable: &DeclaredVariable) -> Result<u32, AllocError>
-    ensures { IfOk result (λ n. n ≡ entries.variables_words (declared_variable_of variable.now ∷ [])) }
+/// What making a variable takes.
+fn variable_takes(variable: &DeclaredVariable) -> Result<Taken, AllocError>
+    ensures { IfOk result (λ t. taken_of t ≡ entries.variable_takes (declared_variable_of variable.now)) }
 {
     if !is_automatic(variable.class) || has_constant_size(variable) {
-        return Ok(0);
+        return Ok(none_taken());
     }
-    extents_words(variable)
+    extents_take(none_taken(), variable)
 }
 
+/// What making the variables of a block takes.
 #[tactic(auto, using(crate::proofs::Most::next_variable, crate::proofs::Most::none_left, std::proofs::lemmas::List::drop_all))]
-fn variables_words(all: &[DeclaredVariable]) -> Result<u32, AllocError>
-    ensures { IfOk result (λ n. n ≡ entries.variables_words (map declared_variable_of all.now)) }
+pub fn variables_take(all: &[DeclaredVariable]) -> Result<Taken, AllocError>
+    ensures { IfOk result (λ t. taken_of t ≡ entries.variables_take (map declared_variable_of all.now)) }
 {
-    let mut words = 0;
+    let mut most = none_taken();
     for one in all {
-        words = words.max(variable_words(one)?);
+        most = most.most(variable_takes(one)?);
     }
-    Ok(words)
+    Ok(most)
 }
 
 /// The places of variables from one on, and the one behind them.
@@ -112,7 +115,7 @@ pub(crate) fn frame_with(
     let (places, end) = places_from(alloc, fixed_size(head.level, parameters)?, variables)?;
     Ok(BlockFrame {
         head,
-        words: variables_words(variables)?.max(words),
+        words: variables_take(variables)?.words.max(words),
         parameters,
         places,
         end,

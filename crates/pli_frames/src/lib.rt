@@ -7,7 +7,8 @@ pub mod forms;
 pub mod frame;
 pub mod plan;
 pub mod size;
+pub mod taken;
+pub mod temporaries;
 #[cfg(test)]
 mod tests;
-mod turns;
-pub mod words;
+pub mod turns;

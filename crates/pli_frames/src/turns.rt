@@ -1,68 +1,87 @@
-// How many words what DO says of its turns takes.
+// What DO says of its turns takes, behind what is taken already.
 
-ghost use Rattle.std.specs.Prelude.{◌≡◌, ◌+◌, max, IfOk};
+ghost use Rattle.std.specs.Prelude.{◌≡◌, IfOk};
 ghost use Rattle.pli_language.specs.View.{option_of};
 ghost use Rattle.pli_typing.specs.TypedView.{number_of, bit_of, value_of};
 ghost use Rattle.pli_typing.specs.TypedStatementView.{counter_of, turns_of};
-ghost use Rattle.pli_coding.specs.Streams.{value_words};
-ghost use Rattle.pli_coding.specs.Temporaries.{number_words};
 ghost use Rattle.pli_coding.specs.Statements as form;
-ghost use Rattle.pli_frames.specs.Turns.{words_of_turns};
+ghost use Rattle.pli_frames.specs.TakenView.{taken_of};
+ghost use Rattle.pli_frames.specs.Turns as turning;
 
-use crate::forms::{assigned_words, value_words};
-use crate::words::{bit_words, more, number_words, reference_words};
+use crate::forms::{assigned_takes, value_takes};
+use crate::taken::Taken;
+use crate::temporaries::{bit_takes, number_takes, reference_takes};
 use pli_typing::statement::Turns;
 use pli_typing::typed::{Bit, Counter, Number, Value};
 use std::alloc::AllocError;
 
-fn bit_if(condition: &Option<Bit>) -> Result<u32, AllocError>
-    ensures { IfOk result (λ n. n ≡ form.bit_if (option_of bit_of condition.now)) }
+fn bit_if_takes(taken: Taken, condition: &Option<Bit>) -> Result<Taken, AllocError>
+    ensures { IfOk result (λ t. taken_of t ≡ form.bit_if_takes (taken_of taken) (option_of bit_of condition.now)) }
 {
     match condition {
-        Some(condition) => bit_words(condition),
-        None => Ok(0),
+        Some(condition) => bit_takes(taken, condition),
+        None => Ok(taken),
     }
 }
 
-fn number_if(number: &Option<Number>) -> Result<u32, AllocError>
-    ensures { IfOk result (λ n. n ≡ form.number_if (option_of number_of number.now)) }
+fn number_if_takes(taken: Taken, number: &Option<Number>) -> Result<Taken, AllocError>
+    ensures { IfOk result (λ t. taken_of t ≡ form.number_if_takes (taken_of taken) (option_of number_of number.now)) }
 {
     match number {
-        Some(number) => number_words(number),
-        None => Ok(0),
+        Some(number) => number_takes(taken, number),
+        None => Ok(taken),
     }
 }
 
-fn counter_words(counter: &Counter) -> Result<u32, AllocError>
-    ensures { IfOk result (λ n. n ≡ form.counter_words (counter_of counter.now)) }
+fn counter_takes(taken: Taken, counter: &Counter) -> Result<Taken, AllocError>
+    ensures { IfOk result (λ t. taken_of t ≡ form.counter_takes (taken_of taken) (counter_of counter.now)) }
 {
+    let behind = taken.with_number()?;
     match counter {
-        Counter::Number { reference, .. } => more(1, reference_words(reference)?),
-        Counter::Text(reference) => more(1, reference_words(reference)?),
+        Counter::Number { reference, .. } => reference_takes(behind, reference),
+        Counter::Text(reference) => reference_takes(behind, reference),
     }
 }
 
 /// Start, limit and step, which are evaluated before the first turn.
-fn before_turns(start: &Value, limit: &Option<Number>, step: &Number) -> Result<u32, AllocError>
-    ensures { IfOk result (λ n. n ≡ 3 + max (value_words (value_of start.now)) (max (form.number_if (option_of number_of limit.now)) (number_words (number_of step.now)))) }
+fn begun_takes(
+    taken: Taken,
+    start: &Value,
+    limit: &Option<Number>,
+    step: &Number,
+) -> Result<Taken, AllocError>
+    ensures { IfOk result (λ t. taken_of t ≡ form.begun_takes (taken_of taken) (value_of start.now) (option_of number_of limit.now) (number_of step.now)) }
 {
-    let start = value_words(start)?;
-    let counted = number_if(limit)?.max(number_words(step)?);
-    more(3, start.max(counted))
+    let counted = number_if_takes(taken, limit)?.most(number_takes(taken, step)?);
+    Ok(value_takes(taken, start)?.most(counted))
 }
 
-/// What each turn takes while limit and step wait.
-fn in_turns(counter: &Counter, condition: &Option<Bit>, body: u32) -> Result<u32, AllocError>
-    ensures { IfOk result (λ n. n ≡ 2 + max (form.counter_words (counter_of counter.now)) (max (form.bit_if (option_of bit_of condition.now)) body)) }
+/// What each turn takes, with its body.
+fn turn_takes(
+    taken: Taken,
+    counter: &Counter,
+    condition: &Option<Bit>,
+    body: Taken,
+) -> Result<Taken, AllocError>
+    ensures { IfOk result (λ t. taken_of t ≡ form.turn_takes (taken_of taken) (counter_of counter.now) (option_of bit_of condition.now) (taken_of body)) }
 {
-    let counter = counter_words(counter)?;
-    let turn = bit_if(condition)?.max(body);
-    more(2, counter.max(turn))
+    let turn = bit_if_takes(taken, condition)?.most(body);
+    Ok(counter_takes(taken, counter)?.most(turn))
 }
 
-/// Of a DO with these turns, whose body takes so many words.
-pub(crate) fn turns_words(turns: &Turns, body: u32) -> Result<u32, AllocError>
-    ensures { IfOk result (λ n. n ≡ words_of_turns (turns_of turns.now) body) }
+/// The temporaries in use behind which the body of a DO with these turns begins: limit and step wait.
+pub fn behind_turns(turns: &Turns, taken: Taken) -> Result<Taken, AllocError>
+    ensures { IfOk result (λ t. taken_of t ≡ turning.behind_turns (turns_of turns.now) (taken_of taken)) }
+{
+    match turns {
+        Turns::Once { .. } => Ok(taken),
+        Turns::Counted { .. } => taken.with_words(2),
+    }
+}
+
+/// Of a DO with these turns, whose body takes so much.
+pub fn turns_take(taken: Taken, turns: &Turns, body: Taken) -> Result<Taken, AllocError>
+    ensures { IfOk result (λ t. taken_of t ≡ turning.turns_take (taken_of taken) (turns_of turns.now) (taken_of body)) }
 {
     match turns {
         Turns::Once {
@@ -70,9 +89,8 @@ pub(crate) fn turns_words(turns: &Turns, body: u32) -> Result<u32, AllocError>
             start,
             condition,
         } => {
-            let assigned = assigned_words(variable, start)?;
-            let turn = bit_if(condition)?.max(body);
-            Ok(assigned.max(turn))
+            let turn = bit_if_takes(taken, condition)?.most(body);
+            Ok(assigned_takes(taken, variable, start)?.most(turn))
         }
         Turns::Counted {
             counter,
@@ -81,8 +99,8 @@ pub(crate) fn turns_words(turns: &Turns, body: u32) -> Result<u32, AllocError>
             step,
             condition,
         } => {
-            let before = before_turns(start, limit, step)?;
-            Ok(before.max(in_turns(counter, condition, body)?))
+            let before = begun_takes(taken.with_words(3)?, start, limit, step)?;
+            Ok(before.most(turn_takes(taken.with_words(2)?, counter, condition, body)?))
         }
     }
 }
