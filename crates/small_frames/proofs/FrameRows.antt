@@ -100,8 +100,8 @@ summing =
     (T.Number 2 (at 3 19)))) (at 3 1))
     ∷ [])
 
--- 4 words of an assignment below it, and 144 bytes at level 0
-its_frame : map fixed_bytes (planned (typed_tree summing)) ≡ (160 ∷ [])
+-- registers hold all that waits: no word below it, and 144 bytes at level 0
+its_frame : map fixed_bytes (planned (typed_tree summing)) ≡ (144 ∷ [])
 unfolding resolved statement statements expression reference qualified arguments expressions means_from blocks_of
     declared_in declared_in_item declared_in_stmt blocks_in blocks_in_item blocks_in_stmt held chain_after
 its_frame = refl

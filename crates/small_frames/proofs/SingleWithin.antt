@@ -28,10 +28,8 @@ use Rattle.pli_typing.specs.SingleStatements.{goto_statement, not_called, called
 use Rattle.pli_typing.specs.SingleStatements.{called_found, call_statement, returned, not_returned, return_statement}
 use Rattle.pli_typing.specs.SingleStatements.{result_around, condition, number_at, step_or_one, turns_of, turns_with}
 use Rattle.pli_typing.specs.SingleStatements.{turns, assign_statement}
-use Rattle.pli_coding.specs.Statements as S
-use Rattle.pli_coding.specs.Storing as R
-use Rattle.pli_coding.specs.Streams as G
 use Rattle.pli_coding.specs.WordBounds.{stmt_words, number_words, bit_words, reference_words}
+use Rattle.pli_coding.specs.WordBounds as W
 use Rattle.pli_frames.specs.Blocks.{blocks_in}
 use Rattle.well_formed_trees.specs.Spelled.{RangedIf}
 use Rattle.well_formed_trees.proofs.Lists.{HoldsIf}
@@ -246,30 +244,30 @@ pub condition_light : (w : ℕ) (scope : Scope) (e : T.Expr) → weight 6 e ≤ 
 condition_light w scope e h = own_bit_operand_within w (operand scope e).value (operand_light w scope e h)
 
 abbrev pub TurnsWithin : (words : ℕ) → Turns → Type 0
-TurnsWithin w (OneTurn r s b) = (R.assigned_words r s ≤ w + 4) × (S.bit_if b ≤ w)
+TurnsWithin w (OneTurn r s b) = (W.assigned_words r s ≤ w + 4) × (W.bit_if b ≤ w)
 TurnsWithin w (CountedTurns counter start limit step b) =
-    (max (G.value_words start) (max (S.number_if limit) (number_words step)) ≤ w)
-    × ((S.counter_words counter ≤ suc w) × (S.bit_if b ≤ w))
+    (max (W.value_words start) (max (W.number_if limit) (number_words step)) ≤ w)
+    × ((W.counter_words counter ≤ suc w) × (W.bit_if b ≤ w))
 
 number_light : (w : ℕ) (scope : Scope) (e : T.Expr) → weight 6 e ≤ w → number_words (number_at scope e).value ≤ w
 number_light w scope e h = number_operand_within w (operand scope e).value (operand_light w scope e h)
 
 number_if_light : (w : ℕ) (scope : Scope) (e : Option T.Expr) → RangedIf (λ e. weight 6 e ≤ w) e
-    → S.number_if (judged_if (number_at scope) e).value ≤ w
+    → W.number_if (judged_if (number_at scope) e).value ≤ w
 number_if_light w scope None h = omega arith
 number_if_light w scope (Some e) h = number_light w scope e h
 
 bit_if_light : (w : ℕ) (scope : Scope) (e : Option T.Expr) → RangedIf (λ e. weight 6 e ≤ w) e
-    → S.bit_if (judged_if (condition scope) e).value ≤ w
+    → W.bit_if (judged_if (condition scope) e).value ≤ w
 bit_if_light w scope None h = omega arith
 bit_if_light w scope (Some e) h = condition_light w scope e h
 
-step_within : (w : ℕ) (n : Option Y.Number) → S.number_if n ≤ w → number_words (step_or_one n) ≤ w
+step_within : (w : ℕ) (n : Option Y.Number) → W.number_if n ≤ w → number_words (step_or_one n) ≤ w
 step_within w None h = omega arith
 step_within w (Some n) h = h
 
 pub computed_within : (w : ℕ) → 5 ≤ w → (place : Place) (v : Option Y.Value) → HoldsIf (ValueWithin w) v
-    → G.value_words (computational place v).value ≤ w
+    → W.value_words (computational place v).value ≤ w
 computed_within w s place (Some (Y.NumberValue p n)) h = omega (arith, s, h)
 computed_within w s place (Some (Y.TextValue t)) h = h
 computed_within w s place (Some (Y.BitValue b)) h = omega (arith, s, h)
@@ -279,7 +277,7 @@ computed_within w s place (Some Y.NullValue) h = omega arith
 computed_within w s place None h = omega arith
 
 counter_within : (w : ℕ) (place : Place) (r : Y.Reference) (t : Y.LeafType) → reference_words r ≤ w
-    → S.counter_words (counter_of place r t).value ≤ suc w
+    → W.counter_words (counter_of place r t).value ≤ suc w
 counter_within w place r (Y.FixedLeaf p) h = omega (arith, h)
 counter_within w place r (Y.CharacterLeaf n) h = omega (arith, h)
 counter_within w place r (Y.VaryingLeaf n) h = omega (arith, h)
@@ -292,8 +290,8 @@ abbrev ScalarWithin : (words : ℕ) → Scalar → Type 0
 ScalarWithin w v = reference_words v.reference ≤ w
 
 counted_within : (w : ℕ) (place : Place) (v : Scalar) (start : Operand) (limit step : Option Y.Number)
-    (b : Option Y.Bit) → ScalarWithin w v → OperandWithin w start → S.number_if limit ≤ w → S.number_if step ≤ w
-    → S.bit_if b ≤ w
+    (b : Option Y.Bit) → ScalarWithin w v → OperandWithin w start → W.number_if limit ≤ w → W.number_if step ≤ w
+    → W.bit_if b ≤ w
     → TurnsWithin w
     (CountedTurns (counter_of place v.reference v.type).value (computational_operand start).value limit
     (step_or_one step) b)
@@ -303,8 +301,8 @@ counted_within w place v start limit step b h k l m n =
     (omega (arith, from, l, by), (counter_within w place v.reference v.type h, n))
 
 turns_of_within : (w : ℕ) (place : Place) (v : Scalar) (start : Operand) (limit step : Option Y.Number)
-    (b : Option Y.Bit) → ScalarWithin w v → OperandWithin w start → S.number_if limit ≤ w → S.number_if step ≤ w
-    → S.bit_if b ≤ w → TurnsWithin w (turns_of place v start limit step b).value
+    (b : Option Y.Bit) → ScalarWithin w v → OperandWithin w start → W.number_if limit ≤ w → W.number_if step ≤ w
+    → W.bit_if b ≤ w → TurnsWithin w (turns_of place v start limit step b).value
 turns_of_within w place v start None None b h k l m n =
     let stored = operand_stored_within w v.type start k in
     (omega (arith, stored, h), n)
@@ -312,8 +310,8 @@ turns_of_within w place v start None (Some x) b h k l m n = counted_within w pla
 turns_of_within w place v start (Some x) step b h k l m n = counted_within w place v start (Some x) step b h k l m n
 
 turns_with_within : (w : ℕ) (place : Place) (v : Option Scalar) (start : Operand) (limit step : Option Y.Number)
-    (b : Option Y.Bit) → HoldsIf (ScalarWithin w) v → OperandWithin w start → S.number_if limit ≤ w
-    → S.number_if step ≤ w → S.bit_if b ≤ w → TurnsWithin w (turns_with place v start limit step b).value
+    (b : Option Y.Bit) → HoldsIf (ScalarWithin w) v → OperandWithin w start → W.number_if limit ≤ w
+    → W.number_if step ≤ w → W.bit_if b ≤ w → TurnsWithin w (turns_with place v start limit step b).value
 turns_with_within w place None start limit step b h k l m n = (omega arith, omega arith)
 turns_with_within w place (Some v) start limit step b h k l m n = turns_of_within w place v start limit step b h k l m n
 

@@ -24,8 +24,8 @@ use Rattle.pli_typing.specs.Generations.{freed_whole, freed_reference, freed_ref
 use Rattle.pli_typing.specs.References.{locator_found, expressions, referred}
 use Rattle.pli_typing.specs.SingleStatements.{allocate_statement, free_statement, get_of, put_of, get_statement}
 use Rattle.pli_typing.specs.SingleStatements.{put_statement}
-use Rattle.pli_coding.specs.Streams as G
 use Rattle.pli_coding.specs.WordBounds.{target_words, allocation_words, allocations_words, freeing_words, freeings_words, words_behind_record, pointer_words, reference_words, locator_value_words}
+use Rattle.pli_coding.specs.WordBounds as W
 use Rattle.well_formed_trees.specs.Every.{Every}
 use Rattle.well_formed_trees.specs.Spelled.{RangedIf}
 use Rattle.well_formed_trees.proofs.Lists.{HoldsIf}
@@ -228,19 +228,19 @@ free_light w scope fs place h = (freeings_light w scope place fs h, refl)
 behind_within : (r : Y.Reference) → words_behind_record r ≤ 9
 behind_within (Y.Referring v l part subscripts) = let own = located_most v in omega (arith, own)
 
-aggregate_within : (w : ℕ) → 5 ≤ w → (r : Y.Reference) → reference_words r ≤ w → G.elements_words r ≤ w + 8
+aggregate_within : (w : ℕ) → 5 ≤ w → (r : Y.Reference) → reference_words r ≤ w → W.streamed_words r ≤ w + 8
 aggregate_within w s r h = let behind = behind_within r in omega (arith, s, h, behind)
 
 get_designated_within : (w : ℕ) → 5 ≤ w → (d : Designated) → reference_words d.reference ≤ w
-    → G.get_item_words (get_designated d) ≤ w + 8
+    → W.get_item_words (get_designated d) ≤ w + 8
 get_designated_within w s d h = by (is_aggregate d) where
   by : (b : Bool)
-      → G.get_item_words (if b then Y.GetAggregate d.reference else Y.GetScalar d.reference) ≤ w + 8
+      → W.get_item_words (if b then Y.GetAggregate d.reference else Y.GetScalar d.reference) ≤ w + 8
   by true = aggregate_within w s d.reference h
   by false = omega (arith, h)
 
 get_within : (w : ℕ) → 5 ≤ w → (b : Bool) (place : Place) (r : Referent) → Within w r
-    → G.get_item_words (get_referent b place r).value ≤ w + 8
+    → W.get_item_words (get_referent b place r).value ≤ w + 8
 get_within w s b place (Designates d) h = get_designated_within w s d h
 get_within w s b place (Gives v) h = omega arith
 get_within w s b place GivesUnknown h = omega arith
@@ -249,22 +249,22 @@ get_within w s b place GivesNothing h = omega arith
 get_within w s b place NotKnown h = omega arith
 
 gets_within : (w : ℕ) (b : Bool) (os : List Operand) → AllWithin w os
-    → G.get_items_words (each (get_item b) os).value ≤ w + 8
+    → W.get_items_words (each (get_item b) os).value ≤ w + 8
 gets_within w b [] h = omega arith
 gets_within w b (o ∷ os) h =
     let one = get_within w h.0.0 b o.place o.referent h.0.1 in
     let more = gets_within w b os h.1 in
     omega (arith, one, more)
 
-put_scalar_within : (w : ℕ) (o : Operand) → OperandWithin w o → G.put_item_words (put_scalar o).value ≤ w + 8
+put_scalar_within : (w : ℕ) (o : Operand) → OperandWithin w o → W.put_item_words (put_scalar o).value ≤ w + 8
 put_scalar_within w o h =
     let v = computed_within w h.0 o.place (operand_value o).value (operand_within w o h) in
     omega (arith, v)
 
 put_within : (w : ℕ) (o : Operand) → OperandWithin w o → (r : Referent) → Within w r
-    → G.put_item_words (put_referent o r).value ≤ w + 8
+    → W.put_item_words (put_referent o r).value ≤ w + 8
 put_within w o h (Designates d) k = by (is_aggregate d) where
-  by : (b : Bool) → G.put_item_words (if b then put_aggregate o.place d else put_scalar o).value ≤ w + 8
+  by : (b : Bool) → W.put_item_words (if b then put_aggregate o.place d else put_scalar o).value ≤ w + 8
   by true = aggregate_within w h.0 d.reference k
   by false = put_scalar_within w o h
 put_within w o h (Gives v) k = put_scalar_within w o h
@@ -273,7 +273,7 @@ put_within w o h GivesEmptyArea k = put_scalar_within w o h
 put_within w o h GivesNothing k = put_scalar_within w o h
 put_within w o h NotKnown k = put_scalar_within w o h
 
-puts_within : (w : ℕ) (os : List Operand) → AllWithin w os → G.put_items_words (each put_item os).value ≤ w + 8
+puts_within : (w : ℕ) (os : List Operand) → AllWithin w os → W.put_items_words (each put_item os).value ≤ w + 8
 puts_within w [] h = omega arith
 puts_within w (o ∷ os) h =
     let one = put_within w o h.0 o.referent h.0.1 in
@@ -287,7 +287,7 @@ items_light w scope es h =
     (expressions_are_within 6 (omega arith) scope es (all_counted (expressions scope es).mentions))
 
 get_pairs_light : (w : ℕ) (scope : Scope) (ps : List T.EditPair) → Every (λ p. heaviest_of 6 p.items ≤ w) ps
-    → G.get_words (each (get_of scope) ps).value ≤ w + 8
+    → W.get_words (each (get_of scope) ps).value ≤ w + 8
 get_pairs_light w scope [] h = omega arith
 get_pairs_light w scope (p ∷ ps) h =
     let one = gets_within w (holds_fixed p.formats) (expressions scope p.items).value
@@ -296,7 +296,7 @@ get_pairs_light w scope (p ∷ ps) h =
     omega (arith, one, more)
 
 put_pairs_light : (w : ℕ) (scope : Scope) (ps : List T.EditPair) → Every (λ p. heaviest_of 6 p.items ≤ w) ps
-    → G.put_words (each (put_of scope) ps).value ≤ w + 8
+    → W.put_words (each (put_of scope) ps).value ≤ w + 8
 put_pairs_light w scope [] h = omega arith
 put_pairs_light w scope (p ∷ ps) h =
     let one = puts_within w (expressions scope p.items).value (items_light w scope p.items h.0) in
