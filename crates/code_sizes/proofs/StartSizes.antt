@@ -41,7 +41,7 @@ routine_most : (e : Environment) (index : ℕ) (d : Y.DeclaredVariable)
     → size_of (R.routine_code e index d) ≤ extents_size d + (display_size e.level + 75)
 routine_most e index d =
     let held = R.routine_held d in
-    let few : held ≤ 7 = few_held (R.routine_words d) in
+    let few : held ≤ 7 = few_held _ in
     let all = both (R.routine_begun e d) _ (begun_most (R.routine_words d) e.level 0 (Some held))
     (both (E.extents_code e none_taken d) _ (extents_most e none_taken d)
     (both (R.amounts_given d) (R.frame_returned (R.routine_words d) held) (given_most d)
