@@ -20,7 +20,10 @@ use Rattle.pli_runtime.specs.declared.runtime.Runtime.{Runtime}
 use Rattle.pli_environment.specs.Calling.{fault_in, services_of, Streams}
 use Rattle.pli_environment.specs.Places.{image_layout}
 use Rattle.image_runs.specs.Runs.{run_of, Run}
-use Rattle.pli_run.specs.Running.{stream_fault_of, world_with, IsPicture, IsTabled, Shows, ShowsImage, Tells}
+use Rattle.pli_language.specs.declared.fault.SourceFault.{SourceFault}
+use Rattle.pli_run.specs.Answering.{IsUncompiledFor}
+use Rattle.pli_run.specs.Running.{own_output, stream_fault_of, world_with, IsPicture, IsTabled, IsUnstarted, Shows}
+use Rattle.pli_run.specs.Running.{ShowsImage, Tells}
 use Rattle.pli_run.specs.Stopping.{by_step, came_to, IsStopped}
 use Rattle.pli_run.specs.Tracing.{outcome_of, Traces, TracesImage}
 use Rattle.pli_run.specs.declared.run.RunFault.{RunFault}
@@ -198,3 +201,33 @@ by_step_tells run bound o Ran h = h
 by_step_tells run bound o Ended h = h
 by_step_tells run bound o (Faulted f) h = h
 by_step_tells run bound o Refused h = h
+
+-- ---- its own output
+
+-- whatever it came to, its output is the outcome's
+pub own_of : (o : Outcome) (fault : Option ℕ) (last : Step) → own_output (came_to o fault last) ≡ o.output.items
+own_of o None Ran = refl
+own_of o None Ended = refl
+own_of o None (Faulted f) = refl
+own_of o None Refused = refl
+own_of o (Some number) last = by (number == 5) where
+  by : (b : Bool) →
+      own_output (if b then Err (F.Write o.acts o.output) else Err (F.Read o.acts o.output)) ≡ o.output.items
+  by true = refl
+  by false = refl
+
+pub unstarted_empty : (f : RunFault) → IsUnstarted f → own_output (Err f) ≡ []
+unstarted_empty (F.Memory acts output) h = h.1
+unstarted_empty F.BadBase h = refl
+unstarted_empty (F.Source fault) h = refl
+unstarted_empty (F.Read acts output) h = absurd h
+unstarted_empty (F.Write acts output) h = absurd h
+unstarted_empty (F.Machine fault acts output) h = absurd h
+
+pub uncompiled_empty : (fault : SourceFault) (f : RunFault) → IsUncompiledFor fault f → own_output (Err f) ≡ []
+uncompiled_empty fault (F.Memory acts output) h = h.1.1
+uncompiled_empty fault F.BadBase h = refl
+uncompiled_empty fault (F.Source told) h = refl
+uncompiled_empty fault (F.Read acts output) h = absurd h
+uncompiled_empty fault (F.Write acts output) h = absurd h
+uncompiled_empty fault (F.Machine other acts output) h = absurd h

@@ -6,6 +6,7 @@ use Rattle.rv_meaning.specs.Tables.{TableSignature}
 use Rattle.pli_meaning.specs.Pictures.{loaded_at, Picture}
 use Rattle.pli_runtime.specs.Seen.{asks_input}
 use Rattle.image_runs.specs.Runs.{run_of, Run, Runs, Whole}
+use Rattle.pli_compile.specs.Compiling.{IsImageFor}
 use Rattle.pli_run.specs.Running.{IsPicture, IsTabled}
 
 -- no call that is made within the bound is one that may take something of the input
@@ -21,3 +22,7 @@ pub record IsSilent (image : Image) (base : ℕ) (input : List ℕ) (bound : ℕ
   pub signatures : List TableSignature
   pub tabled : IsTabled signatures image
   pub unasked : IsUnasked (loaded_at picture base) (run_of picture signatures base input) bound
+
+-- of a run of a source's image, where it has one
+abbrev pub IsSilentSource : (s : List ℕ) → (base : ℕ) → (input : List ℕ) → (bound : ℕ) → Type 0
+IsSilentSource s base input bound = (image : Image) → IsImageFor s image → IsSilent image base input bound

@@ -1,5 +1,5 @@
 -- Images in files: what bytes a source is compiled to, and what a run of bytes is promised to show.
-use Rattle.std.specs.Prelude.{◌≡◌, ◌↔◌, ℕ, List, Result, IsErrOf}
+use Rattle.std.specs.Prelude.{◌≡◌, ◌↔◌, ℕ, List, [], Result, IsErrOf}
 use Rattle.pli_edit.specs.Histories.{History}
 use Rattle.pli_meaning.specs.declared.outcome.Outcome.{Outcome}
 use Rattle.rv_meaning.specs.Machine.{IsValidBase}
@@ -7,7 +7,8 @@ use Rattle.rv_meaning.specs.Images.{Image, HasBytes}
 use Rattle.rv_meaning.specs.Tables.{TableSignature}
 use Rattle.pli_meaning.specs.Pictures.{Picture}
 use Rattle.image_runs.specs.Runs.{run_of}
-use Rattle.pli_run.specs.Running.{IsPicture, IsTabled, ShowsImage, Tells}
+use Rattle.pli_run.specs.Asking.{IsSilent}
+use Rattle.pli_run.specs.Running.{own_output, IsPicture, IsTabled, ShowsImage, Tells}
 use Rattle.pli_run.specs.declared.run.RunFault.{RunFault}
 use Rattle.pli_run.specs.declared.run.RunFault.TheVariants as R
 use Rattle.pli_compile.specs.Compiling.{IsImageFor}
@@ -44,6 +45,8 @@ pub record IsRunBetween (bytes : List ℕ) (base bound : ℕ) (feed drain : Hist
   pub told : IsValidBase base → IsStreamed feed drain (outcome_of ran) feed' drain'
       (λ input output. ShowsImage image base input bound output (outcome_of ran) × TracesImage image base input bound
       ran)
+  pub unread : IsValidBase base → (input : List ℕ) → IsSilent image base input bound → feed' ≡ feed
+  pub empty : own_output (outcome_of ran) ≡ []
 
 -- and where they are those of a source's image, what is answered for the source
 abbrev pub IsRunFor : (bytes input : List ℕ) → (base bound : ℕ) → Result Outcome RunFault → Type 0

@@ -1,8 +1,10 @@
 // From a source to what a run of it comes to.
 
-ghost use Rattle.std.specs.Prelude.{◌≡◌, ◌↔◌, IsErrOf};
+ghost use Rattle.std.specs.Prelude.{◌≡◌, ◌↔◌, ℕ, List, [], IsErrOf};
 ghost use Rattle.rv_meaning.specs.Machine.{IsValidBase};
 ghost use Rattle.pli_run.specs.declared.run.RunFault as RunFault;
+ghost use Rattle.pli_run.specs.Asking.{IsSilentSource};
+ghost use Rattle.pli_run.specs.Running.{own_output};
 ghost use Rattle.pli_run.specs.Answering.{Answers, AnswersWith, IsUncompiledFor};
 ghost use Rattle.pli_run.specs.Streaming.{IsStreamed};
 ghost use Rattle.pli_run.specs.Tracing.{outcome_of, TracesSource};
@@ -59,7 +61,8 @@ pub fn compile_and_run(
 }
 
 /// Compiles a source and runs it at a base, on what a feed gives, for at most `bound` instructions. It answers what
-/// `compile_and_run` does, or `Read` or `Write` where a stream fails, as `run_traced` does.
+/// `compile_and_run` does, or `Read` or `Write` where a stream fails, as `run_traced` does; a source that is refused, and
+/// one whose run asks for no input, makes no read.
 ///
 /// # Errors
 ///
@@ -79,6 +82,9 @@ pub fn compile_and_stream<F: Feed, D: Drain>(
         (F.history result.1) (D.history result.2)
         (λ input output. AnswersWith source.now input base bound output (outcome_of result.0)
         × TracesSource source.now input base bound result.0) }
+    ensures unread { IsValidBase base → (input : List ℕ) → IsSilentSource source.now base input bound →
+        F.history result.1 ≡ F.history feed }
+    ensures empty { own_output (outcome_of result.0) ≡ [] }
 {
     if valid_base(base) {
         return match compile(alloc, source) {

@@ -6,7 +6,7 @@ ghost use Rattle.pli_meaning.specs.InputLines.{first_input};
 ghost use Rattle.pli_runtime.specs.Seen.{fault_of};
 ghost use Rattle.pli_run.specs.declared.run.RunFault as RunFault;
 ghost use Rattle.pli_run.specs.Asking.{IsSilent};
-ghost use Rattle.pli_run.specs.Running.{stream_fault_of, ShowsImage};
+ghost use Rattle.pli_run.specs.Running.{own_output, stream_fault_of, ShowsImage};
 ghost use Rattle.pli_run.specs.Stopping.{came_to};
 ghost use Rattle.pli_run.specs.Streaming.{IsStreamed};
 ghost use Rattle.pli_run.specs.Tracing.{outcome_of, TracesImage};
@@ -76,6 +76,7 @@ fn between<I: InputStream, O: OutputStream>(
         IsSilent image.now base bytes bound → result.1 ≡ input }
     ensures faults { stream_fault_of (outcome_of result.0) ≡ fault_of (I.has_failed result.1) (O.has_failed result.2) }
     ensures based { ¬ IsErrOf (outcome_of result.0) RunFault.BadBase }
+    ensures empty { own_output (outcome_of result.0) ≡ [] }
 {
     match stopped(alloc, image, base, input, output, bound) {
         Ok(Stop { last, services }) => {
@@ -107,6 +108,7 @@ fn streamed<F: Feed, D: Drain, B: Before>(
         (F.history result.1) (D.history result.2)
         (λ input output. ShowsImage image.now base input bound output (outcome_of result.0)
         × TracesImage image.now base input bound result.0) }
+    ensures empty { own_output (outcome_of result.0) ≡ [] }
 {
     if !valid_base(base) {
         return (Err(RunFault::BadBase), feed, drain);
@@ -140,6 +142,7 @@ pub fn run_traced<F: Feed, D: Drain>(
         (F.history result.1) (D.history result.2)
         (λ input output. ShowsImage image.now base input bound output (outcome_of result.0)
         × TracesImage image.now base input bound result.0) }
+    ensures empty { own_output (outcome_of result.0) ≡ [] }
 {
     streamed::<F, D, Brand>(alloc, image, base, feed, drain, bound)
 }
@@ -171,6 +174,7 @@ pub fn run_stream<F: Feed, D: Drain>(
     ensures told { IsValidBase base → IsStreamed (F.history feed) (D.history drain) result.0
         (F.history result.1) (D.history result.2)
         (λ input output. ShowsImage image.now base input bound output result.0) }
+    ensures empty { own_output result.0 ≡ [] }
 {
     let (ran, feed, drain) = run_traced(alloc, image, base, feed, drain, bound);
     (untraced(ran), feed, drain)

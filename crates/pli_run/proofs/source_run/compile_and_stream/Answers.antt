@@ -2,6 +2,7 @@ use Rattle.std.proofs.Common.{refl, subst}
 use Rattle.rv_meaning.specs.Images.{IsLoadable}
 use Rattle.pli_run.proofs.Answered.{answered_with, refused_with}
 use Rattle.pli_run.proofs.Streaming.{streamed_for, traces_source, uncompiled_whole, unstreamed}
+use Rattle.pli_run.proofs.Told.{uncompiled_empty}
 use Rattle.pli_run.proofs.source_run.compile_and_stream.Goals as goal
 
 pub returns-in-Ok-clause-meant : goal.returns-in-Ok-clause-meant
@@ -21,3 +22,10 @@ returns-in-Err-clause-meant g c = λ valid.
       refused_with input c.args.base c.args.bound _ c.uncompiled.result c.in-Err.ensures c.uncompiled.ensures,
       tt,
     ))
+
+pub returns-in-Ok-clause-unread : goal.returns-in-Ok-clause-unread
+returns-in-Ok-clause-unread g c = λ valid input silent.
+    c.run_traced.ensures.unread valid input (silent c.in-Ok.image c.in-Ok.ensures)
+
+pub returns-in-Err-clause-empty : goal.returns-in-Err-clause-empty
+returns-in-Err-clause-empty g c = uncompiled_empty _ c.uncompiled.result c.uncompiled.ensures

@@ -1,7 +1,8 @@
 use Rattle.std.proofs.Common.{ap, subst, sym, ◌∙◌}
 use Rattle.pli_run.proofs.Pictures.{unstarted_shows}
 use Rattle.pli_run.proofs.Stepping.{StreamLaws}
-use Rattle.pli_run.proofs.Told.{between_told, stop_follows, stop_unread}
+use Rattle.pli_run.proofs.Told.{between_told, own_of, stop_follows, stop_unread, unstarted_empty}
+use Rattle.pli_run.specs.Running.{own_output}
 use Rattle.pli_run.specs.Stopping.{came_to}
 use Rattle.pli_run.proofs.streams.between.Goals as goal
 
@@ -49,3 +50,12 @@ returns-in-Ok-clause-unread g c = λ bytes all begins agreed silent.
     }) c.args.image.now c.args.base c.args.input c.args.output c.args.bound c.in-Ok.field-0.last
     c.in-Ok.field-0.services
     c.in-Ok.ensures.stopped c.requires.unfailed.0 c.requires.unfailed.1 bytes all begins agreed silent
+
+pub returns-in-Ok-clause-empty : goal.returns-in-Ok-clause-empty
+returns-in-Ok-clause-empty g c =
+    ap own_output (c.traced.ensures.0 ∙ c.came_to-ran.ensures)
+    ∙ own_of c.into_parts-outcome.result.0 c.stream_fault-fault.result c.in-Ok.field-0.last
+    ∙ ap (λ w. w.output) c.into_parts-outcome.ensures.outcome
+
+pub returns-in-Err-clause-empty : goal.returns-in-Err-clause-empty
+returns-in-Err-clause-empty g c = unstarted_empty c.unstarted.result c.unstarted.ensures
