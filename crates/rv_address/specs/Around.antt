@@ -8,7 +8,6 @@ use Rattle.rv_address.specs.declared.environment.BlockPlace.{BlockPlace}
 use Rattle.rv_address.specs.declared.environment.Owner.{Owner}
 use Rattle.rv_address.specs.declared.environment.Owner.TheVariants as O
 use Rattle.rv_address.specs.declared.environment.Environment.{Environment}
-use Rattle.rv_address.specs.declared.taken.Taken.{Taken}
 
 abbrev pub block_place_of : BlockPlace → E.BlockPlace
 block_place_of b = record { number = b.number; level = b.level }
@@ -28,6 +27,3 @@ environment_of e =
       level = e.level;
       owner = owner_of e.owner;
     }
-
-abbrev pub taken_of : Taken → E.Taken
-taken_of t = record { registers = t.registers; words = t.words }

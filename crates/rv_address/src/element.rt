@@ -6,7 +6,8 @@ ghost use Rattle.pli_typing.specs.TypedView.{leaf_of, leaf_type_of, numbers_of, 
 ghost use Rattle.pli_meaning.specs.DeclaredShapes as shapes;
 ghost use Rattle.pli_coding.specs.Environments.{declaration_of};
 ghost use Rattle.pli_coding.specs.Locating as form;
-ghost use Rattle.rv_address.specs.Around.{environment_of, taken_of};
+ghost use Rattle.pli_frames.specs.TakenView.{taken_of};
+ghost use Rattle.rv_address.specs.Around.{environment_of};
 ghost use Rattle.rv_address.specs.Pieces.{found_added, direct_start, static_base};
 ghost use Rattle.rv_address.specs.Places.{address_of, located_of, name_of};
 
@@ -20,9 +21,9 @@ use crate::number::signed;
 use crate::referred::is_referred;
 use crate::size::element_bytes;
 use crate::subscript::subscripts_counted;
-use crate::taken::Taken;
 use crate::transfer::Address;
 use pli_frames::fixed::buffer_size;
+use pli_frames::taken::Taken;
 use pli_typing::typed::{Leaf, LeafType, Numbers, Part, Variable};
 use rv_assembly::code::Code;
 use rv_assembly::item::Item;

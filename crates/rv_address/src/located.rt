@@ -10,7 +10,8 @@ ghost use Rattle.pli_coding.specs.Instructions.{number};
 ghost use Rattle.pli_coding.specs.Frames as frames;
 ghost use Rattle.pli_coding.specs.Locating as form;
 ghost use Rattle.pli_frames.specs.Parts.{parts};
-ghost use Rattle.rv_address.specs.Around.{environment_of, taken_of};
+ghost use Rattle.pli_frames.specs.TakenView.{taken_of};
+ghost use Rattle.rv_address.specs.Around.{environment_of};
 ghost use Rattle.rv_address.specs.Pieces.{newest_kept};
 ghost use Rattle.rv_address.specs.Places.{located_of, name_of, no_variable, number_of};
 
@@ -21,9 +22,9 @@ use crate::names::{Located, NamePlace, NumberPlace, own_place};
 use crate::number::{count, signed};
 use crate::referred::needs_number_word;
 use crate::signature::is_open;
-use crate::taken::Taken;
 use pli_frames::fixed::{argument_at, words_place};
 use pli_frames::size::{LAST_PLACE, constant_size};
+use pli_frames::taken::Taken;
 use pli_typing::typed::{DeclaredVariable, StorageClass, Variable};
 use rv_assembly::code::Code;
 use rv_assembly::registers;
@@ -79,26 +80,6 @@ pub fn static_bytes(declaration: &DeclaredVariable) -> Result<usize, AllocError>
         return Err(AllocError);
     }
     Ok(bytes as usize)
-}
-
-/// The words that a located or CONTROLLED variable takes: its name, and the number of its signature.
-pub fn locator_words() -> u32
-    ensures { result ≡ form.locator_words }
-{
-    5
-}
-
-/// What is in use while subscripts are evaluated.
-pub fn behind_locator(variable: Variable, taken: Taken) -> Result<Taken, AllocError>
-    ensures { IfOk result (λ t. taken_of t ≡ form.behind_locator (variable_of variable) (taken_of taken)) }
-{
-    match variable.class {
-        StorageClass::Automatic => Ok(taken),
-        StorageClass::Parameter => Ok(taken),
-        StorageClass::Static => Ok(taken),
-        StorageClass::Based => taken.with_words(locator_words()),
-        StorageClass::Controlled => taken.with_words(locator_words()),
-    }
 }
 
 /// The words of a name at the temporaries in use.

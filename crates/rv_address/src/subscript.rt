@@ -4,14 +4,16 @@ ghost use Rattle.std.specs.Prelude.{◌≡◌, ◌&&◌, map, drop, ◌++◌, On
 ghost use Rattle.pli_typing.specs.TypedView.{bounds_of, extent_of, number_of, numbers_of};
 ghost use Rattle.pli_coding.specs.Locating as form;
 ghost use Rattle.pli_typing.specs.TypedTree.{StarExtent};
-ghost use Rattle.rv_address.specs.Around.{environment_of, taken_of};
+ghost use Rattle.pli_frames.specs.TakenView.{taken_of};
+ghost use Rattle.rv_address.specs.Around.{environment_of};
 ghost use Rattle.rv_address.specs.Pieces.{dimension_counted, range_held, some_counted, subscript_tested};
 
 use crate::environment::Environment;
 use crate::number::{constant, plus};
 use crate::simple::{are_simple, is_simple, simple_loaded};
-use crate::taken::{Taken, fetch};
+use crate::taken::fetch;
 use pli_frames::fixed::{buffer_lower, buffer_upper};
+use pli_frames::taken::Taken;
 use pli_typing::typed::{Bounds, Extent, Number, Numbers};
 use rv_assembly::code::Code;
 use rv_assembly::registers;

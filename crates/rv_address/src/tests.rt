@@ -4,9 +4,10 @@
 use crate::element::{address_of, reached};
 use crate::environment::Environment;
 use crate::known::Known;
-use crate::located::behind_locator;
-use crate::taken::{none_taken, save};
+use crate::taken::save;
 use crate::transfer::{in_own_frame, loaded, name_copied, stored, text_pushed, text_stored};
+use pli_frames::taken::none_taken;
+use pli_frames::temporaries::behind_locator;
 use pli_typing::statement::{Block, BlockHead, BlockKind, Procedure, Stmts, Typed};
 use pli_typing::typed::{
     Bounds, DeclaredVariable, Extent, Leaf, LeafType, Number, Numbers, Part, Reference,

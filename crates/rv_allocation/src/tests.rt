@@ -5,6 +5,7 @@ use crate::amounts::{amounts_code, based_number};
 use crate::freeing::freeings_code;
 use crate::placing::{area_or_heap, placing_code};
 use crate::words::{behind_amounts, both_kept, extent_waiting, number_waiting};
+use pli_frames::taken::none_taken;
 use pli_typing::statement::Typed;
 use pli_typing::typed::{
     Allocation, Check, DeclaredVariable, Evaluation, Extent, Freeing, Leaf, LeafType,
@@ -13,7 +14,6 @@ use pli_typing::typed::{
 use rv_address::environment::Environment;
 use rv_address::known::Known;
 use rv_address::names::NumberPlace;
-use rv_address::taken::none_taken;
 use rv_assembly::code::Code;
 use rv_assembly::registers::{a0, a1, a2};
 use rv_operation::pointer::waiting_place;

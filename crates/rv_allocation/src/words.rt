@@ -3,11 +3,11 @@
 
 ghost use Rattle.std.specs.Prelude.{◌≡◌, ◌++◌, OnOk, IfOk};
 ghost use Rattle.pli_coding.specs.Allocating as form;
-ghost use Rattle.rv_address.specs.Around.{taken_of};
+ghost use Rattle.pli_frames.specs.TakenView.{taken_of};
 ghost use Rattle.rv_allocation.specs.Pieces.{extent_kept, extent_waiting, number_kept, number_waiting};
 
 use pli_frames::fixed::words_place;
-use rv_address::taken::Taken;
+use pli_frames::taken::Taken;
 use rv_assembly::code::Code;
 use rv_assembly::registers::{a0, a1, frame};
 use rv_meaning::instr::Register;

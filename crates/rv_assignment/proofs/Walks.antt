@@ -14,7 +14,7 @@ use Rattle.pli_coding.specs.Environments.{Environment, Taken, save, with_number,
 use Rattle.pli_coding.specs.Locating.{behind_locator, leaf_number, is_direct, are_simple, is_referred}
 use Rattle.pli_coding.specs.Expressions.{given_in, reference_code, stored_code, subscripts_code, pointer_code}
 use Rattle.pli_coding.specs.Expressions.{pointer_to}
-use Rattle.pli_coding.specs.Storing.{aggregate_given, behind_record, behind_value, first_leaf, is_near, leaf_count}
+use Rattle.pli_coding.specs.Storing.{aggregate_given, behind_value, first_leaf, is_near, leaf_count}
 use Rattle.pli_coding.specs.Storing.{record_code, record_stored, stored_into, subscript_count, subscripts_recorded}
 use Rattle.pli_coding.specs.Storing.{value_saved, assigned_code, assignment_code, is_written_last, name_assigned}
 use Rattle.pli_coding.specs.Storing.{place_assigned}
@@ -202,14 +202,6 @@ pub given-Located : (a : _) (l : _) (v : _) (p : _) (ns : _) → subscript_count
 unfolding reference_of
 given-Located a l v p ns = refl
 
-pub behind-Plain : (t : _) (v : _) (p : _) (ns : _) → behind_record (reference_of (R.Plain v p ns)) t ≡ behind_locator (variable_of v) (with_words 4 t)
-unfolding reference_of
-behind-Plain t v p ns = refl
-
-pub behind-Located : (t : _) (a : _) (l : _) (v : _) (p : _) (ns : _) → behind_record (reference_of (R.Located' a l v p ns)) t ≡ behind_locator (variable_of v) (with_words 4 t)
-unfolding reference_of
-behind-Located t a l v p ns = refl
-
 pub recorded-Plain : (e : _) (t : _) (f : _) (v : _) (p : _) (ns : _) → part_recorded e t f (reference_of (R.Plain v p ns)) ≡ subscripts_made e t f (variable_of v) (part_of p) (numbers_of ns)
 unfolding reference_of part_recorded
 recorded-Plain e t f v p ns = refl
@@ -218,7 +210,16 @@ pub recorded-Located : (e : _) (t : _) (f : _) (a : _) (l : _) (v : _) (p : _) (
 unfolding reference_of part_recorded
 recorded-Located e t f a l v p ns = refl
 
-pub ruleset parts = (first-Plain, first-Located, count-Plain, count-Located, given-Plain, given-Located, behind-Plain, behind-Located, recorded-Plain, recorded-Located)
+pub ruleset parts = (
+  first-Plain,
+  first-Located,
+  count-Plain,
+  count-Located,
+  given-Plain,
+  given-Located,
+  recorded-Plain,
+  recorded-Located,
+)
 
 -- ---- records
 

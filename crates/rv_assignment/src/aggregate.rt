@@ -3,16 +3,19 @@
 ghost use Rattle.std.specs.Prelude.{◌≡◌, ◌++◌, OnOk, IfOk};
 ghost use Rattle.pli_typing.specs.TypedView.{reference_of, stored_of};
 ghost use Rattle.pli_coding.specs.Storing as form;
-ghost use Rattle.rv_address.specs.Around.{environment_of, taken_of};
+ghost use Rattle.pli_frames.specs.TakenView.{taken_of};
+ghost use Rattle.rv_address.specs.Around.{environment_of};
 ghost use Rattle.rv_assignment.specs.Pieces.{aggregate_put, elements_put, elements_stored, part_put, part_taken};
 
 use crate::record::{record_code, record_given};
+use pli_frames::forms::behind_value;
+use pli_frames::taken::Taken;
 use pli_typing::typed::{Reference, Stored};
 use rv_address::environment::Environment;
 use rv_address::located::waiting_name;
 use rv_address::names::own_place;
 use rv_address::number::count;
-use rv_address::taken::{Taken, fetch, save};
+use rv_address::taken::{fetch, save};
 use rv_assembly::code::Code;
 use rv_assembly::registers::{a0, a1, a2, a3, a4};
 use rv_expr::expression::stored_code;
@@ -52,20 +55,6 @@ fn subscript_count(reference: &Reference) -> Result<usize, AllocError>
 }
 
 // ---- a value to all elements
-
-/// The temporaries in use behind a value that waits.
-#[tactic(auto, unfolding(pli_typing::specs::TypedView::stored_of))]
-fn behind_value(source: &Stored, taken: Taken) -> Result<Taken, AllocError>
-    ensures { IfOk result (λ t. taken_of t ≡ form.behind_value (stored_of source.now) (taken_of taken)) }
-{
-    match source {
-        Stored::Number { .. } => taken.with_number(),
-        Stored::Text(_) => Ok(taken),
-        Stored::Bit(_) => taken.with_number(),
-        Stored::Pointer(_) => taken.with_words(4),
-        Stored::Offset(_) => taken.with_number(),
-    }
-}
 
 /// A value that was evaluated begins to wait.
 #[tactic(auto, unfolding(pli_typing::specs::TypedView::stored_of))]

@@ -3,13 +3,14 @@
 ghost use Rattle.std.specs.Prelude.{◌≡◌, ◌++◌, OnOk};
 ghost use Rattle.pli_typing.specs.TypedView.{variable_of};
 ghost use Rattle.pli_coding.specs.Storing as form;
-ghost use Rattle.rv_address.specs.Around.{environment_of, taken_of};
+ghost use Rattle.pli_frames.specs.TakenView.{taken_of};
+ghost use Rattle.rv_address.specs.Around.{environment_of};
 ghost use Rattle.rv_assignment.specs.Pieces.{fit_tested};
 
+use pli_frames::taken::Taken;
 use pli_language::condition::Condition;
 use pli_typing::typed::Variable;
 use rv_address::environment::Environment;
-use rv_address::taken::Taken;
 use rv_assembly::code::Code;
 use rv_assembly::registers::{a0, a1, zero};
 use rv_meaning::instr::BranchTest;

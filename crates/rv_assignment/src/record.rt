@@ -4,20 +4,22 @@
 ghost use Rattle.std.specs.Prelude.{◌≡◌, ◌++◌, OnOk, IfOk};
 ghost use Rattle.pli_typing.specs.TypedView.{leaf_of, numbers_of, part_of, reference_of, variable_of};
 ghost use Rattle.pli_coding.specs.Storing as form;
-ghost use Rattle.rv_address.specs.Around.{environment_of, taken_of};
+ghost use Rattle.pli_frames.specs.TakenView.{taken_of};
+ghost use Rattle.rv_address.specs.Around.{environment_of};
 ghost use Rattle.rv_address.specs.Places.{located_of};
 ghost use Rattle.rv_assignment.specs.Pieces.{counted_recorded, found_recorded, part_recorded, record_made, subscripts_made};
 
 use pli_frames::fixed::word_in;
+use pli_frames::taken::Taken;
+use pli_frames::temporaries::behind_locator;
 use pli_typing::typed::{Leaf, Numbers, Part, Reference, Variable};
 use rv_address::environment::Environment;
 use rv_address::extent::needs_buffer;
 use rv_address::leaf::{is_direct, leaf_found};
-use rv_address::located::{behind_locator, class_found, located};
+use rv_address::located::{class_found, located};
 use rv_address::names::{Located, name_offset, number_loaded, own_place};
 use rv_address::referred::is_referred;
 use rv_address::subscript::subscripts_counted;
-use rv_address::taken::Taken;
 use rv_assembly::code::Code;
 use rv_assembly::registers::{a0, frame, u1, zero};
 use rv_expr::expression::{locator_code, subscripts_code};
@@ -48,18 +50,6 @@ fn record_stored(
 {
     let place = record_place(taken, word)?;
     code.store_word(frame(), register, place)
-}
-
-/// The temporaries in use while a record of this aggregate is.
-#[tactic(auto, using(crate::proofs::Walks::parts))]
-pub fn behind_record(reference: &Reference, taken: Taken) -> Result<Taken, AllocError>
-    ensures { IfOk result (λ t. taken_of t ≡ form.behind_record (reference_of reference.now) (taken_of taken)) }
-{
-    let found = taken.with_words(record_words())?;
-    match reference {
-        Reference::Plain { variable, .. } => behind_locator(*variable, found),
-        Reference::Located { variable, .. } => behind_locator(*variable, found),
-    }
 }
 
 /// The offset of a record.

@@ -3,17 +3,19 @@
 ghost use Rattle.std.specs.Prelude.{◌≡◌, ◌++◌, OnOk, IfOk};
 ghost use Rattle.pli_typing.specs.TypedView.{reference_of, stored_of, part_of, pointer_of, variable_of};
 ghost use Rattle.pli_coding.specs.Storing as form;
-ghost use Rattle.rv_address.specs.Around.{environment_of, taken_of};
+ghost use Rattle.pli_frames.specs.TakenView.{taken_of};
+ghost use Rattle.rv_address.specs.Around.{environment_of};
 ghost use Rattle.rv_assignment.specs.Pieces.{name_kept, name_put, text_kept, top_put, value_kept, value_stored, word_put, pointer_assigned, tells_no_extent};
 ghost use Rattle.pli_language.specs.View.{option_of};
 ghost use Rattle.rv_operation.specs.Standing.{place_of};
 
+use pli_frames::taken::Taken;
 use pli_typing::typed::{Pointer, Reference, Stored};
 use rv_address::environment::Environment;
 use rv_address::leaf::is_direct;
 use rv_address::referred::is_referred;
 use rv_address::simple::are_simple;
-use rv_address::taken::{Taken, fetch, save};
+use rv_address::taken::{fetch, save};
 use rv_address::transfer::{Address, name_copied, stored, text_stored};
 use rv_assembly::code::Code;
 use rv_assembly::registers::a0;

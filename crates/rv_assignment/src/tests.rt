@@ -2,8 +2,10 @@
 
 use crate::aggregate::{aggregate_code, elements_code};
 use crate::area::{area_code, emptied_code};
-use crate::record::{behind_record, record_code, record_given};
+use crate::record::{record_code, record_given};
 use crate::scalar::{assignment_code, name_stored, stored_into, top_stored, word_stored};
+use pli_frames::forms::behind_record;
+use pli_frames::taken::none_taken;
 use pli_typing::statement::Typed;
 use pli_typing::typed::{
     Bit, Bounds, DeclaredVariable, Extent, Leaf, LeafType, Number, Numbers, Offset, Part, Pointer,
@@ -11,7 +13,6 @@ use pli_typing::typed::{
 };
 use rv_address::environment::Environment;
 use rv_address::known::Known;
-use rv_address::taken::none_taken;
 use rv_assembly::code::Code;
 use std::alloc::{AllocError, Global};
 use std::test::Fail;

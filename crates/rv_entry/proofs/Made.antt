@@ -1,5 +1,6 @@
 -- AUTOMATIC variables as they are made, by their pieces and one after the other.
-use Rattle.std.proofs.Common.{◌≡◌, ◌<◌, ◌≤◌, ℕ, zero, suc, ◌+◌, max, Bool, true, false, true≢false, List, [], ◌∷◌, ◌++◌, length, drop, get_or, refl, sym, ap, ◌∙◌, append_assoc, append-nil, add-one, arith}
+use Rattle.std.proofs.Common.{◌≡◌, ◌<◌, ◌≤◌, ℕ, zero, suc, ◌+◌, Bool, true, false, true≢false, List, [], ◌∷◌, ◌++◌}
+use Rattle.std.proofs.Common.{length, drop, get_or, refl, sym, ap, ◌∙◌, append_assoc, append-nil, add-one, arith}
 use Rattle.std.specs.Prelude.{map, min, slice_get, unwrap_or, if◌then◌else◌}
 use Rattle.std.proofs.lemmas.List.{drop_all, length-map}
 use Rattle.pli_typing.specs.declared.typed.DeclaredVariable.{DeclaredVariable}
@@ -10,11 +11,12 @@ use Rattle.pli_coding.specs.Assembly.{Code}
 use Rattle.pli_coding.specs.Frames.{automatic_place, has_constant_size, is_automatic, last_place}
 use Rattle.pli_coding.specs.Environments.{Environment, no_declaration, none_taken}
 use Rattle.pli_coding.specs.Extents.{extents_code}
-use Rattle.pli_coding.specs.Entries.{adjustable_made, automatic_made, constant_made, extents_act, variables_made, variables_words}
+use Rattle.pli_coding.specs.Entries.{adjustable_made, automatic_made, constant_made, extents_act, variables_made}
 use Rattle.pli_frames.specs.Parts.{stopped}
-use Rattle.rv_address.proofs.Declared.{shown_from}
 use Rattle.rv_entry.proofs.Steps.{item_first, step}
-use Rattle.rv_entry.specs.Pieces.{adjustable_named, adjustable_put, automatic_put, bytes_waiting, constant_put, data_told, extents_acted, lower_grown, name_told, own_declaration, stack_behind, stack_named, variable_asked, variable_begun, variable_made, variable_words}
+use Rattle.rv_entry.specs.Pieces.{adjustable_named, adjustable_put, automatic_put, bytes_waiting, constant_put}
+use Rattle.rv_entry.specs.Pieces.{data_told, extents_acted, lower_grown, name_told, own_declaration, stack_behind}
+use Rattle.rv_entry.specs.Pieces.{stack_named, variable_asked, variable_begun, variable_made}
 
 -- ---- of constant size
 
@@ -104,21 +106,3 @@ all_made e line i xs code target s h is =
     let same : length (variables_of_block e.program e.block) ≡ length xs = ap length (sym s) ∙ length-map xs declared_variable_of in
     let past : length (variables_of_block e.program e.block) ≤ i = omega arith in
     sym (append-nil code) ∙ ap (λ ds. code ++ variables_made e line i ds) (sym (drop_all i (variables_of_block e.program e.block) past)) ∙ is
-
--- ---- words
-
-most : (words here rest next target : ℕ) → next ≡ max words here → max words (max here rest) ≡ target → max next rest ≡ target
-most words here rest next target h is = omega arith
-
-pub next_words : (xs : List DeclaredVariable) (i : ℕ) (x : DeclaredVariable) (words here next target : ℕ) → i < length xs → x ≡ get_or xs i x → here ≡ variable_words (declared_variable_of x) → next ≡ max words here
-    → max words (variables_words (map declared_variable_of (drop i xs))) ≡ target → max next (variables_words (map declared_variable_of (drop (i + 1) xs))) ≡ target
-next_words xs i x words here next target h k one s is =
-    let rest : ℕ = variables_words (map declared_variable_of (drop (i + 1) xs)) in
-    most words here rest next target s
-    (ap (λ n. max words (max n rest)) one ∙ ap (λ ds. max words (variables_words ds)) (sym (shown_from declared_variable_of xs i x h k)) ∙ is)
-
-no_more : (words : ℕ) → words ≡ max words 0
-no_more words = omega arith
-
-pub all_words : (xs : List DeclaredVariable) (i words target : ℕ) → length xs ≤ i → max words (variables_words (map declared_variable_of (drop i xs))) ≡ target → words ≡ target
-all_words xs i words target h is = no_more words ∙ ap (λ ys. max words (variables_words (map declared_variable_of ys))) (sym (drop_all i xs h)) ∙ is

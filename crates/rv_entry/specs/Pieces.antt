@@ -1,5 +1,5 @@
 -- Pieces of the code by which blocks are entered and left.
-use Rattle.std.specs.Prelude.{ℕ, ◌+◌, ◌*◌, min, pos, neg_ℤ, List, [], ◌∷◌, ◌++◌, Option, Some, None, slice_get}
+use Rattle.std.specs.Prelude.{ℕ, ◌+◌, min, pos, neg_ℤ, List, [], ◌∷◌, ◌++◌, Option, Some, None, slice_get}
 use Rattle.std.specs.Prelude.{if◌then◌else◌}
 use Rattle.rv_meaning.specs.declared.instr.Register.{Register}
 use Rattle.rv_meaning.specs.declared.instr.BranchTest.TheVariants as Test
@@ -12,12 +12,12 @@ use Rattle.pli_coding.specs.Instructions.{add, subtract, move, small, number as 
 use Rattle.pli_coding.specs.Instructions.{skip_where, service}
 use Rattle.pli_coding.specs.Frames.{return_address, frame_below, saved_register, own_offset, lower_top, display}
 use Rattle.pli_coding.specs.Frames.{list_offset, list_place, argument_at, name_bytes, fixed_size, temporary_bytes}
-use Rattle.pli_coding.specs.Frames.{constant_size, has_constant_size, is_automatic, frame_bytes, last_place}
+use Rattle.pli_coding.specs.Frames.{constant_size, is_automatic, frame_bytes, last_place}
 use Rattle.pli_coding.specs.Frames.{automatic_place}
 use Rattle.pli_coding.specs.StaticForms.{size_datum}
 use Rattle.pli_coding.specs.Environments.{Environment, declaration_of, none_taken}
 use Rattle.pli_coding.specs.Locating.{own_place, stored, table_number}
-use Rattle.pli_coding.specs.Extents.{bytes_word, extents_words, initial_code, number_word}
+use Rattle.pli_coding.specs.Extents.{bytes_word, initial_code, number_word}
 use Rattle.pli_coding.specs.Entries.{Copied, adjustable_made, automatic_made, constant_made, copied_declared}
 use Rattle.pli_coding.specs.Entries.{copied_type, copies_made, copy_address, copy_addressed, copy_filled, copy_length}
 use Rattle.pli_coding.specs.Entries.{copy_made, copy_signature, extents_act, lower_taken, name_kept, texts_filled}
@@ -237,6 +237,3 @@ variable_made e line index d =
     if is_automatic d.class
     then automatic_made e line (automatic_place e.parts e.program e.block e.level index) d
     else []
-
-abbrev pub variable_words : Y.DeclaredVariable → ℕ
-variable_words d = if is_automatic d.class then (if has_constant_size d then 0 else extents_words d) else 0

@@ -3,7 +3,7 @@
 use crate::block::{block_entered, block_left, entered_without_texts};
 use crate::frame::{all_restored, frame_begun, frame_ended, held_restored};
 use crate::parameter::{arguments_copied, list_kept};
-use crate::variable::{variables_code, variables_words};
+use crate::variable::variables_code;
 use pli_typing::statement::Typed;
 use pli_typing::typed::{
     Bounds, Check, DeclaredVariable, Evaluation, Extent, Leaf, LeafType, Number, StorageClass,
@@ -141,7 +141,6 @@ fn variables_are_made_in_their_words(rt: HostRuntime) -> Result<(), Fail> {
     variables.push(scalar(alloc, StorageClass::Automatic, LeafType::Fixed(31))?)?;
     variables.push(scalar(alloc, StorageClass::Static, LeafType::Fixed(31))?)?;
     variables.push(evaluated(alloc)?)?;
-    assert_eq!(rt; variables_words(&variables)?, 4);
     let typed = program(alloc, variables)?;
     let known = Known::new(alloc, &typed)?;
     let environment = Environment::new(&known, &[]);

@@ -3,23 +3,24 @@
 
 ghost use Rattle.std.specs.Prelude.{◌≡◌, ◌+◌, min, pos, map, ◌++◌, OnOk, IfOk};
 ghost use Rattle.pli_typing.specs.TypedView.{class_of, variable_of};
-ghost use Rattle.pli_typing.specs.TypedStatementView.{declared_variable_of, evaluation_of};
+ghost use Rattle.pli_typing.specs.TypedStatementView.{evaluation_of};
 ghost use Rattle.pli_coding.specs.Environments.{declaration_of};
 ghost use Rattle.pli_coding.specs.Frames as frames;
 ghost use Rattle.pli_coding.specs.Entries as form;
 ghost use Rattle.pli_frames.specs.Parts.{parts};
 ghost use Rattle.rv_address.specs.Around.{environment_of};
-ghost use Rattle.rv_entry.specs.Pieces.{adjustable_named, adjustable_put, automatic_put, bytes_waiting, constant_put, data_told, extents_acted, name_told, own_declaration, stack_behind, stack_named, variable_asked, variable_begun, variable_made, variable_words};
+ghost use Rattle.rv_entry.specs.Pieces.{adjustable_named, adjustable_put, automatic_put, bytes_waiting, constant_put};
+ghost use Rattle.rv_entry.specs.Pieces.{data_told, extents_acted, name_told, own_declaration, stack_behind};
+ghost use Rattle.rv_entry.specs.Pieces.{stack_named, variable_asked, variable_begun, variable_made};
 
 use crate::own::{lower_grown, own_variable};
-use pli_frames::frame::extents_words;
 use pli_frames::size::{LAST_PLACE, frame_bytes, has_constant_size};
-use pli_typing::typed::{DeclaredVariable, Evaluation, StorageClass, Variable};
+use pli_frames::taken::none_taken;
+use pli_typing::typed::{Evaluation, StorageClass, Variable};
 use rv_address::environment::{Environment, variables_of_block};
 use rv_address::frame::automatic_place;
 use rv_address::names::own_place;
 use rv_address::number::{behind, count, signed};
-use rv_address::taken::none_taken;
 use rv_allocation::allocation::act_code;
 use rv_assembly::code::Code;
 use rv_assembly::registers::{a0, a1, a2, a3, a4, frame, stack, u1, u2};
@@ -258,27 +259,4 @@ pub fn variables_code(
         variable_made(alloc, code, environment, line, index)?;
     }
     Ok(())
-}
-
-// ---- the temporaries of extents
-
-fn variable_words(variable: &DeclaredVariable) -> Result<u32, AllocError>
-    ensures { IfOk result (λ n. n ≡ variable_words (declared_variable_of variable.now)) }
-{
-    if !is_automatic(variable.class) || has_constant_size(variable) {
-        return Ok(0);
-    }
-    extents_words(variable)
-}
-
-/// The most words that the extents of these variables take.
-#[tactic(auto, using(crate::proofs::Made::next_words, crate::proofs::Made::all_words))]
-pub fn variables_words(variables: &[DeclaredVariable]) -> Result<u32, AllocError>
-    ensures { IfOk result (λ n. n ≡ form.variables_words (map declared_variable_of variables.now)) }
-{
-    let mut words = 0;
-    for variable in variables {
-        words = words.max(variable_words(variable)?);
-    }
-    Ok(words)
 }

@@ -6,21 +6,23 @@ ghost use Rattle.pli_language.specs.View.{option_of};
 ghost use Rattle.pli_typing.specs.TypedTree as Y;
 ghost use Rattle.pli_typing.specs.TypedView.{argument_of, arguments_of, bit_of, extremum_of, number_of, numbers_of, part_of, pointer_of, reference_of, stored_of, text_of, variable_of};
 ghost use Rattle.pli_coding.specs.Expressions as form;
-ghost use Rattle.rv_address.specs.Around.{environment_of, taken_of};
+ghost use Rattle.pli_frames.specs.TakenView.{taken_of};
+ghost use Rattle.rv_address.specs.Around.{environment_of};
 ghost use Rattle.rv_address.specs.Places.{name_of};
 ghost use Rattle.rv_operation.specs.Asked.{list_of};
 ghost use Rattle.rv_expr.specs.Forms.{both_bits, both_numbers, located_reached, locator_of, subscripted};
 
 use crate::locator::{offset_code, pointer_code, pointers_compared};
+use pli_frames::taken::Taken;
+use pli_frames::temporaries::behind_locator;
 use pli_typing::typed::{
     Argument, Arguments, Bit, Callee, Extremum, Number, Numbers, Part, Pointer, Reference, Stored,
     Text, Variable,
 };
 use rv_address::environment::Environment;
-use rv_address::located::behind_locator;
 use rv_address::names::NamePlace;
 use rv_address::subscript::is_given;
-use rv_address::taken::{Taken, fetch, save};
+use rv_address::taken::{fetch, save};
 use rv_assembly::code::Code;
 use rv_assembly::registers::{a0, u1};
 use rv_operation::argument::{

@@ -4,13 +4,13 @@ ghost use Rattle.std.specs.Prelude.{◌≡◌, ◌<◌, Some, map, ◌++◌, sli
 ghost use Rattle.pli_typing.specs.TypedView.{extent_of, leaf_of};
 ghost use Rattle.pli_typing.specs.TypedStatementView.{declared_variable_of, refer_member_of};
 ghost use Rattle.pli_coding.specs.Extents as form;
-ghost use Rattle.rv_address.specs.Around.{taken_of};
+ghost use Rattle.pli_frames.specs.TakenView.{taken_of};
 
 use crate::check::error_unless;
 use crate::words::amount_waiting;
+use pli_frames::taken::Taken;
 use pli_typing::typed::{DeclaredVariable, Extent, Leaf, LeafType, ReferMember};
 use rv_address::number::constant;
-use rv_address::taken::Taken;
 use rv_assembly::code::Code;
 use rv_assembly::registers::{a1, u1};
 use rv_meaning::instr::{BranchTest, ShiftOp};

@@ -7,13 +7,13 @@ ghost use Rattle.pli_typing.specs.TypedStatementView.{check_of};
 ghost use Rattle.pli_meaning.specs.Codes.{extent_code};
 ghost use Rattle.pli_coding.specs.Instructions.{error_raised, skip_where};
 ghost use Rattle.pli_coding.specs.Extents as form;
-ghost use Rattle.rv_address.specs.Around.{taken_of};
+ghost use Rattle.pli_frames.specs.TakenView.{taken_of};
 
 use crate::fill::{bounds_filled, size_filled};
 use crate::words::{lower_kept, lower_waiting};
+use pli_frames::taken::Taken;
 use pli_typing::typed::{Bounds, Check, Extent, Leaf};
 use rv_address::number::constant;
-use rv_address::taken::Taken;
 use rv_assembly::code::Code;
 use rv_assembly::registers::{a0, a2, a3, u1, zero};
 use rv_meaning::instr::{BranchTest, ImmediateOp, Register};

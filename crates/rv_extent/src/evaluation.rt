@@ -7,16 +7,17 @@ ghost use Rattle.pli_typing.specs.TypedStatementView.{declared_variable_of, eval
 ghost use Rattle.pli_coding.specs.StaticForms.{same_extent};
 ghost use Rattle.pli_coding.specs.Environments.{declaration_of};
 ghost use Rattle.pli_coding.specs.Extents as form;
-ghost use Rattle.rv_address.specs.Around.{environment_of, taken_of};
+ghost use Rattle.pli_frames.specs.TakenView.{taken_of};
+ghost use Rattle.rv_address.specs.Around.{environment_of};
 ghost use Rattle.rv_extent.specs.Pieces.{declared_extents, evaluation_code, number_begun};
 
 use crate::check::checked_code;
 use crate::fill::constants_filled;
 use crate::words::{extent_words, signature_kept};
+use pli_frames::taken::Taken;
 use pli_typing::typed::{DeclaredVariable, Evaluation, Extent, Variable};
 use rv_address::environment::Environment;
 use rv_address::number::count;
-use rv_address::taken::Taken;
 use rv_assembly::code::Code;
 use rv_assembly::registers::a0;
 use rv_expr::expression::number_code;

@@ -5,14 +5,14 @@ ghost use Rattle.pli_typing.specs.TypedTree.{AreaLeaf, EvaluatedExtent};
 ghost use Rattle.pli_typing.specs.TypedView.{bounds_of, extent_of, leaf_of, leaf_type_of};
 ghost use Rattle.pli_coding.specs.Extents as form;
 ghost use Rattle.pli_coding.specs.StaticForms as statics;
+ghost use Rattle.pli_frames.specs.TakenView.{taken_of};
 ghost use Rattle.rv_assembly.specs.View.{datum_of};
-ghost use Rattle.rv_address.specs.Around.{taken_of};
 ghost use Rattle.rv_extent.specs.Pieces.{extent_loaded, greater_filled, is_greater_area};
 
 use crate::words::{amount_kept, bytes_kept, signature_kept, signature_loaded};
+use pli_frames::taken::Taken;
 use pli_typing::typed::{Bounds, Extent, Leaf, LeafType};
 use rv_address::number::constant;
-use rv_address::taken::Taken;
 use rv_assembly::code::Code;
 use rv_assembly::item::{Datum, Item, Symbol};
 use rv_assembly::registers::{a0, a1, a3};

@@ -4,6 +4,7 @@
 use crate::amount::refer_amount;
 use crate::evaluation::extents_code;
 use crate::initial::initial_code;
+use pli_frames::taken::none_taken;
 use pli_language::declaration::{InitialItem, InitialValue};
 use pli_typing::statement::Typed;
 use pli_typing::typed::{
@@ -12,7 +13,6 @@ use pli_typing::typed::{
 };
 use rv_address::environment::Environment;
 use rv_address::known::Known;
-use rv_address::taken::none_taken;
 use rv_assembly::code::Code;
 use rv_assembly::registers::a2;
 use std::alloc::{AllocError, Global};

@@ -3,11 +3,11 @@
 
 ghost use Rattle.std.specs.Prelude.{◌≡◌, ◌++◌, OnOk, IfOk};
 ghost use Rattle.pli_coding.specs.Extents as form;
-ghost use Rattle.rv_address.specs.Around.{taken_of};
+ghost use Rattle.pli_frames.specs.TakenView.{taken_of};
 ghost use Rattle.rv_extent.specs.Pieces.{amount_kept, amount_waiting, bytes_kept, lower_kept, lower_waiting, signature_kept, signature_loaded};
 
 use pli_frames::fixed::words_place;
-use rv_address::taken::Taken;
+use pli_frames::taken::Taken;
 use rv_assembly::code::Code;
 use rv_assembly::registers::{a0, a1, a3, frame};
 use rv_meaning::instr::Register;

@@ -9,7 +9,7 @@ use Rattle.pli_coding.specs.StaticForms.{shape_datum}
 use Rattle.pli_coding.specs.Environments.{Environment, declaration_of}
 use Rattle.pli_coding.specs.Locating.{own_place}
 use Rattle.pli_coding.specs.Streams as S
-use Rattle.rv_address.specs.Around.{taken_of}
+use Rattle.pli_frames.specs.TakenView.{taken_of}
 use Rattle.rv_item.specs.declared.elements.Elements.{Elements}
 
 abbrev pub elements_shown : Elements → S.Elements

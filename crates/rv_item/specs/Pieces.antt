@@ -1,5 +1,6 @@
 -- Pieces of the code of GET and PUT.
 use Rattle.std.specs.Prelude.{ℕ, [], ◌∷◌, ◌++◌}
+use Rattle.pli_frames.specs.TakenView.{taken_of}
 use Rattle.rv_meaning.specs.declared.instr.BranchTest.TheVariants as Test
 use Rattle.pli_language.specs.declared.condition.Condition.TheVariants as C
 use Rattle.pli_meaning.specs.Codes.{endfile_code}
@@ -10,7 +11,6 @@ use Rattle.pli_coding.specs.Instructions.{service, skip_where, small, tested_ser
 use Rattle.pli_coding.specs.Environments.{Taken, fetch}
 use Rattle.pli_coding.specs.Arithmetic.{raised}
 use Rattle.pli_coding.specs.Streams.{as_text, number_written, text_written}
-use Rattle.rv_address.specs.Around.{taken_of}
 use Rattle.rv_item.specs.declared.text.NumberText.{NumberText}
 use Rattle.rv_item.specs.declared.text.NumberText.TheVariants as N
 

@@ -1,6 +1,7 @@
 // An element of an aggregate, from its offset in a0 and what the buffer tells of it.
 
 ghost use Rattle.std.specs.Prelude.{◌≡◌, [], ◌∷◌, ◌++◌, pos, OnOk};
+ghost use Rattle.pli_frames.specs.TakenView.{taken_of};
 ghost use Rattle.rv_meaning.specs.declared.instr.Instr.TheVariants as I;
 ghost use Rattle.rv_meaning.specs.declared.instr.LoadKind.TheVariants as Load;
 ghost use Rattle.rv_meaning.specs.declared.instr.StoreKind.TheVariants as Store;
@@ -10,13 +11,13 @@ ghost use Rattle.pli_coding.specs.Frames.{buffer_kind, buffer_size};
 ghost use Rattle.pli_coding.specs.Instructions.{choice, load_word};
 ghost use Rattle.pli_coding.specs.Registers.{a0, frame_register, u1, u2, u3};
 ghost use Rattle.pli_coding.specs.Streams as form;
-ghost use Rattle.rv_address.specs.Around.{taken_of};
 ghost use Rattle.rv_item.specs.Moved.{bit_loaded};
 
 use crate::branch::choose;
 use pli_frames::fixed::{buffer, buffer_size};
+use pli_frames::taken::Taken;
 use rv_address::number::signed;
-use rv_address::taken::{Taken, fetch};
+use rv_address::taken::fetch;
 use rv_assembly::code::Code;
 use rv_assembly::item::Item;
 use rv_assembly::registers::{a0, a1, a2, frame, u0, u1, u2, u3};

@@ -1,11 +1,11 @@
 // Fields by the next data item of a format list.
 
 ghost use Rattle.std.specs.Prelude.{◌≡◌, [], ◌∷◌, ◌++◌, OnOk};
+ghost use Rattle.pli_frames.specs.TakenView.{taken_of};
 ghost use Rattle.rv_meaning.specs.declared.instr.BranchTest.TheVariants as Test;
 ghost use Rattle.pli_coding.specs.Registers.{a0, u1};
 ghost use Rattle.pli_coding.specs.Instructions.{choice, service, small, tested_service};
 ghost use Rattle.pli_coding.specs.Streams as form;
-ghost use Rattle.rv_address.specs.Around.{taken_of};
 ghost use Rattle.rv_assembly.specs.Places.{jump_place};
 ghost use Rattle.rv_item.specs.Ends.{end_first, exit_behind};
 ghost use Rattle.rv_item.specs.Lists.{formats_in};
@@ -14,8 +14,9 @@ ghost use Rattle.rv_item.specs.Pieces.{end_tested, field_to_number, field_to_tex
 use crate::branch::{choose, skip_where};
 use crate::fields::Fields;
 use crate::text::{NumberText, number_or_bit, number_text};
+use pli_frames::taken::Taken;
 use pli_language::condition::Condition;
-use rv_address::taken::{Taken, fetch};
+use rv_address::taken::fetch;
 use rv_assembly::code::Code;
 use rv_assembly::place::Place;
 use rv_assembly::registers::{a0, a1, u1};

@@ -3,13 +3,14 @@
 ghost use Rattle.std.specs.Prelude.{◌≡◌, ◌<◌, ◌++◌, OnOk};
 ghost use Rattle.pli_coding.specs.Arithmetic as arithmetic;
 ghost use Rattle.pli_coding.specs.Streams as form;
-ghost use Rattle.rv_address.specs.Around.{taken_of};
+ghost use Rattle.pli_frames.specs.TakenView.{taken_of};
 ghost use Rattle.rv_item.specs.Moved.{narrow_checked, number_shifted};
 
 use crate::branch::skip_where;
 use crate::element::size_in;
+use pli_frames::taken::Taken;
 use pli_language::condition::Condition;
-use rv_address::taken::{Taken, fetch, save};
+use rv_address::taken::{fetch, save};
 use rv_assembly::code::Code;
 use rv_assembly::registers::{a0, u1, u2};
 use rv_meaning::instr::{BranchTest, RegisterOp};

@@ -1,13 +1,14 @@
 // An element to the output or from the input, by its kind.
 
 ghost use Rattle.std.specs.Prelude.{◌≡◌, ◌<◌, ◌++◌, OnOk};
+ghost use Rattle.pli_frames.specs.TakenView.{taken_of};
 ghost use Rattle.rv_meaning.specs.declared.instr.BranchTest.TheVariants as Test;
 ghost use Rattle.pli_typing.specs.TypedView.{reference_of};
 ghost use Rattle.pli_coding.specs.Environments.{save};
 ghost use Rattle.pli_coding.specs.Instructions.{choice, service};
 ghost use Rattle.pli_coding.specs.Registers.{a0, u0, u1};
 ghost use Rattle.pli_coding.specs.Streams as form;
-ghost use Rattle.rv_address.specs.Around.{environment_of, taken_of};
+ghost use Rattle.rv_address.specs.Around.{environment_of};
 ghost use Rattle.rv_item.specs.Moved.{bit_moved, bits_and_texts, element_moved, fixed_moved, kind_tested, kinds_moved, text_moved};
 
 use crate::branch::choose;
@@ -15,9 +16,10 @@ use crate::element::{bit_loaded, bit_stored, fixed_loaded, fixed_stored, kind_in
 use crate::fitting::{text_converted, text_fitted};
 use crate::kinds::{Kinds, kinds_in};
 use crate::text::number_or_bit;
+use pli_frames::taken::Taken;
 use pli_typing::typed::Reference;
 use rv_address::environment::Environment;
-use rv_address::taken::{Taken, save};
+use rv_address::taken::save;
 use rv_assembly::code::Code;
 use rv_assembly::registers::{a0, a1, u0, u1, u2};
 use rv_meaning::instr::BranchTest;

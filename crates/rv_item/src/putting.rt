@@ -3,7 +3,8 @@
 ghost use Rattle.std.specs.Prelude.{◌≡◌, ◌++◌, OnOk};
 ghost use Rattle.pli_typing.specs.TypedView.{reference_of};
 ghost use Rattle.pli_coding.specs.Streams as form;
-ghost use Rattle.rv_address.specs.Around.{environment_of, taken_of};
+ghost use Rattle.pli_frames.specs.TakenView.{taken_of};
+ghost use Rattle.rv_address.specs.Around.{environment_of};
 ghost use Rattle.rv_item.specs.Lists.{formats_in};
 ghost use Rattle.rv_item.specs.Moved.{kinds_written};
 
@@ -13,9 +14,10 @@ use crate::fields::Fields;
 use crate::kinds::{Kinds, kinds_in};
 use crate::moved::{Motion, element_moved};
 use crate::text::NumberText;
+use pli_frames::taken::Taken;
 use pli_typing::typed::Reference;
 use rv_address::environment::Environment;
-use rv_address::taken::{Taken, save};
+use rv_address::taken::save;
 use rv_assembly::code::Code;
 use rv_assembly::registers::{a0, u2};
 use std::alloc::AllocError;

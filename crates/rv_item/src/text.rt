@@ -4,7 +4,8 @@ ghost use Rattle.std.specs.Prelude.{◌≡◌, ◌++◌, OnOk};
 ghost use Rattle.pli_coding.specs.Streams as form;
 ghost use Rattle.rv_item.specs.Pieces.{number_text};
 
-use rv_address::taken::{Taken, fetch};
+use pli_frames::taken::Taken;
+use rv_address::taken::fetch;
 use rv_assembly::code::Code;
 use rv_assembly::registers::a1;
 use rv_operation::text::number_pushed;

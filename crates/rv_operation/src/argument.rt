@@ -4,7 +4,8 @@ ghost use Rattle.std.specs.Prelude.{◌≡◌, ◌+◌, ◌*◌, suc, pos, [], �
 ghost use Rattle.pli_typing.specs.TypedView.{argument_of, arguments_of, part_of, reference_of, stored_of, variable_of};
 ghost use Rattle.pli_coding.specs.Expressions as form;
 ghost use Rattle.pli_coding.specs.Locating.{in_own_frame};
-ghost use Rattle.rv_address.specs.Around.{environment_of, taken_of};
+ghost use Rattle.pli_frames.specs.TakenView.{taken_of};
+ghost use Rattle.rv_address.specs.Around.{environment_of};
 ghost use Rattle.rv_address.specs.Places.{address_of};
 ghost use Rattle.rv_operation.specs.Asked.{list_of};
 ghost use Rattle.rv_operation.specs.Pieces.{arguments_entered, ended, list_given, part_given, procedure_called, text_copies};
@@ -12,11 +13,11 @@ ghost use Rattle.rv_operation.specs.Pieces.{arguments_entered, ended, list_given
 use crate::pointer::waiting_address;
 use crate::reference::name_written;
 use pli_frames::fixed::{word_in, words_place};
+use pli_frames::taken::Taken;
 use pli_typing::typed::{Argument, Arguments, Callee, Part, Reference, Stored, Variable};
 use rv_address::environment::Environment;
 use rv_address::located::located;
 use rv_address::names::{frame_found, frame_in, number_loaded, own_place};
-use rv_address::taken::Taken;
 use rv_address::transfer::{Address, in_own_frame, name_copied};
 use rv_assembly::code::Code;
 use rv_assembly::item::{Item, Symbol};

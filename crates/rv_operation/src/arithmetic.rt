@@ -4,13 +4,14 @@ ghost use Rattle.std.specs.Prelude.{◌≡◌, ◌-◌, ◌<◌, [], ◌∷◌, 
 ghost use Rattle.pli_typing.specs.TypedView.{arithmetic_of, bit_operator_of, comparison_of, extremum_of, sign_of};
 ghost use Rattle.pli_coding.specs.Instructions.{skip_where};
 ghost use Rattle.pli_coding.specs.Arithmetic as form;
-ghost use Rattle.rv_address.specs.Around.{taken_of};
+ghost use Rattle.pli_frames.specs.TakenView.{taken_of};
 ghost use Rattle.rv_operation.specs.Pieces.{constant_checked, constant_summed, divided_checked, divided_fitted, extreme_kept, narrow_checked, remainder_mended, right_sign};
 
+use pli_frames::taken::Taken;
 use pli_language::condition::Condition;
 use pli_typing::typed::{ArithmeticOperator, BitOperator, Comparison, Extremum, Sign};
 use rv_address::number::plus;
-use rv_address::taken::{Taken, fetch, save};
+use rv_address::taken::{fetch, save};
 use rv_assembly::code::Code;
 use rv_assembly::item::{Item, Symbol};
 use rv_assembly::registers::{a0, a1, u1, u2, u3, u4, zero};

@@ -5,18 +5,19 @@ ghost use Rattle.pli_language.specs.View.{option_of};
 ghost use Rattle.pli_typing.specs.TypedView.{numbers_of, part_of, pointer_of, reference_of, variable_of};
 ghost use Rattle.pli_coding.specs.Expressions as form;
 ghost use Rattle.pli_coding.specs.Locating.{own_name, waiting_name};
-ghost use Rattle.rv_address.specs.Around.{environment_of, taken_of};
+ghost use Rattle.pli_frames.specs.TakenView.{taken_of};
+ghost use Rattle.rv_address.specs.Around.{environment_of};
 ghost use Rattle.rv_address.specs.Places.{name_of};
 ghost use Rattle.rv_operation.specs.Standing.{leaf_standing, locator_in, place_of};
 
 use crate::pointer::waiting_address;
+use pli_frames::taken::Taken;
 use pli_typing::typed::{Numbers, Pointer, Reference, Variable};
 use rv_address::direct::direct_name;
 use rv_address::environment::Environment;
 use rv_address::leaf::is_direct;
 use rv_address::names::NamePlace;
 use rv_address::simple::are_simple;
-use rv_address::taken::Taken;
 use rv_address::transfer::{Address, in_own_frame};
 use std::alloc::AllocError;
 

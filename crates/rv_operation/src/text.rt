@@ -5,13 +5,14 @@ ghost use Rattle.pli_typing.specs.TypedView.{comparison_of};
 ghost use Rattle.pli_coding.specs.Expressions as form;
 ghost use Rattle.pli_coding.specs.Instructions as short;
 ghost use Rattle.pli_coding.specs.Registers.{a1};
-ghost use Rattle.rv_address.specs.Around.{taken_of};
+ghost use Rattle.pli_frames.specs.TakenView.{taken_of};
 ghost use Rattle.rv_operation.specs.Pieces.{bit_pushed, end_cut, index_found, number_pushed, substring_cut, text_measured, text_to_bit, text_to_number, texts_compared, verified};
 
 use crate::arithmetic::compared_code;
+use pli_frames::taken::Taken;
 use pli_typing::typed::Comparison;
 use rv_address::number::count;
-use rv_address::taken::{Taken, fetch};
+use rv_address::taken::fetch;
 use rv_assembly::code::Code;
 use rv_assembly::item::{Datum, Item, Symbol};
 use rv_assembly::registers::{a0, a1, a2, u1};

@@ -12,11 +12,14 @@ use Rattle.pli_meaning.specs.DeclaredShapes.{variables_of_block}
 use Rattle.pli_coding.specs.Registers.{held_registers}
 use Rattle.pli_coding.specs.Assembly.{Code}
 use Rattle.pli_coding.specs.Environments.{BlockPlace, Environment, Taken, declaration_of, no_declaration, none_taken}
-use Rattle.pli_coding.specs.Extents.{extents_code}
+use Rattle.pli_coding.specs.Extents.{extents_code, extents_take}
 use Rattle.pli_coding.specs.Allocating.{act_code}
 use Rattle.pli_coding.specs.Entries.{arguments_copied, block_entered, frame_begun, list_kept, variables_code}
-use Rattle.pli_coding.specs.Statements.{block_held, block_words, held_with, stmts_words}
-use Rattle.pli_coding.specs.Procedures.{amounts_given, frame_returned, has_routine, is_main, procedure_begun, procedure_environment, procedure_of_block, procedures_code, routine_code, routine_if, routine_words, routines_code, routines_of_block, routine_environment}
+use Rattle.pli_coding.specs.Statements.{block_held, block_takes, block_words, held_with}
+use Rattle.pli_coding.specs.Procedures.{amounts_given, frame_returned, has_routine, is_main, procedure_begun}
+use Rattle.pli_coding.specs.Procedures.{procedure_environment, procedure_of_block, procedures_code, routine_code}
+use Rattle.pli_coding.specs.Procedures.{routine_held, routine_if, routine_words, routines_code, routines_of_block}
+use Rattle.pli_coding.specs.Procedures.{routine_environment}
 use Rattle.rv_address.specs.declared.environment.BlockPlace.{BlockPlace as BlockPlaceHeld}
 use Rattle.rv_address.specs.Around.{block_place_of}
 use Rattle.rv_address.proofs.Declared.{shown_from}
@@ -66,22 +69,22 @@ begun e head words held ps c0 c1 c2 c3 c4 c5 c6 c7 c8 e1 e2 e3 e4 e5 e6 e7 e8 =
     let a2' : c8 ≡ c1 ++ (list_taken ++ (p3 ++ (texts_counted ++ (p5 ++ (p6 ++ (p7 ++ p8)))))) = behind c1 c2 c8 list_taken (p3 ++ (texts_counted ++ (p5 ++ (p6 ++ (p7 ++ p8))))) e2 a3' in
     behind c0 c1 c8 p1 (list_taken ++ (p3 ++ (texts_counted ++ (p5 ++ (p6 ++ (p7 ++ p8)))))) e1 a2'
 
-pub procedure_is : (code after : Code) (e inner : Environment) (p : Procedure) (words held : ℕ)
+pub procedure_is : (code after : Code) (e inner : Environment) (p : Procedure) (own : Taken) (held : ℕ)
     → inner ≡ procedure_environment (block_head_of p.block.head) e
-    → words ≡ block_words inner p.block.head.number (stmts_words (stmts_of p.block.body))
-    → held ≡ held_with inner.program words (stmts_of p.block.body)
-    → after ≡ code ++ procedure_with inner (block_head_of p.block.head) (stmts_of p.block.body) words held
+    → own ≡ block_takes inner.program p.block.head.number (stmts_of p.block.body)
+    → held ≡ held_with inner.program own.registers (stmts_of p.block.body)
+    → after ≡ code ++ procedure_with inner (block_head_of p.block.head) (stmts_of p.block.body) own.words held
     (procedure_of p).parameters (procedure_of p).result
     → after ≡ code ++ procedure_of_block e (procedure_of p).block (procedure_of p).parameters (procedure_of p).result
 unfolding procedure_with
-procedure_is code after e inner p words held is n k h =
+procedure_is code after e inner p own held is n k h =
     let head = block_head_of p.block.head in
     let body = stmts_of p.block.body in
     h
-    ∙ ap (λ m. code ++ procedure_with inner head body words m (procedure_of p).parameters (procedure_of p).result) k
-    ∙ ap (λ m. code ++ procedure_with inner head body m (held_with inner.program m body) (procedure_of p).parameters
-    (procedure_of p).result) n
-    ∙ ap (λ i. code ++ procedure_with i head body (block_words i p.block.head.number (stmts_words body))
+    ∙ ap (λ m. code ++ procedure_with inner head body own.words m (procedure_of p).parameters (procedure_of p).result) k
+    ∙ ap (λ (t : Taken). code ++ procedure_with inner head body t.words (held_with inner.program t.registers body)
+    (procedure_of p).parameters (procedure_of p).result) n
+    ∙ ap (λ i. code ++ procedure_with i head body (block_words i p.block.head.number body)
     (block_held i p.block.head.number body) (procedure_of p).parameters (procedure_of p).result) is
 
 pub next_procedure : (e : Environment) (xs : List Procedure) (i : ℕ) (x : Procedure) (code after target : Code) → i < length xs → x ≡ get_or xs i x → after ≡ code ++ procedure_of_block e (procedure_of x).block (procedure_of x).parameters (procedure_of x).result
@@ -102,10 +105,9 @@ extents_at code after e index v t is n h = h ∙ ap (λ u. code ++ extents_code 
 pub routine_whole : (e : Environment) (index words held : ℕ) (d : Y.DeclaredVariable) (c0 c1 c2 c3 c4 c5 : Code)
     → c1 ≡ c0 ++ routine_marked e.block index → c2 ≡ c1 ++ frame_begun words e.level 0 (Some held)
     → c3 ≡ c2 ++ extents_told e index → c4 ≡ c3 ++ amounts_given d → c5 ≡ c4 ++ frame_returned words held
-    → held ≡ min held_registers words
-    → c5 ≡ c0 ++ routine_with e index words d
+    → c5 ≡ c0 ++ routine_with e index words held d
 unfolding routine_with
-routine_whole e index words held d c0 c1 c2 c3 c4 c5 e1 e2 e3 e4 e5 kept =
+routine_whole e index words held d c0 c1 c2 c3 c4 c5 e1 e2 e3 e4 e5 =
     let p1 : Code = routine_marked e.block index in
     let p2 : Code = frame_begun words e.level 0 (Some held) in
     let p3 : Code = extents_told e index in
@@ -115,9 +117,11 @@ routine_whole e index words held d c0 c1 c2 c3 c4 c5 e1 e2 e3 e4 e5 kept =
     let a3 : c5 ≡ c2 ++ (p3 ++ (p4 ++ p5)) = behind c2 c3 c5 p3 (p4 ++ p5) e3 a4 in
     let a2 : c5 ≡ c1 ++ (p2 ++ (p3 ++ (p4 ++ p5))) = behind c1 c2 c5 p2 (p3 ++ (p4 ++ p5)) e2 a3 in
     behind c0 c1 c5 p1 (p2 ++ (p3 ++ (p4 ++ p5))) e1 a2
-    ∙ ap (λ k. c0 ++ (p1 ++ (frame_begun words e.level 0 (Some k) ++ (p3 ++ (p4 ++ frame_returned words k))))) kept
 
-routine_is : (e : Environment) (index : ℕ) → routine_with e index (routine_words (declared_at e e.block index)) (declared_at e e.block index) ≡ routine_code e index (declared_at e e.block index)
+routine_is : (e : Environment) (index : ℕ)
+    → routine_with e index (routine_words (declared_at e e.block index)) (routine_held (declared_at e e.block index))
+    (declared_at e e.block index)
+    ≡ routine_code e index (declared_at e e.block index)
 unfolding routine_with extents_told
 routine_is e index = refl
 
@@ -133,13 +137,19 @@ told_at : (e : Environment) (index : ℕ) (d : Y.DeclaredVariable) → d ≡ dec
 unfolding routine_at
 told_at e index d is = ap (λ (x : Y.DeclaredVariable). routine_if e index x x.evaluations) (sym is)
 
-pub routine_there : (code after : Code) (e : Environment) (index words : ℕ) (d : DeclaredVariable) → declared_variable_of d ≡ declared_at e e.block index → (length d.evaluations.items ≡ 0 → ⊥) → has_routine (declared_variable_of d).class ≡ true
-    → words ≡ routine_words (declared_variable_of d) → after ≡ code ++ routine_with e index words (declared_variable_of d) → after ≡ code ++ routine_at e index
-routine_there code after e index words d is some t n h =
+pub routine_there : (code after : Code) (e : Environment) (index : ℕ) (own k : Taken) (held : ℕ) (d : DeclaredVariable)
+    → declared_variable_of d ≡ declared_at e e.block index → (length d.evaluations.items ≡ 0 → ⊥)
+    → has_routine (declared_variable_of d).class
+    ≡ true
+    → own ≡ extents_take k (declared_variable_of d) → k ≡ none_taken → held ≡ min held_registers own.registers
+    → after ≡ code ++ routine_with e index own.words held (declared_variable_of d) → after ≡ code ++ routine_at e index
+routine_there code after e index own k held d is some t o n m h =
     let shown : Y.DeclaredVariable = declared_variable_of d in
+    let own_is : own ≡ extents_take none_taken shown = o ∙ ap (λ (z : Taken). extents_take z shown) n in
     h
-    ∙ ap (λ m. code ++ routine_with e index m shown) n
-    ∙ ap (λ (x : Y.DeclaredVariable). code ++ routine_with e index (routine_words x) x) is
+    ∙ ap (λ r. code ++ routine_with e index own.words r shown) m
+    ∙ ap (λ (z : Taken). code ++ routine_with e index z.words (min held_registers z.registers) shown) own_is
+    ∙ ap (λ (x : Y.DeclaredVariable). code ++ routine_with e index (routine_words x) (routine_held x) x) is
     ∙ ap (λ u. code ++ u) (routine_is e index ∙ ap (λ (x : Y.DeclaredVariable). routine_code e index x) (sym is))
     ∙ ap (λ (b : Bool). code ++ (if b then routine_code e index shown else [])) (sym t)
     ∙ ap (λ u. code ++ u) (sym (some_evaluated e index shown d.evaluations.items some) ∙ sym (told_at e index shown is))

@@ -1,8 +1,8 @@
 -- Pieces of procedures and of routines.
-use Rattle.std.specs.Prelude.{ℕ, min, List, [], ◌∷◌, ◌++◌, Option, Some, if◌then◌else◌}
+use Rattle.std.specs.Prelude.{ℕ, List, [], ◌∷◌, ◌++◌, Option, Some, if◌then◌else◌}
 use Rattle.pli_typing.specs.TypedTree as Y
 use Rattle.pli_meaning.specs.DeclaredShapes.{variables_of_block}
-use Rattle.pli_coding.specs.Registers.{held_registers, a1, a2, a3, u5}
+use Rattle.pli_coding.specs.Registers.{a1, a2, a3, u5}
 use Rattle.pli_coding.specs.Assembly.{ProcedureEntry, ExtentRoutine, Mark, Code}
 use Rattle.pli_coding.specs.Instructions.{move}
 use Rattle.pli_coding.specs.Environments.{BlockPlace, Environment, none_taken}
@@ -40,11 +40,11 @@ extents_at e index = extents_code e none_taken (declared_at e e.block index)
 abbrev pub routine_marked : (block index : ℕ) → Code
 routine_marked block index = Mark (ExtentRoutine block index) ∷ []
 
-unfoldable pub routine_with : Environment → (index words : ℕ) → Y.DeclaredVariable → Code
-routine_with e index words d =
+unfoldable pub routine_with : Environment → (index words held : ℕ) → Y.DeclaredVariable → Code
+routine_with e index words held d =
     routine_marked e.block index
-    ++ (frame_begun words e.level 0 (Some (min held_registers words))
-    ++ (extents_at e index ++ (amounts_given d ++ frame_returned words (min held_registers words))))
+    ++ (frame_begun words e.level 0 (Some held)
+    ++ (extents_at e index ++ (amounts_given d ++ frame_returned words held)))
 
 unfoldable pub routine_at : Environment → (index : ℕ) → Code
 routine_at e index = routine_if e index (declared_at e e.block index) (declared_at e e.block index).evaluations

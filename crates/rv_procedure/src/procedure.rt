@@ -10,10 +10,10 @@ ghost use Rattle.rv_address.specs.Around.{environment_of};
 ghost use Rattle.rv_procedure.specs.Pieces.{list_taken, procedure_with, texts_counted};
 
 use crate::ending::{end_reached, frame_returned, left_with};
+use pli_frames::taken::none_taken;
 use pli_typing::statement::{BlockHead, Procedure};
 use pli_typing::typed::LeafType;
 use rv_address::environment::{BlockPlace, Environment, Owner};
-use rv_address::taken::none_taken;
 use rv_allocation::allocation::act_code;
 use rv_assembly::code::Code;
 use rv_assembly::item::{Item, Symbol};
@@ -24,7 +24,7 @@ use rv_entry::parameter::{arguments_copied, list_kept};
 use rv_entry::variable::variables_code;
 use rv_statement::held::held_with;
 use rv_statement::statement::stmts_code;
-use rv_statement::words::block_words;
+use rv_statement::temporaries::block_takes;
 use std::alloc::{AllocError, Global};
 
 /// In the frame of a procedure, whose end a RETURN goes to.
@@ -136,9 +136,9 @@ fn procedure_of_block(
 {
     let head = procedure.block.head;
     let inner = procedure_environment(*environment, head);
-    let words = block_words(&inner, head.number, &procedure.block.body)?;
-    let held = held_with(&inner, words, &procedure.block.body)?;
-    Ok(procedure_with(alloc, code, &inner, procedure, words, held)?)
+    let own = block_takes(&inner, head.number, &procedure.block.body)?;
+    let held = held_with(&inner, own.registers, &procedure.block.body)?;
+    Ok(procedure_with(alloc, code, &inner, procedure, own.words, held)?)
 }
 
 /// The code of procedures, one behind the other.

@@ -11,10 +11,10 @@ ghost use Rattle.rv_start.specs.Pieces.{declared_at};
 ghost use Rattle.rv_procedure.specs.Pieces.{extents_at, routine_at, routine_marked, routine_with, routines_in};
 
 use crate::ending::frame_returned;
-use pli_frames::frame::extents_words;
+use pli_frames::frame::extents_take;
+use pli_frames::taken::none_taken;
 use pli_typing::typed::{DeclaredVariable, StorageClass};
 use rv_address::environment::{BlockPlace, Environment, variables_of_block};
-use rv_address::taken::none_taken;
 use rv_assembly::code::Code;
 use rv_assembly::item::{Item, Symbol};
 use rv_assembly::registers::{a0, frame};
@@ -54,18 +54,18 @@ fn routine_marked(code: &mut Code, block: usize, index: usize) -> Result<(), All
     code.push(Item::Mark(Symbol::ExtentRoutine { block, index }))
 }
 
-/// A routine whose temporaries are so many words; it is no block.
+/// A routine whose temporaries are so many words, and which saves so many registers; it is no block.
 fn routine_with(
     alloc: Global,
     code: &mut Code,
     environment: &Environment,
     index: usize,
     words: u32,
+    held: u8,
     declaration: &DeclaredVariable,
 ) -> Result<(), AllocError>
-    ensures { OnOk result (code.new ≡ code.old ++ routine_with (environment_of environment.now) index words (declared_variable_of declaration.now)) }
+    ensures { OnOk result (code.new ≡ code.old ++ routine_with (environment_of environment.now) index words held (declared_variable_of declaration.now)) }
 {
-    let held = held_for(words);
     routine_marked(code, environment.block, index)?;
     frame_begun(code, words, environment.level, 0, Some(held))?;
     extents_at(alloc, code, environment, index)?;
@@ -102,8 +102,17 @@ fn routine_at(
     if !has_routine(declaration.class) {
         return Ok(());
     }
-    let words = extents_words(declaration)?;
-    Ok(routine_with(alloc, code, environment, index, words, declaration)?)
+    let own = extents_take(none_taken(), declaration)?;
+    let held = held_for(own.registers);
+    Ok(routine_with(
+        alloc,
+        code,
+        environment,
+        index,
+        own.words,
+        held,
+        declaration,
+    )?)
 }
 
 fn routines_of_block(

@@ -9,9 +9,7 @@ use Rattle.pli_typing.specs.TypedTree as Y
 use Rattle.pli_typing.specs.SingleStatements.{Turns, OneTurn, CountedTurns, do_statement}
 use Rattle.pli_typing.specs.Resolving.{letters_of}
 use Rattle.pli_typing.specs.TypedStatementView.{stmt_of, stmts_of, turns_of}
-use Rattle.pli_meaning.specs.DeclaredShapes.{variables_of_block}
-use Rattle.pli_coding.specs.Entries.{variables_words}
-use Rattle.pli_coding.specs.Statements.{labels_held, stmt_held, stmts_held, stmts_words}
+use Rattle.pli_coding.specs.Statements.{block_takes, labels_held, stmt_held, stmts_held}
 
 -- ---- labels
 
@@ -78,8 +76,7 @@ unfolding stmt_of
 held-DoTurns p t body n = turns_held p (turns_of t) (stmts_of body) n
 
 pub held-Begin : (p : _) (h : _) (body : _) → stmt_held p (stmt_of (S.Begin h body))
-    ≡ max (max (variables_words (variables_of_block p h.number)) (stmts_words (stmts_of body)))
-    (stmts_held p (stmts_of body))
+    ≡ max (block_takes p h.number (stmts_of body)).registers (stmts_held p (stmts_of body))
 unfolding stmt_of
 held-Begin p h body = refl
 

@@ -9,7 +9,7 @@ use Rattle.pli_typing.specs.TypedView.{bit_of, call_of, leaf_type_of, reference_
 use Rattle.pli_typing.specs.TypedStatementView.{allocation_of, block_head_of, freeing_of, get_pair_of, put_pair_of, stmt_of, stmts_of, turns_of}
 use Rattle.pli_coding.specs.Environments.{none_taken}
 use Rattle.pli_coding.specs.Statements.{begin_environment, block_words, in_turns, marked, stmt_code, stmts_code}
-use Rattle.pli_coding.specs.Statements.{stmts_words, unit_environment, unit_held, unit_words}
+use Rattle.pli_coding.specs.Statements.{unit_environment, unit_held, unit_words}
 use Rattle.rv_assignment.specs.Pieces.{aggregate_put, elements_put}
 use Rattle.rv_statement.specs.Pieces.{acted, aggregate_statement, allocate_statement, area_statement, assign_statement, begin_statement, call_statement, count_statement, elements_statement, emptied_statement, free_statement, get_statement, goto_statement, if_else_statement, if_statement, once_statement, put_statement, return_statement, revert_statement, signal_statement, stop_statement, system_statement, turns_statement, unit_statement, value_statement, while_statement}
 
@@ -57,7 +57,9 @@ pub stmt-DoTurns : (e : _) (t : _) (u : _) (body : _) (n : _) → stmt_code e t 
 unfolding stmt_of turns_statement
 stmt-DoTurns e t u body n = refl
 
-pub stmt-Begin : (e : _) (t : _) (h : _) (body : _) → stmt_code e t (stmt_of (S.Begin h body)) ≡ begin_statement e (block_head_of h) (block_words e h.number (stmts_words (stmts_of body))) (stmts_code (begin_environment (block_head_of h) e) none_taken (stmts_of body))
+pub stmt-Begin : (e : _) (t : _) (h : _) (body : _) → stmt_code e t (stmt_of (S.Begin h body))
+    ≡ begin_statement e (block_head_of h) (block_words e h.number (stmts_of body))
+    (stmts_code (begin_environment (block_head_of h) e) none_taken (stmts_of body))
 unfolding stmt_of begin_statement
 stmt-Begin e t h body = refl
 
@@ -67,7 +69,7 @@ stmt-OnSystem e t c n = refl
 
 pub stmt-OnUnit : (e : _) (t : _) (c : _) (h : _) (body : _) (n : _) → stmt_code e t (stmt_of (S.OnUnit c h body n))
     ≡ unit_statement e c (block_head_of h)
-    (unit_words e (block_head_of h) (block_head_of h).kind (stmts_words (stmts_of body)))
+    (unit_words e (block_head_of h) (block_head_of h).kind (stmts_of body))
     (unit_held e (block_head_of h) (block_head_of h).kind (stmts_of body))
     (stmts_code (unit_environment (block_head_of h) e) none_taken (stmts_of body)) n
 unfolding stmt_of unit_statement

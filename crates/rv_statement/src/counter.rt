@@ -9,13 +9,14 @@ ghost use Rattle.pli_typing.specs.TypedStatementView.{counter_of};
 ghost use Rattle.pli_meaning.specs.Numbers.{signed_result};
 ghost use Rattle.pli_coding.specs.Arithmetic.{sum_code};
 ghost use Rattle.pli_coding.specs.Statements as form;
-ghost use Rattle.rv_address.specs.Around.{environment_of, taken_of};
+ghost use Rattle.pli_frames.specs.TakenView.{taken_of};
+ghost use Rattle.rv_address.specs.Around.{environment_of};
 ghost use Rattle.rv_statement.specs.Pieces.{act_begun, kept_added, limit_kept, start_kept, start_read, step_kept, step_loaded, stepped, summed_by};
 
 use pli_frames::fixed::words_place;
+use pli_frames::taken::Taken;
 use pli_typing::typed::{ArithmeticOperator, Counter, Number, Sign, Value};
 use rv_address::environment::Environment;
-use rv_address::taken::Taken;
 use rv_allocation::allocation::act_code;
 use rv_assembly::code::Code;
 use rv_assembly::registers::{a0, a1, frame, u1, u2, u3, zero};

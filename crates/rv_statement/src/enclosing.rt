@@ -7,7 +7,8 @@ ghost use Rattle.pli_typing.specs.TypedStatementView.{block_head_of, counter_of}
 ghost use Rattle.pli_coding.specs.Assembly.{Mark, ReturnPlace};
 ghost use Rattle.pli_coding.specs.Environments.{BlockOwner};
 ghost use Rattle.pli_coding.specs.Statements as form;
-ghost use Rattle.rv_address.specs.Around.{environment_of, owner_of, taken_of};
+ghost use Rattle.pli_frames.specs.TakenView.{taken_of};
+ghost use Rattle.rv_address.specs.Around.{environment_of, owner_of};
 ghost use Rattle.rv_statement.specs.Ahead.{ComesTo, ComesToIf};
 ghost use Rattle.rv_statement.specs.Pieces.{block_begun, block_ended, counting, held_back, once_begun, once_tested, unit_announced, unit_begun, unit_ended, unit_gone, unit_told};
 
@@ -15,11 +16,11 @@ use crate::condition::condition_given;
 use crate::counter::count_begun;
 use crate::single::{acted, assign_statement};
 use crate::tested::test_begun;
+use pli_frames::taken::Taken;
 use pli_language::condition::Condition;
 use pli_typing::statement::{BlockHead, BlockKind};
 use pli_typing::typed::{Bit, Counter, Number, Reference, Stored, Value};
 use rv_address::environment::{BlockPlace, Environment, Owner};
-use rv_address::taken::Taken;
 use rv_assembly::code::Code;
 use rv_assembly::item::{Item, Symbol};
 use rv_assembly::place::Place;

@@ -8,13 +8,13 @@ ghost use Rattle.pli_coding.specs.Registers.{held_registers};
 ghost use Rattle.pli_coding.specs.Statements as form;
 ghost use Rattle.rv_address.specs.Around.{environment_of};
 
-use crate::words::block_words;
+use crate::temporaries::block_takes;
 use pli_language::expr::Name;
 use pli_typing::statement::{Stmt, Stmts};
 use rv_address::environment::Environment;
 use std::alloc::AllocError;
 
-fn most(first: u32, second: u32) -> u32
+fn most(first: u8, second: u8) -> u8
     ensures { result ≡ max first second }
 {
     first.max(second)
@@ -22,16 +22,24 @@ fn most(first: u32, second: u32) -> u32
 
 /// All, where a label stands: a GOTO to it leaves those of the frames above unrestored.
 #[tactic(auto, using(crate::proofs::HeldTaken::no_label, crate::proofs::HeldTaken::some_label))]
-fn labels_held(labels: &[Name]) -> u32
+fn labels_held(labels: &[Name]) -> u8
     ensures { result ≡ form.labels_held (letters_of (map name_of labels.now)) }
 {
     if labels.len() == 0 { 0 } else { 7 }
 }
 
+/// Those that a begin block's own temporaries take.
+fn block_registers(environment: &Environment, block: usize, body: &Stmts) -> Result<u8, AllocError>
+    ensures { IfOk result (λ n. n ≡ (form.block_takes (environment_of environment.now).program block (stmts_of body.now)).registers) }
+{
+    let taken = block_takes(environment, block, body)?;
+    Ok(taken.registers)
+}
+
 /// Those of the begin blocks in a statement, which save none, and of its labels.
 #[cycle(held)]
 #[tactic(auto, using(crate::proofs::HeldTaken::held))]
-fn stmt_held(environment: &Environment, statement: &Stmt) -> Result<u32, AllocError>
+fn stmt_held(environment: &Environment, statement: &Stmt) -> Result<u8, AllocError>
     ensures { IfOk result (λ n. n ≡ form.stmt_held (environment_of environment.now).program (stmt_of statement.now)) }
 {
     match statement {
@@ -48,8 +56,8 @@ fn stmt_held(environment: &Environment, statement: &Stmt) -> Result<u32, AllocEr
         Stmt::DoWhile { body, .. } => Ok(stmts_held(environment, body)?),
         Stmt::DoTurns { body, .. } => Ok(stmts_held(environment, body)?),
         Stmt::Begin { head, body } => {
-            let words = block_words(environment, head.number, body)?;
-            Ok(words.max(stmts_held(environment, body)?))
+            let own = block_registers(environment, head.number, body)?;
+            Ok(own.max(stmts_held(environment, body)?))
         }
         Stmt::OnUnit { .. } => Ok(0),
         Stmt::Assign { .. } => Ok(0),
@@ -76,7 +84,7 @@ fn stmt_held(environment: &Environment, statement: &Stmt) -> Result<u32, AllocEr
 /// The same of a list of statements.
 #[cycle(held)]
 #[tactic(auto, using(crate::proofs::HeldTaken::held))]
-fn stmts_held(environment: &Environment, body: &Stmts) -> Result<u32, AllocError>
+fn stmts_held(environment: &Environment, body: &Stmts) -> Result<u8, AllocError>
     ensures { IfOk result (λ n. n ≡ form.stmts_held (environment_of environment.now).program (stmts_of body.now)) }
 {
     let mut count = 0;
@@ -97,17 +105,17 @@ fn stmts_held(environment: &Environment, body: &Stmts) -> Result<u32, AllocError
     }
 }
 
-/// What the temporaries of a frame take, which are so many words.
-pub fn held_for(words: u32) -> u8
-    ensures { result ≡ min held_registers words }
+/// What a frame saves of registers that its temporaries take.
+pub fn held_for(registers: u8) -> u8
+    ensures { result ≡ min held_registers registers }
 {
-    words.min(7) as u8
+    registers.min(7)
 }
 
-/// What a frame saves whose temporaries are so many words.
-pub fn held_with(environment: &Environment, words: u32, body: &Stmts) -> Result<u8, AllocError>
-    ensures { IfOk result (λ n. n ≡ form.held_with (environment_of environment.now).program words (stmts_of body.now)) }
+/// What a frame saves whose own temporaries take so many registers.
+pub fn held_with(environment: &Environment, registers: u8, body: &Stmts) -> Result<u8, AllocError>
+    ensures { IfOk result (λ n. n ≡ form.held_with (environment_of environment.now).program registers (stmts_of body.now)) }
 {
     let inner = stmts_held(environment, body)?;
-    Ok(held_for(words.max(inner)))
+    Ok(held_for(registers.max(inner)))
 }

@@ -10,6 +10,6 @@ pub mod held;
 mod returning;
 mod single;
 pub mod statement;
+pub mod temporaries;
 mod tested;
 mod turn;
-pub mod words;

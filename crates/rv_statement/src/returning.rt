@@ -3,16 +3,17 @@
 ghost use Rattle.std.specs.Prelude.{◌≡◌, ◌<◌, ◌++◌, OnOk, IfOk};
 ghost use Rattle.pli_typing.specs.TypedView.{extent_of, leaf_type_of};
 ghost use Rattle.pli_coding.specs.Statements as form;
-ghost use Rattle.rv_address.specs.Around.{environment_of, taken_of};
+ghost use Rattle.pli_frames.specs.TakenView.{taken_of};
+ghost use Rattle.rv_address.specs.Around.{environment_of};
 ghost use Rattle.rv_address.specs.Places.{address_of};
 ghost use Rattle.rv_statement.specs.Pieces.{text_returned};
 
 use pli_frames::fixed::{display, own_offset, result_place};
+use pli_frames::taken::Taken;
 use pli_typing::typed::{Extent, LeafType};
 use rv_address::environment::{Environment, Owner};
 use rv_address::names::{frame_found, frame_in};
 use rv_address::number::signed;
-use rv_address::taken::Taken;
 use rv_address::transfer::{Address, in_own_frame, length_loaded, name_copied};
 use rv_assembly::code::Code;
 use rv_assembly::item::{Item, Symbol};

@@ -3,18 +3,19 @@
 ghost use Rattle.std.specs.Prelude.{◌≡◌, map, ◌++◌, OnOk};
 ghost use Rattle.pli_typing.specs.TypedView.{call_of, leaf_type_of, reference_of, stored_of, variable_of};
 ghost use Rattle.pli_typing.specs.TypedStatementView.{allocation_of, freeing_of, get_pair_of, put_pair_of};
-ghost use Rattle.rv_address.specs.Around.{environment_of, taken_of};
+ghost use Rattle.pli_frames.specs.TakenView.{taken_of};
+ghost use Rattle.rv_address.specs.Around.{environment_of};
 ghost use Rattle.rv_statement.specs.Pieces.{acted, aggregate_statement, allocate_statement, area_statement, assign_statement, call_statement, elements_statement, emptied_statement, free_statement, get_statement, goto_statement, put_statement, return_statement, revert_statement, signal_statement, stop_statement, system_statement, value_statement};
 
 use crate::condition::{condition_given, signal_code};
 use crate::goto::goto_code;
 use crate::returning::{returned_by, value_returned};
+use pli_frames::taken::Taken;
 use pli_language::condition::Condition;
 use pli_typing::typed::{
     Allocation, Call, Freeing, GetPair, LeafType, PutPair, Reference, Stored, Variable,
 };
 use rv_address::environment::Environment;
-use rv_address::taken::Taken;
 use rv_allocation::allocation::{act_code, allocations_code};
 use rv_allocation::freeing::freeings_code;
 use rv_assembly::code::Code;

@@ -6,7 +6,8 @@ ghost use Rattle.pli_typing.specs.TypedView.{bit_of, number_of, reference_of, st
 ghost use Rattle.pli_typing.specs.TypedStatementView.{block_head_of, counter_of, stmt_of, stmts_of, turns_of};
 ghost use Rattle.pli_coding.specs.Environments as environments;
 ghost use Rattle.pli_coding.specs.Statements as form;
-ghost use Rattle.rv_address.specs.Around.{environment_of, taken_of};
+ghost use Rattle.pli_frames.specs.TakenView.{taken_of};
+ghost use Rattle.rv_address.specs.Around.{environment_of};
 ghost use Rattle.rv_statement.specs.Pieces.{begin_statement, count_statement, if_else_statement, if_statement, once_statement, turns_statement, unit_statement, while_statement};
 
 use crate::ahead::{jump_over_if, otherwise};
@@ -23,14 +24,14 @@ use crate::single::{
     goto_statement, put_statement, return_statement, revert_statement, signal_statement,
     stop_statement, system_statement, value_statement,
 };
+use crate::temporaries::{block_takes, unit_takes};
 use crate::tested::test_begun;
 use crate::turn::{turn_begun, turn_ended, while_begun, while_ended};
-use crate::words::{block_words, unit_words};
+use pli_frames::taken::{Taken, none_taken};
 use pli_language::condition::Condition;
 use pli_typing::statement::{BlockHead, Stmt, Stmts, Turns};
 use pli_typing::typed::{Bit, Counter, Number, Reference, Stored, Value};
 use rv_address::environment::Environment;
-use rv_address::taken::{Taken, none_taken};
 use rv_assembly::code::Code;
 use std::alloc::{AllocError, Global};
 
@@ -331,13 +332,13 @@ fn begin_code(
     head: BlockHead,
     body: &Stmts,
 ) -> Result<(), AllocError>
-    ensures { OnOk result (code.new ≡ code.old ++ begin_statement (environment_of environment.now) (block_head_of head) (form.block_words (environment_of environment.now) head.number (form.stmts_words (stmts_of body.now))) (form.stmts_code (form.begin_environment (block_head_of head) (environment_of environment.now)) environments.none_taken (stmts_of body.now))) }
+    ensures { OnOk result (code.new ≡ code.old ++ begin_statement (environment_of environment.now) (block_head_of head) (form.block_words (environment_of environment.now) head.number (stmts_of body.now)) (form.stmts_code (form.begin_environment (block_head_of head) (environment_of environment.now)) environments.none_taken (stmts_of body.now))) }
 {
-    let words = block_words(environment, head.number, body)?;
+    let own = block_takes(environment, head.number, body)?;
     let inside = environment.in_frame(head.number, head.level);
-    block_begun(alloc, code, &inside, head.level, words, head.line)?;
+    block_begun(alloc, code, &inside, head.level, own.words, head.line)?;
     stmts_code(alloc, code, &inside, none_taken(), body)?;
-    block_ended(code, words)?;
+    block_ended(code, own.words)?;
     Ok(())
 }
 
@@ -352,17 +353,17 @@ fn unit_code(
     body: &Stmts,
     line: u32,
 ) -> Result<(), AllocError>
-    ensures { OnOk result (code.new ≡ code.old ++ unit_statement (environment_of environment.now) condition (block_head_of head) (form.unit_words (environment_of environment.now) (block_head_of head) (block_head_of head).kind (form.stmts_words (stmts_of body.now))) (form.unit_held (environment_of environment.now) (block_head_of head) (block_head_of head).kind (stmts_of body.now)) (form.stmts_code (form.unit_environment (block_head_of head) (environment_of environment.now)) environments.none_taken (stmts_of body.now)) line) }
+    ensures { OnOk result (code.new ≡ code.old ++ unit_statement (environment_of environment.now) condition (block_head_of head) (form.unit_words (environment_of environment.now) (block_head_of head) (block_head_of head).kind (stmts_of body.now)) (form.unit_held (environment_of environment.now) (block_head_of head) (block_head_of head).kind (stmts_of body.now)) (form.stmts_code (form.unit_environment (block_head_of head) (environment_of environment.now)) environments.none_taken (stmts_of body.now)) line) }
 {
-    let words = unit_words(environment, head, body)?;
-    let held = held_with(environment, words, body)?;
+    let own = unit_takes(environment, head, body)?;
+    let held = held_with(environment, own.registers, body)?;
     let inside = environment
         .in_frame(head.number, head.level)
         .owned_by(owner_of_unit(head));
     let end = unit_announced(code, condition, line)?;
-    unit_begun(alloc, code, &inside, head, words, held)?;
+    unit_begun(alloc, code, &inside, head, own.words, held)?;
     stmts_code(alloc, code, &inside, none_taken(), body)?;
-    unit_ended(code, head, words, held)?;
+    unit_ended(code, head, own.words, held)?;
     code.jump_over(end);
     Ok(())
 }

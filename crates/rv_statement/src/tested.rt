@@ -5,15 +5,16 @@ ghost use Rattle.pli_language.specs.View.{option_of};
 ghost use Rattle.pli_typing.specs.TypedView.{bit_of, number_of};
 ghost use Rattle.pli_typing.specs.TypedStatementView.{counter_of};
 ghost use Rattle.pli_coding.specs.Statements as form;
-ghost use Rattle.rv_address.specs.Around.{environment_of, taken_of};
+ghost use Rattle.pli_frames.specs.TakenView.{taken_of};
+ghost use Rattle.rv_address.specs.Around.{environment_of};
 ghost use Rattle.rv_statement.specs.Ahead.{ComesTo, ComesToIf};
 ghost use Rattle.rv_statement.specs.Pieces.{bit_tested, flag_tested, limit_ahead, limit_compared, limit_loaded, step_beside, test_begun, turned_if_negative};
 
 use crate::ahead::ahead_unless;
 use crate::counter::{counter_read, in_turns, limit_place, step_place};
+use pli_frames::taken::Taken;
 use pli_typing::typed::{Bit, Counter, Number};
 use rv_address::environment::Environment;
-use rv_address::taken::Taken;
 use rv_allocation::allocation::act_code;
 use rv_assembly::code::Code;
 use rv_assembly::place::Place;

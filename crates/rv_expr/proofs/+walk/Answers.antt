@@ -1,6 +1,7 @@
 use Rattle.std.proofs.lemmas.Result.{on_ok_weaker}
 use Rattle.pli_typing.specs.TypedView.{arguments_of}
-use Rattle.rv_address.specs.Around.{environment_of, taken_of}
+use Rattle.pli_frames.specs.TakenView.{taken_of}
+use Rattle.rv_address.specs.Around.{environment_of}
 use Rattle.rv_operation.specs.Asked.{list_of}
 use Rattle.rv_expr.proofs.Called.{call_made}
 use Rattle.rv_expr.proofs.+walk.Goals as goal

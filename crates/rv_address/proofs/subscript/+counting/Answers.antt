@@ -1,7 +1,8 @@
 use Rattle.std.proofs.Common.{◌+◌, ◌<◌, ◌++◌, ◌∙◌, ap, map, length, refl, rules}
 use Rattle.pli_typing.specs.TypedView.{bounds_of, number_of, numbers_of}
 use Rattle.pli_coding.specs.Locating.{subscripts_counted}
-use Rattle.rv_address.specs.Around.{environment_of, taken_of}
+use Rattle.pli_frames.specs.TakenView.{taken_of}
+use Rattle.rv_address.specs.Around.{environment_of}
 use Rattle.rv_address.proofs.Counting.{next_subscript}
 use Rattle.rv_address.proofs.subscript.+counting.Goals as goal
 

@@ -1,7 +1,8 @@
 use Rattle.std.proofs.Common.{◌≡◌, ◌++◌, map, drop}
 use Rattle.pli_typing.specs.TypedStatementView.{allocation_of}
 use Rattle.pli_coding.specs.Allocating.{allocations_code}
-use Rattle.rv_address.specs.Around.{environment_of, taken_of}
+use Rattle.pli_frames.specs.TakenView.{taken_of}
+use Rattle.rv_address.specs.Around.{environment_of}
 use Rattle.rv_allocation.proofs.allocation.allocations_code.Given as goal
 
 abbrev pub invariant-loop-one : goal.invariant-loop-one

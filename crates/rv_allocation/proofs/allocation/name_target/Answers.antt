@@ -1,4 +1,5 @@
-use Rattle.rv_address.specs.Around.{environment_of, taken_of}
+use Rattle.pli_frames.specs.TakenView.{taken_of}
+use Rattle.rv_address.specs.Around.{environment_of}
 use Rattle.rv_address.specs.Places.{name_of}
 use Rattle.rv_allocation.proofs.Walks.{target_pointer}
 use Rattle.rv_allocation.proofs.allocation.name_target.Goals as goal

@@ -1,4 +1,5 @@
-use Rattle.rv_address.specs.Around.{environment_of, taken_of}
+use Rattle.pli_frames.specs.TakenView.{taken_of}
+use Rattle.rv_address.specs.Around.{environment_of}
 use Rattle.rv_allocation.proofs.Walks.{freed_based, freed_controlled}
 use Rattle.rv_allocation.proofs.freeing.freeing_code.Goals as goal
 

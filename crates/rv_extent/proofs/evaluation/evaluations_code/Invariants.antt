@@ -1,7 +1,8 @@
 use Rattle.std.proofs.Common.{◌≡◌, ◌++◌, map, drop}
 use Rattle.pli_typing.specs.TypedStatementView.{declared_variable_of, evaluation_of}
 use Rattle.pli_coding.specs.Extents.{evaluations_code}
-use Rattle.rv_address.specs.Around.{environment_of, taken_of}
+use Rattle.pli_frames.specs.TakenView.{taken_of}
+use Rattle.rv_address.specs.Around.{environment_of}
 use Rattle.rv_extent.proofs.evaluation.evaluations_code.Given as goal
 
 abbrev pub invariant-loop-place : goal.invariant-loop-place

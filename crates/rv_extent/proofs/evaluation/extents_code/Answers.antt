@@ -1,6 +1,7 @@
 use Rattle.pli_typing.specs.TypedView.{variable_of}
 use Rattle.pli_typing.specs.TypedStatementView.{declared_variable_of}
-use Rattle.rv_address.specs.Around.{environment_of, taken_of}
+use Rattle.pli_frames.specs.TakenView.{taken_of}
+use Rattle.rv_address.specs.Around.{environment_of}
 use Rattle.rv_extent.proofs.Steps.{of_declaration}
 use Rattle.rv_extent.proofs.evaluation.extents_code.Goals as goal
 

@@ -1,6 +1,6 @@
 use Rattle.std.proofs.Common.{◌++◌, ◌∙◌, ap, append_assoc}
 use Rattle.std.proofs.Math.Facts.{to_z-of_z}
-use Rattle.rv_address.specs.Around.{taken_of}
+use Rattle.pli_frames.specs.TakenView.{taken_of}
 use Rattle.rv_operation.specs.Pieces.{constant_checked, constant_summed}
 use Rattle.rv_operation.proofs.arithmetic.constant_added.Goals as goal
 

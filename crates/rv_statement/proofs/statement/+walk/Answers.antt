@@ -4,11 +4,12 @@ use Rattle.pli_typing.specs.Resolving.{letters_of}
 use Rattle.pli_typing.specs.TypedView.{bit_of, number_of, reference_of, stored_of, value_of}
 use Rattle.pli_typing.specs.TypedStatementView.{block_head_of, counter_of, stmt_of, stmts_of}
 use Rattle.pli_coding.specs.Assembly.{Code}
-use Rattle.pli_coding.specs.Environments.{Environment, Owner, none_taken, owned_by}
-use Rattle.pli_coding.specs.Statements.{block_words, marked, owner_of_unit, stmt_code, stmts_code, stmts_words}
+use Rattle.pli_coding.specs.Environments.{Environment, Owner, Taken, none_taken, owned_by}
+use Rattle.pli_coding.specs.Statements.{block_words, marked, owner_of_unit, stmt_code, stmts_code}
 use Rattle.pli_coding.specs.Statements.{held_with, unit_held, unit_words}
+use Rattle.pli_frames.specs.TakenView.{taken_of}
 use Rattle.rv_assembly.specs.Places.{IsPlace}
-use Rattle.rv_address.specs.Around.{environment_of, taken_of}
+use Rattle.rv_address.specs.Around.{environment_of}
 use Rattle.rv_statement.specs.Ahead.{jumped_if, turned_back}
 use Rattle.rv_statement.specs.Pieces.{stepped}
 use Rattle.rv_statement.specs.Turning.{TurnBegun}
@@ -75,8 +76,12 @@ pub begin_code-returns : goal.begin_code-returns
 begin_code-returns t c =
     let e = environment_of c.args.environment.now in
     let head = block_head_of c.args.head in
-    begin_whole c.args.code.now c.block_begun.new.code c.stmts_code.new.code c.block_ended.new.code (λ i s. stmts_code i s (stmts_of c.args.body.now)) e (environment_of c.in_frame-inside.result) (taken_of c.none_taken.result) none_taken head c.in_ok-words.words (block_words e c.args.head.number (stmts_words (stmts_of c.args.body.now)))
-    c.in_ok-block_begun.ensures c.in_ok-stmts_code.ensures c.in_ok-block_ended.ensures c.in_frame-inside.ensures c.none_taken.ensures c.in_ok-words.ensures
+    begin_whole c.args.code.now c.block_begun.new.code c.stmts_code.new.code c.block_ended.new.code
+    (λ i s. stmts_code i s (stmts_of c.args.body.now)) e (environment_of c.in_frame-inside.result)
+    (taken_of c.none_taken.result) none_taken head c.in_ok-own.own.words
+    (block_words e c.args.head.number (stmts_of c.args.body.now))
+    c.in_ok-block_begun.ensures c.in_ok-stmts_code.ensures c.in_ok-block_ended.ensures c.in_frame-inside.ensures
+    c.none_taken.ensures (ap (λ (k : Taken). k.words) c.in_ok-own.ensures)
 
 pub unit_code-returns : goal.unit_code-returns
 unit_code-returns t c =
@@ -87,10 +92,12 @@ unit_code-returns t c =
     unit_whole c.args.code.now c.unit_announced.new.code c.unit_begun.new.code c.stmts_code.new.code
     c.unit_ended.new.code c.jump_over.new.self (λ i s. stmts_code i s (stmts_of c.args.body.now)) c.in_ok-end.end
     e (environment_of c.owned_by-inside.result) (taken_of c.none_taken.result) none_taken c.args.condition head
-    c.in_ok-words.words (unit_words e head head.kind (stmts_words (stmts_of c.args.body.now))) c.in_ok-held.held
+    c.in_ok-own.own.words (unit_words e head head.kind (stmts_of c.args.body.now)) c.in_ok-held.held
     (unit_held e head head.kind (stmts_of c.args.body.now)) c.args.line
-    c.in_ok-end.ensures c.in_ok-unit_begun.ensures c.in_ok-stmts_code.ensures c.in_ok-unit_ended.ensures c.jump_over.ensures around c.none_taken.ensures c.in_ok-words.ensures
-    (c.in_ok-held.ensures ∙ ap (λ n. held_with e.program n (stmts_of c.args.body.now)) c.in_ok-words.ensures)
+    c.in_ok-end.ensures c.in_ok-unit_begun.ensures c.in_ok-stmts_code.ensures c.in_ok-unit_ended.ensures
+    c.jump_over.ensures around c.none_taken.ensures (ap (λ (k : Taken). k.words) c.in_ok-own.ensures)
+    (c.in_ok-held.ensures
+    ∙ ap (λ (k : Taken). held_with e.program k.registers (stmts_of c.args.body.now)) c.in_ok-own.ensures)
 
 pub stmts_code-returns-in-End : goal.stmts_code-returns-in-End
 stmts_code-returns-in-End t c =

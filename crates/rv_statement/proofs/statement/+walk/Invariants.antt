@@ -1,7 +1,8 @@
 use Rattle.std.proofs.Common.{◌≡◌, ◌≤◌, ◌+◌, ◌*◌, ◌++◌}
 use Rattle.pli_typing.specs.TypedStatementView.{stmts_of}
 use Rattle.pli_coding.specs.Statements.{stmts_code}
-use Rattle.rv_address.specs.Around.{environment_of, taken_of}
+use Rattle.pli_frames.specs.TakenView.{taken_of}
+use Rattle.rv_address.specs.Around.{environment_of}
 use Rattle.rv_statement.proofs.Weights.{stmt_weight, stmts_weight}
 use Rattle.rv_statement.proofs.statement.+walk.Given as goal
 

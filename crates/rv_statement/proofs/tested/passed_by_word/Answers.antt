@@ -1,6 +1,6 @@
 use Rattle.std.proofs.Common.{◌++◌, ◌∙◌, ap, None}
 use Rattle.pli_coding.specs.Statements.{passed_by}
-use Rattle.rv_address.specs.Around.{taken_of}
+use Rattle.pli_frames.specs.TakenView.{taken_of}
 use Rattle.rv_statement.specs.Pieces.{flag_tested, limit_compared}
 use Rattle.rv_statement.proofs.Counted.{limit_is}
 use Rattle.rv_statement.proofs.Placing.{comes_along, comes_behind, written_behind}

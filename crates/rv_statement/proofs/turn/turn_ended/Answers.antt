@@ -1,7 +1,8 @@
 use Rattle.std.proofs.Common.{sym, subst}
 use Rattle.pli_typing.specs.TypedStatementView.{counter_of}
 use Rattle.pli_coding.specs.Assembly.{Code}
-use Rattle.rv_address.specs.Around.{environment_of, taken_of}
+use Rattle.pli_frames.specs.TakenView.{taken_of}
+use Rattle.rv_address.specs.Around.{environment_of}
 use Rattle.rv_assembly.specs.declared.place.Place.{Place}
 use Rattle.std.specs.Prelude.{Option}
 use Rattle.rv_statement.specs.Ahead.{IsJumpIf}

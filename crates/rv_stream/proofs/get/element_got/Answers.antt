@@ -1,6 +1,7 @@
 use Rattle.std.proofs.lemmas.Result.{on_ok_weaker}
 use Rattle.pli_typing.specs.TypedView.{reference_of}
-use Rattle.rv_address.specs.Around.{environment_of, taken_of}
+use Rattle.pli_frames.specs.TakenView.{taken_of}
+use Rattle.rv_address.specs.Around.{environment_of}
 use Rattle.rv_item.specs.Elements.{elements_shown}
 use Rattle.rv_item.specs.Lists.{formats_in}
 use Rattle.rv_stream.proofs.Storing.{element_is_got}

@@ -1,6 +1,7 @@
 use Rattle.std.proofs.Common.{◌≡◌, ◌++◌, map, drop}
 use Rattle.pli_typing.specs.TypedStatementView.{get_item_of}
-use Rattle.rv_address.specs.Around.{environment_of, taken_of}
+use Rattle.pli_frames.specs.TakenView.{taken_of}
+use Rattle.rv_address.specs.Around.{environment_of}
 use Rattle.rv_stream.specs.Exits.{items_exits, items_kept}
 use Rattle.rv_item.specs.Lists.{formats_in}
 use Rattle.rv_stream.proofs.get.items_got.Given as goal

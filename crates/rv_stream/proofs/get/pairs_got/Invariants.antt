@@ -1,6 +1,7 @@
 use Rattle.std.proofs.Common.{◌≡◌, ◌++◌, map, drop}
 use Rattle.pli_typing.specs.TypedStatementView.{get_pair_of}
-use Rattle.rv_address.specs.Around.{environment_of, taken_of}
+use Rattle.pli_frames.specs.TakenView.{taken_of}
+use Rattle.rv_address.specs.Around.{environment_of}
 use Rattle.rv_stream.specs.Exits.{pairs_exits, pairs_kept}
 use Rattle.rv_stream.proofs.get.pairs_got.Given as goal
 

@@ -1,7 +1,8 @@
 use Rattle.std.proofs.Common.{◌≡◌, ◌++◌, map, drop}
 use Rattle.pli_typing.specs.TypedStatementView.{put_item_of}
 use Rattle.pli_coding.specs.Streams.{items_put}
-use Rattle.rv_address.specs.Around.{environment_of, taken_of}
+use Rattle.pli_frames.specs.TakenView.{taken_of}
+use Rattle.rv_address.specs.Around.{environment_of}
 use Rattle.rv_item.specs.Lists.{formats_in}
 use Rattle.rv_stream.proofs.put.items_put.Given as goal
 

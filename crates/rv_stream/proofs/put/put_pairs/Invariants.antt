@@ -1,7 +1,8 @@
 use Rattle.std.proofs.Common.{◌≡◌, ◌++◌, map, drop}
 use Rattle.pli_typing.specs.TypedStatementView.{put_pair_of}
 use Rattle.pli_coding.specs.Streams.{put_pairs}
-use Rattle.rv_address.specs.Around.{environment_of, taken_of}
+use Rattle.pli_frames.specs.TakenView.{taken_of}
+use Rattle.rv_address.specs.Around.{environment_of}
 use Rattle.rv_stream.proofs.put.put_pairs.Given as goal
 
 abbrev pub invariant-loop-pair : goal.invariant-loop-pair
