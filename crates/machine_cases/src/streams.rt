@@ -21,7 +21,8 @@ const READ_UNTIL_ENDFILE: &str = "T: PROC OPTIONS(MAIN);\n\
     L2: GET EDIT (X) (F(5)); PUT EDIT (X) (F(4)); GOTO L2; L: PUT EDIT (' END') (A);\n\
     END T;";
 
-const FORMAT_USED_AGAIN: &str = "T: PROC OPTIONS(MAIN);\nPUT EDIT (1,2,3) (F(2),X(1),SKIP);\nEND T;";
+const FORMAT_USED_AGAIN: &str =
+    "T: PROC OPTIONS(MAIN);\nPUT EDIT (1,2,3) (F(2),X(1),SKIP);\nEND T;";
 
 const BASE: u32 = 65536;
 
@@ -125,7 +126,10 @@ fn tell_ran(rt: &HostRuntime, ran: &Result<Outcome, RunFault>, held: &[u8]) -> R
     let held = str::from_utf8(held).unwrap_or("");
     match ran {
         Ok(outcome) => {
-            println!(rt; "  acts {}, end {:?}, held {held:?}", outcome.acts, outcome.end)?;
+            println!(rt;
+                "  acts {}, end {:?}, held {held:?}",
+                outcome.acts, outcome.end
+            )?;
         }
         Err(RunFault::Read { acts, .. }) => println!(rt; "  4 Read, acts {acts}, held {held:?}")?,
         Err(RunFault::Write { acts, .. }) => println!(rt; "  5 Write, acts {acts}, held {held:?}")?,
@@ -153,7 +157,11 @@ fn tell_sum(rt: &HostRuntime) -> Result<()> {
         return Ok(());
     };
     let alloc = rt.alloc();
-    for drain in [Bucket::new(alloc, 9, 9, 0), Bucket::new(alloc, 5, 9, 9), Bucket::new(alloc, 99, 1, 99)] {
+    for drain in [
+        Bucket::new(alloc, 9, 9, 0),
+        Bucket::new(alloc, 5, 9, 9),
+        Bucket::new(alloc, 99, 1, 99),
+    ] {
         tell_stream(rt, &image, Spring::new(b"", 1, 1), drain)?;
     }
     Ok(())

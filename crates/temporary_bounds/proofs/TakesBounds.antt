@@ -28,24 +28,24 @@ mutual
   number_bound t (Y.NumberOfText x) = text_bound t x
   number_bound t (Y.NumberOfBit b) = bit_bound t b
   number_bound t (Y.Signed sign x) = let m = number_most t in let a = number_bound t x in omega (arith, m, a)
-  number_bound t (Y.Calculated operator left right) = 
+  number_bound t (Y.Calculated operator left right) =
       let m = number_most t in
       let a = number_bound t left in
       let b = number_bound (with_number t) right in
       omega (arith, m, a, b)
   number_bound t (Y.Absolute x) = let m = number_most t in let a = number_bound t x in omega (arith, m, a)
   number_bound t (Y.SignOf x) = number_bound t x
-  number_bound t (Y.Extreme extremum first more) = 
+  number_bound t (Y.Extreme extremum first more) =
       let m = number_most t in
       let a = number_bound t first in
       let b = numbers_bound (with_number t) more in
       omega (arith, m, a, b)
-  number_bound t (Y.Modulo dividend divisor) = 
+  number_bound t (Y.Modulo dividend divisor) =
       let m = number_most t in
       let a = number_bound t dividend in
       let b = number_bound (with_number t) divisor in
       omega (arith, m, a, b)
-  number_bound t (Y.Divided precision dividend divisor) = 
+  number_bound t (Y.Divided precision dividend divisor) =
       let m = number_most t in
       let a = number_bound t dividend in
       let b = number_bound (with_number t) divisor in
@@ -71,7 +71,7 @@ mutual
   text_bound t (Y.TextOfBit b) = bit_bound t b
   text_bound t (Y.Joined left right) = let a = text_bound t left in let b = text_bound t right in omega (arith, a, b)
   text_bound t (Y.SubstringFrom x start) = let a = text_bound t x in let b = number_bound t start in omega (arith, a, b)
-  text_bound t (Y.Substring x start count) = 
+  text_bound t (Y.Substring x start count) =
       let m = number_most t in
       let a = text_bound t x in
       let b = number_bound t start in
@@ -84,27 +84,27 @@ mutual
   bit_bound t (Y.BitFrom c) = call_bound t c
   bit_bound t (Y.BitOfText x) = text_bound t x
   bit_bound t (Y.Negated x) = bit_bound t x
-  bit_bound t (Y.Combined operator left right) = 
+  bit_bound t (Y.Combined operator left right) =
       let m = number_most t in
       let a = bit_bound t left in
       let b = bit_bound (with_number t) right in
       omega (arith, m, a, b)
-  bit_bound t (Y.NumbersCompared comparison left right) = 
+  bit_bound t (Y.NumbersCompared comparison left right) =
       let m = number_most t in
       let a = number_bound t left in
       let b = number_bound (with_number t) right in
       omega (arith, m, a, b)
   bit_bound t (Y.TextsCompared comparison left right) = let a = text_bound t left in let b = text_bound t right in omega (arith, a, b)
-  bit_bound t (Y.BitsCompared comparison left right) = 
+  bit_bound t (Y.BitsCompared comparison left right) =
       let m = number_most t in
       let a = bit_bound t left in
       let b = bit_bound (with_number t) right in
       omega (arith, m, a, b)
-  bit_bound t (Y.PointersCompared equal left right) = 
+  bit_bound t (Y.PointersCompared equal left right) =
       let a = pointer_bound t left in
       let b = pointer_bound (with_words 4 t) right in
       omega (arith, a, b)
-  bit_bound t (Y.OffsetsCompared equal left right) = 
+  bit_bound t (Y.OffsetsCompared equal left right) =
       let m = number_most t in
       let a = offset_bound t left in
       let b = offset_bound (with_number t) right in
@@ -124,7 +124,7 @@ mutual
   offset_bound t (Y.OffsetInto x area) = pointer_bound t x
 
   pub reference_bound : (t : Taken) (x : Y.Reference) → (reference_takes t x).words ≤ t.words + reference_words x
-  reference_bound t (Y.Referring v locator part subscripts) = 
+  reference_bound t (Y.Referring v locator part subscripts) =
       let a = locator_bound t locator in
       let b = subscripts_bound (behind_locator v t) subscripts in
       let c = locator_words_are v t in
@@ -136,14 +136,14 @@ mutual
 
   pub subscripts_bound : (t : Taken) (x : Y.Numbers) → (subscripts_take t x).words ≤ t.words + subscripts_words x
   subscripts_bound t Y.NoNumber = omega arith
-  subscripts_bound t (Y.NumberThen first rest) = 
+  subscripts_bound t (Y.NumberThen first rest) =
       let m = number_most t in
       let a = number_bound t first in
       let b = subscripts_bound (with_number t) rest in
       omega (arith, m, a, b)
 
   pub call_bound : (t : Taken) (x : Y.Call) → (call_takes t x).words ≤ t.words + call_words x
-  call_bound t (Y.Calling procedure level as') = 
+  call_bound t (Y.Calling procedure level as') =
       let a = arguments_bound (with_words (list_words as') t) as' in omega (arith, a)
 
   pub arguments_bound : (t : Taken) (x : Y.Arguments) → (arguments_take t x).words ≤ t.words + arguments_words x

@@ -123,15 +123,15 @@ mutual
   number_takes_more t u less (Y.NumberOfText x) = text_takes_more t u less x
   number_takes_more t u less (Y.NumberOfBit b) = bit_takes_more t u less b
   number_takes_more t u less (Y.Signed sign x) = most_fewer _ _ _ _ (number_fewer t u less) (number_takes_more t u less x)
-  number_takes_more t u less (Y.Calculated operator left right) = 
+  number_takes_more t u less (Y.Calculated operator left right) =
       most_fewer _ _ _ _ (number_takes_more t u less left) (number_takes_more _ _ (number_fewer t u less) right)
   number_takes_more t u less (Y.Absolute x) = most_fewer _ _ _ _ (number_fewer t u less) (number_takes_more t u less x)
   number_takes_more t u less (Y.SignOf x) = number_takes_more t u less x
-  number_takes_more t u less (Y.Extreme extremum first more) = 
+  number_takes_more t u less (Y.Extreme extremum first more) =
       most_fewer _ _ _ _ (number_takes_more t u less first) (numbers_take_more _ _ (number_fewer t u less) more)
-  number_takes_more t u less (Y.Modulo dividend divisor) = 
+  number_takes_more t u less (Y.Modulo dividend divisor) =
       most_fewer _ _ _ _ (number_takes_more t u less dividend) (number_takes_more _ _ (number_fewer t u less) divisor)
-  number_takes_more t u less (Y.Divided precision dividend divisor) = 
+  number_takes_more t u less (Y.Divided precision dividend divisor) =
       most_fewer _ _ _ _ (number_takes_more t u less dividend) (number_takes_more _ _ (number_fewer t u less) divisor)
   number_takes_more t u less (Y.LengthOf x) = text_takes_more t u less x
   number_takes_more t u less (Y.IndexOf searched sought) = most_fewer _ _ _ _ (text_takes_more t u less searched) (text_takes_more t u less sought)
@@ -154,7 +154,7 @@ mutual
   text_takes_more t u less (Y.TextOfBit b) = bit_takes_more t u less b
   text_takes_more t u less (Y.Joined left right) = most_fewer _ _ _ _ (text_takes_more t u less left) (text_takes_more t u less right)
   text_takes_more t u less (Y.SubstringFrom x start) = most_fewer _ _ _ _ (text_takes_more t u less x) (number_takes_more t u less start)
-  text_takes_more t u less (Y.Substring x start count) = 
+  text_takes_more t u less (Y.Substring x start count) =
       most_fewer _ _ _ _ (text_takes_more t u less x)
       (most_fewer _ _ _ _ (number_takes_more t u less start) (number_takes_more _ _ (number_fewer t u less) count))
 
@@ -164,16 +164,16 @@ mutual
   bit_takes_more t u less (Y.BitFrom c) = call_takes_more t u less c
   bit_takes_more t u less (Y.BitOfText x) = text_takes_more t u less x
   bit_takes_more t u less (Y.Negated x) = bit_takes_more t u less x
-  bit_takes_more t u less (Y.Combined operator left right) = 
+  bit_takes_more t u less (Y.Combined operator left right) =
       most_fewer _ _ _ _ (bit_takes_more t u less left) (bit_takes_more _ _ (number_fewer t u less) right)
-  bit_takes_more t u less (Y.NumbersCompared comparison left right) = 
+  bit_takes_more t u less (Y.NumbersCompared comparison left right) =
       most_fewer _ _ _ _ (number_takes_more t u less left) (number_takes_more _ _ (number_fewer t u less) right)
   bit_takes_more t u less (Y.TextsCompared comparison left right) = most_fewer _ _ _ _ (text_takes_more t u less left) (text_takes_more t u less right)
-  bit_takes_more t u less (Y.BitsCompared comparison left right) = 
+  bit_takes_more t u less (Y.BitsCompared comparison left right) =
       most_fewer _ _ _ _ (bit_takes_more t u less left) (bit_takes_more _ _ (number_fewer t u less) right)
-  bit_takes_more t u less (Y.PointersCompared equal left right) = 
+  bit_takes_more t u less (Y.PointersCompared equal left right) =
       most_fewer _ _ _ _ (pointer_takes_more t u less left) (pointer_takes_more _ _ (words_fewer 4 t u less) right)
-  bit_takes_more t u less (Y.OffsetsCompared equal left right) = 
+  bit_takes_more t u less (Y.OffsetsCompared equal left right) =
       most_fewer _ _ _ _ (offset_takes_more t u less left) (offset_takes_more _ _ (number_fewer t u less) right)
 
   pub pointer_takes_more : (t u : Taken) → Fewer t u → (x : Y.Pointer) → Fewer (pointer_takes t x) (pointer_takes u x)
@@ -190,7 +190,7 @@ mutual
   offset_takes_more t u less (Y.OffsetInto x area) = pointer_takes_more t u less x
 
   pub reference_takes_more : (t u : Taken) → Fewer t u → (x : Y.Reference) → Fewer (reference_takes t x) (reference_takes u x)
-  reference_takes_more t u less (Y.Referring v locator part subscripts) = 
+  reference_takes_more t u less (Y.Referring v locator part subscripts) =
       most_fewer _ _ _ _ (locator_takes_more t u less locator) (subscripts_take_more _ _ (locator_fewer v t u less) subscripts)
 
   pub locator_takes_more : (t u : Taken) → Fewer t u → (x : Y.Locator) → Fewer (locator_takes t x) (locator_takes u x)
@@ -199,7 +199,7 @@ mutual
 
   pub subscripts_take_more : (t u : Taken) → Fewer t u → (x : Y.Numbers) → Fewer (subscripts_take t x) (subscripts_take u x)
   subscripts_take_more t u less Y.NoNumber = less
-  subscripts_take_more t u less (Y.NumberThen first rest) = 
+  subscripts_take_more t u less (Y.NumberThen first rest) =
       most_fewer _ _ _ _ (number_takes_more t u less first) (subscripts_take_more _ _ (number_fewer t u less) rest)
 
   pub call_takes_more : (t u : Taken) → Fewer t u → (x : Y.Call) → Fewer (call_takes t x) (call_takes u x)

@@ -29,24 +29,24 @@ mutual
   number_needs t (Y.NumberOfText x) = text_needs t x
   number_needs t (Y.NumberOfBit b) = bit_needs t b
   number_needs t (Y.Signed sign x) = let n = number_counts t in let a = number_needs t x in omega (arith, n, a)
-  number_needs t (Y.Calculated operator left right) = 
+  number_needs t (Y.Calculated operator left right) =
       let n = number_counts t in
       let a = number_needs t left in
       let b = number_needs (with_number t) right in
       omega (arith, n, a, b)
   number_needs t (Y.Absolute x) = let n = number_counts t in let a = number_needs t x in omega (arith, n, a)
   number_needs t (Y.SignOf x) = number_needs t x
-  number_needs t (Y.Extreme extremum first more) = 
+  number_needs t (Y.Extreme extremum first more) =
       let n = number_counts t in
       let a = number_needs t first in
       let b = numbers_need (with_number t) more in
       omega (arith, n, a, b)
-  number_needs t (Y.Modulo dividend divisor) = 
+  number_needs t (Y.Modulo dividend divisor) =
       let n = number_counts t in
       let a = number_needs t dividend in
       let b = number_needs (with_number t) divisor in
       omega (arith, n, a, b)
-  number_needs t (Y.Divided precision dividend divisor) = 
+  number_needs t (Y.Divided precision dividend divisor) =
       let n = number_counts t in
       let a = number_needs t dividend in
       let b = number_needs (with_number t) divisor in
@@ -72,7 +72,7 @@ mutual
   text_needs t (Y.TextOfBit b) = bit_needs t b
   text_needs t (Y.Joined left right) = let a = text_needs t left in let b = text_needs t right in omega (arith, a, b)
   text_needs t (Y.SubstringFrom x start) = let a = text_needs t x in let b = number_needs t start in omega (arith, a, b)
-  text_needs t (Y.Substring x start count) = 
+  text_needs t (Y.Substring x start count) =
       let n = number_counts t in
       let a = text_needs t x in
       let b = number_needs t start in
@@ -85,27 +85,27 @@ mutual
   bit_needs t (Y.BitFrom c) = call_needs t c
   bit_needs t (Y.BitOfText x) = text_needs t x
   bit_needs t (Y.Negated x) = bit_needs t x
-  bit_needs t (Y.Combined operator left right) = 
+  bit_needs t (Y.Combined operator left right) =
       let n = number_counts t in
       let a = bit_needs t left in
       let b = bit_needs (with_number t) right in
       omega (arith, n, a, b)
-  bit_needs t (Y.NumbersCompared comparison left right) = 
+  bit_needs t (Y.NumbersCompared comparison left right) =
       let n = number_counts t in
       let a = number_needs t left in
       let b = number_needs (with_number t) right in
       omega (arith, n, a, b)
   bit_needs t (Y.TextsCompared comparison left right) = let a = text_needs t left in let b = text_needs t right in omega (arith, a, b)
-  bit_needs t (Y.BitsCompared comparison left right) = 
+  bit_needs t (Y.BitsCompared comparison left right) =
       let n = number_counts t in
       let a = bit_needs t left in
       let b = bit_needs (with_number t) right in
       omega (arith, n, a, b)
-  bit_needs t (Y.PointersCompared equal left right) = 
+  bit_needs t (Y.PointersCompared equal left right) =
       let a = pointer_needs t left in
       let b = pointer_needs (with_words 4 t) right in
       omega (arith, a, b)
-  bit_needs t (Y.OffsetsCompared equal left right) = 
+  bit_needs t (Y.OffsetsCompared equal left right) =
       let n = number_counts t in
       let a = offset_needs t left in
       let b = offset_needs (with_number t) right in
@@ -125,7 +125,7 @@ mutual
   offset_needs t (Y.OffsetInto x area) = pointer_needs t x
 
   pub reference_needs : (t : Taken) (x : Y.Reference) → t.words + reference_words x ≤ (reference_takes t x).words + spare t
-  reference_needs t (Y.Referring v locator part subscripts) = 
+  reference_needs t (Y.Referring v locator part subscripts) =
       let a = locator_needs t locator in
       let b = subscripts_need (behind_locator v t) subscripts in
       let c = locator_words_are v t in
@@ -138,14 +138,14 @@ mutual
 
   pub subscripts_need : (t : Taken) (x : Y.Numbers) → t.words + subscripts_words x ≤ (subscripts_take t x).words + spare t
   subscripts_need t Y.NoNumber = omega arith
-  subscripts_need t (Y.NumberThen first rest) = 
+  subscripts_need t (Y.NumberThen first rest) =
       let n = number_counts t in
       let a = number_needs t first in
       let b = subscripts_need (with_number t) rest in
       omega (arith, n, a, b)
 
   pub call_needs : (t : Taken) (x : Y.Call) → t.words + call_words x ≤ (call_takes t x).words + spare t
-  call_needs t (Y.Calling procedure level as') = 
+  call_needs t (Y.Calling procedure level as') =
       let a = arguments_need (with_words (list_words as') t) as' in omega (arith, a)
 
   pub arguments_need : (t : Taken) (x : Y.Arguments) → t.words + arguments_words x ≤ (arguments_take t x).words + spare t
