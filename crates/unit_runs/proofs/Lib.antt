@@ -1,0 +1,3 @@
+pub mod Establishing
+pub mod UnitEntries
+pub mod UnitEndings

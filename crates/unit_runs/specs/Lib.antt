@@ -1,0 +1,2 @@
+pub mod Establishing
+pub mod UnitBeginnings
