@@ -226,7 +226,7 @@ later_unit p q x at l =
       remains = remains_unit p q x at l.remains;
     }
 
-unit_among :
+pub unit_among :
     (k : Block) (x : OnUnit) (index : ℕ) {numbers : ℕ → ℕ} {p : Point} → IsOn k x index → IsAmong k numbers p →
     IsAmong (behind_on k x index) numbers (with_unit x (unit_index x index) p)
 unit_among k x index {p = p} h o =
@@ -244,7 +244,7 @@ unit_among k x index {p = p} h o =
 abbrev changed_unit : OnUnit → (at : ℕ) → Changed → Changed
 changed_unit x at c = record c { units = (x.condition, CodeUnit (4 * at)) ∷ St.without_unit x.condition c.units }
 
-unit_begun : (k : Block) (x : OnUnit) (index : ℕ) → IsOn k x index → IsBegun (behind_on k x index)
+pub unit_begun : (k : Block) (x : OnUnit) (index : ℕ) → IsOn k x index → IsBegun (behind_on k x index)
 unit_begun k x index h =
     let b = h.begun in
     let r = b.resumes in
@@ -288,7 +288,7 @@ condition_same C.ZeroDivide = refl
 condition_same C.Endfile = refl
 condition_same C.Error = refl
 
-unit_forced : (k : Block) (x : OnUnit) (index : ℕ) → IsOn k x index → IsInForce (behind_on k x index) x
+pub unit_forced : (k : Block) (x : OnUnit) (index : ℕ) → IsOn k x index → IsInForce (behind_on k x index) x
 unit_forced k x index h =
     let b = h.begun in
     let u = BlockUnit (unit_of x) in
@@ -333,7 +333,7 @@ frame_is_same k x index level base (inr out) =
       out.4 ∙ sym (frame_same _ k.first.control.layers _ ∙ ap (frame_at k.first.control.layers) e),
     )
 
-unit_numbers :
+pub unit_numbers :
     (k : Block) (x : OnUnit) (index : ℕ) (spot : Spot) → IsNumber k spot → IsNumber (behind_on k x index) spot
 unit_numbers k x index spot n =
     let u = BlockUnit (unit_of x) in
@@ -400,14 +400,14 @@ unit_code_of k x =
     (unit_held k.environment x.head x.head.kind x.body)
     (stmts_code (unit_environment x.head k.environment) none_taken x.body)
 
-number_small : (c : Condition) → condition_number c < 2 ^ 32
+pub number_small : (c : Condition) → condition_number c < 2 ^ 32
 number_small C.Area = omega arith
 number_small C.FixedOverflow = omega arith
 number_small C.ZeroDivide = omega arith
 number_small C.Endfile = omega arith
 number_small C.Error = omega arith
 
-condition_is : (c : Condition) → U.condition_of (condition_number c) ≡ Some c
+pub condition_is : (c : Condition) → U.condition_of (condition_number c) ≡ Some c
 condition_is C.Area = refl
 condition_is C.FixedOverflow = refl
 condition_is C.ZeroDivide = refl
@@ -524,7 +524,7 @@ established_reach k x index {numbers} {p} c f z o l there =
     (λ b. Known g v' numbers (λ j. 0) nothing b) (omega arith) calling
     (λ b. let q = (reached_holds r2 b).holds.body in
     record {
-      body = record { services = refl; registers = q.registers; bytes = q.bytes; memory = q.memory };
+      body = record { services = refl {a = v'}; registers = q.registers; bytes = q.bytes; memory = q.memory };
       regs = tt;
     }) in
     let r4 = ahead_piece (c + 2 + 2 + 1) (reached r3) (size_of unit) (omega (arith, inside))
@@ -542,7 +542,7 @@ on_size k x =
     ∷ small a7 28 ∷ Plain I.Ecall ∷ JumpAhead (size_of (unit_code_of k x)) ∷ unit_code_of k x) in
     omega (arith, n)
 
-unit_does :
+pub unit_does :
     (k : Block) (labels : List Label) (x : OnUnit) (index left' : ℕ) → IsOn k x index → (p : Point)
     (numbers : ℕ → ℕ) (credits wanted : ℕ) (f : Family) → IsAmong k numbers p →
     credits + size_in k (on_of x) ≤ cost k.call.code → AreIn k.call.surroundings p numbers index f →

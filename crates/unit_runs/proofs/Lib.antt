@@ -1,3 +1,9 @@
 pub mod Establishing
 pub mod UnitEntries
 pub mod UnitEndings
+pub mod UnitMeaning
+pub mod UnitRaises
+pub mod UnitBlocks
+pub mod UnitRuns
+pub mod UnitVariables
+pub mod Bodies

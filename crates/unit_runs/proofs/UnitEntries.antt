@@ -365,3 +365,21 @@ unit_begun_stands {w} {p = p} {x = x} q = (
         let at = q.is.next.laid.above in
         let top = q.is.top in
         omega (arith, below, at, top)
+
+-- ---- as it is said of a point
+
+pub units_begin :
+    (w : Surroundings) (code : List Instr) (p : Point) (numbers : ℕ → ℕ) (x : Beginning) (credits index : ℕ)
+    (f : Family) → Stands w p × IsImage w code p × IsUnit w p numbers x →
+    Linked w.links code index (unit_beginning_code x) →
+    ((b : Base) → IsIn w p numbers index b (f b) × IsAtUnit p x b (f b)) →
+    Reach code credits f (services_of p) (credits + size_of (unit_beginning_code x)) (services_of (begun_point x p))
+    (λ b y. IsIn w (begun_point x p) numbers (index + size_of (unit_beginning_code x)) b y)
+units_begin w code p numbers x c index f known l there =
+    unit_begins c index f (record { stands = known.0; image = known.1; is = known.2 }) l there
+
+pub units_stand :
+    (w : Surroundings) (code : List Instr) (p : Point) (numbers : ℕ → ℕ) (x : Beginning) →
+    Stands w p × IsImage w code p × IsUnit w p numbers x → Stands w (begun_point x p) × IsImage w code (begun_point x p)
+units_stand w code p numbers x known =
+    unit_begun_stands (record { stands = known.0; image = known.1; is = known.2 })

@@ -1,2 +1,5 @@
 pub mod Establishing
 pub mod UnitBeginnings
+pub mod Raised
+pub mod UnitVariables
+pub mod Bodies

@@ -1,8 +1,47 @@
 // Laws of the definitions: each function's contract is one law, and calling it does nothing.
 
+ghost use Rattle.unit_runs.specs.Bodies.{BodiesDo, UnitProgramsRun};
 ghost use Rattle.unit_runs.specs.Establishing.{UnitsEstablished};
+ghost use Rattle.unit_runs.specs.Raised.{RaisesReturn};
+ghost use Rattle.unit_runs.specs.UnitBeginnings.{UnitsBegin, UnitsEnd};
+ghost use Rattle.unit_runs.specs.UnitVariables.{UnitVariables};
+
+use granule_keeper::laws::granules_keep;
 
 /// ON with a unit makes it the newest block's own, and the run goes on over the unit's code.
 pub fn units_established()
     ensures { UnitsEstablished }
 {}
+
+/// The code of a unit's beginning takes machine and services from its first instruction to its block.
+pub fn units_begin()
+    ensures { UnitsBegin }
+{}
+
+/// The code of its end takes them on where its raise said, to the block below.
+pub fn units_end()
+    ensures { UnitsEnd }
+{}
+
+/// A raise while a unit is in force runs the unit: behind its end the program goes on where the raise said, and
+/// FIXEDOVERFLOW in an expression with the value that was saved; or at the label to which the unit jumps.
+pub fn raises_return()
+    ensures { RaisesReturn }
+{}
+
+/// A unit makes no variables of its own, and those of the block that established it are variables of it.
+pub fn unit_variables()
+    ensures { UnitVariables }
+{}
+
+/// A procedure's own list comes to the block's end, with ON among its first statements.
+pub fn bodies_do()
+    ensures { BodiesDo }
+{}
+
+/// A program whose main procedure has such a list does what it means.
+pub fn unit_programs_run()
+    ensures { UnitProgramsRun }
+{
+    granules_keep();
+}
