@@ -40,6 +40,7 @@ use Rattle.activation_relation.specs.Frames.{FrameStands, FramesStand, ancestor_
 use Rattle.activation_relation.specs.Landing.{Changed, Resumes, resumed, with_units}
 use Rattle.activation_relation.specs.Layers.{Layer, Point, now, services_of}
 use Rattle.activation_relation.specs.Points.{Stands, Surroundings}
+use Rattle.activation_relation.specs.ServiceLaws.{at_point}
 use Rattle.activation_relation.specs.Remaining.{Remains}
 use Rattle.activation_relation.proofs.PointSteps.{established_stands}
 use Rattle.activation_relation.proofs.Remaining.{remains_then}
@@ -419,6 +420,17 @@ unit_coded at some =
     let e : (4 * at == 0) ≡ false = grind (arith, nat_tests) in
     ap (λ q. cond q S.SystemUnit (CodeUnit (4 * at))) e
 
+unit_answered :
+    (x : OnUnit) (at : ℕ) (p : Point) (m : List ℕ) (φ : Layer) (φs : List Layer) → p.control.layers ≡ φ ∷ φs →
+    0 < at →
+    U.on_served (at_point p m) (condition_number x.condition) (4 * at)
+    ≡ Done (services_of (with_unit x at p)) m (condition_number x.condition) (4 * at)
+unit_answered x at p m φ φs newest some =
+    let number = condition_number x.condition in
+    let u = BlockUnit (unit_of x) in
+    on_answered p m φ φs x.condition u number (4 * at) newest (condition_is x.condition)
+    ∙ ap (λ s. Done (services_of (established x.condition u s p)) m number (4 * at)) (unit_coded at some)
+
 abbrev asked_regs : (number at : ℕ) → Base → List (ℕ × ℕ)
 asked_regs number at b = (17, 28) ∷ (10, number) ∷ (11, at) ∷ []
 
@@ -515,10 +527,7 @@ established_reach k x index {numbers} {p} c f z o l there =
           called code (f2 b) v 28 number (4 * at) (y 12) (y 13) (y 14) (λ call x0 x1 x2 x3 x4. U.on_served call x0 x1)
           q.body.services q.regs.0 q.regs.1.0 q.regs.1.1.0 refl refl refl (λ call y'. refl)
           ∙ ap (λ call'. U.on_served call' number (4 * at)) (call_is w code p m o.image)
-          ∙ on_answered p m n.layer k.call.point.control.layers x.condition (BlockUnit (unit_of x)) number (4 * at)
-          n.layers (condition_is x.condition)
-          ∙ ap (λ s. Done (services_of (established x.condition (BlockUnit (unit_of x)) s p)) m number (4 * at))
-          (unit_coded at (omega arith));
+          ∙ unit_answered x at p m n.layer k.call.point.control.layers n.layers (omega arith);
     } in
     let r3 = call_done (c + 2 + 2) f2 v v' (λ b. (f2 b).machine.memory) (λ b. number) (λ b. 4 * at)
     (λ b. Known g v' numbers (λ j. 0) nothing b) (omega arith) calling

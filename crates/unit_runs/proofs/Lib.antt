@@ -7,3 +7,4 @@ pub mod UnitBlocks
 pub mod UnitRuns
 pub mod UnitVariables
 pub mod Bodies
+pub mod Rows

@@ -44,7 +44,7 @@ use Rattle.block_runs.proofs.PointActs.{stands_acted}
 use Rattle.program_runs.specs.Statements.{IsAmong, IsBegun, JumpsOut, JumpsTo, LandsAt, as_outer}
 use Rattle.program_runs.proofs.JumpsOut.{jumps_later}
 use Rattle.unit_runs.specs.Raised.{AreMade, IsBehind, IsRaiseOf, IsRaised, Raise, Standing, begin_of, begun_unit}
-use Rattle.unit_runs.specs.Raised.{list_code, list_index, raise_aims, standing_code, unit_beginning, unit_block}
+use Rattle.unit_runs.specs.Raised.{end_index, list_code, list_index, raise_aims, standing_code, unit_beginning, unit_block}
 use Rattle.unit_runs.specs.Raised.{unit_call, unit_layer}
 use Rattle.unit_runs.specs.UnitBeginnings.{IsUnit}
 use Rattle.unit_runs.proofs.UnitEndings as N
@@ -244,7 +244,7 @@ end_of z left' c f v r s o =
       kept = [];
       before = z.raise.numbers;
       after = o.after;
-      index = z.standing.end;
+      index = end_index z.standing;
       back = z.raise.back;
     }
 
@@ -268,7 +268,7 @@ behind_closed k p numbers index wanted =
 -- the block in which the condition was raised goes on where the raise said
 pub ended_owing :
     (z : Here) → IsHere z → (left' wanted c : ℕ) (f : Family) (v : Services) (r : Option BasicValue) (s : State) →
-    Linked z.setting.block.call.surroundings.links z.setting.block.call.code z.standing.end (ending_of z.standing) →
+    Linked z.setting.block.call.surroundings.links z.setting.block.call.code (end_index z.standing) (ending_of z.standing) →
     AtEnd (unit_call z.setting z.standing z.raise) left' c f v r s →
     (owing z.setting.block.call.code (left' + size_of (ending_of z.standing))
     (raise_aims z.setting z.from z.raise.numbers z.raise.back wanted)).done c f v tt (closed s)

@@ -51,7 +51,7 @@ use Rattle.expression_runs.proofs.Saving.{size_sum}
 use Rattle.expression_runs.proofs.Words.{known_word, word_closed}
 use Rattle.unit_runs.specs.Establishing.{unit_of}
 use Rattle.unit_runs.specs.Raised.{AreMade, IsBehind, IsRaiseOf, IsRaised, Raise, RaisesReturn, Standing, UnitDoes}
-use Rattle.unit_runs.specs.Raised.{act_index, begin_of, begun_unit, list_code, list_index, raise_aims, standing_code}
+use Rattle.unit_runs.specs.Raised.{act_index, begin_of, begun_unit, end_index, list_code, list_index, raise_aims, standing_code}
 use Rattle.unit_runs.specs.Raised.{unit_beginning, unit_block, variables_index}
 use Rattle.unit_runs.specs.UnitBeginnings.{IsAtUnit}
 use Rattle.unit_runs.proofs.UnitBlocks.{Here, IsHere, begun_known, behind_closed, ended_owing, ending_of, first_among}
@@ -123,7 +123,7 @@ standing_size x kind =
 
 end_linked :
     {z : Here} → IsHere z →
-    Linked z.setting.block.call.surroundings.links z.setting.block.call.code z.standing.end (ending_of z.standing)
+    Linked z.setting.block.call.surroundings.links z.setting.block.call.code (end_index z.standing) (ending_of z.standing)
 end_linked {z} h =
     let x = z.standing in
     let mark = unit_mark x.unit.head x.unit.head.kind in
@@ -132,8 +132,7 @@ end_linked {z} h =
     let l2 = back_of (act_code x.unit.head.line) (behind_act x) l1 in
     let l3 = back_of mark (ending_of x) (back_of (list_code x) (tail_of x) l2) in
     let n = mark_size x.unit.head x.unit.head.kind h.raised.kind in
-    let e = h.raised.end in
-    linked_at x.end (ending_of x) (omega (arith, n, e)) l3
+    linked_at (end_index x) (ending_of x) (omega (arith, n)) l3
 
 -- ---- its statements
 
@@ -173,16 +172,14 @@ list_goes z h wanted f o each there =
     let since = h.since in
     let owed = owing k.call.code (debt_of x) (goal_of z wanted) in
     let flow = M.list u.around x.unit.body w.acts u.first.state in
-    comes_map (statement_aims u [] acts x.end left_over left_over) (within owed) flow
+    comes_map (statement_aims u [] acts (end_index x) left_over left_over) (within owed) flow
     (λ c' f' v' r s q. ended_owing z h left_over wanted c' f' v' None s (end_linked h) (at_end b refl (omega arith) q))
     (λ c' f' v' height label s q i0 f0 v0 from. jumps_repaid {k = k} (debt_of x) from
     (jumps_since (omega (arith, since, same)) (leaves_by_jump z acts c' f' v' height label s q)))
     (λ c' f' v' r s q. ended_owing z h left_over wanted c' f' v' r s (end_linked h) q.to)
-    (subst (λ j. Comes k.call.code 0 f (services_of u.first) (statement_aims u [] acts j left_over left_over) flow)
-    (sym h.raised.end)
     (list_does u [] x.unit.body (list_index x) left_over u.first z.raise.numbers 0 left_over f b
     (omega (arith, enough, turns, same, later)) (each b) h.raised.labels o l2 (omega arith, omega (arith, inside))
-    there))
+    there)
 
 -- ---- its block, from its first instruction
 

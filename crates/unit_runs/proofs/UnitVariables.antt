@@ -18,7 +18,7 @@ use Rattle.run_steps.specs.Reach.{Reach}
 use Rattle.run_steps.proofs.Reach.{reach_with, stay}
 use Rattle.block_runs.specs.Machines.{AreIn, IsImage, IsIn}
 use Rattle.program_runs.specs.Statements.{IsBegun}
-use Rattle.function_runs.proofs.OuterVariables.{over_number}
+use Rattle.function_runs.proofs.OuterVariables.{Over, over_number}
 use Rattle.expression_runs.specs.Values.{Setting}
 use Rattle.expression_runs.specs.Variables.{IsNumber, Spot}
 use Rattle.unit_runs.specs.Raised.{AreMade, IsRaiseOf, IsRaised, Raise, Standing, act_index, begun_unit}
@@ -72,11 +72,11 @@ none_made k x r kind none empty =
 
 -- ---- those of the block around it
 
-pub outer_number :
-    (k : Setting) (x : Standing) (more : ℕ) (h : IsRaised k x more) (r : Raise) (spot : Spot) →
-    IsOwnUnit k x more h → IsRaiseOf k x more h r → AreMade k x r → IsBegun (unit_block k x r) →
-    spot.level < x.unit.head.level → IsNumber k.block spot → IsNumber (unit_block k x r) spot
-outer_number k x more h r spot own is made b less n =
+-- the unit's block is one over the block
+pub unit_over :
+    (k : Setting) (x : Standing) (more : ℕ) (h : IsRaised k x more) (r : Raise) → IsOwnUnit k x more h →
+    IsRaiseOf k x more h r → AreMade k x r → IsBegun (unit_block k x r) → Over k.block (unit_block k x r) r.point
+unit_over k x more h r own is made b =
     let w = k.block.call.surroundings in
     let u = unit_block k x r in
     let p = r.point in
@@ -85,8 +85,7 @@ outer_number k x more h r spot own is made b less n =
     let active : AreActive w.units (a ∷ p.state.activations) (φ ∷ p.control.layers) =
     subst (λ xs. AreActive w.units xs (φ ∷ p.control.layers)) made.activations
     (subst (λ ls. AreActive w.units u.first.state.activations ls) made.layers b.resumes.stands.active) in
-    over_number {k = k.block} {inner = u} {numbers = r.numbers} {p = p} spot
-    (record {
+    record {
       activation = a;
       layer = φ;
       active = made.activations;
@@ -101,4 +100,12 @@ outer_number k x more h r spot own is made b less n =
       own = own.level;
       code = own.inner;
       few = h.level;
-    }) h.begun is.among less own.program own.parts n
+    }
+
+pub outer_number :
+    (k : Setting) (x : Standing) (more : ℕ) (h : IsRaised k x more) (r : Raise) (spot : Spot) →
+    IsOwnUnit k x more h → IsRaiseOf k x more h r → AreMade k x r → IsBegun (unit_block k x r) →
+    spot.level < x.unit.head.level → IsNumber k.block spot → IsNumber (unit_block k x r) spot
+outer_number k x more h r spot own is made b less n =
+    over_number {k = k.block} {inner = unit_block k x r} {numbers = r.numbers} {p = r.point} spot
+    (unit_over k x more h r own is made b) h.begun is.among less own.program own.parts n

@@ -3,3 +3,4 @@ pub mod UnitBeginnings
 pub mod Raised
 pub mod UnitVariables
 pub mod Bodies
+pub mod Rows

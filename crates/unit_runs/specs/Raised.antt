@@ -44,16 +44,15 @@ use Rattle.unit_runs.specs.UnitBeginnings.{unit_beginning_code}
 
 -- ---- a unit where it stands
 
--- the words for temporaries of its frame, how many registers it saves, the code that makes its variables, the indices of
--- its first instruction and of its end, the environment of its code, what is around its meaning, and what becomes of the
--- point where its variables are made
+-- the words for temporaries of its frame, how many registers it saves, the code that makes its variables, the index of
+-- its first instruction, the environment of its code, what is around its meaning, and what becomes of the point where its
+-- variables are made
 pub record Standing : Type 0 where
   pub unit : OnUnit
   pub words : ℕ
   pub saved : ℕ
   pub variables : Code
   pub entry : ℕ
-  pub end : ℕ
   pub environment : Environment
   pub around : Around
   pub made : Point → Point
@@ -134,6 +133,9 @@ act_index x = variables_index x + size_of x.variables
 abbrev pub list_index : Standing → ℕ
 list_index x = act_index x + size_of (act_code x.unit.head.line)
 
+abbrev pub end_index : Standing → ℕ
+end_index x = list_index x + size_of (list_code x)
+
 -- ---- the block in which its statements run
 
 abbrev pub unit_call : Setting → Standing → Raise → Called
@@ -146,7 +148,7 @@ unit_call k x r =
       beginning = unit_beginning k.block.call.surroundings x r;
       call = r.back;
       entry = x.entry;
-      end = x.end;
+      end = end_index x;
       function = None;
     }
 
@@ -224,7 +226,6 @@ pub record IsRaised (k : Setting) (x : Standing) (more : ℕ) : Type 0 where
       (at : ℕ) → StandsAt k.block.call.surroundings.units (unit_of x.unit) at → at ≡ 4 * x.entry
   pub some : 0 < x.entry
   pub stands : Linked k.block.call.surroundings.links k.block.call.code x.entry (standing_code x)
-  pub end : x.end ≡ list_index x + size_of (list_code x)
   pub labels : AreMarked k.block.call.surroundings.links x.environment x.unit.body (list_index x)
   pub kind : x.unit.head.kind ≡ Y.UnitBlock
   pub level : x.unit.head.level < most_levels

@@ -3,6 +3,7 @@
 ghost use Rattle.unit_runs.specs.Bodies.{BodiesDo, UnitProgramsRun};
 ghost use Rattle.unit_runs.specs.Establishing.{UnitsEstablished};
 ghost use Rattle.unit_runs.specs.Raised.{RaisesReturn};
+ghost use Rattle.unit_runs.specs.Rows.{MendRan};
 ghost use Rattle.unit_runs.specs.UnitBeginnings.{UnitsBegin, UnitsEnd};
 ghost use Rattle.unit_runs.specs.UnitVariables.{UnitVariables};
 
@@ -42,6 +43,13 @@ pub fn bodies_do()
 /// A program whose main procedure has such a list does what it means.
 pub fn unit_programs_run()
     ensures { UnitProgramsRun }
+{
+    granules_keep();
+}
+
+/// A worked row: a main procedure with a unit that assigns its variable and returns into the expression.
+pub fn mend_ran()
+    ensures { MendRan }
 {
     granules_keep();
 }
