@@ -8,3 +8,4 @@ pub mod UnitRuns
 pub mod UnitVariables
 pub mod Bodies
 pub mod Rows
+pub mod JumpRows

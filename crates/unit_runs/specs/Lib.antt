@@ -4,3 +4,4 @@ pub mod Raised
 pub mod UnitVariables
 pub mod Bodies
 pub mod Rows
+pub mod JumpRows

@@ -2,6 +2,7 @@
 
 ghost use Rattle.unit_runs.specs.Bodies.{BodiesDo, UnitProgramsRun};
 ghost use Rattle.unit_runs.specs.Establishing.{UnitsEstablished};
+ghost use Rattle.unit_runs.specs.JumpRows.{SkipRan};
 ghost use Rattle.unit_runs.specs.Raised.{RaisesReturn};
 ghost use Rattle.unit_runs.specs.Rows.{MendRan};
 ghost use Rattle.unit_runs.specs.UnitBeginnings.{UnitsBegin, UnitsEnd};
@@ -50,6 +51,13 @@ pub fn unit_programs_run()
 /// A worked row: a main procedure with a unit that assigns its variable and returns into the expression.
 pub fn mend_ran()
     ensures { MendRan }
+{
+    granules_keep();
+}
+
+/// A worked row: a main procedure with a unit that jumps out of the expression to a label.
+pub fn skip_ran()
+    ensures { SkipRan }
 {
     granules_keep();
 }
