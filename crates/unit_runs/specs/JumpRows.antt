@@ -18,6 +18,7 @@ use Rattle.pli_coding.specs.Procedures.{procedure_environment}
 use Rattle.pli_coding.specs.SignatureTable.{table_of}
 use Rattle.pli_coding.specs.Statements.{block_held, block_words, stmt_code, stmts_words, unit_environment, unit_held}
 use Rattle.pli_coding.specs.Statements.{unit_variables, unit_words}
+use Rattle.activation_relation.specs.Chains.{UnitPlaces}
 use Rattle.activation_relation.specs.Layers.{services_of}
 use Rattle.run_steps.specs.Reach.{Comes, never}
 use Rattle.program_runs.specs.Procedures.{Procedure, begin_of, procedure_code}
@@ -110,12 +111,16 @@ skip_start = skip_entry + size_of (begin_of skip_main) + size_of skip_main.varia
 abbrev pub skip_on : ℕ
 skip_on = skip_start + size_of (stmt_code skip_environment none_taken skip_first)
 
+-- where the code of its unit stands
+abbrev pub skip_units : UnitPlaces
+skip_units = record { unit = unit_of skip_unit; at = 4 * unit_index skip_unit skip_on } ∷ []
+
 abbrev pub skip_image : (input : List ℕ) → (acts : ℕ) → Image
 skip_image input acts =
     record {
       code = linked_code skip_code;
       links = links_of skip_code;
-      units = record { unit = unit_of skip_unit; at = 4 * unit_index skip_unit skip_on } ∷ [];
+      units = skip_units;
       signatures = map template_of (table_of skip_program);
       input = input;
       acts = acts;

@@ -18,6 +18,7 @@ use Rattle.pli_coding.specs.Procedures.{procedure_environment}
 use Rattle.pli_coding.specs.SignatureTable.{table_of}
 use Rattle.pli_coding.specs.Statements.{block_held, block_words, stmt_code, stmts_words, unit_environment, unit_held}
 use Rattle.pli_coding.specs.Statements.{unit_variables, unit_words}
+use Rattle.activation_relation.specs.Chains.{UnitPlaces}
 use Rattle.activation_relation.specs.Layers.{services_of}
 use Rattle.run_steps.specs.Reach.{Comes, never}
 use Rattle.program_runs.specs.Procedures.{Procedure, begin_of, procedure_code}
@@ -106,12 +107,16 @@ mend_start = mend_entry + size_of (begin_of mend_main) + size_of mend_main.varia
 abbrev pub mend_on : ℕ
 mend_on = mend_start + size_of (stmt_code mend_environment none_taken mend_first)
 
+-- where the code of its unit stands
+abbrev pub mend_units : UnitPlaces
+mend_units = record { unit = unit_of mend_unit; at = 4 * unit_index mend_unit mend_on } ∷ []
+
 abbrev pub mend_image : (input : List ℕ) → (acts : ℕ) → Image
 mend_image input acts =
     record {
       code = linked_code mend_code;
       links = links_of mend_code;
-      units = record { unit = unit_of mend_unit; at = 4 * unit_index mend_unit mend_on } ∷ [];
+      units = mend_units;
       signatures = map template_of (table_of mend_program);
       input = input;
       acts = acts;
