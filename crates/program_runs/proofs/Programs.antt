@@ -110,5 +110,5 @@ pub program_runs :
 program_runs keeps k first h each =
     let same = ap (λ (u : World). u.acts) h.made.world in
     program_comes keeps k first h
-    (λ b o f at. body_goes (surroundings_of k.image) k.image.code (main_of k) (start_point k.image) no_numbers f h.callee
-    b o (each b) (omega (arith, same)) at)
+    (λ b o f at. body_goes (surroundings_of k.image) k.image.code (main_of k) (start_point k.image) no_numbers f
+    h.callee b o (each b) (omega (arith, same)) at)

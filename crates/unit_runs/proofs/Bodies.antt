@@ -1,12 +1,12 @@
 -- A procedure's own list with ON among its first statements: what follows is a list of its own.
-use Rattle.std.proofs.Common.{◌≡◌, ℕ, zero, suc, ◌+◌, ◌<◌, ◌≤◌, List, [], ◌∷◌, ◌++◌, Option, Some, None, Bool, true}
-use Rattle.std.proofs.Common.{false, refl, sym, ap, ◌∙◌, subst, arith}
+use Rattle.std.proofs.Common.{◌≡◌, ℕ, zero, suc, ◌+◌, ◌<◌, ◌≤◌, List, [], ◌++◌, Option, Some, None}
+use Rattle.std.proofs.Common.{refl, sym, ap, ◌∙◌, subst, arith}
 use Rattle.std.specs.Prelude.{◌&&◌, ◌==◌, cond}
-use Rattle.rv_meaning.specs.declared.instr.Instr.{Instr}
 use Rattle.pli_typing.specs.TypedTree as Y
 use Rattle.pli_meaning.specs.BasicValues.{BasicValue}
 use Rattle.pli_meaning.specs.Control as F
-use Rattle.pli_meaning.specs.Control.{Flow, Jump, Label, Meaning, Normal, Paused, Return, Stuck, caught, choose, flow_on}
+use Rattle.pli_meaning.specs.Control.{Flow, Jump, Label, Meaning, Normal, Paused, Return, Stuck, caught, choose}
+use Rattle.pli_meaning.specs.Control.{flow_on}
 use Rattle.pli_meaning.specs.Control.{is_among, list_from, looked, ◌>>=◌, ◌>>◌}
 use Rattle.pli_meaning.specs.Executing as M
 use Rattle.pli_meaning.specs.Raising.{Around}
@@ -20,15 +20,15 @@ use Rattle.granule_keeper.specs.Granules.{granules}
 use Rattle.activation_relation.specs.Landing.{closed, either}
 use Rattle.activation_relation.specs.Layers.{Point, services_of}
 use Rattle.run_steps.proofs.Linking.{size_append}
-use Rattle.run_steps.specs.Reach.{Aims, Comes, Family, cost, never}
+use Rattle.run_steps.specs.Reach.{Aims, Comes, Family, never}
 use Rattle.run_steps.proofs.Reach.{onward}
 use Rattle.block_runs.specs.Bodies.{AtEnd, Called, body_aims}
-use Rattle.block_runs.specs.Machines.{AreIn}
 use Rattle.block_runs.proofs.CallStatements.{comes_map}
 use Rattle.program_runs.specs.Calls.{block_at, body_index, left_over}
 use Rattle.program_runs.specs.Programs.{IsWhole, Whole, main_of}
 use Rattle.program_runs.specs.Starts.{first_family, no_numbers, start_point, surroundings_of}
-use Rattle.program_runs.specs.Statements.{AreMarked, Block, Does, EachDoes, GoesOn, IsAmong, IsBegun, JumpsTo, ReturnsOut}
+use Rattle.program_runs.specs.Statements.{AreMarked, Block, Does, EachDoes, IsBegun}
+use Rattle.program_runs.specs.Statements.{ReturnsOut}
 use Rattle.program_runs.specs.Statements.{ReturnsTo, size_in, statement_aims}
 use Rattle.program_runs.proofs.Calls.{body_closed}
 use Rattle.program_runs.proofs.JumpsOut.{no_jump}

@@ -11,11 +11,10 @@ use Rattle.rv_meaning.specs.declared.instr.ImmediateOp.TheVariants as Imm
 use Rattle.rv_meaning.specs.declared.instr.Register.{Register}
 use Rattle.rv_meaning.specs.Words.{sum, word}
 use Rattle.rv_meaning.specs.Machine.{written}
-use Rattle.pli_typing.specs.TypedTree as Y
 use Rattle.pli_meaning.specs.Control.{Label, Meaning, act, stored, ◌>>◌}
 use Rattle.pli_meaning.specs.Executing as M
 use Rattle.pli_meaning.specs.StorageState as St
-use Rattle.pli_meaning.specs.StorageState.{Activation, BlockUnit, ancestor, ancestor_at, binding_in, force, height_of}
+use Rattle.pli_meaning.specs.StorageState.{Activation, BlockUnit, ancestor, binding_in, force, height_of}
 use Rattle.pli_meaning.specs.StorageState.{newest_height, with_activations}
 use Rattle.pli_meaning.specs.World.{counted}
 use Rattle.pli_serving.specs.Answers.{Done}
@@ -28,7 +27,7 @@ use Rattle.pli_coding.specs.Assembly.{Code, JumpAhead, OffsetAhead, Plain, size_
 use Rattle.pli_coding.specs.Environments.{none_taken}
 use Rattle.pli_coding.specs.Instructions.{small}
 use Rattle.pli_coding.specs.Linking.{Links, lower_part, upper_part}
-use Rattle.pli_coding.specs.Registers.{a0, a1, a7}
+use Rattle.pli_coding.specs.Registers.{a1, a7}
 use Rattle.pli_coding.specs.Statements.{condition_given, stmts_code, stmts_words, unit_code, unit_environment}
 use Rattle.pli_coding.specs.Statements.{unit_held, unit_words}
 use Rattle.storage_relation.specs.Served.{Holds}
@@ -36,14 +35,14 @@ use Rattle.storage_relation.proofs.Making.{same_held}
 use Rattle.activation_relation.specs.Chains.{AreActive, frame_at}
 use Rattle.activation_relation.specs.Changes.{established, newest_with, units_of}
 use Rattle.activation_relation.specs.Entering.{Later}
-use Rattle.activation_relation.specs.Frames.{FrameStands, FramesStand, ancestor_frame, frame_under, lower_end, upper_top}
-use Rattle.activation_relation.specs.Landing.{Changed, Resumes, resumed, with_units}
+use Rattle.activation_relation.specs.Frames.{FramesStand, frame_under}
+use Rattle.activation_relation.specs.Frames.{upper_top}
+use Rattle.activation_relation.specs.Landing.{Changed, resumed, with_units}
 use Rattle.activation_relation.specs.Layers.{Layer, Point, now, services_of}
 use Rattle.activation_relation.specs.Points.{Stands, Surroundings}
 use Rattle.activation_relation.specs.ServiceLaws.{at_point}
 use Rattle.activation_relation.specs.Remaining.{Remains}
 use Rattle.activation_relation.proofs.PointSteps.{established_stands}
-use Rattle.activation_relation.proofs.Remaining.{remains_then}
 use Rattle.activation_relation.proofs.Units.{on_answered}
 use Rattle.run_steps.specs.Bodies.{Free, Ground, Known, with'}
 use Rattle.run_steps.proofs.Bodies.{frame_is, lose_known, set_known, zero_is}
@@ -55,9 +54,7 @@ use Rattle.run_steps.proofs.Items.{parts_sum, straight}
 use Rattle.run_steps.proofs.Jumps.{ahead_piece, back_of, front_of}
 use Rattle.run_steps.proofs.Linking.{size_append}
 use Rattle.run_steps.proofs.Temporaries.{held_is}
-use Rattle.run_steps.specs.DataNamed.{IsNamed}
 use Rattle.run_steps.specs.Reach.{Comes, Family, Reach, cost, reached}
-use Rattle.run_steps.specs.Owing.{owing}
 use Rattle.run_steps.proofs.Owing.{comes_owing, done_owing, owing_closed}
 use Rattle.run_steps.proofs.Reach.{before_closed, comes_on, reach_map, reach_then, reached_holds, stay}
 use Rattle.run_steps.proofs.Reaching.{reach_moved}
@@ -122,8 +119,8 @@ height_same c u (a ∷ as') level =
   where
     by :
         (q r : Bool) →
-        height_of (cond q (cond r (Some (with_units ((c, u) ∷ St.without_unit c a.units) a)) (ancestor as' a.parent level))
-        (ancestor as' a.height level))
+        height_of (cond q (cond r (Some (with_units ((c, u) ∷ St.without_unit c a.units) a))
+        (ancestor as' a.parent level)) (ancestor as' a.height level))
         ≡ height_of (cond q (cond r (Some a) (ancestor as' a.parent level)) (ancestor as' a.height level))
     by true true = refl
     by true false = refl
@@ -319,7 +316,8 @@ unit_forced k x index h =
 -- ---- variables
 
 frame_is_same :
-    (k : Block) (x : OnUnit) (index level base : ℕ) → IsFrameOf k level base → IsFrameOf (behind_on k x index) level base
+    (k : Block) (x : OnUnit) (index level base : ℕ) → IsFrameOf k level base →
+    IsFrameOf (behind_on k x index) level base
 frame_is_same k x index level base (inl own) =
     let w = k.call.surroundings in
     inl (own.0, own.1 ∙ sym (under_same w _ k.first.control.layers))

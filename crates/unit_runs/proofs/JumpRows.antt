@@ -21,7 +21,8 @@ use Rattle.area_keeper.specs.KeeperLaws.{Keeps}
 use Rattle.granule_keeper.specs.Granules.{granules}
 use Rattle.pli_serving.specs.Templates.{template_of}
 use Rattle.pli_coding.specs.Allocating.{act_code}
-use Rattle.pli_coding.specs.Assembly.{CallTo, JumpAhead, LabelPlace, Mark, OffsetAhead, Plain, ProcedureEntry, ReturnPlace}
+use Rattle.pli_coding.specs.Assembly.{CallTo, JumpAhead, LabelPlace, Mark, OffsetAhead, Plain, ProcedureEntry}
+use Rattle.pli_coding.specs.Assembly.{ReturnPlace}
 use Rattle.pli_coding.specs.Assembly.{size_of}
 use Rattle.pli_coding.specs.Environments.{none_taken}
 use Rattle.pli_coding.specs.Images.{first_frame, linked_code, raise_code}
@@ -37,7 +38,7 @@ use Rattle.run_steps.specs.Items.{Linked}
 use Rattle.run_steps.proofs.Jumps.{back_of, first_of, front_of, rest_of}
 use Rattle.run_steps.proofs.Linking.{has_items, linked_length}
 use Rattle.run_steps.specs.Reach.{Comes, never}
-use Rattle.program_runs.specs.Calls.{block_at, body_index, left_over}
+use Rattle.program_runs.specs.Calls.{block_at, left_over}
 use Rattle.program_runs.specs.Procedures.{begin_of, end_of, procedure_code}
 use Rattle.program_runs.specs.Programs.{IsWhole, Whole, main_of}
 use Rattle.program_runs.specs.Starts.{first_family, image_parts, main_called, no_numbers, start_of}
@@ -50,7 +51,7 @@ use Rattle.program_runs.proofs.Rows.{is_datum, names_none, none_named}
 use Rattle.program_runs.proofs.Statements.{none_does, null_does, stop_does}
 use Rattle.program_runs.proofs.VariableProcedures.{one_made}
 use Rattle.program_runs.proofs.VariableRows.{differs_alone, number_valued}
-use Rattle.expression_runs.specs.Assignments.{IsAssignment, setting_of}
+use Rattle.expression_runs.specs.Assignments.{setting_of}
 use Rattle.expression_runs.specs.Raises.{Routines}
 use Rattle.expression_runs.specs.Values.{OverflowComes, Setting}
 use Rattle.expression_runs.specs.Variables.{IsNumber, whole}
@@ -61,16 +62,18 @@ use Rattle.expression_runs.proofs.VariablePoints.{variable_does}
 use Rattle.function_runs.proofs.OuterVariables.{same_ancestor}
 use Rattle.begin_runs.specs.FarGotos.{Far}
 use Rattle.begin_runs.proofs.FarGotos.{far_does}
-use Rattle.unit_runs.specs.Bodies.{BodyDoes, IsBody}
+use Rattle.unit_runs.specs.Bodies.{BodyDoes}
 use Rattle.unit_runs.specs.Establishing.{IsOn, behind_on, on_of, unit_index, unit_of}
 use Rattle.unit_runs.specs.Raised as S
-use Rattle.unit_runs.specs.Raised.{IsRaiseOf, IsRaised, Raise, Standing, UnitDoes, list_index, standing_code, unit_block}
-use Rattle.unit_runs.specs.JumpRows.{skip_again, skip_body, skip_code, skip_coded, skip_end, skip_entry, skip_environment}
+use Rattle.unit_runs.specs.Raised.{IsRaised, Standing, UnitDoes, list_index, standing_code}
+use Rattle.unit_runs.specs.Raised.{unit_block}
+use Rattle.unit_runs.specs.JumpRows.{skip_again, skip_body, skip_code, skip_coded, skip_end, skip_entry}
+use Rattle.unit_runs.specs.JumpRows.{skip_environment}
 use Rattle.unit_runs.specs.JumpRows.{skip_first, skip_image, skip_jump, skip_label, skip_last, skip_main, skip_on}
 use Rattle.unit_runs.specs.JumpRows.{skip_program, skip_rest, skip_spot, skip_start, skip_stop, skip_twice}
 use Rattle.unit_runs.specs.JumpRows.{skip_unit}
 use Rattle.unit_runs.proofs.Bodies.{first_ends, list_ends, on_ends, unit_program_runs}
-use Rattle.unit_runs.proofs.Establishing.{unit_begun, unit_forced, unit_numbers}
+use Rattle.unit_runs.proofs.Establishing.{unit_begun, unit_numbers}
 use Rattle.unit_runs.proofs.UnitRuns.{overflow_returns}
 use Rattle.unit_runs.proofs.Rows.{only_place}
 use Rattle.unit_runs.proofs.UnitVariables.{none_made, unit_over}

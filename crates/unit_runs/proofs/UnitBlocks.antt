@@ -1,26 +1,19 @@
 -- The block of a unit that is raised in a block: where its statements begin, and where it ends.
-use Rattle.std.proofs.Common.{◌≡◌, ℕ, suc, ◌+◌, ◌*◌, ◌^◌, ◌<◌, ◌≤◌, ◌⊎◌, inl, inr, List, [], ◌∷◌, ◌++◌, length}
-use Rattle.std.proofs.Common.{Option, Some, None, true, false, refl, sym, ap, ◌∙◌, subst, arith}
-use Rattle.std.proofs.lemmas.List.{append_assoc}
-use Rattle.std.specs.Prelude.{cond, nat_lt}
-use Rattle.rv_meaning.specs.declared.instr.Instr.{Instr}
-use Rattle.pli_typing.specs.TypedTree as Y
+use Rattle.std.proofs.Common.{◌≡◌, ℕ, ◌+◌, ◌*◌, ◌<◌, ◌≤◌, ◌⊎◌, inl, inr, List, [], ◌∷◌, length}
+use Rattle.std.proofs.Common.{Option, true, refl, sym, ap, ◌∙◌, subst, arith}
+use Rattle.std.specs.Prelude.{nat_lt}
 use Rattle.pli_meaning.specs.BasicValues.{BasicValue}
-use Rattle.pli_meaning.specs.Control.{Label, Meaning, act, flow_on, ◌>>=◌, ◌>>◌}
-use Rattle.pli_meaning.specs.Executing as M
-use Rattle.pli_meaning.specs.Raising.{at_line}
+use Rattle.pli_meaning.specs.Control.{Label}
 use Rattle.pli_meaning.specs.StorageState.{State, without_newest}
 use Rattle.pli_meaning.specs.StorageState.{most_activations, with_world}
 use Rattle.pli_meaning.specs.World.{counted}
-use Rattle.pli_serving.specs.Blocks as B
 use Rattle.pli_serving.specs.ServiceState.{Services}
-use Rattle.pli_coding.specs.Allocating.{act_code}
-use Rattle.pli_coding.specs.Assembly.{Code, Mark, ReturnPlace, size_of}
+use Rattle.pli_coding.specs.Assembly.{Code, size_of}
 use Rattle.pli_coding.specs.Frames.{fixed_size, temporary_bytes}
-use Rattle.pli_coding.specs.Statements.{unit_left, unit_mark}
+use Rattle.pli_coding.specs.Statements.{unit_left}
 use Rattle.activation_relation.specs.Chains.{HasParent}
 use Rattle.activation_relation.specs.Changes.{KeepsNone, awaiting, popped, popped_from}
-use Rattle.activation_relation.specs.Entering.{BlockEnd, Later}
+use Rattle.activation_relation.specs.Entering.{BlockEnd}
 use Rattle.activation_relation.specs.Frames.{lower_end, upper_top}
 use Rattle.activation_relation.specs.Landing.{closed, resumed}
 use Rattle.activation_relation.specs.Layers.{Layer, Point, services_of}
@@ -28,11 +21,9 @@ use Rattle.activation_relation.specs.Points.{AreFew, Stands}
 use Rattle.activation_relation.proofs.PointSteps.{awaited_stands, stacks_over}
 use Rattle.activation_relation.proofs.Remaining.{remains_acted, remains_then}
 use Rattle.activation_relation.proofs.Returning.{later_same, later_then, left_entries, left_later}
-use Rattle.activation_relation.proofs.Serials.{few_left, few_made}
+use Rattle.activation_relation.proofs.Serials.{few_left}
 use Rattle.run_steps.specs.Engine.{most_code}
 use Rattle.run_steps.specs.Items.{Linked}
-use Rattle.run_steps.proofs.Jumps.{back_of, front_of, linked_at, rest_of}
-use Rattle.run_steps.proofs.Linking.{size_append}
 use Rattle.run_steps.specs.Owing.{owing}
 use Rattle.run_steps.proofs.Owing.{done_owing}
 use Rattle.run_steps.specs.Reach.{Closed, Family, reached}
@@ -43,8 +34,9 @@ use Rattle.block_runs.proofs.Endings as E
 use Rattle.block_runs.proofs.PointActs.{stands_acted}
 use Rattle.program_runs.specs.Statements.{IsAmong, IsBegun, JumpsOut, JumpsTo, LandsAt, as_outer}
 use Rattle.program_runs.proofs.JumpsOut.{jumps_later}
-use Rattle.unit_runs.specs.Raised.{AreMade, IsBehind, IsRaiseOf, IsRaised, Raise, Standing, begin_of, begun_unit}
-use Rattle.unit_runs.specs.Raised.{end_index, list_code, list_index, raise_aims, standing_code, unit_beginning, unit_block}
+use Rattle.unit_runs.specs.Raised.{AreMade, IsRaiseOf, IsRaised, Raise, Standing, begun_unit}
+use Rattle.unit_runs.specs.Raised.{end_index, raise_aims, unit_beginning}
+use Rattle.unit_runs.specs.Raised.{unit_block}
 use Rattle.unit_runs.specs.Raised.{unit_call, unit_layer}
 use Rattle.unit_runs.specs.UnitBeginnings.{IsUnit}
 use Rattle.unit_runs.proofs.UnitEndings as N
@@ -268,7 +260,8 @@ behind_closed k p numbers index wanted =
 -- the block in which the condition was raised goes on where the raise said
 pub ended_owing :
     (z : Here) → IsHere z → (left' wanted c : ℕ) (f : Family) (v : Services) (r : Option BasicValue) (s : State) →
-    Linked z.setting.block.call.surroundings.links z.setting.block.call.code (end_index z.standing) (ending_of z.standing) →
+    Linked z.setting.block.call.surroundings.links z.setting.block.call.code (end_index z.standing)
+    (ending_of z.standing) →
     AtEnd (unit_call z.setting z.standing z.raise) left' c f v r s →
     (owing z.setting.block.call.code (left' + size_of (ending_of z.standing))
     (raise_aims z.setting z.from z.raise.numbers z.raise.back wanted)).done c f v tt (closed s)
@@ -281,7 +274,8 @@ ended_owing z h left' wanted c f v r s l o =
     let a = h.is.among in
     let known = E.left_below w k.call.code o.point e o.resumes.stands o.image o.resumes.layers in
     let idle = a.later.waiting ∙ h.raised.begun.resumes.idle in
-    let back = N.unit_ends (record { surroundings = w; code = k.call.code; point = o.point; end = e; first = reached o.reach })
+    let back = N.unit_ends
+    (record { surroundings = w; code = k.call.code; point = o.point; end = e; first = reached o.reach })
     (record {
       stands = o.resumes.stands;
       image = o.image;
@@ -297,8 +291,8 @@ ended_owing z h left' wanted c f v r s l o =
       };
       there = λ b. (reached_holds o.reach b).0;
     }) left' l in
-    let later = left_later w z.raise.point o.point z.raise.point.state.world.acts o.activation φ [] a.stands (omega arith)
-    refl idle o.remains o.resumes in
+    let later = left_later w z.raise.point o.point z.raise.point.state.world.acts o.activation φ [] a.stands
+    (omega arith) refl idle o.remains o.resumes in
     let since = h.since in
     let acts = later.acts in
     done_owing (behind_closed z.setting z.from z.raise.numbers z.raise.back wanted)

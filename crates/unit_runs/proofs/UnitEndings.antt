@@ -1,5 +1,5 @@
 -- The end of a unit goes on where its raise said, with the machine of the block below.
-use Rattle.std.proofs.Common.{◌≡◌, ℕ, suc, ◌+◌, ◌*◌, ◌^◌, ◌<◌, ◌≤◌, List, [], ◌∷◌, ◌++◌, refl, sym, ap, ◌∙◌, subst}
+use Rattle.std.proofs.Common.{◌≡◌, ℕ, ◌+◌, ◌*◌, ◌≤◌, List, [], ◌∷◌, ◌++◌, refl, sym, ap, ◌∙◌, subst}
 use Rattle.std.proofs.Common.{arith}
 use Rattle.std.specs.Prelude.{pos, neg_ℤ}
 use Rattle.rv_meaning.specs.declared.instr.Instr.{Instr}
@@ -7,7 +7,6 @@ use Rattle.rv_meaning.specs.declared.instr.Instr.TheVariants as I
 use Rattle.rv_meaning.specs.Words.{word, sum}
 use Rattle.pli_serving.specs.Answers.{Done}
 use Rattle.pli_serving.specs.Blocks as B
-use Rattle.pli_serving.specs.ServiceState as S
 use Rattle.pli_coding.specs.Assembly.{BaseIn, Code, Plain, size_of}
 use Rattle.pli_coding.specs.Entries.{frame_ended, registers_restored}
 use Rattle.pli_coding.specs.Frames.{frame_below, temporary_bytes}
@@ -34,8 +33,8 @@ use Rattle.run_steps.specs.Reach.{Family, Reach, reached}
 use Rattle.run_steps.proofs.Reach.{reach_map, reach_then, reach_with, reached_holds}
 use Rattle.block_runs.specs.Machines.{AreIn, IsImage, IsIn}
 use Rattle.block_runs.proofs.BlockEntries.{small_is}
-use Rattle.block_runs.proofs.Endings.{Leaves, Leaving, back_at, below_ground, frame_back, goes_below, leaving_ground}
-use Rattle.block_runs.proofs.Endings.{left_below, numbers_back, own_frame, own_ground, popped_services}
+use Rattle.block_runs.proofs.Endings.{Leaves, Leaving, back_at, below_ground, frame_back, goes_below}
+use Rattle.block_runs.proofs.Endings.{left_below, numbers_back, own_ground, popped_services}
 use Rattle.block_runs.proofs.Endings.{registers_loaded, same_acts, stack_back}
 use Rattle.block_runs.proofs.PointGrounds.{call_is, registers_in}
 use Rattle.unit_runs.specs.UnitBeginnings.{IsUnitEnding, unit_ending_code}
@@ -154,8 +153,8 @@ resumed_back k h to {i} c f l there =
     let jump = Plain (I.JumpRegister zero_register u0 (pos 0)) ∷ [] in
     let lj = back_of adds jump l in
     let near = h.is.back in
-    let r1 = straight c f v v (λ b y. Known g v (numbers_back k) (λ j. 0) (λ b'. (5, address b' k.end.back) ∷ rs b') b y)
-    (front_of adds jump l) (omega arith) (λ b. (there b).pc)
+    let r1 = straight c f v v
+    (λ b y. Known g v (numbers_back k) (λ j. 0) (λ b'. (5, address b' k.end.back) ∷ rs b') b y) (front_of adds jump l) (omega arith) (λ b. (there b).pc)
     (λ b. let o = (there b).holds in (
       refl,
       record {
@@ -242,8 +241,8 @@ unit_ends k h c l =
     }))
 
 pub unit_left_stands :
-    (w : Surroundings) (code : List Instr) (q : Point) (e : BlockEnd) → Stands w q × IsImage w code q × IsUnitEnding q e →
-    Stands w (popped e.kept q) × IsImage w code (popped e.kept q)
+    (w : Surroundings) (code : List Instr) (q : Point) (e : BlockEnd) →
+    Stands w q × IsImage w code q × IsUnitEnding q e → Stands w (popped e.kept q) × IsImage w code (popped e.kept q)
 unit_left_stands w code q e known = left_below w code q e known.0 known.1 known.2.newest
 
 pub units_end :

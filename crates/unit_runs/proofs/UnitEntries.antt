@@ -37,7 +37,8 @@ use Rattle.run_steps.specs.Temporaries.{nothing}
 use Rattle.block_runs.specs.Beginnings.{Beginning, begun_point}
 use Rattle.block_runs.specs.Machines.{IsIn, IsImage}
 use Rattle.block_runs.proofs.BlockEntries.{small_is, word_fits, word_is}
-use Rattle.block_runs.proofs.FrameBeginnings.{Begun, IsBegun, all_stored, all_words, frame_code, frame_made, new_display}
+use Rattle.block_runs.proofs.FrameBeginnings.{Begun, IsBegun, all_stored, all_words, frame_code, frame_made}
+use Rattle.block_runs.proofs.FrameBeginnings.{new_display}
 use Rattle.block_runs.proofs.FrameBeginnings.{new_frame, outside, own_regs, regs_of}
 use Rattle.block_runs.proofs.Places.{IsFrame, word_in, bounds, even_top}
 use Rattle.block_runs.proofs.PointGrounds.{StandsIn, point_ground, registers_in, in_known, call_is}

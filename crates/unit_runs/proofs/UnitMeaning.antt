@@ -1,5 +1,5 @@
 -- What a raise means while a unit is in force: the unit's block, its statements and its end.
-use Rattle.std.proofs.Common.{◌≡◌, ℕ, suc, List, [], length, Bool, Option, Some, true, false, refl, sym, ap, ◌∙◌}
+use Rattle.std.proofs.Common.{◌≡◌, ℕ, suc, List, length, Bool, Option, Some, true, false, refl, sym, ap, ◌∙◌}
 use Rattle.std.specs.Prelude.{cond, nat_lt}
 use Rattle.rv_meaning.specs.declared.instr.Instr.{Instr}
 use Rattle.pli_language.specs.declared.condition.Condition.{Condition}
@@ -15,7 +15,7 @@ use Rattle.pli_meaning.specs.Executing.{with_activation}
 use Rattle.pli_meaning.specs.Making as K
 use Rattle.pli_meaning.specs.Raising as R
 use Rattle.pli_meaning.specs.Raising.{Around, Entry, at_line, unit_entered}
-use Rattle.pli_meaning.specs.StorageState.{Activation, BlockUnit, OnUnit, State, force, most_activations, newest_ended}
+use Rattle.pli_meaning.specs.StorageState.{Activation, BlockUnit, State, force, most_activations, newest_ended}
 use Rattle.pli_meaning.specs.World.{counted}
 use Rattle.pli_serving.specs.ServiceState.{Services}
 use Rattle.activation_relation.specs.Landing.{closed}

@@ -1,6 +1,6 @@
 -- A raise finds the unit in force: from its code, through an act, to the unit's first instruction.
 use Rattle.std.proofs.Common.{◌≡◌, ℕ, suc, ◌+◌, ◌-◌, ◌*◌, ◌%◌, ◌^◌, ◌<◌, ◌≤◌, List, [], ◌∷◌, ◌++◌, length, Option}
-use Rattle.std.proofs.Common.{Some, None, true, false, refl, sym, ap, ◌∙◌, subst, arith, lit<, add-one}
+use Rattle.std.proofs.Common.{Some, None, false, refl, ap, ◌∙◌, arith, lit<, add-one}
 use Rattle.std.proofs.lemmas.Bool.{lt-ltb}
 use Rattle.std.proofs.lemmas.Bool.Decides.{nat_tests}
 use Rattle.std.specs.Prelude.{pos, ◌==◌}
@@ -41,7 +41,7 @@ use Rattle.run_steps.proofs.Items.{straight}
 use Rattle.run_steps.proofs.Jumps.{ahead_piece, back_of, call_piece, first_of, front_of, hop, jump_register, rest_of}
 use Rattle.run_steps.proofs.Jumps.{skip_passed}
 use Rattle.run_steps.specs.Reach.{Aims, Closed, Comes, Family, Reach, cost, reached}
-use Rattle.run_steps.proofs.Reach.{onward, reach_map, reach_then, reached_holds}
+use Rattle.run_steps.proofs.Reach.{onward, reach_then, reached_holds}
 use Rattle.run_steps.specs.Temporaries.{nothing}
 use Rattle.block_runs.specs.Machines.{AreIn, IsImage, IsIn}
 use Rattle.block_runs.proofs.BlockEntries.{small_is}
@@ -49,7 +49,6 @@ use Rattle.block_runs.proofs.Places.{IsFrame, frame_found}
 use Rattle.block_runs.proofs.PointGrounds.{call_is, in_known, known_in, point_frame, point_ground}
 use Rattle.expression_runs.specs.Raises.{Routines}
 use Rattle.expression_runs.proofs.Raises.{raised_at}
-use Rattle.unit_runs.specs.UnitBeginnings.{IsAtUnit}
 use Rattle.unit_runs.proofs.Establishing.{condition_is, number_small}
 
 -- ---- who established it
@@ -126,8 +125,8 @@ frame_of : (z : Finding) → IsFinding z → IsFrame (frame_at z.point.control.l
 frame_of z h =
     let w = z.surroundings in
     let p = z.point in
-    let n = force_height w.units p.state.activations p.control.layers z.condition z.by (BlockUnit z.unit) h.stands.active
-    h.force in
+    let n = force_height w.units p.state.activations p.control.layers z.condition z.by (BlockUnit z.unit)
+    h.stands.active h.force in
     let low = n.some in
     let high = n.most in
     let many = same_length w.units p.state.activations p.control.layers h.stands.active in
@@ -237,8 +236,8 @@ found_reach :
     ((b : Base) → At b (h.routines.at + 4 + 1) (Known (waiting_ground z g) (services_of (waiting_point z)) z.numbers
     (λ n. 0) (found_regs z) b) (f b)) →
     Reach z.code 0 f (services_of (waiting_point z)) 19 (services_of (waiting_point z))
-    (λ b y. At b z.entry (Known (waiting_ground z g) (services_of (waiting_point z)) z.numbers (λ n. 0) (begun_regs z) b)
-    y)
+    (λ b y. At b z.entry (Known (waiting_ground z g) (services_of (waiting_point z)) z.numbers (λ n. 0) (begun_regs z)
+    b) y)
 found_reach z h g f there =
     let v = services_of (waiting_point z) in
     let ground = waiting_ground z g in
@@ -317,7 +316,8 @@ unit_placed z h m =
     (lt-ltb (z.point.state.world.acts + 1) (2 ^ 64) (omega (arith, allowed, most))) (condition_is z.condition)
     (lt-ltb z.number (2 ^ 16) h.small') h.force in
     r.2
-    ∙ ap (λ at. Done (services_of (waiting_point z)) m at (frame_at z.point.control.layers z.by.height)) (h.only r.0 r.1)
+    ∙ ap (λ at. Done (services_of (waiting_point z)) m at (frame_at z.point.control.layers z.by.height))
+    (h.only r.0 r.1)
 
 -- behind the act of the raise the run is at the unit's first instruction
 pub raise_finds :

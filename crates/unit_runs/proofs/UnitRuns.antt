@@ -1,17 +1,16 @@
 -- A raise while a unit is in force does what it means: the unit runs, and behind its end the raise goes on.
-use Rattle.std.proofs.Common.{◌≡◌, ℕ, suc, ◌+◌, ◌*◌, ◌^◌, ◌<◌, ◌≤◌, List, [], ◌∷◌, ◌++◌, length, Option, Some, None}
-use Rattle.std.proofs.Common.{true, false, refl, sym, ap, ◌∙◌, subst, arith}
+use Rattle.std.proofs.Common.{◌≡◌, ℕ, ◌+◌, ◌^◌, ◌<◌, ◌≤◌, [], ◌++◌, length, None}
+use Rattle.std.proofs.Common.{true, refl, sym, ap, ◌∙◌, subst, arith}
 use Rattle.std.specs.Prelude.{nat_lt}
 use Rattle.pli_language.specs.declared.condition.Condition.{Condition}
 use Rattle.pli_language.specs.declared.condition.Condition.TheVariants as C
 use Rattle.pli_typing.specs.TypedTree as Y
 use Rattle.pli_meaning.specs.Codes.{fixed_overflow_code}
-use Rattle.pli_meaning.specs.Control.{Meaning, act, flow_on, looked, ◌>>=◌, ◌>>◌}
+use Rattle.pli_meaning.specs.Control.{Meaning, act, flow_on, ◌>>◌}
 use Rattle.pli_meaning.specs.Executing as M
-use Rattle.pli_meaning.specs.Executing.{with_activation}
 use Rattle.pli_meaning.specs.Raising as R
-use Rattle.pli_meaning.specs.Raising.{Around, at_line, unit_entered}
-use Rattle.pli_meaning.specs.StorageState.{BlockUnit, force, most_activations}
+use Rattle.pli_meaning.specs.Raising.{Around, at_line}
+use Rattle.pli_meaning.specs.StorageState.{force, most_activations}
 use Rattle.pli_meaning.specs.World.{counted, raising}
 use Rattle.pli_coding.specs.Allocating.{act_code}
 use Rattle.pli_coding.specs.Arithmetic as A
@@ -34,7 +33,7 @@ use Rattle.run_steps.proofs.Owing.{comes_owing, owing_closed}
 use Rattle.run_steps.specs.Reach.{Aims, Comes, Family, cost, reached}
 use Rattle.run_steps.proofs.Reach.{before_closed, comes_on, onward, reach_map, reach_then, reach_with, reached_holds}
 use Rattle.run_steps.specs.Temporaries.{nothing}
-use Rattle.block_runs.specs.Machines.{AreIn, IsIn, acted}
+use Rattle.block_runs.specs.Machines.{AreIn, IsIn}
 use Rattle.block_runs.proofs.CallStatements.{comes_map}
 use Rattle.block_runs.proofs.PointActs.{act_comes}
 use Rattle.block_runs.proofs.PointGrounds.{in_known, known_in, point_frame}
@@ -44,17 +43,18 @@ use Rattle.program_runs.proofs.Calls.{behind_variables}
 use Rattle.program_runs.proofs.JumpsOut.{jumps_repaid, jumps_since}
 use Rattle.program_runs.proofs.Lists.{list_does}
 use Rattle.program_runs.proofs.Statements.{at_end}
-use Rattle.expression_runs.specs.Values.{HasRegisters, HasWord, OverflowComes, Setting, behind, in_registers, word_aims}
+use Rattle.expression_runs.specs.Values.{OverflowComes, Setting, behind, in_registers, word_aims}
 use Rattle.expression_runs.proofs.Raises.{raised_at}
 use Rattle.expression_runs.proofs.Saving.{fetched_reach, held_after, held_among, held_is_given, held_stays, saved_reach}
 use Rattle.expression_runs.proofs.Saving.{size_sum}
 use Rattle.expression_runs.proofs.Words.{known_word, word_closed}
 use Rattle.unit_runs.specs.Establishing.{unit_of}
-use Rattle.unit_runs.specs.Raised.{AreMade, IsBehind, IsRaiseOf, IsRaised, Raise, RaisesReturn, Standing, UnitDoes}
-use Rattle.unit_runs.specs.Raised.{act_index, begin_of, begun_unit, end_index, list_code, list_index, raise_aims, standing_code}
-use Rattle.unit_runs.specs.Raised.{unit_beginning, unit_block, variables_index}
+use Rattle.unit_runs.specs.Raised.{IsRaiseOf, IsRaised, Raise, RaisesReturn, Standing, UnitDoes}
+use Rattle.unit_runs.specs.Raised.{begin_of, begun_unit, end_index, list_code, list_index, raise_aims}
+use Rattle.unit_runs.specs.Raised.{standing_code}
+use Rattle.unit_runs.specs.Raised.{unit_beginning, unit_block}
 use Rattle.unit_runs.specs.UnitBeginnings.{IsAtUnit}
-use Rattle.unit_runs.proofs.UnitBlocks.{Here, IsHere, begun_known, behind_closed, ended_owing, ending_of, first_among}
+use Rattle.unit_runs.proofs.UnitBlocks.{Here, IsHere, begun_known, ended_owing, ending_of, first_among}
 use Rattle.unit_runs.proofs.UnitBlocks.{first_begun, leaves_by_jump, premises, waiting}
 use Rattle.unit_runs.proofs.UnitEntries as U
 use Rattle.unit_runs.proofs.UnitMeaning.{behind_raise, comes_returned, unit_body, unit_means, within, within_closed}
@@ -123,7 +123,8 @@ standing_size x kind =
 
 end_linked :
     {z : Here} → IsHere z →
-    Linked z.setting.block.call.surroundings.links z.setting.block.call.code (end_index z.standing) (ending_of z.standing)
+    Linked z.setting.block.call.surroundings.links z.setting.block.call.code (end_index z.standing)
+    (ending_of z.standing)
 end_linked {z} h =
     let x = z.standing in
     let mark = unit_mark x.unit.head x.unit.head.kind in

@@ -1,6 +1,5 @@
 -- Lists of statements with ON among them: a procedure's own list, whose first statements have no labels.
-use Rattle.std.specs.Prelude.{ℕ, suc, ◌+◌, ◌<◌, ◌≤◌, ◌≡◌, List, [], ◌∷◌, ◌++◌, None, false}
-use Rattle.rv_meaning.specs.declared.instr.Instr.{Instr}
+use Rattle.std.specs.Prelude.{ℕ, suc, ◌+◌, ◌<◌, ◌≤◌, ◌≡◌, List, [], ◌++◌, None, false}
 use Rattle.pli_typing.specs.TypedTree as Y
 use Rattle.pli_meaning.specs.Executing.{labels_in, list, run}
 use Rattle.pli_meaning.specs.StorageState.{first_state}

@@ -16,8 +16,7 @@ use Rattle.pli_coding.specs.Images.{code_of, environment_of, linked_code, raise_
 use Rattle.pli_coding.specs.Linking.{links_of}
 use Rattle.pli_coding.specs.Procedures.{procedure_environment}
 use Rattle.pli_coding.specs.SignatureTable.{table_of}
-use Rattle.pli_coding.specs.Statements.{block_held, block_words, stmt_code, stmts_words, unit_environment, unit_held}
-use Rattle.pli_coding.specs.Statements.{unit_variables, unit_words}
+use Rattle.pli_coding.specs.Statements.{block_held, block_words, stmt_code, stmts_words}
 use Rattle.activation_relation.specs.Chains.{UnitPlaces}
 use Rattle.activation_relation.specs.Layers.{services_of}
 use Rattle.run_steps.specs.Reach.{Comes, never}
@@ -29,7 +28,8 @@ use Rattle.expression_runs.specs.Variables.{Spot, number_declared, whole}
 use Rattle.unit_runs.specs.Establishing.{OnUnit, on_of, unit_index, unit_of}
 use Rattle.unit_runs.specs.Rows.{unit_head}
 
--- ---- the program: DECLARE X FIXED BINARY(31); X = 2147483647; ON FIXEDOVERFLOW BEGIN; GOTO L; END; X = X + X; STOP; L: ;
+-- ---- the program: DECLARE X FIXED BINARY(31); X = 2147483647; ON FIXEDOVERFLOW BEGIN; GOTO L; END; X = X + X; STOP;
+-- L: ;
 
 abbrev pub skip_spot : Spot
 skip_spot = record { block = 0; level = 0; index = 0 }

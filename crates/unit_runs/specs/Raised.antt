@@ -1,17 +1,16 @@
--- A condition is raised while a unit is in force: the unit's block, and what the raise comes to. (X3.53-1976, chapter 6,
--- conditions and on-units.)
-use Rattle.std.specs.Prelude.{ℕ, suc, ◌+◌, ◌*◌, ◌^◌, ◌<◌, ◌≤◌, ◌≡◌, List, [], ◌∷◌, ◌++◌, nat_lt, false, true, length, None}
+-- A condition is raised while a unit is in force: the unit's block, and what the raise comes to. (X3.53-1976,
+-- chapter 6, conditions and on-units.)
+use Rattle.std.specs.Prelude.{ℕ, suc, ◌+◌, ◌*◌, ◌^◌, ◌<◌, ◌≤◌, ◌≡◌, List, [], ◌∷◌, ◌++◌, nat_lt, false, true, length}
+use Rattle.std.specs.Prelude.{None}
 use Rattle.std.specs.Prelude.{Some}
 use Rattle.pli_language.specs.declared.condition.Condition.{Condition}
 use Rattle.pli_language.specs.declared.condition.Condition.TheVariants as C
 use Rattle.pli_typing.specs.TypedTree as Y
-use Rattle.pli_meaning.specs.Codes.{fixed_overflow_code}
-use Rattle.pli_meaning.specs.Control.{Label, Normal}
+use Rattle.pli_meaning.specs.Control.{Normal}
 use Rattle.pli_meaning.specs.Executing.{block_variables_made, entered, labels_in}
 use Rattle.pli_meaning.specs.Raising.{Around, Entry, at_line, raised}
 use Rattle.pli_meaning.specs.StorageState as M
 use Rattle.pli_meaning.specs.StorageState.{Activation, BlockUnit, State, force, most_activations}
-use Rattle.pli_meaning.specs.World.{raising}
 use Rattle.pli_serving.specs.ServiceState as S
 use Rattle.pli_serving.specs.ServiceState.{Services}
 use Rattle.pli_coding.specs.Allocating.{act_code}
@@ -23,7 +22,6 @@ use Rattle.pli_coding.specs.Frames.{fixed_size, temporary_bytes}
 use Rattle.pli_coding.specs.Registers.{held_registers}
 use Rattle.pli_coding.specs.Statements.{stmts_code, unit_left, unit_mark}
 use Rattle.activation_relation.specs.Chains.{HasParent, StandsAt}
-use Rattle.activation_relation.specs.Changes.{with_act}
 use Rattle.activation_relation.specs.CodeStores.{most_levels}
 use Rattle.activation_relation.specs.Frames.{lower_end, upper_top}
 use Rattle.activation_relation.specs.Landing.{Changed, resumed, with_units}
@@ -40,13 +38,12 @@ use Rattle.program_runs.specs.Statements.{AreMarked, Block, EachDoes, IsAmong, I
 use Rattle.expression_runs.specs.Raises.{Routines}
 use Rattle.expression_runs.specs.Values.{OverflowComes, Setting}
 use Rattle.unit_runs.specs.Establishing.{OnUnit, unit_of}
-use Rattle.unit_runs.specs.UnitBeginnings.{unit_beginning_code}
 
 -- ---- a unit where it stands
 
 -- the words for temporaries of its frame, how many registers it saves, the code that makes its variables, the index of
--- its first instruction, the environment of its code, what is around its meaning, and what becomes of the point where its
--- variables are made
+-- its first instruction, the environment of its code, what is around its meaning, and what becomes of the point where
+-- its variables are made
 pub record Standing : Type 0 where
   pub unit : OnUnit
   pub words : ℕ

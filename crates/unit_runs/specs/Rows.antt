@@ -5,7 +5,7 @@ use Rattle.rv_meaning.specs.Machine.{memory_size}
 use Rattle.pli_language.specs.declared.condition.Condition.TheVariants as C
 use Rattle.pli_typing.specs.TypedTree as Y
 use Rattle.pli_meaning.specs.declared.outcome.End.TheVariants as E
-use Rattle.pli_meaning.specs.Executing.{entered, meaning, run}
+use Rattle.pli_meaning.specs.Executing.{meaning, run}
 use Rattle.pli_meaning.specs.StorageState.{first_state}
 use Rattle.pli_serving.specs.Templates.{template_of}
 use Rattle.pli_coding.specs.Allocating.{act_code}
@@ -16,8 +16,7 @@ use Rattle.pli_coding.specs.Images.{code_of, environment_of, linked_code, raise_
 use Rattle.pli_coding.specs.Linking.{links_of}
 use Rattle.pli_coding.specs.Procedures.{procedure_environment}
 use Rattle.pli_coding.specs.SignatureTable.{table_of}
-use Rattle.pli_coding.specs.Statements.{block_held, block_words, stmt_code, stmts_words, unit_environment, unit_held}
-use Rattle.pli_coding.specs.Statements.{unit_variables, unit_words}
+use Rattle.pli_coding.specs.Statements.{block_held, block_words, stmt_code, stmts_words}
 use Rattle.activation_relation.specs.Chains.{UnitPlaces}
 use Rattle.activation_relation.specs.Layers.{services_of}
 use Rattle.run_steps.specs.Reach.{Comes, never}

@@ -1,5 +1,5 @@
--- Where a unit's block begins and ends: its code, and what is known where its raise comes to it. (X3.53-1976, chapter 6,
--- on-units.)
+-- Where a unit's block begins and ends: its code, and what is known where its raise comes to it. (X3.53-1976,
+-- chapter 6, on-units.)
 use Rattle.std.specs.Prelude.{ℕ, List, ◌+◌, ◌*◌, ◌^◌, ◌<◌, ◌≤◌, ◌≡◌, nat_lt, true, [], ◌∷◌, ◌++◌, length, Some, None}
 use Rattle.rv_meaning.specs.declared.instr.Instr.{Instr}
 use Rattle.rv_meaning.specs.Machine.{value}
