@@ -24,19 +24,20 @@ use Rattle.run_steps.specs.Reach.{Aims, Comes, Family, never}
 use Rattle.run_steps.proofs.Reach.{onward}
 use Rattle.block_runs.specs.Bodies.{AtEnd, Called, body_aims}
 use Rattle.block_runs.proofs.CallStatements.{comes_map}
-use Rattle.program_runs.specs.Calls.{block_at, body_index, left_over}
+use Rattle.program_runs.specs.Calls.{AreMade, Callee, IsCall, block_at, body_index, call_of, left_over}
 use Rattle.program_runs.specs.Programs.{IsWhole, Whole, main_of}
 use Rattle.program_runs.specs.Starts.{first_family, no_numbers, start_point, surroundings_of}
-use Rattle.program_runs.specs.Statements.{AreMarked, Block, Does, EachDoes, IsBegun}
+use Rattle.program_runs.specs.Statements.{AreMarked, IsAmong, Block, Does, EachDoes, IsBegun}
 use Rattle.program_runs.specs.Statements.{ReturnsOut}
 use Rattle.program_runs.specs.Statements.{ReturnsTo, size_in, statement_aims}
+use Rattle.program_runs.proofs.CallStatements.{call_comes}
 use Rattle.program_runs.proofs.Calls.{body_closed}
 use Rattle.program_runs.proofs.JumpsOut.{no_jump}
 use Rattle.program_runs.proofs.Lists.{list_does}
 use Rattle.program_runs.proofs.NewestBlocks.{newest_at, newest_own}
 use Rattle.program_runs.proofs.Programs.{program_comes}
 use Rattle.program_runs.proofs.Statements.{at_end}
-use Rattle.unit_runs.specs.Bodies.{BodiesDo, BodyDoes, IsBody, before_rest}
+use Rattle.unit_runs.specs.Bodies.{BodiesDo, BodyDoes, IsBody, IsFirst, IsFirstOn, before_rest}
 use Rattle.unit_runs.specs.Establishing.{IsOn, OnUnit, behind_on, on_of}
 use Rattle.unit_runs.proofs.Establishing.{unit_begun, unit_does}
 
@@ -188,10 +189,10 @@ rest_size k first rest =
     size_append (stmt_code k.environment none_taken first) (stmts_code k.environment none_taken rest)
 
 pub first_ends :
-    (k : Block) (first : Y.Stmt) (rest : Y.Stmts) (index left' : ℕ) → IsBody k (before_rest first rest) index →
-    Does k [] first index left' → BodyDoes k rest (index + size_in k first) left' →
+    (k : Block) (first : Y.Stmt) (rest : Y.Stmts) (index left' : ℕ) → IsFirst k first rest index left' →
     BodyDoes k (before_rest first rest) index left'
-first_ends k first rest index left' h does goes p numbers f o there =
+first_ends k first rest index left' is p numbers f o there =
+    let h = is.body in
     let w = k.call.surroundings in
     let enough = h.enough in
     let more = o.later.acts in
@@ -213,16 +214,17 @@ first_ends k first rest index left' h does goes p numbers f o there =
     subst (Comes k.call.code 0 g (services_of q.point) (body_aims k.call left'))
     (rest_is k.around first rest m w.acts height q.point.state turns
     (newest_own (newest_at h.begun q.among) ∙ sym (newest_own (newest_at h.begun o))))
-    (goes q.point q.numbers g q.among at))))
+    (is.goes q.point q.numbers g q.among at))))
     (λ c' f' v' h' label s q. no_jump h.outers q)
     (λ c' f' v' r s q. own_return (before_rest first rest) index h q)
-    (does p numbers 0 0 f o (omega (arith, n, inside)) there))
+    (is.does p numbers 0 0 f o (omega (arith, n, inside)) there))
 
 pub on_ends :
-    (k : Block) (x : OnUnit) (rest : Y.Stmts) (index left' : ℕ) → IsBody k (before_rest (on_of x) rest) index →
-    IsOn k x index → BodyDoes (behind_on k x index) rest (index + size_in k (on_of x)) left' →
+    (k : Block) (x : OnUnit) (rest : Y.Stmts) (index left' : ℕ) → IsFirstOn k x rest index left' →
     BodyDoes k (before_rest (on_of x) rest) index left'
-on_ends k x rest index left' h on goes p numbers f o there =
+on_ends k x rest index left' is p numbers f o there =
+    let h = is.body in
+    let on = is.on in
     let w = k.call.surroundings in
     let first = on_of x in
     let k' = behind_on k x index in
@@ -247,7 +249,7 @@ on_ends k x rest index left' h on goes p numbers f o there =
     subst (Comes k.call.code 0 g (services_of q.point) (body_aims k.call left'))
     (rest_is k.around first rest m w.acts height q.point.state turns
     (newest_own (newest_at b' q.among) ∙ sym (newest_own (newest_at h.begun o))))
-    (goes q.point q.numbers g q.among at))))
+    (is.goes q.point q.numbers g q.among at))))
     (λ c' f' v' h' label s q. no_jump h.outers q)
     (λ c' f' v' r s q. own_return (before_rest first rest) index h (record { to = q.to }))
     (unit_does k [] x index left' on p numbers 0 0 f o (omega (arith, n, inside)) there))
@@ -268,3 +270,17 @@ unit_program_runs keeps k first h body =
     program_comes keeps k first h
     (λ b o f at. body b (block_at (surroundings_of k.image) k.image.code (main_of k) (start_point k.image)
     no_numbers).first no_numbers f o at)
+
+-- ---- CALL
+
+pub unit_call_does :
+    (k : Block) (c : Callee) (line index left' more : ℕ) → IsCall k c line index more →
+    ((p : Point) (numbers : ℕ → ℕ) → IsAmong k numbers p → AreMade k.call.surroundings k.call.code c p numbers) →
+    ((p : Point) (numbers : ℕ → ℕ) → IsAmong k numbers p →
+    IsBegun (block_at k.call.surroundings k.call.code c p numbers) →
+    BodyDoes (block_at k.call.surroundings k.call.code c p numbers) c.procedure.body (body_index c) left_over) →
+    IsBegun k → (labels : List Label) → Does k labels (call_of k c line) index left'
+unit_call_does k c line index left' more h made' body =
+    call_comes k c line index left' more h made'
+    (λ p numbers o b o' f at.
+    body p numbers o b (block_at k.call.surroundings k.call.code c p numbers).first numbers f o' at)

@@ -1,5 +1,5 @@
 -- The worked row: all that is premised of the program is computed.
-use Rattle.std.proofs.Common.{◌≡◌, ℕ, zero, suc, ◌+◌, ◌*◌, ◌^◌, ◌<◌, List, [], ◌∷◌, ◌++◌, inl, length, map, Some, Bool}
+use Rattle.std.proofs.Common.{◌≡◌, ℕ, zero, suc, ◌+◌, ◌*◌, ◌^◌, ◌<◌, List, [], ◌∷◌, ◌++◌, inl, inr, length, map, Some, Bool}
 use Rattle.std.proofs.Common.{true, false, refl, sym, ap, subst, arith}
 use Rattle.std.proofs.lemmas.Bool.{eqb-true}
 use Rattle.std.specs.Prelude.{◌&&◌, ◌||◌, ◌==◌}
@@ -294,7 +294,7 @@ raised_is input more few b =
       some = omega arith;
       stands = unit_linked more;
       labels = (λ label e. absurd (cc e), λ label e. absurd (cc e));
-      kind = refl;
+      kind = inr refl;
       level = omega arith;
       line = omega arith;
       saved = omega arith;
@@ -326,7 +326,7 @@ unit_each input more few b r is =
     let x = skip_standing more in
     let h = raised_is input more few b in
     let u = unit_block k x r in
-    let made = none_made k x r refl refl (refl, refl) in (
+    let made = none_made k x r (record { kind = inr (refl, refl); code = refl; made = refl }) in (
       made,
       λ b'. (
         far_does u [] (skip_far input more) 5 (list_index x) left_over
@@ -466,40 +466,45 @@ skip_does input acts few b =
     let h = on_is input acts few b in
     first_ends k skip_first skip_rest skip_start left_over
     (record {
-      begun = b;
-      linked = body_linked;
-      end = refl;
-      function = refl;
-      kind = refl;
-      registers = omega arith;
-      outers = refl;
-      enough = omega arith;
+      body = record {
+        begun = b;
+        linked = body_linked;
+        end = refl;
+        function = refl;
+        kind = refl;
+        registers = omega arith;
+        outers = refl;
+        enough = omega arith;
+      };
+      does = first_does input acts few b;
+      goes = on_ends k skip_unit skip_end skip_on left_over
+          (record {
+            body = record {
+              begun = b;
+              linked = rest_linked;
+              end = refl;
+              function = refl;
+              kind = refl;
+              registers = omega arith;
+              outers = refl;
+              enough = omega arith;
+            };
+            on = h;
+            goes = list_ends (behind_block input acts) skip_end last_index left_over
+                (record {
+                  begun = unit_begun k skip_unit skip_on h;
+                  linked = last_linked;
+                  end = refl;
+                  function = refl;
+                  kind = refl;
+                  registers = omega arith;
+                  outers = refl;
+                  enough = omega arith;
+                })
+                (λ label e. absurd (cc e), (λ label e. absurd (cc e), (labels_stand, λ label e. absurd (cc e))))
+        (skip_each input acts few b);
+          });
     })
-    (first_does input acts few b)
-    (on_ends k skip_unit skip_end skip_on left_over
-    (record {
-      begun = b;
-      linked = rest_linked;
-      end = refl;
-      function = refl;
-      kind = refl;
-      registers = omega arith;
-      outers = refl;
-      enough = omega arith;
-    }) h
-    (list_ends (behind_block input acts) skip_end last_index left_over
-    (record {
-      begun = unit_begun k skip_unit skip_on h;
-      linked = last_linked;
-      end = refl;
-      function = refl;
-      kind = refl;
-      registers = omega arith;
-      outers = refl;
-      enough = omega arith;
-    })
-    (λ label e. absurd (cc e), (λ label e. absurd (cc e), (labels_stand, λ label e. absurd (cc e))))
-    (skip_each input acts few b)))
 
 -- ---- the whole
 

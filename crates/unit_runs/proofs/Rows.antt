@@ -1,5 +1,5 @@
 -- The worked row: all that is premised of the program is computed.
-use Rattle.std.proofs.Common.{◌≡◌, ℕ, zero, suc, ◌+◌, ◌*◌, ◌^◌, ◌<◌, List, [], ◌∷◌, ◌++◌, inl, length, map, Some, None}
+use Rattle.std.proofs.Common.{◌≡◌, ℕ, zero, suc, ◌+◌, ◌*◌, ◌^◌, ◌<◌, List, [], ◌∷◌, ◌++◌, inl, inr, length, map, Some, None}
 use Rattle.std.proofs.Common.{Option, refl, sym, ap, arith}
 use Rattle.rv_meaning.specs.declared.instr.Instr.TheVariants as I
 use Rattle.rv_meaning.specs.Machine.{memory_size}
@@ -287,7 +287,7 @@ raised_is input more few b =
       some = omega arith;
       stands = unit_linked more;
       labels = (λ label e. absurd (cc e), λ label e. absurd (cc e));
-      kind = refl;
+      kind = inr refl;
       level = omega arith;
       line = omega arith;
       saved = omega arith;
@@ -309,7 +309,7 @@ unit_each input more few b r is =
     let h = raised_is input more few b in
     let u = unit_block k x r in
     let n = linked_length (links_of mend_code) 0 mend_code in
-    let made = none_made k x r refl refl (refl, refl) in (
+    let made = none_made k x r (record { kind = inr (refl, refl); code = refl; made = refl }) in (
       made,
       λ b'. (
         assign_does u [] mend_spot (Y.NumberConstant 1) 5 (list_index x) left_over 0 100
@@ -388,39 +388,44 @@ mend_does input acts few b =
     let h = on_is input acts few b in
     first_ends k mend_first mend_rest mend_start left_over
     (record {
-      begun = b;
-      linked = body_linked;
-      end = refl;
-      function = refl;
-      kind = refl;
-      registers = omega arith;
-      outers = refl;
-      enough = omega arith;
+      body = record {
+        begun = b;
+        linked = body_linked;
+        end = refl;
+        function = refl;
+        kind = refl;
+        registers = omega arith;
+        outers = refl;
+        enough = omega arith;
+      };
+      does = first_does input acts few b;
+      goes = on_ends k mend_unit mend_end mend_on left_over
+          (record {
+            body = record {
+              begun = b;
+              linked = rest_linked;
+              end = refl;
+              function = refl;
+              kind = refl;
+              registers = omega arith;
+              outers = refl;
+              enough = omega arith;
+            };
+            on = h;
+            goes = list_ends (behind_block input acts) mend_end last_index left_over
+                (record {
+                  begun = unit_begun k mend_unit mend_on h;
+                  linked = last_linked;
+                  end = refl;
+                  function = refl;
+                  kind = refl;
+                  registers = omega arith;
+                  outers = refl;
+                  enough = omega arith;
+                })
+                (λ label e. absurd (cc e), λ label e. absurd (cc e)) (again_does input acts few b, tt);
+          });
     })
-    (first_does input acts few b)
-    (on_ends k mend_unit mend_end mend_on left_over
-    (record {
-      begun = b;
-      linked = rest_linked;
-      end = refl;
-      function = refl;
-      kind = refl;
-      registers = omega arith;
-      outers = refl;
-      enough = omega arith;
-    }) h
-    (list_ends (behind_block input acts) mend_end last_index left_over
-    (record {
-      begun = unit_begun k mend_unit mend_on h;
-      linked = last_linked;
-      end = refl;
-      function = refl;
-      kind = refl;
-      registers = omega arith;
-      outers = refl;
-      enough = omega arith;
-    })
-    (λ label e. absurd (cc e), λ label e. absurd (cc e)) (again_does input acts few b, tt)))
 
 -- ---- the whole
 

@@ -1,5 +1,5 @@
 -- What a raise means while a unit is in force: the unit's block, its statements and its end.
-use Rattle.std.proofs.Common.{◌≡◌, ℕ, suc, List, length, Bool, Option, Some, true, false, refl, sym, ap, ◌∙◌}
+use Rattle.std.proofs.Common.{◌≡◌, ◌⊎◌, inl, inr, ℕ, suc, List, length, Bool, Option, Some, true, false, refl, sym, ap, ◌∙◌}
 use Rattle.std.specs.Prelude.{cond, nat_lt}
 use Rattle.rv_meaning.specs.declared.instr.Instr.{Instr}
 use Rattle.pli_language.specs.declared.condition.Condition.{Condition}
@@ -22,6 +22,7 @@ use Rattle.activation_relation.specs.Landing.{closed}
 use Rattle.run_steps.specs.Reach.{Aims, Closed, Comes, Family}
 use Rattle.block_runs.proofs.EmptyMeaning.{on_nothing}
 use Rattle.program_runs.proofs.Calls.{behind_entry, behind_variables, on_same}
+use Rattle.unit_runs.specs.Raised.{IsUnitKind}
 
 -- ---- its statements behind its variables
 
@@ -34,12 +35,18 @@ end_nothing :
 unfolding ◌>>◌ M.end_reached give
 end_nothing around body k s = on_nothing k (M.list around body k s) (λ q. M.end_reached around false) (λ s'. refl)
 
-entry_acts : (kind : Y.BlockKind) (k : ℕ) (s : State) → kind ≡ Y.UnitBlock → M.entry_act kind k s ≡ act counted k s
+entry_acts :
+    (kind : Y.BlockKind) (k : ℕ) (s : State) → IsUnitKind kind → M.entry_act kind k s ≡ act counted k s
 unfolding M.entry_act
-entry_acts kind k s e = ap (λ x. M.entry_act x k s) e
+entry_acts kind k s (inl e) = ap (λ x. M.entry_act x k s) e
+entry_acts kind k s (inr e) = ap (λ x. M.entry_act x k s) e
+
+own_return : (kind : Y.BlockKind) → IsUnitKind kind → M.is_own_return kind ≡ true
+own_return kind (inl e) = ap (λ x. M.is_own_return x) e
+own_return kind (inr e) = ap (λ x. M.is_own_return x) e
 
 entry_means :
-    (around : Around) (kind : Y.BlockKind) (body : Y.Stmts) (k : ℕ) (s : State) → kind ≡ Y.UnitBlock →
+    (around : Around) (kind : Y.BlockKind) (body : Y.Stmts) (k : ℕ) (s : State) → IsUnitKind kind →
     flow_on k (M.entry_act kind k s) (λ q. behind_entry around body) ≡ behind_variables around body k s
 unfolding ◌>>◌
 entry_means around kind body k s e =
@@ -49,7 +56,7 @@ entry_means around kind body k s e =
 
 body_means :
     (around : Around) (head : Y.BlockHead) (body : Y.Stmts) (a : Activation) (n k : ℕ) (s : State) →
-    head.kind ≡ Y.UnitBlock →
+    IsUnitKind head.kind →
     M.block_body around head body (unit_entered (Y.BlockOf head body) a n) k s
     ≡ flow_on k (M.block_variables_made around head head.kind k s) (λ q. behind_variables around body)
 unfolding M.block_body K.parameters_bound give ◌>>◌
@@ -60,7 +67,7 @@ body_means around head body a n k s kind =
 
 run_means :
     (around : Around) (head : Y.BlockHead) (body : Y.Stmts) (a : Activation) (n k : ℕ) (s : State) →
-    head.kind ≡ Y.UnitBlock → nat_lt (length s.activations) most_activations ≡ true →
+    IsUnitKind head.kind → nat_lt (length s.activations) most_activations ≡ true →
     M.block_run around (Y.BlockOf head body) (unit_entered (Y.BlockOf head body) a n) k s
     ≡ left true newest_ended
     (unit_body around head body k (with_activation head (unit_entered (Y.BlockOf head body) a n) s))
@@ -73,7 +80,7 @@ run_means around head body a n k s kind few =
     (left (M.is_own_return head.kind) newest_ended (M.block_body around' head body entry k s'))
     (finish (N.Limit L.Depth) k s) in
     ap run few
-    ∙ ap (λ x. left (M.is_own_return x) newest_ended (M.block_body around' head body entry k s')) kind
+    ∙ ap (λ q. left q newest_ended (M.block_body around' head body entry k s')) (own_return head.kind kind)
     ∙ ap (λ flow. left true newest_ended flow) (body_means around' head body a n k s' kind)
 
 -- ---- how it is left
@@ -89,7 +96,7 @@ pub unit_means :
     (around inner : Around) (c : Condition) (head : Y.BlockHead) (body : Y.Stmts) (more n k : ℕ) (a : Activation)
     (s : State) → around.enter ≡ M.entered around.program (suc more) →
     inner ≡ record { program = around.program; enter = M.entered around.program more; turns = suc more; line = 0 } →
-    head.kind ≡ Y.UnitBlock → nat_lt (length s.activations) most_activations ≡ true →
+    IsUnitKind head.kind → nat_lt (length s.activations) most_activations ≡ true →
     force s.activations c ≡ Some (a, BlockUnit (Y.BlockOf head body)) →
     behind_raise around c n k s
     ≡ returned_from k (unit_body inner head body k (with_activation head (unit_entered (Y.BlockOf head body) a n) s))

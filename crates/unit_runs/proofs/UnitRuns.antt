@@ -1,5 +1,5 @@
 -- A raise while a unit is in force does what it means: the unit runs, and behind its end the raise goes on.
-use Rattle.std.proofs.Common.{◌≡◌, ℕ, ◌+◌, ◌^◌, ◌<◌, ◌≤◌, [], ◌++◌, length, None}
+use Rattle.std.proofs.Common.{◌≡◌, inl, inr, ℕ, ◌+◌, ◌^◌, ◌<◌, ◌≤◌, [], ◌++◌, length, None}
 use Rattle.std.proofs.Common.{true, refl, sym, ap, ◌∙◌, subst, arith}
 use Rattle.std.specs.Prelude.{nat_lt}
 use Rattle.pli_language.specs.declared.condition.Condition.{Condition}
@@ -49,7 +49,7 @@ use Rattle.expression_runs.proofs.Saving.{fetched_reach, held_after, held_among,
 use Rattle.expression_runs.proofs.Saving.{size_sum}
 use Rattle.expression_runs.proofs.Words.{known_word, word_closed}
 use Rattle.unit_runs.specs.Establishing.{unit_of}
-use Rattle.unit_runs.specs.Raised.{IsRaiseOf, IsRaised, Raise, RaisesReturn, Standing, UnitDoes}
+use Rattle.unit_runs.specs.Raised.{IsRaiseOf, IsUnitKind, IsRaised, Raise, RaisesReturn, Standing, UnitDoes}
 use Rattle.unit_runs.specs.Raised.{begin_of, begun_unit, end_index, list_code, list_index, raise_aims}
 use Rattle.unit_runs.specs.Raised.{standing_code}
 use Rattle.unit_runs.specs.Raised.{unit_beginning, unit_block}
@@ -103,12 +103,13 @@ behind_made x = act_code x.unit.head.line ++ behind_act x
 abbrev behind_beginning : Standing → Code
 behind_beginning x = x.variables ++ behind_made x
 
-mark_size : (head : Y.BlockHead) (kind : Y.BlockKind) → kind ≡ Y.UnitBlock → size_of (unit_mark head kind) ≡ 0
-mark_size head kind e = ap (λ q. size_of (unit_mark head q)) e
+mark_size : (head : Y.BlockHead) (kind : Y.BlockKind) → IsUnitKind kind → size_of (unit_mark head kind) ≡ 0
+mark_size head kind (inl e) = ap (λ q. size_of (unit_mark head q)) e
+mark_size head kind (inr e) = ap (λ q. size_of (unit_mark head q)) e
 
 -- how many words it has, part by part
 standing_size :
-    (x : Standing) → x.unit.head.kind ≡ Y.UnitBlock →
+    (x : Standing) → IsUnitKind x.unit.head.kind →
     size_of (standing_code x)
     ≡ size_of (begin_of x)
     + (size_of x.variables + (size_of (act_code x.unit.head.line) + (size_of (list_code x) + size_of (ending_of x))))

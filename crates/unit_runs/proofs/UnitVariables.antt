@@ -1,5 +1,5 @@
 -- The variables of a unit: it makes none of its own, and those of the block around it are the same ones in it.
-use Rattle.std.proofs.Common.{◌≡◌, ℕ, ◌+◌, ◌<◌, ◌≤◌, [], ◌∷◌, length, refl, sym, ap, ◌∙◌, subst, arith}
+use Rattle.std.proofs.Common.{◌≡◌, ◌⊎◌, inl, inr, ℕ, ◌+◌, ◌<◌, ◌≤◌, [], ◌∷◌, length, refl, sym, ap, ◌∙◌, subst, arith}
 use Rattle.pli_typing.specs.TypedTree as Y
 use Rattle.pli_meaning.specs.Control.{Normal, give}
 use Rattle.pli_meaning.specs.DeclaredShapes.{variables_of_block}
@@ -23,22 +23,22 @@ use Rattle.expression_runs.specs.Values.{Setting}
 use Rattle.expression_runs.specs.Variables.{IsNumber, Spot}
 use Rattle.unit_runs.specs.Raised.{AreMade, IsRaiseOf, IsRaised, Raise, Standing, act_index, begun_unit}
 use Rattle.unit_runs.specs.Raised.{unit_beginning, unit_block, unit_layer}
-use Rattle.unit_runs.specs.UnitVariables.{IsOwnUnit}
+use Rattle.unit_runs.specs.UnitVariables.{HasNone, IsOwnUnit}
 
 -- ---- none of its own
 
 block_means :
-    (around : Around) (head : Y.BlockHead) (kind : Y.BlockKind) (k : ℕ) (s : State) → kind ≡ Y.UnitBlock →
-    variables_of_block around.program head.number ≡ [] → M.block_variables_made around head kind k s ≡ Normal tt s
+    (around : Around) (head : Y.BlockHead) (kind : Y.BlockKind) (k : ℕ) (s : State) →
+    (kind ≡ Y.SimpleUnit) ⊎ ((kind ≡ Y.UnitBlock) × (variables_of_block around.program head.number ≡ [])) →
+    M.block_variables_made around head kind k s ≡ Normal tt s
 unfolding M.block_variables_made K.variables_made give
-block_means around head kind k s e none =
-    ap (λ x. M.block_variables_made around head x k s) e ∙ ap (λ vs. K.variables_made around 0 vs k s) none
+block_means around head kind k s (inl e) = ap (λ x. M.block_variables_made around head x k s) e
+block_means around head kind k s (inr e) =
+    ap (λ x. M.block_variables_made around head x k s) e.0 ∙ ap (λ vs. K.variables_made around 0 vs k s) e.1
 
 pub none_made :
-    (k : Setting) (x : Standing) (r : Raise) → x.unit.head.kind ≡ Y.UnitBlock →
-    variables_of_block x.around.program x.unit.head.number ≡ [] →
-    (x.variables ≡ []) × (x.made ≡ (λ (q : Point). q)) → AreMade k x r
-none_made k x r kind none empty =
+    (k : Setting) (x : Standing) (r : Raise) → HasNone x → AreMade k x r
+none_made k x r none =
     let w = k.block.call.surroundings in
     let code = k.block.call.code in
     let start = begun_unit w x r in
@@ -46,8 +46,8 @@ none_made k x r kind none empty =
     let φ = y.layer in
     let p = r.point in
     let i = act_index x in
-    let here : x.made start ≡ start = ap (λ (made : Point → Point). made start) empty.1 in
-    let size : size_of x.variables ≡ 0 = ap (λ u. size_of u) empty.0 in
+    let here : x.made start ≡ start = ap (λ (made : Point → Point). made start) none.made in
+    let size : size_of x.variables ≡ 0 = ap (λ u. size_of u) none.code in
     record {
       stands = λ known. subst (λ q. Stands w q × IsImage w code q) (sym here) known;
       comes = λ credits f known l there.
@@ -56,7 +56,7 @@ none_made k x r kind none empty =
           (reach_with (credits + size_of x.variables) (omega arith)
           (stay code credits f (services_of start) (λ b z. IsIn w start r.numbers i b z)
           (subst (λ n. AreIn w start r.numbers n f) (omega (arith, size)) there)));
-      means = block_means (at_line x.around x.unit.head.line) x.unit.head x.unit.head.kind w.acts start.state kind none
+      means = block_means (at_line x.around x.unit.head.line) x.unit.head x.unit.head.kind w.acts start.state none.kind
           ∙ ap (λ (q : Point). Normal tt q.state) (sym here);
       activation = M.activation_of x.unit.head y.entry (length p.state.activations + 1);
       parent = refl;

@@ -5,3 +5,4 @@ pub mod UnitVariables
 pub mod Bodies
 pub mod Rows
 pub mod JumpRows
+pub mod Signals

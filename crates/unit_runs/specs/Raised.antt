@@ -1,6 +1,6 @@
 -- A condition is raised while a unit is in force: the unit's block, and what the raise comes to. (X3.53-1976,
 -- chapter 6, conditions and on-units.)
-use Rattle.std.specs.Prelude.{ℕ, suc, ◌+◌, ◌*◌, ◌^◌, ◌<◌, ◌≤◌, ◌≡◌, List, [], ◌∷◌, ◌++◌, nat_lt, false, true, length}
+use Rattle.std.specs.Prelude.{ℕ, suc, ◌+◌, ◌*◌, ◌^◌, ◌<◌, ◌≤◌, ◌≡◌, ◌⊎◌, List, [], ◌∷◌, ◌++◌, nat_lt, false, true, length}
 use Rattle.std.specs.Prelude.{None}
 use Rattle.std.specs.Prelude.{Some}
 use Rattle.pli_language.specs.declared.condition.Condition.{Condition}
@@ -40,6 +40,10 @@ use Rattle.expression_runs.specs.Values.{OverflowComes, Setting}
 use Rattle.unit_runs.specs.Establishing.{OnUnit, unit_of}
 
 -- ---- a unit where it stands
+
+-- a single statement, or a BEGIN block
+abbrev pub IsUnitKind : Y.BlockKind → Type 0
+IsUnitKind kind = (kind ≡ Y.SimpleUnit) ⊎ (kind ≡ Y.UnitBlock)
 
 -- the words for temporaries of its frame, how many registers it saves, the code that makes its variables, the index of
 -- its first instruction, the environment of its code, what is around its meaning, and what becomes of the point where
@@ -224,7 +228,7 @@ pub record IsRaised (k : Setting) (x : Standing) (more : ℕ) : Type 0 where
   pub some : 0 < x.entry
   pub stands : Linked k.block.call.surroundings.links k.block.call.code x.entry (standing_code x)
   pub labels : AreMarked k.block.call.surroundings.links x.environment x.unit.body (list_index x)
-  pub kind : x.unit.head.kind ≡ Y.UnitBlock
+  pub kind : IsUnitKind x.unit.head.kind
   pub level : x.unit.head.level < most_levels
   pub line : x.unit.head.line < 2 ^ 31
   pub saved : x.saved ≤ held_registers

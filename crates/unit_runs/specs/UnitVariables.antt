@@ -1,5 +1,5 @@
 -- The variables of a unit: it has none of its own, and those of the block that established it.
-use Rattle.std.specs.Prelude.{ℕ, ◌<◌, ◌≡◌, []}
+use Rattle.std.specs.Prelude.{ℕ, ◌<◌, ◌≡◌, ◌⊎◌, []}
 use Rattle.pli_typing.specs.TypedTree as Y
 use Rattle.pli_meaning.specs.DeclaredShapes.{variables_of_block}
 use Rattle.activation_relation.specs.Layers.{Point}
@@ -16,12 +16,17 @@ pub record IsOwnUnit (k : Setting) (x : Standing) (more : ℕ) (h : IsRaised k x
   pub program : x.environment.program ≡ k.block.environment.program
   pub parts : x.environment.parts ≡ k.block.environment.parts
 
+-- a single statement declares nothing, and a block may declare nothing
+pub record HasNone (x : Standing) : Type 0 where
+  pub kind :
+      (x.unit.head.kind ≡ Y.SimpleUnit)
+      ⊎ ((x.unit.head.kind ≡ Y.UnitBlock) × (variables_of_block x.around.program x.unit.head.number ≡ []))
+  pub code : x.variables ≡ []
+  pub made : x.made ≡ (λ (q : Point). q)
+
 pub record UnitVariables : Type 0 where
-  -- one that declares none makes none
-  pub none :
-      (k : Setting) (x : Standing) (r : Raise) → x.unit.head.kind ≡ Y.UnitBlock →
-      variables_of_block x.around.program x.unit.head.number ≡ [] →
-      (x.variables ≡ []) × (x.made ≡ (λ (q : Point). q)) → AreMade k x r
+  -- such a unit makes none
+  pub none : (k : Setting) (x : Standing) (r : Raise) → HasNone x → AreMade k x r
   -- a variable of the block, or of one around it, is the same one in the unit
   pub outer :
       (k : Setting) (x : Standing) (more : ℕ) (h : IsRaised k x more) (r : Raise) (spot : Spot) →

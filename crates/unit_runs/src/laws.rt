@@ -1,10 +1,11 @@
 // Laws of the definitions: each function's contract is one law, and calling it does nothing.
 
-ghost use Rattle.unit_runs.specs.Bodies.{BodiesDo, UnitProgramsRun};
+ghost use Rattle.unit_runs.specs.Bodies.{BodiesDo, UnitCallsDo, UnitProgramsRun};
 ghost use Rattle.unit_runs.specs.Establishing.{UnitsEstablished};
 ghost use Rattle.unit_runs.specs.JumpRows.{SkipRan};
 ghost use Rattle.unit_runs.specs.Raised.{RaisesReturn};
 ghost use Rattle.unit_runs.specs.Rows.{MendRan};
+ghost use Rattle.unit_runs.specs.Signals.{SignalsDo};
 ghost use Rattle.unit_runs.specs.UnitBeginnings.{UnitsBegin, UnitsEnd};
 ghost use Rattle.unit_runs.specs.UnitVariables.{UnitVariables};
 
@@ -39,6 +40,16 @@ pub fn unit_variables()
 /// A procedure's own list comes to the block's end, with ON among its first statements.
 pub fn bodies_do()
     ensures { BodiesDo }
+{}
+
+/// So CALL of a procedure that has such a list does what it means.
+pub fn unit_calls_do()
+    ensures { UnitCallsDo }
+{}
+
+/// SIGNAL of a condition other than ERROR does what it means, while a unit is in force for it.
+pub fn signals_do()
+    ensures { SignalsDo }
 {}
 
 /// A program whose main procedure has such a list does what it means.
