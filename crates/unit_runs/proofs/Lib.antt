@@ -10,3 +10,5 @@ pub mod Bodies
 pub mod Rows
 pub mod JumpRows
 pub mod Signals
+pub mod FurtherVariables
+pub mod Changing

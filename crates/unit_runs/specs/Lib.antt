@@ -6,3 +6,4 @@ pub mod Bodies
 pub mod Rows
 pub mod JumpRows
 pub mod Signals
+pub mod Changing

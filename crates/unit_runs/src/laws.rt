@@ -1,6 +1,7 @@
 // Laws of the definitions: each function's contract is one law, and calling it does nothing.
 
 ghost use Rattle.unit_runs.specs.Bodies.{BodiesDo, UnitCallsDo, UnitProgramsRun};
+ghost use Rattle.unit_runs.specs.Changing.{ListsChange};
 ghost use Rattle.unit_runs.specs.Establishing.{UnitsEstablished};
 ghost use Rattle.unit_runs.specs.JumpRows.{SkipRan};
 ghost use Rattle.unit_runs.specs.Raised.{RaisesReturn};
@@ -40,6 +41,11 @@ pub fn unit_variables()
 /// A procedure's own list comes to the block's end, with ON among its first statements.
 pub fn bodies_do()
     ensures { BodiesDo }
+{}
+
+/// So does one in which ON stands anywhere, also behind labels.
+pub fn lists_change()
+    ensures { ListsChange }
 {}
 
 /// So CALL of a procedure that has such a list does what it means.
