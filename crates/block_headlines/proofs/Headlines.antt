@@ -44,9 +44,11 @@ use Rattle.begin_runs.specs.Rows.{nest_entry, nest_environment, nest_main, nest_
 use Rattle.begin_runs.proofs.LeaveRows.{leave_each, leave_finish, leave_is}
 use Rattle.begin_runs.proofs.Rows.{nest_each, nest_finish, nest_is}
 use Rattle.unit_runs.specs.JumpRows.{skip_entry, skip_environment, skip_main, skip_program, skip_units}
+use Rattle.unit_runs.specs.LoopRows.{loop_entry, loop_environment, loop_main, loop_program, loop_units}
 use Rattle.unit_runs.specs.Rows.{mend_entry, mend_environment, mend_main, mend_program, mend_units}
 use Rattle.unit_runs.proofs.Bodies.{unit_program_runs}
 use Rattle.unit_runs.proofs.JumpRows.{skip_does, skip_finish, skip_is}
+use Rattle.unit_runs.proofs.LoopRows.{loop_does, loop_finish, loop_is}
 use Rattle.unit_runs.proofs.Rows.{mend_does, mend_finish, mend_is}
 use Rattle.block_headlines.specs.Headlines.{HeadlinesOfRows, Layout, Runs, UnitsRun, whole_of}
 
@@ -376,6 +378,31 @@ skip_units_run =
       body = λ input acts few b. skip_does input acts few b;
     }
 
+loop_fits : FitsMemory (picture_of parts loop_program)
+loop_fits = small_fits loop_program (omega arith) (omega arith)
+
+abbrev loop_layout : Layout
+loop_layout =
+    record {
+      main = loop_main;
+      others = [];
+      environment = loop_environment;
+      entry = loop_entry;
+      end = loop_finish;
+      units = loop_units;
+      serials = 1;
+      made = newest_made parts number_declared;
+    }
+
+loop_units_run : UnitsRun loop_program loop_layout
+loop_units_run =
+    record {
+      whole = λ input acts few.
+          loop_is input (first_bytes (picture_of parts loop_program)) acts few
+          (first_length (picture_of parts loop_program) loop_fits);
+      body = λ input acts few b. loop_does input acts few b;
+    }
+
 row_runs : Runs row_program row_layout
 row_runs =
     record {
@@ -408,4 +435,5 @@ rows_kept laws keeps =
       leaving = kept laws keeps leave_program leave_layout leave_program_runs;
       mending = unit_kept laws keeps mend_program mend_layout mend_units_run;
       skipping = unit_kept laws keeps skip_program skip_layout skip_units_run;
+      looping = unit_kept laws keeps loop_program loop_layout loop_units_run;
     }

@@ -26,6 +26,7 @@ use Rattle.program_runs.specs.Starts.{no_numbers, start_point, surroundings_of}
 use Rattle.program_runs.specs.Statements.{EachDoes, IsBegun}
 use Rattle.unit_runs.specs.Bodies.{BodyDoes}
 use Rattle.unit_runs.specs.JumpRows.{skip_program}
+use Rattle.unit_runs.specs.LoopRows.{loop_program}
 use Rattle.unit_runs.specs.Rows.{mend_program}
 
 -- what is said of a program's image beside the program: its main procedure and the others, where its code and its end
@@ -79,7 +80,7 @@ pub record Runs (program : Y.Program) (x : Layout) : Type 0 where
       (labels_of (main_of (whole_of program x input acts))) x.main.body
       (body_index (main_of (whole_of program x input acts))) left_over
 
--- the same with ON among its first statements: its list comes to the end of its block
+-- the same with ON among its statements: its list comes to the end of its block
 pub record UnitsRun (program : Y.Program) (x : Layout) : Type 0 where
   pub whole :
       (input : List ℕ) (acts : ℕ) → acts + 1 < 2 ^ 64 →
@@ -117,3 +118,4 @@ pub record HeadlinesOfRows : Type 0 where
   pub leaving : Headline leave_program (picture_of parts leave_program) (table_of leave_program)
   pub mending : Headline mend_program (picture_of parts mend_program) (table_of mend_program)
   pub skipping : Headline skip_program (picture_of parts skip_program) (table_of skip_program)
+  pub looping : Headline loop_program (picture_of parts loop_program) (table_of loop_program)

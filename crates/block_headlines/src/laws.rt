@@ -15,7 +15,7 @@ pub fn headlines_kept()
     granules_keep();
 }
 
-/// So does one with ON among the first statements of its main procedure, if that comes to its end.
+/// So does one with ON among the statements of its main procedure, if their list comes to its end.
 pub fn unit_headlines_kept()
     ensures { UnitHeadlinesKept }
 {
@@ -26,8 +26,8 @@ pub fn unit_headlines_kept()
 
 /// A main procedure that calls a procedure inside it keeps the headline, and so do one with a variable, one that
 /// doubles it in a loop by GOTO until it overflows, one that calls a function, one with begin blocks, of which one
-/// assigns its variable and another jumps back out, one that returns out of two begin blocks, and two with a unit for
-/// FIXEDOVERFLOW, which returns into the expression or jumps out of it.
+/// assigns its variable and another jumps back out, one that returns out of two begin blocks, and three with a unit
+/// for FIXEDOVERFLOW, which returns into the expression, or jumps out of it, or out of a loop in which its ON stands.
 pub fn headlines_of_rows()
     ensures { HeadlinesOfRows }
 {

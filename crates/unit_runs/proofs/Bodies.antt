@@ -1,13 +1,12 @@
 -- A procedure's own list with ON among its first statements: what follows is a list of its own.
-use Rattle.std.proofs.Common.{◌≡◌, ℕ, zero, suc, ◌+◌, ◌<◌, ◌≤◌, List, [], ◌++◌, Option, Some, None}
-use Rattle.std.proofs.Common.{refl, sym, ap, ◌∙◌, subst, arith}
+use Rattle.std.proofs.Common.{◌≡◌, ℕ, zero, suc, ◌+◌, ◌<◌, ◌≤◌, List, [], ◌++◌, Option, Some, None, refl, sym, ap, ◌∙◌}
+use Rattle.std.proofs.Common.{subst, arith}
 use Rattle.std.specs.Prelude.{◌&&◌, ◌==◌, cond}
 use Rattle.pli_typing.specs.TypedTree as Y
 use Rattle.pli_meaning.specs.BasicValues.{BasicValue}
 use Rattle.pli_meaning.specs.Control as F
 use Rattle.pli_meaning.specs.Control.{Flow, Jump, Label, Meaning, Normal, Paused, Return, Stuck, caught, choose}
-use Rattle.pli_meaning.specs.Control.{flow_on}
-use Rattle.pli_meaning.specs.Control.{is_among, list_from, looked, ◌>>=◌, ◌>>◌}
+use Rattle.pli_meaning.specs.Control.{flow_on, is_among, list_from, looked, ◌>>=◌, ◌>>◌}
 use Rattle.pli_meaning.specs.Executing as M
 use Rattle.pli_meaning.specs.Raising.{Around}
 use Rattle.pli_meaning.specs.StorageState.{State, first_state, newest_height}
@@ -27,9 +26,8 @@ use Rattle.block_runs.proofs.CallStatements.{comes_map}
 use Rattle.program_runs.specs.Calls.{AreMade, Callee, IsCall, block_at, body_index, call_of, left_over}
 use Rattle.program_runs.specs.Programs.{IsWhole, Whole, main_of}
 use Rattle.program_runs.specs.Starts.{first_family, no_numbers, start_point, surroundings_of}
-use Rattle.program_runs.specs.Statements.{AreMarked, IsAmong, Block, Does, EachDoes, IsBegun}
-use Rattle.program_runs.specs.Statements.{ReturnsOut}
-use Rattle.program_runs.specs.Statements.{ReturnsTo, size_in, statement_aims}
+use Rattle.program_runs.specs.Statements.{AreMarked, IsAmong, Block, Does, EachDoes, IsBegun, ReturnsOut, ReturnsTo}
+use Rattle.program_runs.specs.Statements.{size_in, statement_aims}
 use Rattle.program_runs.proofs.CallStatements.{call_comes}
 use Rattle.program_runs.proofs.Calls.{body_closed}
 use Rattle.program_runs.proofs.JumpsOut.{no_jump}
@@ -38,7 +36,7 @@ use Rattle.program_runs.proofs.NewestBlocks.{newest_at, newest_own}
 use Rattle.program_runs.proofs.Programs.{program_comes}
 use Rattle.program_runs.proofs.Statements.{at_end}
 use Rattle.unit_runs.specs.Bodies.{BodiesDo, BodyDoes, IsBody, IsFirst, IsFirstOn, before_rest}
-use Rattle.unit_runs.specs.Establishing.{IsOn, OnUnit, behind_on, on_of}
+use Rattle.unit_runs.specs.Establishing.{OnUnit, behind_on, on_of}
 use Rattle.unit_runs.proofs.Establishing.{unit_begun, unit_does}
 
 -- ---- what follows the first statement, as a list

@@ -1,8 +1,8 @@
 -- A procedure's own list in which ON stands anywhere comes to the block's end: there are turns enough for its jumps.
 use Rattle.std.proofs.Common.{◌≡◌, ◌⊎◌, inl, inr, ℕ, zero, suc, ◌+◌, ◌*◌, ◌<◌, ◌≤◌, List, [], ◌∷◌, ◌++◌, Some, None}
-use Rattle.std.proofs.Common.{Bool, true, false, refl, sym, ap, ◌∙◌, subst, arith}
+use Rattle.std.proofs.Common.{Bool, true, false, refl, sym, ◌∙◌, subst, arith}
 use Rattle.std.proofs.lemmas.Bool.{eq-eqb}
-use Rattle.std.specs.Prelude.{◌&&◌, ◌||◌, ◌==◌, cond}
+use Rattle.std.specs.Prelude.{◌&&◌, ◌||◌, cond}
 use Rattle.pli_typing.specs.TypedTree as Y
 use Rattle.pli_language.specs.Keywords.{same_bytes}
 use Rattle.pli_meaning.specs.Control as F
@@ -11,7 +11,7 @@ use Rattle.pli_meaning.specs.Control.{is_among, list_from, looked, ◌>>=◌, �
 use Rattle.pli_meaning.specs.Executing as M
 use Rattle.pli_meaning.specs.StorageState.{State, newest_height}
 use Rattle.pli_serving.specs.ServiceState.{Services}
-use Rattle.pli_coding.specs.Assembly.{Code, LabelPlace, size_of}
+use Rattle.pli_coding.specs.Assembly.{LabelPlace, size_of}
 use Rattle.pli_coding.specs.Environments.{none_taken}
 use Rattle.pli_coding.specs.Linking.{place_of}
 use Rattle.pli_coding.specs.Statements.{marked, stmt_code, stmts_code}
@@ -314,8 +314,8 @@ sought_come {k} z label (Y.EndOfList own) i acts at past known x marks p numbers
       to = ends_here z 0 past known p numbers f o (omega arith)
           (moved_in k f (omega (arith, n, here, place, end)) there);
     }
-sought_come {k} {body} {index} {left'} z label (Y.StmtThen own first rest) i acts at past known x marks p numbers f since
-    o among place there =
+sought_come {k} {body} {index} {left'} z label (Y.StmtThen own first rest) i acts at past known x marks p numbers f
+    since o among place there =
     by (is_among label own) refl
     (λ among'. sought_come z label rest (i + size_of (marked k.environment.block own) + size_in k first) acts at past
     known (rest_of own first rest x) marks.1 p numbers f since o among' place there)

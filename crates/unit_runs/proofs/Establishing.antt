@@ -14,8 +14,8 @@ use Rattle.rv_meaning.specs.Machine.{written}
 use Rattle.pli_meaning.specs.Control.{Label, Meaning, act, stored, ◌>>◌}
 use Rattle.pli_meaning.specs.Executing as M
 use Rattle.pli_meaning.specs.StorageState as St
-use Rattle.pli_meaning.specs.StorageState.{Activation, BlockUnit, ancestor, binding_in, force, height_of}
-use Rattle.pli_meaning.specs.StorageState.{newest_height, with_activations}
+use Rattle.pli_meaning.specs.StorageState.{Activation, BlockUnit, ancestor, binding_in, force, height_of, newest_height}
+use Rattle.pli_meaning.specs.StorageState.{with_activations}
 use Rattle.pli_meaning.specs.World.{counted}
 use Rattle.pli_serving.specs.Answers.{Done}
 use Rattle.pli_serving.specs.OnUnits as U
@@ -35,8 +35,7 @@ use Rattle.storage_relation.proofs.Making.{same_held}
 use Rattle.activation_relation.specs.Chains.{AreActive, frame_at}
 use Rattle.activation_relation.specs.Changes.{established, newest_with, units_of}
 use Rattle.activation_relation.specs.Entering.{Later}
-use Rattle.activation_relation.specs.Frames.{FramesStand, frame_under}
-use Rattle.activation_relation.specs.Frames.{upper_top}
+use Rattle.activation_relation.specs.Frames.{FramesStand, frame_under, upper_top}
 use Rattle.activation_relation.specs.Landing.{Changed, resumed, with_units}
 use Rattle.activation_relation.specs.Layers.{Layer, Point, now, services_of}
 use Rattle.activation_relation.specs.Points.{Stands, Surroundings}
@@ -75,13 +74,13 @@ use Rattle.unit_runs.specs.Establishing.{unit_of, with_unit}
 
 -- ---- what the newest block's units leave as it was
 
-under_same :
+pub under_same :
     (k : Surroundings) (xs : List (Condition × S.OnUnit)) (φs : List Layer) →
     frame_under k.parts (newest_with xs φs) ≡ frame_under k.parts φs
 under_same k xs [] = refl
 under_same k xs (φ ∷ φs) = refl
 
-top_same :
+pub top_same :
     (k : Surroundings) (xs : List (Condition × S.OnUnit)) (φs : List Layer) →
     upper_top k.parts (newest_with xs φs) ≡ upper_top k.parts φs
 top_same k xs [] = refl
@@ -103,13 +102,13 @@ frame_same :
 frame_same xs [] height = refl
 frame_same xs (φ ∷ φs) height = refl
 
-active_length :
+pub active_length :
     (c : Condition) (u : St.OnUnit) (as' : List Activation) → length (St.established c u as') ≡ length as'
 active_length c u [] = refl
 active_length c u (a ∷ as') = refl
 
 -- the ancestors of the newest block are the same ones, as far as heights and variables go
-height_same :
+pub height_same :
     (c : Condition) (u : St.OnUnit) (as' : List Activation) (level : ℕ) →
     height_of (ancestor (St.established c u as') (newest_height (St.established c u as')) level)
     ≡ height_of (ancestor as' (newest_height as') level)

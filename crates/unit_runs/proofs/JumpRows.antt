@@ -1,6 +1,6 @@
 -- The worked row: all that is premised of the program is computed.
-use Rattle.std.proofs.Common.{◌≡◌, ℕ, zero, suc, ◌+◌, ◌*◌, ◌^◌, ◌<◌, List, [], ◌∷◌, ◌++◌, inl, inr, length, map, Some, Bool}
-use Rattle.std.proofs.Common.{true, false, refl, sym, ap, subst, arith}
+use Rattle.std.proofs.Common.{◌≡◌, ℕ, zero, suc, ◌+◌, ◌*◌, ◌^◌, ◌<◌, List, [], ◌∷◌, ◌++◌, inl, inr, length, map, Some}
+use Rattle.std.proofs.Common.{Bool, true, false, refl, sym, ap, subst, arith}
 use Rattle.std.proofs.lemmas.Bool.{eqb-true}
 use Rattle.std.specs.Prelude.{◌&&◌, ◌||◌, ◌==◌}
 use Rattle.rv_meaning.specs.declared.instr.Instr.TheVariants as I
@@ -22,8 +22,7 @@ use Rattle.granule_keeper.specs.Granules.{granules}
 use Rattle.pli_serving.specs.Templates.{template_of}
 use Rattle.pli_coding.specs.Allocating.{act_code}
 use Rattle.pli_coding.specs.Assembly.{CallTo, JumpAhead, LabelPlace, Mark, OffsetAhead, Plain, ProcedureEntry}
-use Rattle.pli_coding.specs.Assembly.{ReturnPlace}
-use Rattle.pli_coding.specs.Assembly.{size_of}
+use Rattle.pli_coding.specs.Assembly.{ReturnPlace, size_of}
 use Rattle.pli_coding.specs.Environments.{none_taken}
 use Rattle.pli_coding.specs.Images.{first_frame, linked_code, raise_code}
 use Rattle.pli_coding.specs.Instructions.{small}
@@ -41,8 +40,8 @@ use Rattle.run_steps.specs.Reach.{Comes, never}
 use Rattle.program_runs.specs.Calls.{block_at, left_over}
 use Rattle.program_runs.specs.Procedures.{begin_of, end_of, procedure_code}
 use Rattle.program_runs.specs.Programs.{IsWhole, Whole, main_of}
-use Rattle.program_runs.specs.Starts.{first_family, image_parts, main_called, no_numbers, start_of}
-use Rattle.program_runs.specs.Starts.{start_point, surroundings_of}
+use Rattle.program_runs.specs.Starts.{first_family, image_parts, main_called, no_numbers, start_of, start_point}
+use Rattle.program_runs.specs.Starts.{surroundings_of}
 use Rattle.program_runs.specs.Statements.{Block, Does, EachDoes, IsBegun, StandAt, as_outer}
 use Rattle.program_runs.specs.Variables as D
 use Rattle.program_runs.specs.Variables.{IsOnly, newest_made}
@@ -65,13 +64,11 @@ use Rattle.begin_runs.proofs.FarGotos.{far_does}
 use Rattle.unit_runs.specs.Bodies.{BodyDoes}
 use Rattle.unit_runs.specs.Establishing.{IsOn, behind_on, on_of, unit_index, unit_of}
 use Rattle.unit_runs.specs.Raised as S
-use Rattle.unit_runs.specs.Raised.{IsRaised, Standing, UnitDoes, list_index, standing_code}
-use Rattle.unit_runs.specs.Raised.{unit_block}
+use Rattle.unit_runs.specs.Raised.{IsRaised, Standing, UnitDoes, list_index, standing_code, unit_block}
 use Rattle.unit_runs.specs.JumpRows.{skip_again, skip_body, skip_code, skip_coded, skip_end, skip_entry}
-use Rattle.unit_runs.specs.JumpRows.{skip_environment}
-use Rattle.unit_runs.specs.JumpRows.{skip_first, skip_image, skip_jump, skip_label, skip_last, skip_main, skip_on}
-use Rattle.unit_runs.specs.JumpRows.{skip_program, skip_rest, skip_spot, skip_start, skip_stop, skip_twice}
-use Rattle.unit_runs.specs.JumpRows.{skip_unit}
+use Rattle.unit_runs.specs.JumpRows.{skip_environment, skip_first, skip_image, skip_jump, skip_label, skip_last}
+use Rattle.unit_runs.specs.JumpRows.{skip_main, skip_on, skip_program, skip_rest, skip_spot, skip_start, skip_stop}
+use Rattle.unit_runs.specs.JumpRows.{skip_twice, skip_unit}
 use Rattle.unit_runs.proofs.Bodies.{first_ends, list_ends, on_ends, unit_program_runs}
 use Rattle.unit_runs.proofs.Establishing.{unit_begun, unit_numbers}
 use Rattle.unit_runs.proofs.UnitRuns.{overflow_returns}

@@ -12,3 +12,5 @@ pub mod JumpRows
 pub mod Signals
 pub mod FurtherVariables
 pub mod Changing
+pub mod OwnRaises
+pub mod LoopRows

@@ -1,6 +1,6 @@
 -- The worked row: all that is premised of the program is computed.
-use Rattle.std.proofs.Common.{◌≡◌, ℕ, zero, suc, ◌+◌, ◌*◌, ◌^◌, ◌<◌, List, [], ◌∷◌, ◌++◌, inl, inr, length, map, Some, None}
-use Rattle.std.proofs.Common.{Option, refl, sym, ap, arith}
+use Rattle.std.proofs.Common.{◌≡◌, ℕ, zero, suc, ◌+◌, ◌*◌, ◌^◌, ◌<◌, List, [], ◌∷◌, ◌++◌, inl, inr, length, map, Some}
+use Rattle.std.proofs.Common.{None, Option, refl, sym, ap, arith}
 use Rattle.rv_meaning.specs.declared.instr.Instr.TheVariants as I
 use Rattle.rv_meaning.specs.Machine.{memory_size}
 use Rattle.pli_language.specs.declared.condition.Condition.TheVariants as C
@@ -37,8 +37,8 @@ use Rattle.run_steps.specs.Reach.{Comes, never}
 use Rattle.program_runs.specs.Calls.{block_at, left_over}
 use Rattle.program_runs.specs.Procedures.{begin_of, end_of, procedure_code}
 use Rattle.program_runs.specs.Programs.{IsWhole, Whole, main_of}
-use Rattle.program_runs.specs.Starts.{first_family, image_parts, main_called, no_numbers, start_of}
-use Rattle.program_runs.specs.Starts.{start_point, surroundings_of}
+use Rattle.program_runs.specs.Starts.{first_family, image_parts, main_called, no_numbers, start_of, start_point}
+use Rattle.program_runs.specs.Starts.{surroundings_of}
 use Rattle.program_runs.specs.Statements.{Block, Does, IsBegun}
 use Rattle.program_runs.specs.Variables as D
 use Rattle.program_runs.specs.Variables.{IsOnly, newest_made}
@@ -58,12 +58,10 @@ use Rattle.expression_runs.proofs.VariablePoints.{variable_does}
 use Rattle.unit_runs.specs.Bodies.{BodyDoes}
 use Rattle.unit_runs.specs.Establishing.{IsOn, behind_on, on_of, unit_index, unit_of}
 use Rattle.unit_runs.specs.Raised as S
-use Rattle.unit_runs.specs.Raised.{IsRaised, Standing, UnitDoes, list_index, standing_code}
-use Rattle.unit_runs.specs.Raised.{unit_block}
+use Rattle.unit_runs.specs.Raised.{IsRaised, Standing, UnitDoes, list_index, standing_code, unit_block}
 use Rattle.unit_runs.specs.Rows.{mend_again, mend_body, mend_code, mend_coded, mend_end, mend_entry, mend_environment}
 use Rattle.unit_runs.specs.Rows.{mend_first, mend_image, mend_main, mend_on, mend_one, mend_program, mend_rest}
-use Rattle.unit_runs.specs.Rows.{mend_spot}
-use Rattle.unit_runs.specs.Rows.{mend_less, mend_start, mend_twice, mend_unit}
+use Rattle.unit_runs.specs.Rows.{mend_spot, mend_less, mend_start, mend_twice, mend_unit}
 use Rattle.unit_runs.proofs.Bodies.{first_ends, list_ends, on_ends, unit_program_runs}
 use Rattle.unit_runs.proofs.Establishing.{unit_begun, unit_numbers}
 use Rattle.unit_runs.proofs.UnitRuns.{overflow_returns}

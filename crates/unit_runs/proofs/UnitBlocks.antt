@@ -1,11 +1,10 @@
 -- The block of a unit that is raised in a block: where its statements begin, and where it ends.
-use Rattle.std.proofs.Common.{◌≡◌, ℕ, ◌+◌, ◌*◌, ◌<◌, ◌≤◌, ◌⊎◌, inl, inr, List, [], ◌∷◌, length}
-use Rattle.std.proofs.Common.{Option, true, refl, sym, ap, ◌∙◌, subst, arith}
+use Rattle.std.proofs.Common.{◌≡◌, ℕ, ◌+◌, ◌*◌, ◌<◌, ◌≤◌, ◌⊎◌, inl, inr, List, [], ◌∷◌, length, Option, true, refl, sym}
+use Rattle.std.proofs.Common.{ap, ◌∙◌, subst, arith}
 use Rattle.std.specs.Prelude.{nat_lt}
 use Rattle.pli_meaning.specs.BasicValues.{BasicValue}
 use Rattle.pli_meaning.specs.Control.{Label}
-use Rattle.pli_meaning.specs.StorageState.{State, without_newest}
-use Rattle.pli_meaning.specs.StorageState.{most_activations, with_world}
+use Rattle.pli_meaning.specs.StorageState.{State, without_newest, most_activations, with_world}
 use Rattle.pli_meaning.specs.World.{counted}
 use Rattle.pli_serving.specs.ServiceState.{Services}
 use Rattle.pli_coding.specs.Assembly.{Code, size_of}
@@ -34,10 +33,8 @@ use Rattle.block_runs.proofs.Endings as E
 use Rattle.block_runs.proofs.PointActs.{stands_acted}
 use Rattle.program_runs.specs.Statements.{IsAmong, IsBegun, JumpsOut, JumpsTo, LandsAt, as_outer}
 use Rattle.program_runs.proofs.JumpsOut.{jumps_later}
-use Rattle.unit_runs.specs.Raised.{AreMade, IsRaiseOf, IsRaised, Raise, Standing, begun_unit}
-use Rattle.unit_runs.specs.Raised.{end_index, raise_aims, unit_beginning}
-use Rattle.unit_runs.specs.Raised.{unit_block}
-use Rattle.unit_runs.specs.Raised.{unit_call, unit_layer}
+use Rattle.unit_runs.specs.Raised.{AreMade, IsRaiseOf, IsRaised, Raise, Standing, begun_unit, end_index, raise_aims}
+use Rattle.unit_runs.specs.Raised.{unit_beginning, unit_block, unit_call, unit_layer}
 use Rattle.unit_runs.specs.UnitBeginnings.{IsUnit}
 use Rattle.unit_runs.proofs.UnitEndings as N
 use Rattle.unit_runs.proofs.UnitEntries as U

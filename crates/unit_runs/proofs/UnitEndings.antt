@@ -1,6 +1,5 @@
 -- The end of a unit goes on where its raise said, with the machine of the block below.
-use Rattle.std.proofs.Common.{◌≡◌, ℕ, ◌+◌, ◌*◌, ◌≤◌, List, [], ◌∷◌, ◌++◌, refl, sym, ap, ◌∙◌, subst}
-use Rattle.std.proofs.Common.{arith}
+use Rattle.std.proofs.Common.{◌≡◌, ℕ, ◌+◌, ◌*◌, ◌≤◌, List, [], ◌∷◌, ◌++◌, refl, sym, ap, ◌∙◌, subst, arith}
 use Rattle.std.specs.Prelude.{pos, neg_ℤ}
 use Rattle.rv_meaning.specs.declared.instr.Instr.{Instr}
 use Rattle.rv_meaning.specs.declared.instr.Instr.TheVariants as I
@@ -33,9 +32,9 @@ use Rattle.run_steps.specs.Reach.{Family, Reach, reached}
 use Rattle.run_steps.proofs.Reach.{reach_map, reach_then, reach_with, reached_holds}
 use Rattle.block_runs.specs.Machines.{AreIn, IsImage, IsIn}
 use Rattle.block_runs.proofs.BlockEntries.{small_is}
-use Rattle.block_runs.proofs.Endings.{Leaves, Leaving, back_at, below_ground, frame_back, goes_below}
-use Rattle.block_runs.proofs.Endings.{left_below, numbers_back, own_ground, popped_services}
-use Rattle.block_runs.proofs.Endings.{registers_loaded, same_acts, stack_back}
+use Rattle.block_runs.proofs.Endings.{Leaves, Leaving, back_at, below_ground, frame_back, goes_below, left_below}
+use Rattle.block_runs.proofs.Endings.{numbers_back, own_ground, popped_services, registers_loaded, same_acts}
+use Rattle.block_runs.proofs.Endings.{stack_back}
 use Rattle.block_runs.proofs.PointGrounds.{call_is, registers_in}
 use Rattle.unit_runs.specs.UnitBeginnings.{IsUnitEnding, unit_ending_code}
 
@@ -154,7 +153,8 @@ resumed_back k h to {i} c f l there =
     let lj = back_of adds jump l in
     let near = h.is.back in
     let r1 = straight c f v v
-    (λ b y. Known g v (numbers_back k) (λ j. 0) (λ b'. (5, address b' k.end.back) ∷ rs b') b y) (front_of adds jump l) (omega arith) (λ b. (there b).pc)
+    (λ b y. Known g v (numbers_back k) (λ j. 0) (λ b'. (5, address b' k.end.back) ∷ rs b') b y)
+    (front_of adds jump l) (omega arith) (λ b. (there b).pc)
     (λ b. let o = (there b).holds in (
       refl,
       record {

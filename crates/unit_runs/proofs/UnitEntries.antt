@@ -1,7 +1,6 @@
 -- A unit's block is entered: from its first instruction to the machine of the new point.
-use Rattle.std.proofs.Common.{◌≡◌, ℕ, ◌+◌, ◌*◌, ◌%◌, ◌^◌, ◌<◌, ◌≤◌, List, [], ◌∷◌, ◌++◌, refl}
-use Rattle.std.proofs.Common.{sym, ap}
-use Rattle.std.proofs.Common.{◌∙◌, subst, arith}
+use Rattle.std.proofs.Common.{◌≡◌, ℕ, ◌+◌, ◌*◌, ◌%◌, ◌^◌, ◌<◌, ◌≤◌, List, [], ◌∷◌, ◌++◌, refl, sym, ap, ◌∙◌, subst}
+use Rattle.std.proofs.Common.{arith}
 use Rattle.std.specs.Prelude.{pos}
 use Rattle.rv_meaning.specs.declared.instr.Instr.{Instr}
 use Rattle.rv_meaning.specs.declared.instr.Instr.TheVariants as I
@@ -38,8 +37,7 @@ use Rattle.block_runs.specs.Beginnings.{Beginning, begun_point}
 use Rattle.block_runs.specs.Machines.{IsIn, IsImage}
 use Rattle.block_runs.proofs.BlockEntries.{small_is, word_fits, word_is}
 use Rattle.block_runs.proofs.FrameBeginnings.{Begun, IsBegun, all_stored, all_words, frame_code, frame_made}
-use Rattle.block_runs.proofs.FrameBeginnings.{new_display}
-use Rattle.block_runs.proofs.FrameBeginnings.{new_frame, outside, own_regs, regs_of}
+use Rattle.block_runs.proofs.FrameBeginnings.{new_display, new_frame, outside, own_regs, regs_of}
 use Rattle.block_runs.proofs.Places.{IsFrame, word_in, bounds, even_top}
 use Rattle.block_runs.proofs.PointGrounds.{StandsIn, point_ground, registers_in, in_known, call_is}
 use Rattle.block_runs.proofs.StoredGrounds.{StoredOver, making_ground}

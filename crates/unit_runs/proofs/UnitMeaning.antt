@@ -1,5 +1,5 @@
 -- What a raise means while a unit is in force: the unit's block, its statements and its end.
-use Rattle.std.proofs.Common.{◌≡◌, ◌⊎◌, inl, inr, ℕ, suc, List, length, Bool, Option, Some, true, false, refl, sym, ap, ◌∙◌}
+use Rattle.std.proofs.Common.{◌≡◌, inl, inr, ℕ, suc, List, length, Bool, Option, Some, true, false, refl, sym, ap, ◌∙◌}
 use Rattle.std.specs.Prelude.{cond, nat_lt}
 use Rattle.rv_meaning.specs.declared.instr.Instr.{Instr}
 use Rattle.pli_language.specs.declared.condition.Condition.{Condition}

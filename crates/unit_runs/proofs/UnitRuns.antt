@@ -1,6 +1,6 @@
 -- A raise while a unit is in force does what it means: the unit runs, and behind its end the raise goes on.
-use Rattle.std.proofs.Common.{◌≡◌, inl, inr, ℕ, ◌+◌, ◌^◌, ◌<◌, ◌≤◌, [], ◌++◌, length, None}
-use Rattle.std.proofs.Common.{true, refl, sym, ap, ◌∙◌, subst, arith}
+use Rattle.std.proofs.Common.{◌≡◌, inl, inr, ℕ, ◌+◌, ◌^◌, ◌<◌, ◌≤◌, [], ◌++◌, length, None, true, refl, sym, ap, ◌∙◌}
+use Rattle.std.proofs.Common.{subst, arith}
 use Rattle.std.specs.Prelude.{nat_lt}
 use Rattle.pli_language.specs.declared.condition.Condition.{Condition}
 use Rattle.pli_language.specs.declared.condition.Condition.TheVariants as C
@@ -49,13 +49,12 @@ use Rattle.expression_runs.proofs.Saving.{fetched_reach, held_after, held_among,
 use Rattle.expression_runs.proofs.Saving.{size_sum}
 use Rattle.expression_runs.proofs.Words.{known_word, word_closed}
 use Rattle.unit_runs.specs.Establishing.{unit_of}
-use Rattle.unit_runs.specs.Raised.{IsRaiseOf, IsUnitKind, IsRaised, Raise, RaisesReturn, Standing, UnitDoes}
-use Rattle.unit_runs.specs.Raised.{begin_of, begun_unit, end_index, list_code, list_index, raise_aims}
-use Rattle.unit_runs.specs.Raised.{standing_code}
+use Rattle.unit_runs.specs.Raised.{IsRaiseOf, IsUnitKind, IsRaised, Raise, RaisesReturn, Standing, UnitDoes, begin_of}
+use Rattle.unit_runs.specs.Raised.{begun_unit, end_index, list_code, list_index, raise_aims, standing_code}
 use Rattle.unit_runs.specs.Raised.{unit_beginning, unit_block}
 use Rattle.unit_runs.specs.UnitBeginnings.{IsAtUnit}
-use Rattle.unit_runs.proofs.UnitBlocks.{Here, IsHere, begun_known, ended_owing, ending_of, first_among}
-use Rattle.unit_runs.proofs.UnitBlocks.{first_begun, leaves_by_jump, premises, waiting}
+use Rattle.unit_runs.proofs.UnitBlocks.{Here, IsHere, begun_known, ended_owing, ending_of, first_among, first_begun}
+use Rattle.unit_runs.proofs.UnitBlocks.{leaves_by_jump, premises, waiting}
 use Rattle.unit_runs.proofs.UnitEntries as U
 use Rattle.unit_runs.proofs.UnitMeaning.{behind_raise, comes_returned, unit_body, unit_means, within, within_closed}
 use Rattle.unit_runs.proofs.UnitRaises.{Finding, IsFinding, raise_finds}

@@ -21,8 +21,8 @@ use Rattle.program_runs.specs.Statements.{IsBegun}
 use Rattle.function_runs.proofs.OuterVariables.{Over, over_number}
 use Rattle.expression_runs.specs.Values.{Setting}
 use Rattle.expression_runs.specs.Variables.{IsNumber, Spot}
-use Rattle.unit_runs.specs.Raised.{AreMade, IsRaiseOf, IsRaised, Raise, Standing, act_index, begun_unit}
-use Rattle.unit_runs.specs.Raised.{unit_beginning, unit_block, unit_layer}
+use Rattle.unit_runs.specs.Raised.{AreMade, IsRaiseOf, IsRaised, Raise, Standing, act_index, begun_unit, unit_beginning}
+use Rattle.unit_runs.specs.Raised.{unit_block, unit_layer}
 use Rattle.unit_runs.specs.UnitVariables.{HasNone, IsOwnUnit}
 
 -- ---- none of its own

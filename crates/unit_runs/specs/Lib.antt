@@ -7,3 +7,4 @@ pub mod Rows
 pub mod JumpRows
 pub mod Signals
 pub mod Changing
+pub mod LoopRows

@@ -1,8 +1,7 @@
 -- A condition is raised while a unit is in force: the unit's block, and what the raise comes to. (X3.53-1976,
 -- chapter 6, conditions and on-units.)
-use Rattle.std.specs.Prelude.{ℕ, suc, ◌+◌, ◌*◌, ◌^◌, ◌<◌, ◌≤◌, ◌≡◌, ◌⊎◌, List, [], ◌∷◌, ◌++◌, nat_lt, false, true, length}
-use Rattle.std.specs.Prelude.{None}
-use Rattle.std.specs.Prelude.{Some}
+use Rattle.std.specs.Prelude.{ℕ, suc, ◌+◌, ◌*◌, ◌^◌, ◌<◌, ◌≤◌, ◌≡◌, ◌⊎◌, List, [], ◌∷◌, ◌++◌, nat_lt, false, true}
+use Rattle.std.specs.Prelude.{length, None, Some}
 use Rattle.pli_language.specs.declared.condition.Condition.{Condition}
 use Rattle.pli_language.specs.declared.condition.Condition.TheVariants as C
 use Rattle.pli_typing.specs.TypedTree as Y

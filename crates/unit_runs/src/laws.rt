@@ -4,6 +4,7 @@ ghost use Rattle.unit_runs.specs.Bodies.{BodiesDo, UnitCallsDo, UnitProgramsRun}
 ghost use Rattle.unit_runs.specs.Changing.{ListsChange};
 ghost use Rattle.unit_runs.specs.Establishing.{UnitsEstablished};
 ghost use Rattle.unit_runs.specs.JumpRows.{SkipRan};
+ghost use Rattle.unit_runs.specs.LoopRows.{LoopRan};
 ghost use Rattle.unit_runs.specs.Raised.{RaisesReturn};
 ghost use Rattle.unit_runs.specs.Rows.{MendRan};
 ghost use Rattle.unit_runs.specs.Signals.{SignalsDo};
@@ -75,6 +76,13 @@ pub fn mend_ran()
 /// A worked row: a main procedure with a unit that jumps out of the expression to a label.
 pub fn skip_ran()
     ensures { SkipRan }
+{
+    granules_keep();
+}
+
+/// A worked row: a main procedure with ON in a loop, whose unit, a single statement, jumps out of it.
+pub fn loop_ran()
+    ensures { LoopRan }
 {
     granules_keep();
 }
