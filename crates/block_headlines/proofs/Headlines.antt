@@ -43,10 +43,12 @@ use Rattle.begin_runs.specs.LeaveRows.{leave_entry, leave_environment, leave_mai
 use Rattle.begin_runs.specs.Rows.{nest_entry, nest_environment, nest_main, nest_program}
 use Rattle.begin_runs.proofs.LeaveRows.{leave_each, leave_finish, leave_is}
 use Rattle.begin_runs.proofs.Rows.{nest_each, nest_finish, nest_is}
+use Rattle.unit_runs.specs.CallRows.{lend_entry, lend_environment, lend_main, lend_procedure, lend_program, lend_units}
 use Rattle.unit_runs.specs.JumpRows.{skip_entry, skip_environment, skip_main, skip_program, skip_units}
 use Rattle.unit_runs.specs.LoopRows.{loop_entry, loop_environment, loop_main, loop_program, loop_units}
 use Rattle.unit_runs.specs.Rows.{mend_entry, mend_environment, mend_main, mend_program, mend_units}
 use Rattle.unit_runs.proofs.Bodies.{unit_program_runs}
+use Rattle.unit_runs.proofs.CallRows.{lend_does, lend_finish, lend_is}
 use Rattle.unit_runs.proofs.JumpRows.{skip_does, skip_finish, skip_is}
 use Rattle.unit_runs.proofs.LoopRows.{loop_does, loop_finish, loop_is}
 use Rattle.unit_runs.proofs.Rows.{mend_does, mend_finish, mend_is}
@@ -403,6 +405,31 @@ loop_units_run =
       body = λ input acts few b. loop_does input acts few b;
     }
 
+lend_fits : FitsMemory (picture_of parts lend_program)
+lend_fits = small_fits lend_program (omega arith) (omega arith)
+
+abbrev lend_layout : Layout
+lend_layout =
+    record {
+      main = lend_main;
+      others = lend_procedure ∷ [];
+      environment = lend_environment;
+      entry = lend_entry;
+      end = lend_finish;
+      units = lend_units;
+      serials = 1;
+      made = newest_made parts number_declared;
+    }
+
+lend_units_run : UnitsRun lend_program lend_layout
+lend_units_run =
+    record {
+      whole = λ input acts few.
+          lend_is input (first_bytes (picture_of parts lend_program)) acts few
+          (first_length (picture_of parts lend_program) lend_fits);
+      body = λ input acts few b. lend_does input acts few b;
+    }
+
 row_runs : Runs row_program row_layout
 row_runs =
     record {
@@ -436,4 +463,5 @@ rows_kept laws keeps =
       mending = unit_kept laws keeps mend_program mend_layout mend_units_run;
       skipping = unit_kept laws keeps skip_program skip_layout skip_units_run;
       looping = unit_kept laws keeps loop_program loop_layout loop_units_run;
+      lending = unit_kept laws keeps lend_program lend_layout lend_units_run;
     }

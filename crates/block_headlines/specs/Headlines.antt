@@ -25,6 +25,7 @@ use Rattle.begin_runs.specs.Rows.{nest_program}
 use Rattle.program_runs.specs.Starts.{no_numbers, start_point, surroundings_of}
 use Rattle.program_runs.specs.Statements.{EachDoes, IsBegun}
 use Rattle.unit_runs.specs.Bodies.{BodyDoes}
+use Rattle.unit_runs.specs.CallRows.{lend_program}
 use Rattle.unit_runs.specs.JumpRows.{skip_program}
 use Rattle.unit_runs.specs.LoopRows.{loop_program}
 use Rattle.unit_runs.specs.Rows.{mend_program}
@@ -119,3 +120,4 @@ pub record HeadlinesOfRows : Type 0 where
   pub mending : Headline mend_program (picture_of parts mend_program) (table_of mend_program)
   pub skipping : Headline skip_program (picture_of parts skip_program) (table_of skip_program)
   pub looping : Headline loop_program (picture_of parts loop_program) (table_of loop_program)
+  pub lending : Headline lend_program (picture_of parts lend_program) (table_of lend_program)

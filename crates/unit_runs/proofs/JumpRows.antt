@@ -1,15 +1,13 @@
 -- The worked row: all that is premised of the program is computed.
 use Rattle.std.proofs.Common.{◌≡◌, ℕ, zero, suc, ◌+◌, ◌*◌, ◌^◌, ◌<◌, List, [], ◌∷◌, ◌++◌, inl, inr, length, map, Some}
-use Rattle.std.proofs.Common.{Bool, true, false, refl, sym, ap, subst, arith}
-use Rattle.std.proofs.lemmas.Bool.{eqb-true}
-use Rattle.std.specs.Prelude.{◌&&◌, ◌||◌, ◌==◌}
+use Rattle.std.proofs.Common.{refl, ap, arith}
 use Rattle.rv_meaning.specs.declared.instr.Instr.TheVariants as I
 use Rattle.rv_meaning.specs.Machine.{memory_size}
 use Rattle.pli_language.specs.declared.condition.Condition.TheVariants as C
 use Rattle.pli_typing.specs.TypedTree as Y
 use Rattle.pli_meaning.specs.declared.outcome.End.TheVariants as E
 use Rattle.pli_meaning.specs.Control as F
-use Rattle.pli_meaning.specs.Control.{Label, is_among}
+use Rattle.pli_meaning.specs.Control.{Label}
 use Rattle.pli_meaning.specs.Evaluating as V
 use Rattle.pli_meaning.specs.Executing as M
 use Rattle.pli_meaning.specs.Executing.{entered, run}
@@ -21,12 +19,12 @@ use Rattle.area_keeper.specs.KeeperLaws.{Keeps}
 use Rattle.granule_keeper.specs.Granules.{granules}
 use Rattle.pli_serving.specs.Templates.{template_of}
 use Rattle.pli_coding.specs.Allocating.{act_code}
-use Rattle.pli_coding.specs.Assembly.{CallTo, JumpAhead, LabelPlace, Mark, OffsetAhead, Plain, ProcedureEntry}
+use Rattle.pli_coding.specs.Assembly.{CallTo, JumpAhead, Mark, OffsetAhead, Plain, ProcedureEntry}
 use Rattle.pli_coding.specs.Assembly.{ReturnPlace, size_of}
 use Rattle.pli_coding.specs.Environments.{none_taken}
 use Rattle.pli_coding.specs.Images.{first_frame, linked_code, raise_code}
 use Rattle.pli_coding.specs.Instructions.{small}
-use Rattle.pli_coding.specs.Linking.{links_of, place_of}
+use Rattle.pli_coding.specs.Linking.{links_of}
 use Rattle.pli_coding.specs.Registers.{a1, a7}
 use Rattle.pli_coding.specs.SignatureTable.{table_of}
 use Rattle.pli_coding.specs.Statements.{stmt_code, stmts_code, stmts_words, unit_environment, unit_held, unit_variables}
@@ -56,6 +54,7 @@ use Rattle.expression_runs.specs.Values.{OverflowComes, Setting}
 use Rattle.expression_runs.specs.Variables.{IsNumber, whole}
 use Rattle.expression_runs.proofs.Assignments.{assign_does}
 use Rattle.expression_runs.proofs.Operands.{constant_does}
+use Rattle.expression_runs.proofs.Rows.{one_label_stands}
 use Rattle.expression_runs.proofs.Sums.{sum_does}
 use Rattle.expression_runs.proofs.VariablePoints.{variable_does}
 use Rattle.function_runs.proofs.OuterVariables.{same_ancestor}
@@ -436,22 +435,8 @@ skip_each input acts few b =
 
 -- ---- its label
 
-label_is : (label : Label) → is_among label (skip_label ∷ []) ≡ true → label ≡ skip_label
-label_is [] e = absurd (cc e)
-label_is (x ∷ []) e = by (x == 76) refl e
-  where
-    by : (q : Bool) → (x == 76) ≡ q → (q && true) || false ≡ true → x ∷ [] ≡ 76 ∷ []
-    by true h e = ap (λ n. n ∷ []) (eqb-true x 76 h)
-    by false h e = absurd (cc e)
-label_is (x ∷ y ∷ ys) e = by (x == 76) e
-  where
-    by : (q : Bool) → (q && false) || false ≡ true → x ∷ y ∷ ys ≡ 76 ∷ []
-    by true e = absurd (cc e)
-    by false e = absurd (cc e)
-
 labels_stand : StandAt (links_of skip_code) 0 (skip_label ∷ []) label_index
-labels_stand label e =
-    subst (λ l. place_of (links_of skip_code) (LabelPlace 0 l) ≡ 4 * label_index) (sym (label_is label e)) refl
+labels_stand = one_label_stands (links_of skip_code) label_index refl
 
 -- ---- the list of the main procedure
 

@@ -14,3 +14,4 @@ pub mod FurtherVariables
 pub mod Changing
 pub mod OwnRaises
 pub mod LoopRows
+pub mod CallRows

@@ -8,3 +8,4 @@ pub mod JumpRows
 pub mod Signals
 pub mod Changing
 pub mod LoopRows
+pub mod CallRows

@@ -1,6 +1,7 @@
 // Laws of the definitions: each function's contract is one law, and calling it does nothing.
 
 ghost use Rattle.unit_runs.specs.Bodies.{BodiesDo, UnitCallsDo, UnitProgramsRun};
+ghost use Rattle.unit_runs.specs.CallRows.{LendRan};
 ghost use Rattle.unit_runs.specs.Changing.{ListsChange};
 ghost use Rattle.unit_runs.specs.Establishing.{UnitsEstablished};
 ghost use Rattle.unit_runs.specs.JumpRows.{SkipRan};
@@ -83,6 +84,13 @@ pub fn skip_ran()
 /// A worked row: a main procedure with ON in a loop, whose unit, a single statement, jumps out of it.
 pub fn loop_ran()
     ensures { LoopRan }
+{
+    granules_keep();
+}
+
+/// A worked row: a main procedure with a unit that is raised in a procedure that it calls.
+pub fn lend_ran()
+    ensures { LendRan }
 {
     granules_keep();
 }
