@@ -106,7 +106,7 @@ comes_first k height labels (F.Ended s) rest next' o = record { to = o.to }
 comes_first k height labels (Paused s) rest next' o = record { to = o.to }
 comes_first k height labels Stuck rest next' o = absurd o.to
 
-own_return :
+pub own_return :
     {k : Block} {left' c : ℕ} {f : Family} {v : Services} {r : Option BasicValue} {s : State} (body : Y.Stmts)
     (index : ℕ) → IsBody k body index → ReturnsTo k left' c f v r s → AtEnd k.call left' c f v r s
 own_return {k} {left'} {c} {f} {v} {r} {s} body index h o =

@@ -15,3 +15,4 @@ pub mod Changing
 pub mod OwnRaises
 pub mod LoopRows
 pub mod CallRows
+pub mod InnerLists

@@ -317,14 +317,7 @@ ended_owing z h left' wanted c f v r s l o =
 
 pub leaves_by_jump :
     (z : Here) (acts c : ℕ) (f : Family) (v : Services) (height : ℕ) (label : Label) (s : State) →
-    JumpsTo (unit_block z.setting z.standing z.raise) [] acts c f v height label s →
+    JumpsOut z.setting.block.call.surroundings z.setting.block.call.code
+    (unit_block z.setting z.standing z.raise).outers acts c f v height label (closed s) →
     JumpsTo z.setting.block z.setting.labels acts c f v height label (closed s)
-leaves_by_jump z acts c f v height label s q = by q.to
-  where
-    by :
-        LandsAt (unit_block z.setting z.standing z.raise) [] acts c f v height label s
-        ⊎ JumpsOut z.setting.block.call.surroundings z.setting.block.call.code
-        (as_outer z.setting.block z.setting.labels ∷ z.setting.block.outers) acts c f v height label (closed s) →
-        JumpsTo z.setting.block z.setting.labels acts c f v height label (closed s)
-    by (inl here) = absurd (cc here.carried)
-    by (inr out) = record { to = out }
+leaves_by_jump z acts c f v height label s q = record { to = q }

@@ -38,7 +38,7 @@ use Rattle.block_runs.proofs.CallStatements.{comes_map}
 use Rattle.block_runs.proofs.PointActs.{act_comes}
 use Rattle.block_runs.proofs.PointGrounds.{in_known, known_in, point_frame}
 use Rattle.program_runs.specs.Calls.{left_over}
-use Rattle.program_runs.specs.Statements.{Block, EachDoes, IsAmong, IsBegun, statement_aims}
+use Rattle.program_runs.specs.Statements.{AreMarked, Block, IsAmong, IsBegun, statement_aims}
 use Rattle.program_runs.proofs.Calls.{behind_variables}
 use Rattle.program_runs.proofs.JumpsOut.{jumps_repaid, jumps_since}
 use Rattle.program_runs.proofs.Lists.{list_does}
@@ -48,8 +48,9 @@ use Rattle.expression_runs.proofs.Raises.{raised_at}
 use Rattle.expression_runs.proofs.Saving.{fetched_reach, held_after, held_among, held_is_given, held_stays, saved_reach}
 use Rattle.expression_runs.proofs.Saving.{size_sum}
 use Rattle.expression_runs.proofs.Words.{known_word, word_closed}
+use Rattle.begin_runs.proofs.Begins.{from_point, list_aims, out_of_all}
 use Rattle.unit_runs.specs.Establishing.{unit_of}
-use Rattle.unit_runs.specs.Raised.{IsRaiseOf, IsUnitKind, IsRaised, Raise, RaisesReturn, Standing, UnitDoes, begin_of}
+use Rattle.unit_runs.specs.Raised.{AreMade, IsRaiseOf, IsUnitKind, IsRaised, Raise, RaisesReturn, Standing, UnitDoes, begin_of}
 use Rattle.unit_runs.specs.Raised.{begun_unit, end_index, list_code, list_index, raise_aims, standing_code}
 use Rattle.unit_runs.specs.Raised.{unit_beginning, unit_block}
 use Rattle.unit_runs.specs.UnitBeginnings.{IsAtUnit}
@@ -143,19 +144,34 @@ debt_of x = left_over + size_of (ending_of x)
 abbrev goal_of : Here → (wanted : ℕ) → Aims (Unit {0})
 goal_of z wanted = raise_aims z.setting z.from z.raise.numbers z.raise.back wanted
 
+-- its list comes to what is behind it from its first statement
+abbrev pub UnitGoes : Setting → Standing → Raise → Type 0
+UnitGoes k x r =
+    IsBegun (unit_block k x r) → IsAmong (unit_block k x r) r.numbers (unit_block k x r).first →
+    k.block.call.surroundings.acts < (unit_block k x r).around.turns + (unit_block k x r).first.state.world.acts →
+    AreMarked k.block.call.surroundings.links x.environment x.unit.body (list_index x) →
+    Linked k.block.call.surroundings.links k.block.call.code (list_index x) (list_code x) → (f : Family) →
+    AreIn k.block.call.surroundings (unit_block k x r).first r.numbers (list_index x) f →
+    Comes k.block.call.code 0 f (services_of (unit_block k x r).first)
+    (list_aims (unit_block k x r) (unit_block k x r).first.state.world.acts (end_index x) left_over left_over)
+    (M.list (at_line x.around x.unit.head.line) x.unit.body k.block.call.surroundings.acts
+    (unit_block k x r).first.state)
+
+-- wherever it is raised
+abbrev pub UnitComes : (k : Setting) (x : Standing) (more : ℕ) → IsRaised k x more → Type 0
+UnitComes k x more h = (r : Raise) → IsRaiseOf k x more h r → AreMade k x r × UnitGoes k x r
+
 list_goes :
     (z : Here) (h : IsHere z) (wanted : ℕ) (f : Family) →
     IsAmong (unit_block z.setting z.standing z.raise) z.raise.numbers (unit_block z.setting z.standing z.raise).first →
-    (IsBegun (unit_block z.setting z.standing z.raise) →
-    EachDoes (unit_block z.setting z.standing z.raise) (M.labels_in z.standing.unit.body ++ []) z.standing.unit.body
-    (list_index z.standing) left_over) →
+    UnitGoes z.setting z.standing z.raise →
     AreIn z.setting.block.call.surroundings (unit_block z.setting z.standing z.raise).first z.raise.numbers
     (list_index z.standing) f →
     Comes z.setting.block.call.code 0 f (services_of (unit_block z.setting z.standing z.raise).first)
     (within (owing z.setting.block.call.code (debt_of z.standing) (goal_of z wanted)))
     (M.list (at_line z.standing.around z.standing.unit.head.line) z.standing.unit.body
     z.setting.block.call.surroundings.acts (unit_block z.setting z.standing z.raise).first.state)
-list_goes z h wanted f o each there =
+list_goes z h wanted f o goes there =
     let k = z.setting.block in
     let w = k.call.surroundings in
     let x = z.standing in
@@ -165,7 +181,6 @@ list_goes z h wanted f o each there =
     let l0 = back_of (begin_of x) (behind_beginning x) h.raised.stands in
     let l1 = back_of x.variables (behind_made x) l0 in
     let l2 = front_of (list_code x) (tail_of x) (back_of (act_code x.unit.head.line) (behind_act x) l1) in
-    let inside = l2.inside in
     let enough = h.raised.enough in
     let turns = ap (λ (a : Around). a.turns) h.raised.around in
     let same = h.made.acts in
@@ -173,22 +188,19 @@ list_goes z h wanted f o each there =
     let since = h.since in
     let owed = owing k.call.code (debt_of x) (goal_of z wanted) in
     let flow = M.list u.around x.unit.body w.acts u.first.state in
-    comes_map (statement_aims u [] acts (end_index x) left_over left_over) (within owed) flow
-    (λ c' f' v' r s q. ended_owing z h left_over wanted c' f' v' None s (end_linked h) (at_end b refl (omega arith) q))
+    comes_map (list_aims u acts (end_index x) left_over left_over) (within owed) flow
+    (λ c' f' v' r s q. ended_owing z h left_over wanted c' f' v' None s (end_linked h)
+    (at_end {k = from_point u q.first} q.begun refl (omega arith) q.goes))
     (λ c' f' v' height label s q i0 f0 v0 from. jumps_repaid {k = k} (debt_of x) from
     (jumps_since (omega (arith, since, same)) (leaves_by_jump z acts c' f' v' height label s q)))
     (λ c' f' v' r s q. ended_owing z h left_over wanted c' f' v' r s (end_linked h) q.to)
-    (list_does u [] x.unit.body (list_index x) left_over u.first z.raise.numbers 0 left_over f b
-    (omega (arith, enough, turns, same, later)) (each b) h.raised.labels o l2 (omega arith, omega (arith, inside))
-    there)
+    (goes b o (omega (arith, enough, turns, same, later)) h.raised.labels l2 f there)
 
 -- ---- its block, from its first instruction
 
 unit_goes :
     (z : Here) (h : IsHere z) (wanted : ℕ) (f : Family) →
-    (IsBegun (unit_block z.setting z.standing z.raise) →
-    EachDoes (unit_block z.setting z.standing z.raise) (M.labels_in z.standing.unit.body ++ []) z.standing.unit.body
-    (list_index z.standing) left_over) →
+    UnitGoes z.setting z.standing z.raise →
     ((b : _) → IsIn z.setting.block.call.surroundings (waiting z) z.raise.numbers z.standing.entry b (f b)
     × IsAtUnit (waiting z) (unit_beginning z.setting.block.call.surroundings z.standing z.raise) b (f b)) →
     Comes z.setting.block.call.code 19 f (services_of (waiting z))
@@ -196,7 +208,7 @@ unit_goes :
     (unit_body z.standing.around z.standing.unit.head z.standing.unit.body z.setting.block.call.surroundings.acts
     (begun_unit z.setting.block.call.surroundings z.standing z.raise).state)
 unfolding ◌>>◌
-unit_goes z h wanted f each there =
+unit_goes z h wanted f goes there =
     let k = z.setting.block in
     let w = k.call.surroundings in
     let x = z.standing in
@@ -226,12 +238,12 @@ unit_goes z h wanted f each there =
     (act_comes (before_closed w.acts next' closed') x.unit.head.line (c1 + size_of x.variables) 0 g'
     (h.made.stands new) (h.raised.line, h.raised.acts, omega (arith, n, inside, whole))
     (front_of (act_code x.unit.head.line) (behind_act x) l1) at'
-    (λ g'' less at''. list_goes z h wanted g'' (first_among z h less) each at'')))))
+    (λ g'' less at''. list_goes z h wanted g'' (first_among z h less) goes at'')))))
 
 -- ---- the raise
 
-pub raise_returns :
-    (k : Setting) (x : Standing) (more : ℕ) (h : IsRaised k x more) → UnitDoes k x more h → (code : ℕ) →
+pub raise_comes :
+    (k : Setting) (x : Standing) (more : ℕ) (h : IsRaised k x more) → UnitComes k x more h → (code : ℕ) →
     (0 < code) × (code < 2 ^ 16) → (p : Point) (numbers : ℕ → ℕ) (credits wanted index : ℕ) (f : Family) →
     IsAmong k.block numbers p → p.control.line ≡ k.around.line →
     Linked k.block.call.surroundings.links k.block.call.code index (A.raised x.unit.condition code) →
@@ -241,7 +253,7 @@ pub raise_returns :
     (raise_aims k p numbers (index + size_of (A.raised x.unit.condition code)) wanted)
     (R.raised k.around x.unit.condition code k.block.call.surroundings.acts p.state)
 unfolding R.raised ◌>>◌
-raise_returns k x more h does n codes p numbers c wanted index f o line l paid there =
+raise_comes k x more h does n codes p numbers c wanted index f o line l paid there =
     let w = k.block.call.surroundings in
     let code = k.block.call.code in
     let condition = x.unit.condition in
@@ -317,7 +329,7 @@ raise_returns k x more h does n codes p numbers c wanted index f o line l paid t
 
 -- of the condition, however it is called
 raise_as :
-    (c : Condition) (k : Setting) (x : Standing) (more : ℕ) (h : IsRaised k x more) → UnitDoes k x more h →
+    (c : Condition) (k : Setting) (x : Standing) (more : ℕ) (h : IsRaised k x more) → UnitComes k x more h →
     x.unit.condition ≡ c → (code : ℕ) → (0 < code) × (code < 2 ^ 16) → (p : Point) (numbers : ℕ → ℕ)
     (credits wanted index : ℕ) (f : Family) → IsAmong k.block numbers p → p.control.line ≡ k.around.line →
     Linked k.block.call.surroundings.links k.block.call.code index (A.raised c code) →
@@ -330,14 +342,14 @@ raise_as c k x more h does e code codes p numbers credits wanted index f o line 
     subst (λ d. Linked k.block.call.surroundings.links k.block.call.code index (A.raised d code) →
     Comes k.block.call.code credits f (services_of p) (raise_aims k p numbers (index + 4) wanted)
     (R.raised k.around d code k.block.call.surroundings.acts p.state)) e
-    (λ l'. raise_returns k x more h does code codes p numbers credits wanted index f o line l' paid there) l
+    (λ l'. raise_comes k x more h does code codes p numbers credits wanted index f o line l' paid there) l
 
 -- ---- FIXEDOVERFLOW in an expression
 
-pub overflow_returns :
-    (k : Setting) (x : Standing) (more : ℕ) (h : IsRaised k x more) → UnitDoes k x more h →
+pub overflow_comes :
+    (k : Setting) (x : Standing) (more : ℕ) (h : IsRaised k x more) → UnitComes k x more h →
     x.unit.condition ≡ C.FixedOverflow → OverflowComes k
-overflow_returns k x more h does condition p numbers taken c index given f o line registers small' l paid at =
+overflow_comes k x more h does condition p numbers taken c index given f o line registers small' l paid at =
     let w = k.block.call.surroundings in
     let code = k.block.call.code in
     let t = in_registers k.words taken in
@@ -385,6 +397,43 @@ overflow_returns k x more h does condition p numbers taken c index given f o lin
     (raise_as C.FixedOverflow k x more h does condition fixed_overflow_code (omega arith, omega arith) p held
     (c + size_of first) wanted i f1 o' line (front_of raise' back l1) (omega (arith, paid, n))
     (λ b. in_known g o.image.parts (at1 b))))
+
+-- ---- where each statement of the unit does what it means
+
+each_goes : (k : Setting) (x : Standing) (more : ℕ) (h : IsRaised k x more) → UnitDoes k x more h → UnitComes k x more h
+each_goes k x more h does r is =
+    let d = does r is in
+    let u = unit_block k x r in
+    let acts = u.first.state.world.acts in (
+      d.0,
+      λ b o enough marks l f there.
+          let inside = l.inside in
+          comes_map (statement_aims u [] acts (end_index x) left_over left_over)
+          (list_aims u acts (end_index x) left_over left_over)
+          (M.list u.around x.unit.body k.block.call.surroundings.acts u.first.state)
+          (λ c' f' v' r' s q. record { first = u.first; begun = b; goes = q })
+          (λ c' f' v' height label s q. out_of_all q)
+          (λ c' f' v' r' s q. q)
+          (list_does u [] x.unit.body (list_index x) left_over u.first r.numbers 0 left_over f b enough (d.1 b) marks o l
+          (omega arith, omega (arith, inside)) there),
+    )
+
+pub raise_returns :
+    (k : Setting) (x : Standing) (more : ℕ) (h : IsRaised k x more) → UnitDoes k x more h → (code : ℕ) →
+    (0 < code) × (code < 2 ^ 16) → (p : Point) (numbers : ℕ → ℕ) (credits wanted index : ℕ) (f : Family) →
+    IsAmong k.block numbers p → p.control.line ≡ k.around.line →
+    Linked k.block.call.surroundings.links k.block.call.code index (A.raised x.unit.condition code) →
+    credits + size_of (A.raised x.unit.condition code) + k.most ≤ cost k.block.call.code →
+    AreIn k.block.call.surroundings p numbers index f →
+    Comes k.block.call.code credits f (services_of p)
+    (raise_aims k p numbers (index + size_of (A.raised x.unit.condition code)) wanted)
+    (R.raised k.around x.unit.condition code k.block.call.surroundings.acts p.state)
+raise_returns k x more h does = raise_comes k x more h (each_goes k x more h does)
+
+pub overflow_returns :
+    (k : Setting) (x : Standing) (more : ℕ) (h : IsRaised k x more) → UnitDoes k x more h →
+    x.unit.condition ≡ C.FixedOverflow → OverflowComes k
+overflow_returns k x more h does = overflow_comes k x more h (each_goes k x more h does)
 
 pub raises_return : RaisesReturn
 raises_return = record { raise = raise_returns; overflow = overflow_returns }

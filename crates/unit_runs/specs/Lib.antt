@@ -9,3 +9,4 @@ pub mod Signals
 pub mod Changing
 pub mod LoopRows
 pub mod CallRows
+pub mod InnerLists

@@ -4,6 +4,7 @@ ghost use Rattle.unit_runs.specs.Bodies.{BodiesDo, UnitCallsDo, UnitProgramsRun}
 ghost use Rattle.unit_runs.specs.CallRows.{LendRan};
 ghost use Rattle.unit_runs.specs.Changing.{ListsChange};
 ghost use Rattle.unit_runs.specs.Establishing.{UnitsEstablished};
+ghost use Rattle.unit_runs.specs.InnerLists.{InnerListsChange};
 ghost use Rattle.unit_runs.specs.JumpRows.{SkipRan};
 ghost use Rattle.unit_runs.specs.LoopRows.{LoopRan};
 ghost use Rattle.unit_runs.specs.Raised.{RaisesReturn};
@@ -48,6 +49,11 @@ pub fn bodies_do()
 /// So does one in which ON stands anywhere, also behind labels.
 pub fn lists_change()
     ensures { ListsChange }
+{}
+
+/// And so do begin blocks with such lists, and raises while a unit with one is in force.
+pub fn inner_lists_change()
+    ensures { InnerListsChange }
 {}
 
 /// So CALL of a procedure that has such a list does what it means.
