@@ -43,10 +43,12 @@ use Rattle.begin_runs.specs.LeaveRows.{leave_entry, leave_environment, leave_mai
 use Rattle.begin_runs.specs.Rows.{nest_entry, nest_environment, nest_main, nest_program}
 use Rattle.begin_runs.proofs.LeaveRows.{leave_each, leave_finish, leave_is}
 use Rattle.begin_runs.proofs.Rows.{nest_each, nest_finish, nest_is}
+use Rattle.unit_runs.specs.BeginRows.{host_entry, host_environment, host_main, host_program, host_units}
 use Rattle.unit_runs.specs.CallRows.{lend_entry, lend_environment, lend_main, lend_procedure, lend_program, lend_units}
 use Rattle.unit_runs.specs.JumpRows.{skip_entry, skip_environment, skip_main, skip_program, skip_units}
 use Rattle.unit_runs.specs.LoopRows.{loop_entry, loop_environment, loop_main, loop_program, loop_units}
 use Rattle.unit_runs.specs.Rows.{mend_entry, mend_environment, mend_main, mend_program, mend_units}
+use Rattle.unit_runs.proofs.BeginRows.{host_each, host_finish, host_is}
 use Rattle.unit_runs.proofs.Bodies.{unit_program_runs}
 use Rattle.unit_runs.proofs.CallRows.{lend_does, lend_finish, lend_is}
 use Rattle.unit_runs.proofs.JumpRows.{skip_does, skip_finish, skip_is}
@@ -330,6 +332,31 @@ leave_program_runs =
       each = λ input acts few b. leave_each input acts few b;
     }
 
+host_fits : FitsMemory (picture_of parts host_program)
+host_fits = small_fits host_program (omega arith) (omega arith)
+
+abbrev host_layout : Layout
+host_layout =
+    record {
+      main = host_main;
+      others = [];
+      environment = host_environment;
+      entry = host_entry;
+      end = host_finish;
+      units = host_units;
+      serials = 1;
+      made = newest_made parts number_declared;
+    }
+
+host_program_runs : Runs host_program host_layout
+host_program_runs =
+    record {
+      whole = λ input acts few.
+          host_is input (first_bytes (picture_of parts host_program)) acts few
+          (first_length (picture_of parts host_program) host_fits);
+      each = λ input acts few b. host_each input acts few b;
+    }
+
 mend_fits : FitsMemory (picture_of parts mend_program)
 mend_fits = small_fits mend_program (omega arith) (omega arith)
 
@@ -464,4 +491,5 @@ rows_kept laws keeps =
       skipping = unit_kept laws keeps skip_program skip_layout skip_units_run;
       looping = unit_kept laws keeps loop_program loop_layout loop_units_run;
       lending = unit_kept laws keeps lend_program lend_layout lend_units_run;
+      hosting = kept laws keeps host_program host_layout host_program_runs;
     }

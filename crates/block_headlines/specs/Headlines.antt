@@ -24,6 +24,7 @@ use Rattle.begin_runs.specs.LeaveRows.{leave_program}
 use Rattle.begin_runs.specs.Rows.{nest_program}
 use Rattle.program_runs.specs.Starts.{no_numbers, start_point, surroundings_of}
 use Rattle.program_runs.specs.Statements.{EachDoes, IsBegun}
+use Rattle.unit_runs.specs.BeginRows.{host_program}
 use Rattle.unit_runs.specs.Bodies.{BodyDoes}
 use Rattle.unit_runs.specs.CallRows.{lend_program}
 use Rattle.unit_runs.specs.JumpRows.{skip_program}
@@ -121,3 +122,4 @@ pub record HeadlinesOfRows : Type 0 where
   pub skipping : Headline skip_program (picture_of parts skip_program) (table_of skip_program)
   pub looping : Headline loop_program (picture_of parts loop_program) (table_of loop_program)
   pub lending : Headline lend_program (picture_of parts lend_program) (table_of lend_program)
+  pub hosting : Headline host_program (picture_of parts host_program) (table_of host_program)

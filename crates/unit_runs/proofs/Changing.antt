@@ -29,7 +29,7 @@ use Rattle.run_steps.proofs.Reach.{comes_on, onward, reach_then, reach_with, sta
 use Rattle.block_runs.specs.Machines.{AreIn, IsIn}
 use Rattle.block_runs.proofs.CallStatements.{comes_map}
 use Rattle.block_runs.specs.Bodies.{body_aims}
-use Rattle.program_runs.specs.Statements.{AreMarked, Block, Does, GoesOn, IsAmong, IsBegun, JumpsOut, JumpsTo, LandsAt}
+use Rattle.program_runs.specs.Statements.{AreMarked, Block, GoesOn, IsAmong, IsBegun, JumpsOut, JumpsTo, LandsAt}
 use Rattle.program_runs.specs.Statements.{ReturnsTo, own_height, size_in, statement_aims}
 use Rattle.program_runs.proofs.Lists.{goes_since}
 use Rattle.program_runs.proofs.JumpsOut.{jumps_later, lands_since, no_jump, outs_low, outs_since, returns_later}
@@ -222,10 +222,11 @@ step_aims k body index left' acts end =
     }
 
 on_comes :
-    {k : Block} {body : Y.Stmts} {index end wanted left' : ℕ} (z : Listing k body index end wanted left') (x : OnUnit) (i acts c : ℕ)
-    (past : Past) → IsPast k body index past → IsOn (after k past) x i → StandsIn k body index (x, i) → (p : Point)
-    (numbers : ℕ → ℕ) (f : Family) → acts ≤ p.state.world.acts → IsAmong (after k past) numbers p →
-    c + size_in k (on_of x) ≤ cost k.call.code → AreIn k.call.surroundings p numbers i f →
+    {k : Block} {body : Y.Stmts} {index end wanted left' : ℕ} (z : Listing k body index end wanted left')
+    (x : OnUnit) (i acts c : ℕ) (past : Past) → IsPast k body index past → IsOn (after k past) x i →
+    StandsIn k body index (x, i) → (p : Point) (numbers : ℕ → ℕ) (f : Family) → acts ≤ p.state.world.acts →
+    IsAmong (after k past) numbers p → c + size_in k (on_of x) ≤ cost k.call.code →
+    AreIn k.call.surroundings p numbers i f →
     Comes k.call.code c f (services_of p) (step_aims k body index left' acts (i + size_in k (on_of x)))
     (M.statement k.around (on_of x) k.call.surroundings.acts p.state)
 on_comes {k} {body} {index} {left' = left'} z x i acts c past known on stands p numbers f since o paid there =
@@ -241,8 +242,8 @@ on_comes {k} {body} {index} {left' = left'} z x i acts c past known on stands p 
 
 -- whatever it is
 step_comes :
-    {k : Block} {body : Y.Stmts} {index end wanted left' : ℕ} (z : Listing k body index end wanted left') (stmt : Y.Stmt) (i acts c : ℕ)
-    (past : Past) → IsPast k body index past → StepDoes k body index stmt i left' →
+    {k : Block} {body : Y.Stmts} {index end wanted left' : ℕ} (z : Listing k body index end wanted left')
+    (stmt : Y.Stmt) (i acts c : ℕ) (past : Past) → IsPast k body index past → StepDoes k body index stmt i left' →
     ((x : OnUnit) → stmt ≡ on_of x → StandsIn k body index (x, i)) → (p : Point) (numbers : ℕ → ℕ) (f : Family) →
     acts ≤ p.state.world.acts → IsAmong (after k past) numbers p → c + size_in k stmt ≤ cost k.call.code →
     AreIn k.call.surroundings p numbers i f →
@@ -253,7 +254,8 @@ step_comes {k} {body} {index} {left' = left'} z stmt i acts c past known (inl on
     (M.statement k.around t k.call.surroundings.acts p.state)) (sym on.1)
     (on_comes z on.0 i acts c past known (on.2 past known) (into on.0 on.1) p numbers f since o
     (subst (λ t. c + size_in k t ≤ cost k.call.code) on.1 paid) there)
-step_comes {k} {body} {index} {left' = left'} z stmt i acts c past known (inr does) into p numbers f since o paid there =
+step_comes {k} {body} {index} {left' = left'} z stmt i acts c past known (inr does) into p numbers f since o paid
+    there =
     let behind = i + size_in k stmt in
     comes_map (statement_aims (after k past) (M.labels_in body) p.state.world.acts behind 0 left')
     (step_aims k body index left' acts behind) (M.statement k.around stmt k.call.surroundings.acts p.state)
@@ -320,9 +322,10 @@ rest_of {k} {i = i} own first rest z =
     }
 
 statements_come :
-    {k : Block} {body : Y.Stmts} {index end wanted left' : ℕ} (z : Listing k body index end wanted left') (rest : Y.Stmts) (i acts c : ℕ)
-    (past : Past) → IsPast k body index past → Suffix k body index end left' rest i → (p : Point) (numbers : ℕ → ℕ)
-    (f : Family) → acts ≤ p.state.world.acts → IsAmong (after k past) numbers p →
+    {k : Block} {body : Y.Stmts} {index end wanted left' : ℕ} (z : Listing k body index end wanted left')
+    (rest : Y.Stmts) (i acts c : ℕ) (past : Past) → IsPast k body index past →
+    Suffix k body index end left' rest i → (p : Point) (numbers : ℕ → ℕ) (f : Family) → acts ≤ p.state.world.acts →
+    IsAmong (after k past) numbers p →
     (c ≤ wanted) × (c + size_of (stmts_code k.environment none_taken rest) ≤ cost k.call.code) →
     AreIn k.call.surroundings p numbers i f →
     Comes k.call.code c f (services_of p) (inside_aims k body index acts end wanted left')
@@ -331,9 +334,11 @@ unfolding M.statements give choose ◌>>◌
 statements_come {k} z (Y.EndOfList own) i acts c past known x p numbers f since o fits there =
     let n = marked_size k.environment.block own in
     let ends = x.ends in
-    record { to = ends_here z acts c past known p numbers f since o fits.0 (moved_in k f (omega (arith, n, ends)) there) }
-statements_come {k} {body} {index} {end} {wanted} {left'} z (Y.StmtThen own first rest) i acts c past known x p numbers f since o fits
-    there =
+    record {
+      to = ends_here z acts c past known p numbers f since o fits.0 (moved_in k f (omega (arith, n, ends)) there);
+    }
+statements_come {k} {body} {index} {end} {wanted} {left'} z (Y.StmtThen own first rest) i acts c past known x p
+    numbers f since o fits there =
     let w = k.call.surroundings in
     let marks = marked k.environment.block own in
     let one = stmt_code k.environment none_taken first in
@@ -377,10 +382,10 @@ or_else label (x ∷ xs) ys e f = by (same_bytes label x) e f (λ a b. or_else l
     by false e f rest = rest e f
 
 sought_come :
-    {k : Block} {body : Y.Stmts} {index end wanted left' : ℕ} (z : Listing k body index end wanted left') (label : Label) (rest : Y.Stmts)
-    (i acts at : ℕ) (past : Past) → IsPast k body index past → Suffix k body index end left' rest i →
-    AreMarked k.call.surroundings.links k.environment rest i → (p : Point) (numbers : ℕ → ℕ) (f : Family) →
-    acts ≤ p.state.world.acts → IsAmong (after k past) numbers p → is_among label (M.labels_in rest) ≡ true →
+    {k : Block} {body : Y.Stmts} {index end wanted left' : ℕ} (z : Listing k body index end wanted left')
+    (label : Label) (rest : Y.Stmts) (i acts at : ℕ) (past : Past) → IsPast k body index past →
+    Suffix k body index end left' rest i → AreMarked k.call.surroundings.links k.environment rest i → (p : Point)
+    (numbers : ℕ → ℕ) (f : Family) → acts ≤ p.state.world.acts → IsAmong (after k past) numbers p → is_among label (M.labels_in rest) ≡ true →
     place_of k.call.surroundings.links (LabelPlace k.environment.block label) ≡ 4 * at →
     AreIn k.call.surroundings p numbers at f →
     Comes k.call.code 0 f (services_of p) (inside_aims k body index acts end wanted left')
@@ -394,8 +399,8 @@ sought_come {k} z label (Y.EndOfList own) i acts at past known x marks p numbers
       to = ends_here z acts 0 past known p numbers f since o (omega arith)
           (moved_in k f (omega (arith, n, here, place, ends)) there);
     }
-sought_come {k} {body} {index} {end} {wanted} {left'} z label (Y.StmtThen own first rest) i acts at past known x marks p numbers f
-    since o among place there =
+sought_come {k} {body} {index} {end} {wanted} {left'} z label (Y.StmtThen own first rest) i acts at past known x
+    marks p numbers f since o among place there =
     by (is_among label own) refl
     (λ among'. sought_come z label rest (i + size_of (marked k.environment.block own) + size_in k first) acts at past
     known (rest_of own first rest x) marks.1 p numbers f since o among' place there)

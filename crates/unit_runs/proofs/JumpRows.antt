@@ -484,7 +484,7 @@ skip_does input acts few b =
                   enough = omega arith;
                 })
                 (λ label e. absurd (cc e), (λ label e. absurd (cc e), (labels_stand, λ label e. absurd (cc e))))
-        (skip_each input acts few b);
+                (skip_each input acts few b);
           });
     })
 

@@ -16,3 +16,4 @@ pub mod OwnRaises
 pub mod LoopRows
 pub mod CallRows
 pub mod InnerLists
+pub mod BeginRows

@@ -371,7 +371,7 @@ unit_each input more past few h own r is =
 -- ---- the sum, with the unit in force or without one
 
 -- there is one ON alone
-unit_same : (x y : OnUnit) → on_of x ≡ on_of y → x ≡ y
+pub unit_same : (x y : OnUnit) → on_of x ≡ on_of y → x ≡ y
 unit_same x y e =
     let condition : x.condition ≡ y.condition = cc e in
     let head : x.head ≡ y.head = cc e in

@@ -1,5 +1,5 @@
 -- The block of a unit that is raised in a block: where its statements begin, and where it ends.
-use Rattle.std.proofs.Common.{◌≡◌, ℕ, ◌+◌, ◌*◌, ◌<◌, ◌≤◌, ◌⊎◌, inl, inr, List, [], ◌∷◌, length, Option, true, refl, sym}
+use Rattle.std.proofs.Common.{◌≡◌, ℕ, ◌+◌, ◌*◌, ◌<◌, ◌≤◌, List, [], ◌∷◌, length, Option, true, refl, sym}
 use Rattle.std.proofs.Common.{ap, ◌∙◌, subst, arith}
 use Rattle.std.specs.Prelude.{nat_lt}
 use Rattle.pli_meaning.specs.BasicValues.{BasicValue}
@@ -31,7 +31,7 @@ use Rattle.block_runs.specs.Bodies.{AtEnd}
 use Rattle.block_runs.specs.Machines.{IsImage, IsIn, acted}
 use Rattle.block_runs.proofs.Endings as E
 use Rattle.block_runs.proofs.PointActs.{stands_acted}
-use Rattle.program_runs.specs.Statements.{IsAmong, IsBegun, JumpsOut, JumpsTo, LandsAt, as_outer}
+use Rattle.program_runs.specs.Statements.{IsAmong, IsBegun, JumpsOut, JumpsTo}
 use Rattle.program_runs.proofs.JumpsOut.{jumps_later}
 use Rattle.unit_runs.specs.Raised.{AreMade, IsRaiseOf, IsRaised, Raise, Standing, begun_unit, end_index, raise_aims}
 use Rattle.unit_runs.specs.Raised.{unit_beginning, unit_block, unit_call, unit_layer}

@@ -50,8 +50,8 @@ use Rattle.expression_runs.proofs.Saving.{size_sum}
 use Rattle.expression_runs.proofs.Words.{known_word, word_closed}
 use Rattle.begin_runs.proofs.Begins.{from_point, list_aims, out_of_all}
 use Rattle.unit_runs.specs.Establishing.{unit_of}
-use Rattle.unit_runs.specs.Raised.{AreMade, IsRaiseOf, IsUnitKind, IsRaised, Raise, RaisesReturn, Standing, UnitDoes, begin_of}
-use Rattle.unit_runs.specs.Raised.{begun_unit, end_index, list_code, list_index, raise_aims, standing_code}
+use Rattle.unit_runs.specs.Raised.{AreMade, IsRaiseOf, IsUnitKind, IsRaised, Raise, RaisesReturn, Standing, UnitDoes}
+use Rattle.unit_runs.specs.Raised.{begin_of, begun_unit, end_index, list_code, list_index, raise_aims, standing_code}
 use Rattle.unit_runs.specs.Raised.{unit_beginning, unit_block}
 use Rattle.unit_runs.specs.UnitBeginnings.{IsAtUnit}
 use Rattle.unit_runs.proofs.UnitBlocks.{Here, IsHere, begun_known, ended_owing, ending_of, first_among, first_begun}
@@ -414,8 +414,8 @@ each_goes k x more h does r is =
           (λ c' f' v' r' s q. record { first = u.first; begun = b; goes = q })
           (λ c' f' v' height label s q. out_of_all q)
           (λ c' f' v' r' s q. q)
-          (list_does u [] x.unit.body (list_index x) left_over u.first r.numbers 0 left_over f b enough (d.1 b) marks o l
-          (omega arith, omega (arith, inside)) there),
+          (list_does u [] x.unit.body (list_index x) left_over u.first r.numbers 0 left_over f b enough (d.1 b) marks o
+          l (omega arith, omega (arith, inside)) there),
     )
 
 pub raise_returns :

@@ -10,3 +10,4 @@ pub mod Changing
 pub mod LoopRows
 pub mod CallRows
 pub mod InnerLists
+pub mod BeginRows

@@ -1,5 +1,6 @@
 // Laws of the definitions: each function's contract is one law, and calling it does nothing.
 
+ghost use Rattle.unit_runs.specs.BeginRows.{HostRan};
 ghost use Rattle.unit_runs.specs.Bodies.{BodiesDo, UnitCallsDo, UnitProgramsRun};
 ghost use Rattle.unit_runs.specs.CallRows.{LendRan};
 ghost use Rattle.unit_runs.specs.Changing.{ListsChange};
@@ -97,6 +98,13 @@ pub fn loop_ran()
 /// A worked row: a main procedure with a unit that is raised in a procedure that it calls.
 pub fn lend_ran()
     ensures { LendRan }
+{
+    granules_keep();
+}
+
+/// A worked row: a main procedure with ON in a begin block, behind which the unit is gone.
+pub fn host_ran()
+    ensures { HostRan }
 {
     granules_keep();
 }
