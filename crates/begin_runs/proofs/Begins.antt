@@ -45,8 +45,8 @@ use Rattle.block_runs.proofs.CallStatements.{comes_map}
 use Rattle.block_runs.proofs.Endings as E
 use Rattle.block_runs.proofs.InnerEntries as I
 use Rattle.block_runs.proofs.PointActs.{act_comes}
-use Rattle.program_runs.specs.Statements.{AreMarked, Block, Does, EachDoes, GoesOn, IsAmong, IsBegun, JumpsOut}
-use Rattle.program_runs.specs.Statements.{JumpsTo, LandsAt, ReturnsTo, own_height, size_in, statement_aims}
+use Rattle.program_runs.specs.Statements.{AreMarked, Block, Does, EachDoes, IsAmong, IsBegun, JumpsOut}
+use Rattle.program_runs.specs.Statements.{JumpsTo, LandsAt, own_height, size_in, statement_aims}
 use Rattle.program_runs.proofs.JumpsOut.{jumps_repaid, jumps_since, returns_repaid}
 use Rattle.program_runs.proofs.Lists.{list_does}
 use Rattle.program_runs.proofs.NewestBlocks.{Newest, newest_ancestor, newest_at, newest_own}
@@ -54,6 +54,7 @@ use Rattle.program_runs.proofs.Statements.{acted_among, resumes_among, statement
 use Rattle.begin_runs.specs.BeginBlocks.{AreMade, Inner, IsBegin, begin_of, beginning_size, begun_in, end_index}
 use Rattle.begin_runs.specs.BeginBlocks.{entry_index, environment_of, inner_beginning, inner_block, inner_layer}
 use Rattle.begin_runs.specs.BeginBlocks.{list_code, list_index}
+use Rattle.begin_runs.specs.BehindLists.{GoesBehind, from_point, list_aims}
 use Rattle.begin_runs.proofs.Meaning.{begin_means, behind_act, comes_passed, list_of, within, within_closed}
 
 -- ---- where it stands
@@ -85,26 +86,6 @@ here_of k labels x index left' more p numbers =
       more = more;
       point = p;
       numbers = numbers;
-    }
-
--- a block may have other units than it had at its first statement, and so another first point
-abbrev pub from_point : Block → Point → Block
-from_point k first = record k { first = first }
-
-pub record GoesBehind (k : Block) (acts index wanted credits : ℕ) (f : Family) (v : Services) (s : State) : Type 0
-  where
-    pub first : Point
-    pub begun : IsBegun (from_point k first)
-    pub goes : GoesOn (from_point k first) acts index wanted credits f v s
-
--- behind its list, out of it by GOTO, or at the end of its procedure
-abbrev pub list_aims : Block → (acts index wanted left' : ℕ) → Aims (Unit {0})
-list_aims k acts index wanted left' =
-    record {
-      done = λ c f v r s. GoesBehind k acts index wanted c f v s;
-      jumped = λ c f v height label s.
-          JumpsOut k.call.surroundings k.call.code k.outers acts c f v height label (closed s);
-      returned = λ c f v r s. ReturnsTo k left' c f v r s;
     }
 
 -- its list comes there from its first statement

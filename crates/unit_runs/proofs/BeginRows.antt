@@ -75,7 +75,7 @@ use Rattle.unit_runs.specs.Establishing.{IsOn, OnUnit, on_of, unit_index, unit_o
 use Rattle.unit_runs.specs.Raised as S
 use Rattle.unit_runs.specs.Raised.{IsRaised, Standing, UnitDoes, list_index, standing_code, unit_block}
 use Rattle.unit_runs.proofs.Changing.{begun_after}
-use Rattle.unit_runs.proofs.InnerLists.{changing_begin}
+use Rattle.unit_runs.proofs.InnerLists.{all_list, changing_begin}
 use Rattle.unit_runs.proofs.LoopRows.{unit_same}
 use Rattle.unit_runs.proofs.OwnRaises.{own_raised, past_numbers}
 use Rattle.unit_runs.proofs.Rows.{only_place}
@@ -535,7 +535,10 @@ begin_by input (suc more) few b =
       B.none_made (host_block input (suc more)) (host_inner more) begin_index p numbers refl refl (refl, refl),
       (λ label e. absurd (cc e), (λ label e. absurd (cc e), λ label e. absurd (cc e))),
     ))
-    (λ p numbers o later b'. inside_all input more p numbers few b o later b')
+    (λ p numbers o later z.
+    all_list (inside_block input more p numbers) inside_body inside_start left_over z
+    (λ label e. absurd (cc e), (λ label e. absurd (cc e), λ label e. absurd (cc e)))
+    (inside_all input more p numbers few b o later z.begun))
 
 set_does :
     (input : List ℕ) (acts line index : ℕ) → acts + 1 < 2 ^ 64 → line < 2 ^ 31 → IsBegun (host_block input acts) →

@@ -2,6 +2,7 @@
 use Rattle.std.proofs.Common.{◌≡◌, ℕ, zero, suc, ◌+◌, ◌<◌, ◌≤◌, List, [], ◌++◌, Option, Some, None, refl, sym, ap, ◌∙◌}
 use Rattle.std.proofs.Common.{subst, arith}
 use Rattle.std.specs.Prelude.{◌&&◌, ◌==◌, cond}
+use Rattle.rv_meaning.specs.declared.instr.Instr.{Instr}
 use Rattle.pli_typing.specs.TypedTree as Y
 use Rattle.pli_meaning.specs.BasicValues.{BasicValue}
 use Rattle.pli_meaning.specs.Control as F
@@ -21,7 +22,7 @@ use Rattle.activation_relation.specs.Layers.{Point, services_of}
 use Rattle.run_steps.proofs.Linking.{size_append}
 use Rattle.run_steps.specs.Reach.{Aims, Comes, Family, never}
 use Rattle.run_steps.proofs.Reach.{onward}
-use Rattle.block_runs.specs.Bodies.{AtEnd, Called, body_aims}
+use Rattle.block_runs.specs.Bodies.{AtEnd, body_aims}
 use Rattle.block_runs.proofs.CallStatements.{comes_map}
 use Rattle.program_runs.specs.Calls.{AreMade, Callee, IsCall, block_at, body_index, call_of, left_over}
 use Rattle.program_runs.specs.Programs.{IsWhole, Whole, main_of}
@@ -67,7 +68,7 @@ from_same (suc n) around first rest k height labels label s =
     (λ l. list_from n height labels (M.statements around (before_rest first rest)) (Some l))
     (λ l s'. from_same n around first rest k height labels l s')
 
-rest_is :
+pub rest_is :
     (around : Around) (first : Y.Stmt) (rest : Y.Stmts) (n k height : ℕ) (s : State) → around.turns ≡ suc n →
     newest_height s.activations ≡ height →
     M.list around rest k s
@@ -85,22 +86,23 @@ rest_is around first rest n k height s turns same =
 
 -- ---- where the first statement goes on
 
-abbrev first_aims :
-    Called → (left' k height : ℕ) → List Label → Meaning (Unit {0}) → (Label → Meaning (Unit {0})) → Aims (Unit {0})
-first_aims call left' k height labels rest next' =
+abbrev pub first_aims :
+    List Instr → Aims (Unit {0}) → (k height : ℕ) → List Label → Meaning (Unit {0}) → (Label → Meaning (Unit {0})) →
+    Aims (Unit {0})
+first_aims code goal k height labels rest next' =
     record {
-      done = λ c f v r s. Comes call.code c f v (body_aims call left') (caught k height labels (rest k s) next');
-      jumped = λ c f v h label s. ⊥;
-      returned = λ c f v r s. AtEnd call left' c f v r s;
+      done = λ c f v r s. Comes code c f v goal (caught k height labels (rest k s) next');
+      jumped = λ c f v h label s. Comes code c f v goal (caught k height labels (Jump h label s) next');
+      returned = λ c f v r s. goal.returned c f v r s;
     }
 
 comes_first :
-    {call : Called} {left' c : ℕ} {f : Family} {v : Services} (k height : ℕ) (labels : List Label)
-    (flow : Flow (Unit {0})) (rest : Meaning (Unit {0})) (next' : Label → Meaning (Unit {0})) →
-    Comes call.code c f v (first_aims call left' k height labels rest next') flow →
-    Comes call.code c f v (body_aims call left') (caught k height labels (flow_on k flow (λ u. rest)) next')
+    {code : List Instr} {goal : Aims (Unit {0})} {c : ℕ} {f : Family} {v : Services} (k height : ℕ)
+    (labels : List Label) (flow : Flow (Unit {0})) (rest : Meaning (Unit {0})) (next' : Label → Meaning (Unit {0})) →
+    Comes code c f v (first_aims code goal k height labels rest next') flow →
+    Comes code c f v goal (caught k height labels (flow_on k flow (λ u. rest)) next')
 comes_first k height labels (Normal r s) rest next' o = o.to
-comes_first k height labels (Jump h label s) rest next' o = absurd o.to
+comes_first k height labels (Jump h label s) rest next' o = o.to
 comes_first k height labels (Return r s) rest next' o = record { to = o.to }
 comes_first k height labels (F.Ended s) rest next' o = record { to = o.to }
 comes_first k height labels (Paused s) rest next' o = record { to = o.to }
@@ -114,20 +116,20 @@ own_return {k} {left'} {c} {f} {v} {r} {s} body index h o =
     (AtEnd k.call left' c f v r s)) h.kind o.to
 
 -- a list is its first statement and the rest, if the statement makes no jump in it
-splits :
-    (k : Block) (left' : ℕ) (first : Y.Stmt) (rest : Y.Stmts) (p : Point) (c : ℕ) (f : Family) (v : Services) →
+pub splits :
+    (k : Block) (goal : Aims (Unit {0})) (first : Y.Stmt) (rest : Y.Stmts) (p : Point) (c : ℕ) (f : Family)
+    (v : Services) →
     k.call.surroundings.acts < k.around.turns + p.state.world.acts → p.state.world.acts ≤ k.call.surroundings.acts →
     ((n : ℕ) → k.around.turns ≡ suc n →
     Comes k.call.code c f v
-    (first_aims k.call left' k.call.surroundings.acts (newest_height p.state.activations) (M.labels_in rest)
+    (first_aims k.call.code goal k.call.surroundings.acts (newest_height p.state.activations) (M.labels_in rest)
     (M.statements k.around rest None)
     (λ l. list_from n (newest_height p.state.activations) (M.labels_in rest)
     (M.statements k.around (before_rest first rest)) (Some l)))
     (M.statement k.around first k.call.surroundings.acts p.state)) →
-    Comes k.call.code c f v (body_aims k.call left')
-    (M.list k.around (before_rest first rest) k.call.surroundings.acts p.state)
+    Comes k.call.code c f v goal (M.list k.around (before_rest first rest) k.call.surroundings.acts p.state)
 unfolding M.list M.list_with looked ◌>>=◌ ◌>>◌ M.statements choose list_from
-splits k left' first rest p c f v few allowed comes = by k.around.turns refl
+splits k goal first rest p c f v few allowed comes = by k.around.turns refl
   where
     height : ℕ
     height = newest_height p.state.activations
@@ -141,19 +143,19 @@ splits k left' first rest p c f v few allowed comes = by k.around.turns refl
 
     turned :
         (n : ℕ) →
-        Comes k.call.code c f v (body_aims k.call left')
+        Comes k.call.code c f v goal
         (caught acts height (M.labels_in rest)
         (flow_on acts (M.statement k.around first acts p.state) (λ u. M.statements k.around rest None))
         (λ l. list_from n height (M.labels_in rest) (M.statements k.around (before_rest first rest)) (Some l))) →
-        Comes k.call.code c f v (body_aims k.call left') (whole (suc n))
+        Comes k.call.code c f v goal (whole (suc n))
     turned n o = o
 
-    by : (t : ℕ) → k.around.turns ≡ t → Comes k.call.code c f v (body_aims k.call left') (whole k.around.turns)
+    by : (t : ℕ) → k.around.turns ≡ t → Comes k.call.code c f v goal (whole k.around.turns)
     by zero e = absurd (omega (arith, e, few, allowed))
     by (suc n) e =
-        subst (λ t. Comes k.call.code c f v (body_aims k.call left') (whole t)) (sym e)
+        subst (λ t. Comes k.call.code c f v goal (whole t)) (sym e)
         (turned n
-        (comes_first {call = k.call} {left' = left'} acts height (M.labels_in rest)
+        (comes_first {code = k.call.code} {goal = goal} acts height (M.labels_in rest)
         (M.statement k.around first acts p.state) (M.statements k.around rest None)
         (λ l. list_from n height (M.labels_in rest) (M.statements k.around (before_rest first rest)) (Some l))
         (comes n e)))
@@ -179,7 +181,7 @@ list_ends k body index left' h marks each p numbers f o there =
     (list_does k [] body index left' p numbers 0 left' f h.begun (omega (arith, enough, more)) each marks o h.linked
     (omega arith, omega (arith, inside)) there))
 
-rest_size :
+pub rest_size :
     (k : Block) (first : Y.Stmt) (rest : Y.Stmts) →
     size_of (stmts_code k.environment none_taken (before_rest first rest))
     ≡ size_in k first + size_of (stmts_code k.environment none_taken rest)
@@ -197,12 +199,13 @@ first_ends k first rest index left' is p numbers f o there =
     let inside = h.linked.inside in
     let n = rest_size k first rest in
     let height = newest_height p.state.activations in
-    splits k left' first rest p 0 f (services_of p) (omega (arith, enough, more)) o.stands.allowed
+    splits k (body_aims k.call left') first rest p 0 f (services_of p) (omega (arith, enough, more)) o.stands.allowed
     (λ m turns.
     let next' : Label → Meaning (Unit {0}) = λ l. list_from m height (M.labels_in rest)
     (M.statements k.around (before_rest first rest)) (Some l) in
     comes_map (statement_aims k [] p.state.world.acts (index + size_in k first) 0 left')
-    (first_aims k.call left' w.acts height (M.labels_in rest) (M.statements k.around rest None) next')
+    (first_aims k.call.code (body_aims k.call left') w.acts height (M.labels_in rest) (M.statements k.around rest None)
+    next')
     (M.statement k.around first w.acts p.state)
     (λ c' f' v' r s q.
     subst (λ u. Comes k.call.code c' f' v' (body_aims k.call left')
@@ -232,12 +235,13 @@ on_ends k x rest index left' is p numbers f o there =
     let inside = h.linked.inside in
     let n = rest_size k first rest in
     let height = newest_height p.state.activations in
-    splits k left' first rest p 0 f (services_of p) (omega (arith, enough, more)) o.stands.allowed
+    splits k (body_aims k.call left') first rest p 0 f (services_of p) (omega (arith, enough, more)) o.stands.allowed
     (λ m turns.
     let next' : Label → Meaning (Unit {0}) = λ l. list_from m height (M.labels_in rest)
     (M.statements k.around (before_rest first rest)) (Some l) in
     comes_map (statement_aims k' [] p.state.world.acts (index + size_in k first) 0 left')
-    (first_aims k.call left' w.acts height (M.labels_in rest) (M.statements k.around rest None) next')
+    (first_aims k.call.code (body_aims k.call left') w.acts height (M.labels_in rest) (M.statements k.around rest None)
+    next')
     (M.statement k.around first w.acts p.state)
     (λ c' f' v' r s q.
     subst (λ u. Comes k.call.code c' f' v' (body_aims k.call left')

@@ -35,7 +35,8 @@ use Rattle.program_runs.proofs.Lists.{goes_since}
 use Rattle.program_runs.proofs.JumpsOut.{jumps_later, lands_since, no_jump, outs_low, outs_since, returns_later}
 use Rattle.program_runs.proofs.NewestBlocks.{newest_at, newest_own}
 use Rattle.program_runs.proofs.Statements.{at_end, statement_closed}
-use Rattle.begin_runs.proofs.Begins.{GoesBehind, from_point, list_aims, out_of_all}
+use Rattle.begin_runs.specs.BehindLists.{GoesBehind, from_point, list_aims}
+use Rattle.begin_runs.proofs.Begins.{out_of_all}
 use Rattle.unit_runs.specs.Changing.{AllDo, IsPast, Past, StandsIn, StepDoes, after}
 use Rattle.unit_runs.specs.Establishing.{IsOn, OnUnit, on_of}
 use Rattle.unit_runs.proofs.Establishing.{unit_begun, unit_does}
@@ -151,7 +152,7 @@ inside_closed k body index acts end wanted left' =
       returned = λ r x s o. returns_later r o;
     }
 
-list_closed : (k : Block) (acts end wanted left' : ℕ) → Closed k.call.code (list_aims k acts end wanted left')
+pub list_closed : (k : Block) (acts end wanted left' : ℕ) → Closed k.call.code (list_aims k acts end wanted left')
 list_closed k acts end wanted left' =
     record {
       done = λ r x s o. behind_later r o;
@@ -176,7 +177,7 @@ lands_in_since {k} {body} {index} {acts} {more} {c} {f} {v} {height} {label} {s}
     by (inr out) =
         inr (outs_since k.call.surroundings k.call.code k.outers acts more c f v height label (closed s) few out)
 
-list_since :
+pub list_since :
     {k : Block} {acts more end wanted left' c : ℕ} {f : Family} {v : Services} {flow : Flow (Unit {0})} →
     acts ≤ more → Comes k.call.code c f v (list_aims k more end wanted left') flow →
     Comes k.call.code c f v (list_aims k acts end wanted left') flow
@@ -385,7 +386,8 @@ sought_come :
     {k : Block} {body : Y.Stmts} {index end wanted left' : ℕ} (z : Listing k body index end wanted left')
     (label : Label) (rest : Y.Stmts) (i acts at : ℕ) (past : Past) → IsPast k body index past →
     Suffix k body index end left' rest i → AreMarked k.call.surroundings.links k.environment rest i → (p : Point)
-    (numbers : ℕ → ℕ) (f : Family) → acts ≤ p.state.world.acts → IsAmong (after k past) numbers p → is_among label (M.labels_in rest) ≡ true →
+    (numbers : ℕ → ℕ) (f : Family) → acts ≤ p.state.world.acts → IsAmong (after k past) numbers p →
+    is_among label (M.labels_in rest) ≡ true →
     place_of k.call.surroundings.links (LabelPlace k.environment.block label) ≡ 4 * at →
     AreIn k.call.surroundings p numbers at f →
     Comes k.call.code 0 f (services_of p) (inside_aims k body index acts end wanted left')

@@ -48,7 +48,8 @@ use Rattle.expression_runs.proofs.Raises.{raised_at}
 use Rattle.expression_runs.proofs.Saving.{fetched_reach, held_after, held_among, held_is_given, held_stays, saved_reach}
 use Rattle.expression_runs.proofs.Saving.{size_sum}
 use Rattle.expression_runs.proofs.Words.{known_word, word_closed}
-use Rattle.begin_runs.proofs.Begins.{from_point, list_aims, out_of_all}
+use Rattle.begin_runs.specs.BehindLists.{from_point, list_aims}
+use Rattle.begin_runs.proofs.Begins.{out_of_all}
 use Rattle.unit_runs.specs.Establishing.{unit_of}
 use Rattle.unit_runs.specs.Raised.{AreMade, IsRaiseOf, IsUnitKind, IsRaised, Raise, RaisesReturn, Standing, UnitDoes}
 use Rattle.unit_runs.specs.Raised.{begin_of, begun_unit, end_index, list_code, list_index, raise_aims, standing_code}
