@@ -45,12 +45,14 @@ use Rattle.begin_runs.proofs.LeaveRows.{leave_each, leave_finish, leave_is}
 use Rattle.begin_runs.proofs.Rows.{nest_each, nest_finish, nest_is}
 use Rattle.unit_runs.specs.BeginRows.{host_entry, host_environment, host_main, host_program, host_units}
 use Rattle.unit_runs.specs.CallRows.{lend_entry, lend_environment, lend_main, lend_procedure, lend_program, lend_units}
+use Rattle.unit_runs.specs.DeepRows.{deep_entry, deep_environment, deep_main, deep_program, deep_units}
 use Rattle.unit_runs.specs.JumpRows.{skip_entry, skip_environment, skip_main, skip_program, skip_units}
 use Rattle.unit_runs.specs.LoopRows.{loop_entry, loop_environment, loop_main, loop_program, loop_units}
 use Rattle.unit_runs.specs.Rows.{mend_entry, mend_environment, mend_main, mend_program, mend_units}
 use Rattle.unit_runs.proofs.BeginRows.{host_each, host_finish, host_is}
 use Rattle.unit_runs.proofs.Bodies.{unit_program_runs}
 use Rattle.unit_runs.proofs.CallRows.{lend_does, lend_finish, lend_is}
+use Rattle.unit_runs.proofs.DeepRows.{deep_does, deep_finish, deep_is}
 use Rattle.unit_runs.proofs.JumpRows.{skip_does, skip_finish, skip_is}
 use Rattle.unit_runs.proofs.LoopRows.{loop_does, loop_finish, loop_is}
 use Rattle.unit_runs.proofs.Rows.{mend_does, mend_finish, mend_is}
@@ -382,6 +384,31 @@ mend_units_run =
       body = λ input acts few b. mend_does input acts few b;
     }
 
+deep_fits : FitsMemory (picture_of parts deep_program)
+deep_fits = small_fits deep_program (omega arith) (omega arith)
+
+abbrev deep_layout : Layout
+deep_layout =
+    record {
+      main = deep_main;
+      others = [];
+      environment = deep_environment;
+      entry = deep_entry;
+      end = deep_finish;
+      units = deep_units;
+      serials = 1;
+      made = newest_made parts number_declared;
+    }
+
+deep_units_run : UnitsRun deep_program deep_layout
+deep_units_run =
+    record {
+      whole = λ input acts few.
+          deep_is input (first_bytes (picture_of parts deep_program)) acts few
+          (first_length (picture_of parts deep_program) deep_fits);
+      body = λ input acts few b. deep_does input acts few b;
+    }
+
 skip_fits : FitsMemory (picture_of parts skip_program)
 skip_fits = small_fits skip_program (omega arith) (omega arith)
 
@@ -492,4 +519,5 @@ rows_kept laws keeps =
       looping = unit_kept laws keeps loop_program loop_layout loop_units_run;
       lending = unit_kept laws keeps lend_program lend_layout lend_units_run;
       hosting = kept laws keeps host_program host_layout host_program_runs;
+      deepening = unit_kept laws keeps deep_program deep_layout deep_units_run;
     }

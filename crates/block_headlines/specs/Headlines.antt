@@ -27,6 +27,7 @@ use Rattle.program_runs.specs.Statements.{EachDoes, IsBegun}
 use Rattle.unit_runs.specs.BeginRows.{host_program}
 use Rattle.unit_runs.specs.Bodies.{BodyDoes}
 use Rattle.unit_runs.specs.CallRows.{lend_program}
+use Rattle.unit_runs.specs.DeepRows.{deep_program}
 use Rattle.unit_runs.specs.JumpRows.{skip_program}
 use Rattle.unit_runs.specs.LoopRows.{loop_program}
 use Rattle.unit_runs.specs.Rows.{mend_program}
@@ -123,3 +124,4 @@ pub record HeadlinesOfRows : Type 0 where
   pub looping : Headline loop_program (picture_of parts loop_program) (table_of loop_program)
   pub lending : Headline lend_program (picture_of parts lend_program) (table_of lend_program)
   pub hosting : Headline host_program (picture_of parts host_program) (table_of host_program)
+  pub deepening : Headline deep_program (picture_of parts deep_program) (table_of deep_program)

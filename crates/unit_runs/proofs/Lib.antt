@@ -17,3 +17,4 @@ pub mod LoopRows
 pub mod CallRows
 pub mod InnerLists
 pub mod BeginRows
+pub mod DeepRows

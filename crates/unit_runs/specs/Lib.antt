@@ -11,3 +11,4 @@ pub mod LoopRows
 pub mod CallRows
 pub mod InnerLists
 pub mod BeginRows
+pub mod DeepRows

@@ -4,6 +4,7 @@ ghost use Rattle.unit_runs.specs.BeginRows.{HostRan};
 ghost use Rattle.unit_runs.specs.Bodies.{BodiesDo, UnitCallsDo, UnitProgramsRun};
 ghost use Rattle.unit_runs.specs.CallRows.{LendRan};
 ghost use Rattle.unit_runs.specs.Changing.{ListsChange};
+ghost use Rattle.unit_runs.specs.DeepRows.{DeepRan};
 ghost use Rattle.unit_runs.specs.Establishing.{UnitsEstablished};
 ghost use Rattle.unit_runs.specs.InnerLists.{InnerListsChange};
 ghost use Rattle.unit_runs.specs.JumpRows.{SkipRan};
@@ -105,6 +106,13 @@ pub fn lend_ran()
 /// A worked row: a main procedure with ON in a begin block, behind which the unit is gone.
 pub fn host_ran()
     ensures { HostRan }
+{
+    granules_keep();
+}
+
+/// A worked row: a main procedure with a unit that has ON itself, and raises its condition again.
+pub fn deep_ran()
+    ensures { DeepRan }
 {
     granules_keep();
 }
