@@ -45,8 +45,8 @@ use Rattle.block_runs.proofs.CallStatements.{comes_map}
 use Rattle.block_runs.proofs.Endings as E
 use Rattle.block_runs.proofs.InnerEntries as I
 use Rattle.block_runs.proofs.PointActs.{act_comes}
-use Rattle.program_runs.specs.Statements.{AreMarked, Block, Does, EachDoes, GoesOn, IsAmong, IsBegun, JumpsOut}
-use Rattle.program_runs.specs.Statements.{JumpsTo, LandsAt, as_outer, own_height, size_in, statement_aims}
+use Rattle.program_runs.specs.Statements.{AreMarked, Block, Does, EachDoes, IsAmong, IsBegun, JumpsOut}
+use Rattle.program_runs.specs.Statements.{JumpsTo, LandsAt, own_height, size_in, statement_aims}
 use Rattle.program_runs.proofs.JumpsOut.{jumps_repaid, jumps_since, returns_repaid}
 use Rattle.program_runs.proofs.Lists.{list_does}
 use Rattle.program_runs.proofs.NewestBlocks.{Newest, newest_ancestor, newest_at, newest_own}
@@ -54,6 +54,7 @@ use Rattle.program_runs.proofs.Statements.{acted_among, resumes_among, statement
 use Rattle.begin_runs.specs.BeginBlocks.{AreMade, Inner, IsBegin, begin_of, beginning_size, begun_in, end_index}
 use Rattle.begin_runs.specs.BeginBlocks.{entry_index, environment_of, inner_beginning, inner_block, inner_layer}
 use Rattle.begin_runs.specs.BeginBlocks.{list_code, list_index}
+use Rattle.begin_runs.specs.BehindLists.{GoesBehind, from_point, list_aims}
 use Rattle.begin_runs.proofs.Meaning.{begin_means, behind_act, comes_passed, list_of, within, within_closed}
 
 -- ---- where it stands
@@ -71,6 +72,39 @@ pub record Here : Type 0 where
 
 abbrev pub own_block : Here → Block
 own_block z = inner_block z.block z.labels z.point z.numbers z.inner z.index
+
+-- where its statement stands, and where it runs
+abbrev pub here_of :
+    Block → List Label → Inner → (index left' more : ℕ) → Point → (numbers : ℕ → ℕ) → Here
+here_of k labels x index left' more p numbers =
+    record {
+      block = k;
+      labels = labels;
+      inner = x;
+      index = index;
+      left' = left';
+      more = more;
+      point = p;
+      numbers = numbers;
+    }
+
+-- its list comes there from its first statement
+abbrev pub ListGoes : Here → Type 0
+ListGoes z =
+    IsBegun (own_block z) → IsAmong (own_block z) z.numbers (own_block z).first →
+    z.block.call.surroundings.acts < (own_block z).around.turns + (own_block z).first.state.world.acts →
+    AreMarked z.block.call.surroundings.links (environment_of z.block z.inner) z.inner.body
+    (list_index z.block z.point z.numbers z.inner z.index) →
+    Linked z.block.call.surroundings.links z.block.call.code (list_index z.block z.point z.numbers z.inner z.index)
+    (list_code z.block z.inner) → (c : ℕ) (f : Family) →
+    c + size_of (list_code z.block z.inner) ≤ cost z.block.call.code →
+    AreIn z.block.call.surroundings (own_block z).first z.numbers
+    (list_index z.block z.point z.numbers z.inner z.index) f →
+    Comes z.block.call.code c f (services_of (own_block z).first)
+    (list_aims (own_block z) (own_block z).first.state.world.acts
+    (end_index z.block z.point z.numbers z.inner z.index) c z.left')
+    (M.list (at_line z.inner.around z.inner.head.line) z.inner.body z.block.call.surroundings.acts
+    (own_block z).first.state)
 
 pub record IsHere (z : Here) : Type 0 where
   pub begin : IsBegin z.block z.inner z.index z.more
@@ -300,12 +334,11 @@ end_of z changed numbers =
 
 -- behind it the block around goes on
 popped_among :
-    (z : Here) (h : IsHere z) (numbers : ℕ → ℕ) (q : Point) → IsAmong (own_block z) numbers q →
-    IsAmong z.block numbers (popped [] q)
-popped_among z h numbers q o =
+    (z : Here) (h : IsHere z) (first : Point) → IsBegun (from_point (own_block z) first) → (numbers : ℕ → ℕ)
+    (q : Point) → IsAmong (from_point (own_block z) first) numbers q → IsAmong z.block numbers (popped [] q)
+popped_among z h first b numbers q o =
     let k = z.block in
     let w = k.call.surroundings in
-    let b = first_begun z h in
     let r = resumes_among b o in
     let φ = inner_layer w z.point z.numbers z.inner in
     let idle = h.among.later.waiting ∙ h.begin.begun.resumes.idle in
@@ -315,7 +348,7 @@ popped_among z h numbers q o =
       image = known.1;
       later = later_then k.first z.point (popped [] q) h.among.later
           (left_later w z.point q z.point.state.world.acts b.activation φ [] h.among.stands (omega arith) refl idle
-          (remains_then z.point (own_block z).first q b.remains o.later.remains) r);
+          (remains_then z.point first q b.remains o.later.remains) r);
       few = few_left w q [] o.few;
       entries = left_entries w q z.point.state.world.acts b.activation z.point.state.activations φ
           z.point.control.layers [] r
@@ -329,17 +362,18 @@ begin_ends :
     c2 ≡ beginning_size z.block z.point z.numbers z.inner + size_of z.inner.variables →
     Linked z.block.call.surroundings.links z.block.call.code (end_index z.block z.point z.numbers z.inner z.index)
     (ending_of z) → (c : ℕ) (f : Family) (v : Services) (s : State) →
-    GoesOn (own_block z) z.point.state.world.acts (end_index z.block z.point z.numbers z.inner z.index) c2 c f v s →
-    (owing z.block.call.code (debt_of z) (goal_of z acts wanted)).done c f v tt (closed s)
-begin_ends z h acts wanted c2 since size l c f v s q =
+    GoesBehind (own_block z) z.point.state.world.acts (end_index z.block z.point z.numbers z.inner z.index) c2 c f v
+    s → (owing z.block.call.code (debt_of z) (goal_of z acts wanted)).done c f v tt (closed s)
+begin_ends z h acts wanted c2 since size l c f v s behind =
     let k = z.block in
     let w = k.call.surroundings in
-    let b = first_begun z h in
+    let q = behind.goes in
+    let b = behind.begun in
     let r = resumes_among b q.among in
     let e = end_of z r.changed q.numbers in
     let n = whole_size z h.begin in
     let more = q.since in
-    let behind' = popped_among z h q.numbers q.point q.among in
+    let behind' = popped_among z h behind.first b q.numbers q.point q.among in
     let leaving : E.Leaving = record {
       surroundings = w;
       code = k.call.code;
@@ -360,7 +394,7 @@ begin_ends z h acts wanted c2 since size l c f v s q =
     let later = left_later w z.point q.point z.point.state.world.acts b.activation
     (inner_layer w z.point z.numbers z.inner) [] h.among.stands (omega arith) refl
     (h.among.later.waiting ∙ h.begin.begun.resumes.idle)
-    (remains_then z.point (own_block z).first q.point b.remains q.among.later.remains) r in
+    (remains_then z.point behind.first q.point b.remains q.among.later.remains) r in
     let acts' = later.acts in
     done_owing (statement_closed k z.labels acts (z.index + size_in k (begin_of z.inner)) wanted z.left') (debt_of z)
     wanted (omega (arith, size)) (reach_then q.reach ends) tt (closed s)
@@ -375,40 +409,27 @@ begin_ends z h acts wanted c2 since size l c f v s q =
           (λ b'. subst (λ j. IsIn w (popped [] q.point) q.numbers j b' (g b')) (omega (arith, n)) (at b'));
     })
 
--- ---- a jump out of it, and a return through it
+-- ---- the statement
 
 leaves_by_jump :
     (z : Here) (acts c : ℕ) (f : Family) (v : Services) (height : ℕ) (label : Label) (s : State) →
-    JumpsTo (own_block z) [] acts c f v height label s → JumpsTo z.block z.labels acts c f v height label (closed s)
-leaves_by_jump z acts c f v height label s q = by q.to
-  where
-    k : Block
-    k = z.block
-
-    by :
-        LandsAt (own_block z) [] acts c f v height label s
-        ⊎ JumpsOut k.call.surroundings k.call.code (as_outer k z.labels ∷ k.outers) acts c f v height label (closed s) →
-        JumpsTo k z.labels acts c f v height label (closed s)
-    by (inl here) = absurd (cc here.carried)
-    by (inr out) = record { to = out }
-
--- ---- the statement
+    JumpsOut z.block.call.surroundings z.block.call.code (own_block z).outers acts c f v height label (closed s) →
+    JumpsTo z.block z.labels acts c f v height label (closed s)
+leaves_by_jump z acts c f v height label s q = record { to = q }
 
 list_goes :
     (z : Here) (h : IsHere z) (acts wanted c2 : ℕ) (f : Family) → acts ≤ z.point.state.world.acts →
     c2 ≡ beginning_size z.block z.point z.numbers z.inner + size_of z.inner.variables →
     Linked z.block.call.surroundings.links z.block.call.code (list_index z.block z.point z.numbers z.inner z.index)
     (list_code z.block z.inner ++ ending_of z) →
-    EachDoes (own_block z) (M.labels_in z.inner.body ++ []) z.inner.body
-    (list_index z.block z.point z.numbers z.inner z.index) z.left' →
-    c2 + size_of (list_code z.block z.inner) ≤ cost z.block.call.code →
+    ListGoes z → c2 + size_of (list_code z.block z.inner) ≤ cost z.block.call.code →
     AreIn z.block.call.surroundings (own_block z).first z.numbers
     (list_index z.block z.point z.numbers z.inner z.index) f →
     Comes z.block.call.code c2 f (services_of (own_block z).first)
     (within (owing z.block.call.code (debt_of z) (goal_of z acts wanted)))
     (M.list (at_line z.inner.around z.inner.head.line) z.inner.body z.block.call.surroundings.acts
     (own_block z).first.state)
-list_goes z h acts wanted c2 f since size l each paid there =
+list_goes z h acts wanted c2 f since size l goes paid there =
     let k = z.block in
     let i = own_block z in
     let first = i.first.state.world.acts in
@@ -421,36 +442,33 @@ list_goes z h acts wanted c2 f since size l each paid there =
     let end = end_index k z.point z.numbers z.inner z.index in
     let owed = owing k.call.code (debt_of z) (goal_of z acts wanted) in
     let flow = M.list i.around z.inner.body k.call.surroundings.acts i.first.state in
-    comes_map (statement_aims i [] first end c2 z.left') (within owed) flow
+    comes_map (list_aims i first end c2 z.left') (within owed) flow
     (λ c' f' v' r s q. begin_ends z h acts wanted c2 since size
     (back_of (list_code k z.inner) (ending_of z) l) c' f' v' s (fewer first same q))
     (λ c' f' v' height label s q i0 f0 v0 from. jumps_repaid {k = k} (debt_of z) from
     (jumps_since (omega (arith, since, same)) (leaves_by_jump z first c' f' v' height label s q)))
     (λ c' f' v' r s q i0 f0 v0 from. returns_repaid {k = k} (debt_of z) from (record { to = q.to }))
-    (list_does i [] z.inner.body (list_index k z.point z.numbers z.inner z.index) z.left' i.first z.numbers c2 c2 f b
-    (omega (arith, enough, turns, same, after)) each h.marks o (front_of (list_code k z.inner) (ending_of z) l)
-    (omega arith, paid) there)
+    (goes b o (omega (arith, enough, turns, same, after)) h.marks (front_of (list_code k z.inner) (ending_of z) l) c2 f
+    paid there)
   where
     fewer :
         {c' : ℕ} {f' : Family} {v' : Services} {s : State} {end : ℕ} (first : ℕ) →
         (own_block z).first.state.world.acts ≡ z.point.state.world.acts →
-        GoesOn (own_block z) (own_block z).first.state.world.acts end c2 c' f' v' s →
-        GoesOn (own_block z) z.point.state.world.acts end c2 c' f' v' s
+        GoesBehind (own_block z) (own_block z).first.state.world.acts end c2 c' f' v' s →
+        GoesBehind (own_block z) z.point.state.world.acts end c2 c' f' v' s
     fewer {c'} {f'} {v'} {s} {end} first e q =
-        subst (λ n. GoesOn (own_block z) n end c2 c' f' v' s) e q
+        subst (λ n. GoesBehind (own_block z) n end c2 c' f' v' s) e q
 
 begin_goes :
     (z : Here) (h : IsHere z) (acts wanted : ℕ) (f : Family) → acts ≤ z.point.state.world.acts →
     Linked z.block.call.surroundings.links z.block.call.code (entry_index z.inner z.index) (whole_code z) →
-    (IsBegun (own_block z) → EachDoes (own_block z) (M.labels_in z.inner.body ++ []) z.inner.body
-    (list_index z.block z.point z.numbers z.inner z.index) z.left') →
-    debt_of z + size_of (list_code z.block z.inner) ≤ cost z.block.call.code →
+    ListGoes z → debt_of z + size_of (list_code z.block z.inner) ≤ cost z.block.call.code →
     AreIn z.block.call.surroundings z.point z.numbers (entry_index z.inner z.index) f →
     Comes z.block.call.code 0 f (services_of z.point)
     (owing z.block.call.code (debt_of z) (goal_of z acts wanted))
     (behind_act z.block.around z.inner.head z.inner.body z.block.call.surroundings.acts z.point.state)
 unfolding ◌>>◌
-begin_goes z h acts wanted f since l each paid there =
+begin_goes z h acts wanted f since l goes paid there =
     let k = z.block in
     let w = k.call.surroundings in
     let x = z.inner in
@@ -478,31 +496,20 @@ begin_goes z h acts wanted f since l each paid there =
     (front_of x.variables (list_code k x ++ ending_of z) l1) at)
     (λ g' at'.
     list_goes z h acts wanted (size + size_of x.variables) g' since (omega arith)
-    (back_of x.variables (list_code k x ++ ending_of z) l1) (each (first_begun z h)) (omega (arith, paid)) at')))))
+    (back_of x.variables (list_code k x ++ ending_of z) l1) goes (omega (arith, paid)) at')))))
 
-pub begin_does :
+pub begin_comes :
     (k : Block) (labels : List Label) (x : Inner) (index left' more : ℕ) → IsBegin k x index more →
     ((p : Point) (numbers : ℕ → ℕ) → IsAmong k numbers p → k.first.state.world.acts < p.state.world.acts →
     AreMade k x index p numbers
     × AreMarked k.call.surroundings.links (environment_of k x) x.body (list_index k p numbers x index)) →
     ((p : Point) (numbers : ℕ → ℕ) → IsAmong k numbers p → k.first.state.world.acts < p.state.world.acts →
-    IsBegun (inner_block k labels p numbers x index) →
-    EachDoes (inner_block k labels p numbers x index) (M.labels_in x.body ++ []) x.body
-    (list_index k p numbers x index) left') → Does k labels (begin_of x) index left'
+    ListGoes (here_of k labels x index left' more p numbers)) → Does k labels (begin_of x) index left'
 unfolding M.statement ◌>>=◌ ◌>>◌
-begin_does k labels x index left' more h made' each p numbers c wanted f o paid there =
+begin_comes k labels x index left' more h made' goes p numbers c wanted f o paid there =
     let w = k.call.surroundings in
     let p' = acted x.head.line p in
-    let z : Here = record {
-      block = k;
-      labels = labels;
-      inner = x;
-      index = index;
-      left' = left';
-      more = more;
-      point = p';
-      numbers = numbers;
-    } in
+    let z = here_of k labels x index left' more p' numbers in
     let one = act_code x.head.line in
     let l = subst (Linked w.links k.call.code index) (begin_coded z h) h.statement in
     let n = whole_size z h in
@@ -521,4 +528,43 @@ begin_does k labels x index left' more h made' each p numbers c wanted f o paid 
     let same = m.0.acts in
     let few = few_made w p (own_block z).first o.few m.0.few (omega (arith, same)) in
     begin_goes z (record { begin = h; among = o'; made = m.0; marks = m.1; few = few }) acts wanted g (omega arith)
-    (back_of one (whole_code z) l) (each p' numbers o' later) (omega (arith, paid, n)) at)))
+    (back_of one (whole_code z) l) (goes p' numbers o' later) (omega (arith, paid, n)) at)))
+
+-- a jump that no list of the block catches leaves it
+pub out_of_all :
+    {k : Block} {acts c height : ℕ} {f : Family} {v : Services} {label : Label} {s : State} →
+    JumpsTo k [] acts c f v height label s →
+    JumpsOut k.call.surroundings k.call.code k.outers acts c f v height label (closed s)
+out_of_all {k} {acts} {c} {height} {f} {v} {label} {s} q = by q.to
+  where
+    by :
+        LandsAt k [] acts c f v height label s
+        ⊎ JumpsOut k.call.surroundings k.call.code k.outers acts c f v height label (closed s) →
+        JumpsOut k.call.surroundings k.call.code k.outers acts c f v height label (closed s)
+    by (inl here) = absurd (cc here.carried)
+    by (inr out) = out
+
+pub begin_does :
+    (k : Block) (labels : List Label) (x : Inner) (index left' more : ℕ) → IsBegin k x index more →
+    ((p : Point) (numbers : ℕ → ℕ) → IsAmong k numbers p → k.first.state.world.acts < p.state.world.acts →
+    AreMade k x index p numbers
+    × AreMarked k.call.surroundings.links (environment_of k x) x.body (list_index k p numbers x index)) →
+    ((p : Point) (numbers : ℕ → ℕ) → IsAmong k numbers p → k.first.state.world.acts < p.state.world.acts →
+    IsBegun (inner_block k labels p numbers x index) →
+    EachDoes (inner_block k labels p numbers x index) (M.labels_in x.body ++ []) x.body
+    (list_index k p numbers x index) left') → Does k labels (begin_of x) index left'
+begin_does k labels x index left' more h made' each =
+    begin_comes k labels x index left' more h made'
+    (λ p numbers o later.
+    let z = here_of k labels x index left' more p numbers in
+    let i = own_block z in
+    let acts = i.first.state.world.acts in
+    let end = end_index k p numbers x index in
+    λ b o' enough marks l c f paid there.
+    comes_map (statement_aims i [] acts end c left') (list_aims i acts end c left')
+    (M.list i.around x.body k.call.surroundings.acts i.first.state)
+    (λ c' f' v' r s q. record { first = i.first; begun = b; goes = q })
+    (λ c' f' v' height label s q. out_of_all q)
+    (λ c' f' v' r s q. q)
+    (list_does i [] x.body (list_index k p numbers x index) left' i.first numbers c c f b enough
+    (each p numbers o later b) marks o' l (omega arith, paid) there))

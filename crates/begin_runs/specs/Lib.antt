@@ -1,4 +1,5 @@
 pub mod BeginBlocks
+pub mod BehindLists
 pub mod InnerVariables
 pub mod Unwinding
 pub mod FarGotos

@@ -11,6 +11,8 @@ use Rattle.pli_coding.specs.Assembly.{size_of}
 use Rattle.pli_coding.specs.Images.{code_of, picture_of}
 use Rattle.pli_coding.specs.Linking.{links_of}
 use Rattle.pli_coding.specs.SignatureTable.{table_of}
+use Rattle.activation_relation.specs.Layers.{services_of}
+use Rattle.run_steps.specs.Reach.{Comes, never}
 use Rattle.run_steps.proofs.Linking.{linked_length}
 use Rattle.pli_headline.specs.Headline.{FitsMemory, Headline, parts}
 use Rattle.pli_headline.proofs.Promises.{Comes_at, Laws, Works, from_flow, promised}
@@ -19,6 +21,8 @@ use Rattle.program_runs.specs.Rows.{main_entry, row_end, row_environment, row_in
 use Rattle.program_runs.specs.Rows.{row_program}
 use Rattle.program_runs.specs.VariableRows.{number_declared, number_entry, number_environment, number_main}
 use Rattle.program_runs.specs.VariableRows.{number_program}
+use Rattle.program_runs.specs.Programs.{IsWhole}
+use Rattle.program_runs.specs.Starts.{first_family, start_point}
 use Rattle.program_runs.specs.Variables.{newest_made}
 use Rattle.program_runs.proofs.Programs.{program_runs}
 use Rattle.program_runs.proofs.Rows.{main_each, row_is}
@@ -39,34 +43,81 @@ use Rattle.begin_runs.specs.LeaveRows.{leave_entry, leave_environment, leave_mai
 use Rattle.begin_runs.specs.Rows.{nest_entry, nest_environment, nest_main, nest_program}
 use Rattle.begin_runs.proofs.LeaveRows.{leave_each, leave_finish, leave_is}
 use Rattle.begin_runs.proofs.Rows.{nest_each, nest_finish, nest_is}
-use Rattle.block_headlines.specs.Headlines.{HeadlinesOfRows, Layout, Runs, whole_of}
+use Rattle.unit_runs.specs.BeginRows.{host_entry, host_environment, host_main, host_program, host_units}
+use Rattle.unit_runs.specs.CallRows.{lend_entry, lend_environment, lend_main, lend_procedure, lend_program, lend_units}
+use Rattle.unit_runs.specs.DeepRows.{deep_entry, deep_environment, deep_main, deep_program, deep_units}
+use Rattle.unit_runs.specs.JumpRows.{skip_entry, skip_environment, skip_main, skip_program, skip_units}
+use Rattle.unit_runs.specs.LoopRows.{loop_entry, loop_environment, loop_main, loop_program, loop_units}
+use Rattle.unit_runs.specs.Rows.{mend_entry, mend_environment, mend_main, mend_program, mend_units}
+use Rattle.unit_runs.proofs.BeginRows.{host_each, host_finish, host_is}
+use Rattle.unit_runs.proofs.Bodies.{unit_program_runs}
+use Rattle.unit_runs.proofs.CallRows.{lend_does, lend_finish, lend_is}
+use Rattle.unit_runs.proofs.DeepRows.{deep_does, deep_finish, deep_is}
+use Rattle.unit_runs.proofs.JumpRows.{skip_does, skip_finish, skip_is}
+use Rattle.unit_runs.proofs.LoopRows.{loop_does, loop_finish, loop_is}
+use Rattle.unit_runs.proofs.Rows.{mend_does, mend_finish, mend_is}
+use Rattle.block_headlines.specs.Headlines.{HeadlinesOfRows, Layout, Runs, UnitsRun, whole_of}
+
+-- a program whose run is known at each number of acts, from its first instruction
+record IsKnown (program : Y.Program) (x : Layout) : Type 0 where
+  whole :
+      (input : List ℕ) (acts : ℕ) → acts + 1 < 2 ^ 64 →
+      IsWhole (whole_of program x input acts) (first_bytes (picture_of parts program))
+  runs :
+      (input : List ℕ) (acts : ℕ) → acts + 1 < 2 ^ 64 →
+      Comes (whole_of program x input acts).image.code 0
+      (first_family (first_bytes (picture_of parts program))
+      (services_of (start_point (whole_of program x input acts).image)))
+      (services_of (start_point (whole_of program x input acts).image)) never
+      (run program (suc acts) acts (first_state input))
 
 comes :
-    Laws → Keeps granules → (program : Y.Program) (x : Layout) → Runs program x → (input : List ℕ) (k : ℕ) →
-    k + 1 < 2 ^ 64 →
+    Laws → (program : Y.Program) (x : Layout) → IsKnown program x → (input : List ℕ) (k : ℕ) → k + 1 < 2 ^ 64 →
     Comes_at (picture_of parts program) (table_of program) program input k
 unfolding meaning
-comes laws keeps program x is input k few =
+comes laws program x is input k few =
     from_flow laws (picture_of parts program) (table_of program) program input k
-    (run program (suc k) k (first_state input)) refl
-    (program_runs keeps (whole_of program x input k) (first_bytes (picture_of parts program)) (is.whole input k few)
-    (is.each input k few))
+    (run program (suc k) k (first_state input)) refl (is.runs input k few)
 
 works :
-    Laws → Keeps granules → (program : Y.Program) (x : Layout) → Runs program x →
+    Laws → (program : Y.Program) (x : Layout) → IsKnown program x →
     Works (picture_of parts program) (table_of program) program
-works laws keeps program x is =
+works laws program x is =
     record {
-      comes = comes laws keeps program x is;
+      comes = comes laws program x is;
       first = λ input b. first_step_of (first_bytes (picture_of parts program))
           (first_services (table_of program) input) x.main.head.number (is.whole input 0 (omega arith)).start.linked b;
     }
+
+promised_by :
+    Laws → (program : Y.Program) (x : Layout) → IsKnown program x →
+    Headline program (picture_of parts program) (table_of program)
+promised_by laws program x is =
+    promised laws (picture_of parts program) (table_of program) program (works laws program x is)
 
 pub kept :
     Laws → Keeps granules → (program : Y.Program) (x : Layout) → Runs program x →
     Headline program (picture_of parts program) (table_of program)
 kept laws keeps program x is =
-    promised laws (picture_of parts program) (table_of program) program (works laws keeps program x is)
+    promised_by laws program x
+    (record {
+      whole = is.whole;
+      runs = λ input k few.
+          program_runs keeps (whole_of program x input k) (first_bytes (picture_of parts program))
+          (is.whole input k few) (is.each input k few);
+    })
+
+pub unit_kept :
+    Laws → Keeps granules → (program : Y.Program) (x : Layout) → UnitsRun program x →
+    Headline program (picture_of parts program) (table_of program)
+unit_kept laws keeps program x is =
+    promised_by laws program x
+    (record {
+      whole = is.whole;
+      runs = λ input k few.
+          unit_program_runs keeps (whole_of program x input k) (first_bytes (picture_of parts program))
+          (is.whole input k few) (is.body input k few);
+    })
 
 -- ---- the worked rows
 
@@ -283,6 +334,156 @@ leave_program_runs =
       each = λ input acts few b. leave_each input acts few b;
     }
 
+host_fits : FitsMemory (picture_of parts host_program)
+host_fits = small_fits host_program (omega arith) (omega arith)
+
+abbrev host_layout : Layout
+host_layout =
+    record {
+      main = host_main;
+      others = [];
+      environment = host_environment;
+      entry = host_entry;
+      end = host_finish;
+      units = host_units;
+      serials = 1;
+      made = newest_made parts number_declared;
+    }
+
+host_program_runs : Runs host_program host_layout
+host_program_runs =
+    record {
+      whole = λ input acts few.
+          host_is input (first_bytes (picture_of parts host_program)) acts few
+          (first_length (picture_of parts host_program) host_fits);
+      each = λ input acts few b. host_each input acts few b;
+    }
+
+mend_fits : FitsMemory (picture_of parts mend_program)
+mend_fits = small_fits mend_program (omega arith) (omega arith)
+
+abbrev mend_layout : Layout
+mend_layout =
+    record {
+      main = mend_main;
+      others = [];
+      environment = mend_environment;
+      entry = mend_entry;
+      end = mend_finish;
+      units = mend_units;
+      serials = 1;
+      made = newest_made parts number_declared;
+    }
+
+mend_units_run : UnitsRun mend_program mend_layout
+mend_units_run =
+    record {
+      whole = λ input acts few.
+          mend_is input (first_bytes (picture_of parts mend_program)) acts few
+          (first_length (picture_of parts mend_program) mend_fits);
+      body = λ input acts few b. mend_does input acts few b;
+    }
+
+deep_fits : FitsMemory (picture_of parts deep_program)
+deep_fits = small_fits deep_program (omega arith) (omega arith)
+
+abbrev deep_layout : Layout
+deep_layout =
+    record {
+      main = deep_main;
+      others = [];
+      environment = deep_environment;
+      entry = deep_entry;
+      end = deep_finish;
+      units = deep_units;
+      serials = 1;
+      made = newest_made parts number_declared;
+    }
+
+deep_units_run : UnitsRun deep_program deep_layout
+deep_units_run =
+    record {
+      whole = λ input acts few.
+          deep_is input (first_bytes (picture_of parts deep_program)) acts few
+          (first_length (picture_of parts deep_program) deep_fits);
+      body = λ input acts few b. deep_does input acts few b;
+    }
+
+skip_fits : FitsMemory (picture_of parts skip_program)
+skip_fits = small_fits skip_program (omega arith) (omega arith)
+
+abbrev skip_layout : Layout
+skip_layout =
+    record {
+      main = skip_main;
+      others = [];
+      environment = skip_environment;
+      entry = skip_entry;
+      end = skip_finish;
+      units = skip_units;
+      serials = 1;
+      made = newest_made parts number_declared;
+    }
+
+skip_units_run : UnitsRun skip_program skip_layout
+skip_units_run =
+    record {
+      whole = λ input acts few.
+          skip_is input (first_bytes (picture_of parts skip_program)) acts few
+          (first_length (picture_of parts skip_program) skip_fits);
+      body = λ input acts few b. skip_does input acts few b;
+    }
+
+loop_fits : FitsMemory (picture_of parts loop_program)
+loop_fits = small_fits loop_program (omega arith) (omega arith)
+
+abbrev loop_layout : Layout
+loop_layout =
+    record {
+      main = loop_main;
+      others = [];
+      environment = loop_environment;
+      entry = loop_entry;
+      end = loop_finish;
+      units = loop_units;
+      serials = 1;
+      made = newest_made parts number_declared;
+    }
+
+loop_units_run : UnitsRun loop_program loop_layout
+loop_units_run =
+    record {
+      whole = λ input acts few.
+          loop_is input (first_bytes (picture_of parts loop_program)) acts few
+          (first_length (picture_of parts loop_program) loop_fits);
+      body = λ input acts few b. loop_does input acts few b;
+    }
+
+lend_fits : FitsMemory (picture_of parts lend_program)
+lend_fits = small_fits lend_program (omega arith) (omega arith)
+
+abbrev lend_layout : Layout
+lend_layout =
+    record {
+      main = lend_main;
+      others = lend_procedure ∷ [];
+      environment = lend_environment;
+      entry = lend_entry;
+      end = lend_finish;
+      units = lend_units;
+      serials = 1;
+      made = newest_made parts number_declared;
+    }
+
+lend_units_run : UnitsRun lend_program lend_layout
+lend_units_run =
+    record {
+      whole = λ input acts few.
+          lend_is input (first_bytes (picture_of parts lend_program)) acts few
+          (first_length (picture_of parts lend_program) lend_fits);
+      body = λ input acts few b. lend_does input acts few b;
+    }
+
 row_runs : Runs row_program row_layout
 row_runs =
     record {
@@ -313,4 +514,10 @@ rows_kept laws keeps =
       fetching = kept laws keeps fetch_program fetch_layout fetch_program_runs;
       nesting = kept laws keeps nest_program nest_layout nest_program_runs;
       leaving = kept laws keeps leave_program leave_layout leave_program_runs;
+      mending = unit_kept laws keeps mend_program mend_layout mend_units_run;
+      skipping = unit_kept laws keeps skip_program skip_layout skip_units_run;
+      looping = unit_kept laws keeps loop_program loop_layout loop_units_run;
+      lending = unit_kept laws keeps lend_program lend_layout lend_units_run;
+      hosting = kept laws keeps host_program host_layout host_program_runs;
+      deepening = unit_kept laws keeps deep_program deep_layout deep_units_run;
     }

@@ -24,6 +24,13 @@ use Rattle.begin_runs.specs.LeaveRows.{leave_program}
 use Rattle.begin_runs.specs.Rows.{nest_program}
 use Rattle.program_runs.specs.Starts.{no_numbers, start_point, surroundings_of}
 use Rattle.program_runs.specs.Statements.{EachDoes, IsBegun}
+use Rattle.unit_runs.specs.BeginRows.{host_program}
+use Rattle.unit_runs.specs.Bodies.{BodyDoes}
+use Rattle.unit_runs.specs.CallRows.{lend_program}
+use Rattle.unit_runs.specs.DeepRows.{deep_program}
+use Rattle.unit_runs.specs.JumpRows.{skip_program}
+use Rattle.unit_runs.specs.LoopRows.{loop_program}
+use Rattle.unit_runs.specs.Rows.{mend_program}
 
 -- what is said of a program's image beside the program: its main procedure and the others, where its code and its end
 -- stand, where the code of its on-units stands, how many serials may come for each act, and what becomes of the point
@@ -76,10 +83,30 @@ pub record Runs (program : Y.Program) (x : Layout) : Type 0 where
       (labels_of (main_of (whole_of program x input acts))) x.main.body
       (body_index (main_of (whole_of program x input acts))) left_over
 
+-- the same with ON among its statements: its list comes to the end of its block
+pub record UnitsRun (program : Y.Program) (x : Layout) : Type 0 where
+  pub whole :
+      (input : List ℕ) (acts : ℕ) → acts + 1 < 2 ^ 64 →
+      IsWhole (whole_of program x input acts) (first_bytes (picture_of parts program))
+  pub body :
+      (input : List ℕ) (acts : ℕ) → acts + 1 < 2 ^ 64 →
+      IsBegun
+      (block_at (surroundings_of (whole_of program x input acts).image) (linked_code (code_of parts program))
+      (main_of (whole_of program x input acts)) (start_point (whole_of program x input acts).image) no_numbers) →
+      BodyDoes
+      (block_at (surroundings_of (whole_of program x input acts).image) (linked_code (code_of parts program))
+      (main_of (whole_of program x input acts)) (start_point (whole_of program x input acts).image) no_numbers)
+      x.main.body (body_index (main_of (whole_of program x input acts))) left_over
+
 -- such a program keeps the headline
 abbrev pub HeadlinesKept : Type 0
 HeadlinesKept =
     (program : Y.Program) (x : Layout) → Runs program x → Headline program (picture_of parts program) (table_of program)
+
+abbrev pub UnitHeadlinesKept : Type 0
+UnitHeadlinesKept =
+    (program : Y.Program) (x : Layout) → UnitsRun program x →
+    Headline program (picture_of parts program) (table_of program)
 
 -- and so do those of the worked rows
 pub record HeadlinesOfRows : Type 0 where
@@ -92,3 +119,9 @@ pub record HeadlinesOfRows : Type 0 where
   pub fetching : Headline fetch_program (picture_of parts fetch_program) (table_of fetch_program)
   pub nesting : Headline nest_program (picture_of parts nest_program) (table_of nest_program)
   pub leaving : Headline leave_program (picture_of parts leave_program) (table_of leave_program)
+  pub mending : Headline mend_program (picture_of parts mend_program) (table_of mend_program)
+  pub skipping : Headline skip_program (picture_of parts skip_program) (table_of skip_program)
+  pub looping : Headline loop_program (picture_of parts loop_program) (table_of loop_program)
+  pub lending : Headline lend_program (picture_of parts lend_program) (table_of lend_program)
+  pub hosting : Headline host_program (picture_of parts host_program) (table_of host_program)
+  pub deepening : Headline deep_program (picture_of parts deep_program) (table_of deep_program)

@@ -1,6 +1,6 @@
 // Laws of the definitions: each function's contract is one law, and calling it does nothing.
 
-ghost use Rattle.block_headlines.specs.Headlines.{HeadlinesKept, HeadlinesOfRows};
+ghost use Rattle.block_headlines.specs.Headlines.{HeadlinesKept, HeadlinesOfRows, UnitHeadlinesKept};
 
 use granule_keeper::laws::granules_keep;
 use pli_meaning::laws::{storage_acts_allowed, storage_stays};
@@ -15,9 +15,21 @@ pub fn headlines_kept()
     granules_keep();
 }
 
+/// So does one with ON among the statements of its main procedure, if their list comes to its end.
+pub fn unit_headlines_kept()
+    ensures { UnitHeadlinesKept }
+{
+    storage_stays();
+    storage_acts_allowed();
+    granules_keep();
+}
+
 /// A main procedure that calls a procedure inside it keeps the headline, and so do one with a variable, one that
 /// doubles it in a loop by GOTO until it overflows, one that calls a function, one with begin blocks, of which one
-/// assigns its variable and another jumps back out, and one that returns out of two begin blocks.
+/// assigns its variable and another jumps back out, one that returns out of two begin blocks, and six with a unit
+/// for FIXEDOVERFLOW, which returns into the expression, or jumps out of it, or out of a loop in which its ON stands,
+/// or is raised in a procedure that the main procedure calls, or is gone behind the begin block that has its ON, or has
+/// a unit of its own.
 pub fn headlines_of_rows()
     ensures { HeadlinesOfRows }
 {

@@ -91,7 +91,7 @@ leaves h =
       there = h.there;
     }
 
-abbrev memory_of : Leaving → Base → List ℕ
+abbrev pub memory_of : Leaving → Base → List ℕ
 memory_of k b = (k.first b).machine.memory
 
 pub laid_there : (k : Leaving) → Leaves k → AreLaid k.surroundings.parts (k.end.layer ∷ k.end.others)
@@ -108,12 +108,12 @@ frame_of_below k h =
     (subst (AreEven k.surroundings.parts) h.newest h.image.even).1
 
 -- the words of its own frame
-record OwnFrame (k : Leaving) (b : Base) : Type 0 where
-  activation : Activation
-  others : List Activation
-  words : FrameStands k.surroundings.parts b.at (memory_of k b) activation others k.end.layer k.end.others
+pub record OwnFrame (k : Leaving) (b : Base) : Type 0 where
+  pub activation : Activation
+  pub others : List Activation
+  pub words : FrameStands k.surroundings.parts b.at (memory_of k b) activation others k.end.layer k.end.others
 
-own_words : (k : Leaving) → Leaves k → (b : Base) → OwnFrame k b
+pub own_words : (k : Leaving) → Leaves k → (b : Base) → OwnFrame k b
 own_words k h b =
     let n = newest_of k.surroundings.units k.point k.end.layer k.end.others h.stands.active h.newest in
     let parts = k.surroundings.parts in
@@ -123,22 +123,22 @@ own_words k h b =
     record { activation = n.activation; others = n.others; words = stand.0 }
 
 -- with a frame and a free byte in registers, and memory as it was
-abbrev leaving_ground : Leaving → (at free : ℕ) → IsFrame at → Ground
+abbrev pub leaving_ground : Leaving → (at free : ℕ) → IsFrame at → Ground
 leaving_ground k at free h = ground_at at free h (λ b m. m ≡ memory_of k b)
 
-abbrev own_ground : (k : Leaving) → Leaves k → Ground
+abbrev pub own_ground : (k : Leaving) → Leaves k → Ground
 own_ground k h = leaving_ground k k.end.layer.at k.end.layer.top (own_frame k h)
 
 -- ---- the services end the block
 
-abbrev popped_services : Leaving → Services
+abbrev pub popped_services : Leaving → Services
 popped_services k = services_of (popped k.end.kept k.point)
 
 same_world : (as' : List Activation) (s : State) → (without_newest as' s).world ≡ s.world
 same_world [] s = refl
 same_world (a ∷ as') s = refl
 
-same_acts : (k : Leaving) → Leaves k → (services_of k.point).world.acts ≤ (popped_services k).world.acts
+pub same_acts : (k : Leaving) → Leaves k → (services_of k.point).world.acts ≤ (popped_services k).world.acts
 same_acts k h =
     let e : (popped k.end.kept k.point).state.world.acts ≡ k.point.state.world.acts =
     ap (λ ls. (popped_from k.end.kept ls k.point).state.world.acts) h.newest
@@ -284,25 +284,25 @@ held_apart (suc (suc (suc (suc (suc zero))))) l y u = (refl, refl)
 held_apart (suc (suc (suc (suc (suc (suc zero)))))) l y u = (refl, refl)
 held_apart (suc (suc (suc (suc (suc (suc (suc n))))))) l y u = absurd (omega (arith, l))
 
-abbrev back_at : (to given : Base → ℕ) → Base → List (ℕ × ℕ)
+abbrev pub back_at : (to given : Base → ℕ) → Base → List (ℕ × ℕ)
 back_at to given b = (1, to b) ∷ (10, given b) ∷ []
 
 abbrev back_regs : Leaving → (given : Base → ℕ) → Base → List (ℕ × ℕ)
 back_regs k given = back_at (λ b. address b k.end.back) given
 
-registers_loaded :
-    (k : Leaving) (h : Leaves k) (given : Base → ℕ) (left n : ℕ) (numbers : ℕ → ℕ) {i : ℕ} (c : ℕ) (f : Family) →
+pub registers_loaded :
+    (k : Leaving) (h : Leaves k) (to given : Base → ℕ) (left n : ℕ) (numbers : ℕ → ℕ) {i : ℕ} (c : ℕ) (f : Family) →
     n + left ≤ k.end.layer.saved → Linked k.surroundings.links k.code i (registers_restored n left) →
-    ((b : Base) → At b i (Known (own_ground k h) (popped_services k) numbers (λ j. 0) (back_regs k given) b) (f b)) →
+    ((b : Base) → At b i (Known (own_ground k h) (popped_services k) numbers (λ j. 0) (back_at to given) b) (f b)) →
     Reach k.code c f (popped_services k) (c + size_of (registers_restored n left)) (popped_services k)
     (λ b y. At b (i + size_of (registers_restored n left))
     (Known (own_ground k h) (popped_services k) (again k.end.layer.held n left numbers) (λ j. 0)
-    (back_regs k given) b) y)
-registers_loaded k h given zero n numbers {i} c f all l there =
+    (back_at to given) b) y)
+registers_loaded k h to given zero n numbers {i} c f all l there =
     reach_moved (omega arith) (omega arith)
     (stay k.code c f (popped_services k)
-    (λ b y. At b i (Known (own_ground k h) (popped_services k) numbers (λ j. 0) (back_regs k given) b) y) there)
-registers_loaded k h given (suc left) n numbers c f all l there =
+    (λ b y. At b i (Known (own_ground k h) (popped_services k) numbers (λ j. 0) (back_at to given) b) y) there)
+registers_loaded k h to given (suc left) n numbers c f all l there =
     let g = own_ground k h in
     let v = popped_services k in
     let first = load_word (held n) frame_register (saved_register n) in
@@ -315,8 +315,8 @@ registers_loaded k h given (suc left) n numbers c f all l there =
     let place = word_in k.end.layer.at (8 + 4 * n) frame (omega arith) (omega (arith, few)) in
     let x = k.end.layer.held n in
     let r1 = displaced_by (is_immediate (saved_register n)) c f (λ q d. I.Load Load.Word (held n) q d) frame_register
-    (saved_register n) (λ b. b.at + k.end.layer.at) (Known g v numbers (λ j. 0) (back_regs k given))
-    (Known g v (put numbers n x) (λ j. 0) (back_regs k given)) place.small'
+    (saved_register n) (λ b. b.at + k.end.layer.at) (Known g v numbers (λ j. 0) (back_at to given))
+    (Known g v (put numbers n x) (λ j. 0) (back_at to given)) place.small'
     (λ b. let v' = b.valid.1 in omega (arith, v', room))
     (λ y u. refl) (λ b. frame_is (there b).holds.body) (omega arith)
     (record {
@@ -343,11 +343,11 @@ registers_loaded k h given (suc left) n numbers c f all l there =
           (record { reserved_stay = λ y' u'. refl; known_stay = λ b' y' u' o'. o'; set = λ y' u'. refl }) o;
     })
     (front_of first rest l) there in
-    let r2 = registers_loaded k h given left (suc n) (put numbers n x) (c + size_of first) (reached r1)
+    let r2 = registers_loaded k h to given left (suc n) (put numbers n x) (c + size_of first) (reached r1)
     (omega (arith, all)) (back_of first rest l) (reached_holds r1) in
     reach_moved (omega (arith, size)) (omega (arith, size)) (reach_then r1 r2)
 
-abbrev numbers_back : Leaving → ℕ → ℕ
+abbrev pub numbers_back : Leaving → ℕ → ℕ
 numbers_back k = again k.end.layer.held 0 k.end.layer.saved k.end.after
 
 back_word :
@@ -376,8 +376,8 @@ all_loaded k h z given c f l there =
     (record { reserved_stay = λ y u. refl; known_stay = λ b y u o. o; set = λ y u. refl })
     (record { reserved_stay = λ y u. refl; known_stay = λ b y u o. o; set = λ y u. refl })
     (front_of first rest l) there in
-    let r2 = registers_loaded k h given k.end.layer.saved 0 k.end.after (c + size_of first) (reached r1) (omega arith)
-    (back_of first rest l) (reached_holds r1) in
+    let r2 = registers_loaded k h (λ b. address b k.end.back) given k.end.layer.saved 0 k.end.after
+    (c + size_of first) (reached r1) (omega arith) (back_of first rest l) (reached_holds r1) in
     reach_moved (omega (arith, size)) (omega (arith, size)) (reach_then r1 r2)
 
 -- ---- the stack and the frame below, and the jump
@@ -385,7 +385,7 @@ all_loaded k h z given c f l there =
 abbrev start_of : Leaving → ℕ
 start_of k = frame_start k.end.layer
 
-stack_back :
+pub stack_back :
     (k : Leaving) (h : Leaves k) (numbers : ℕ → ℕ) (to given : Base → ℕ) {i : ℕ} (c : ℕ) (f : Family) →
     Linked k.surroundings.links k.code i
     (plus stack_register frame_register (neg_ℤ (pos (temporary_bytes k.end.layer.words)))) →
@@ -429,11 +429,11 @@ stack_back k h numbers to given c f l there =
     })
     l there
 
-abbrev below_ground : (k : Leaving) → Leaves k → Ground
+abbrev pub below_ground : (k : Leaving) → Leaves k → Ground
 below_ground k h =
     leaving_ground k (frame_under k.surroundings.parts k.end.others) (start_of k) (frame_of_below k h)
 
-frame_back :
+pub frame_back :
     (k : Leaving) (h : Leaves k) (numbers : ℕ → ℕ) (to given : Base → ℕ) {i : ℕ} (c : ℕ) (f : Family) →
     Linked k.surroundings.links k.code i (load_word frame_register frame_register frame_below) →
     ((b : Base) → At b i (Known (leaving_ground k k.end.layer.at (start_of k) (own_frame k h)) (popped_services k)
@@ -508,11 +508,11 @@ jumped_back k h z given {i} c f l there =
 
 -- ---- the machine of the block below
 
-goes_below :
-    (k : Leaving) (h : Leaves k) (given : Base → ℕ) (b : Base) (y : Whole) →
-    Known (below_ground k h) (popped_services k) (numbers_back k) (λ j. 0) (back_regs k given) b y →
+pub goes_below :
+    (k : Leaving) (h : Leaves k) (to given : Base → ℕ) (b : Base) (y : Whole) →
+    Known (below_ground k h) (popped_services k) (numbers_back k) (λ j. 0) (back_at to given) b y →
     GoesBelow k.end.layer b.at (k.first b).machine y.machine
-goes_below k h given b y o =
+goes_below k h to given b y o =
     let words = (own_words k h b).words in
     let φ = k.end.layer in
     record {
@@ -550,7 +550,7 @@ is_back k h given b y o =
       is = record {
         services = o.holds.body.services;
         at = machine_below k.surroundings k.point k.end b.at (k.first b).machine y.machine h.stands h.newest
-            (h.there b).at h.holds (goes_below k h given b y o.holds) o.pc;
+            (h.there b).at h.holds (goes_below k h (λ b'. address b' k.end.back) given b y o.holds) o.pc;
         zero = zero_is o.holds.body;
         bytes = o.holds.body.bytes;
       };

@@ -12,7 +12,7 @@ use Rattle.pli_meaning.specs.Executing.{begun}
 use Rattle.pli_meaning.specs.Raising.{Around, Entry, at_line}
 use Rattle.pli_meaning.specs.StorageState.{Activation, State, ancestor, ancestor_at, height_of, newest_height}
 use Rattle.pli_meaning.specs.StorageState.{most_activations}
-use Rattle.pli_meaning.specs.World.{counted}
+use Rattle.pli_meaning.specs.World.{World, counted}
 use Rattle.pli_coding.specs.Allocating.{act_code}
 use Rattle.pli_coding.specs.Assembly.{size_of}
 use Rattle.pli_coding.specs.Environments.{none_taken}
@@ -37,7 +37,7 @@ use Rattle.program_runs.specs.Calls.{AreMade, Callee, IsCall, called_at, block_a
 use Rattle.program_runs.specs.Calls.{left_over}
 use Rattle.program_runs.specs.Procedures.{HasRoom, beginning_for, block_of, frame_for}
 use Rattle.program_runs.specs.Statements.{Block, IsAmong, IsBegun, GoesOn, Does, EachDoes, size_in, statement_aims}
-use Rattle.program_runs.proofs.Calls.{procedure_runs}
+use Rattle.program_runs.proofs.Calls.{BodyComes, body_goes, procedure_comes}
 use Rattle.program_runs.proofs.NewestBlocks.{Newest, newest_ancestor, newest_at}
 use Rattle.program_runs.proofs.Statements.{acted_among, statement_closed}
 
@@ -151,9 +151,7 @@ call_goes :
     (k : Block) (c : Callee) (labels : List Label) (acts line index left' more : ℕ) (h : IsCall k c line index more)
     (p : Point) (numbers : ℕ → ℕ) (wanted : ℕ) (f : Family) (o : IsAmong k numbers p) → IsBegun k →
     acts ≤ p.state.world.acts → AreMade k.call.surroundings k.call.code c p numbers →
-    (IsBegun (block_at k.call.surroundings k.call.code c p numbers) →
-    EachDoes (block_at k.call.surroundings k.call.code c p numbers) (labels_of c) c.procedure.body (body_index c)
-    left_over) →
+    BodyComes k.call.surroundings k.call.code c p numbers →
     Linked k.call.surroundings.links k.call.code (index + size_of (act_code line))
     (given_code (statement_at k c line index p numbers) ++ call_code_of (statement_at k c line index p numbers)) →
     size_in k (call_of k c line)
@@ -167,7 +165,7 @@ call_goes :
     (M.block_run c.around (block_of c.procedure) (begun (block_of c.procedure) c.calling.parent)
     k.call.surroundings.acts p.state)
 unfolding give
-call_goes k c labels acts line index left' more h p numbers wanted f o b since made' each l size there =
+call_goes k c labels acts line index left' more h p numbers wanted f o b since made' body l size there =
     let w = k.call.surroundings in
     let z = statement_at k c line index p numbers in
     let given' = given_code z in
@@ -177,9 +175,6 @@ call_goes k c labels acts line index left' more h p numbers wanted f o b since m
     let proc = h.callee.stands.inside in
     let at_call = h.call in
     let aims = statement_aims k labels acts (index + size_in k (call_of k c line)) wanted left' in
-    let enough = h.enough in
-    let turns = ap (λ (a : Around). a.turns) h.around in
-    let later = o.later.acts in
     let flow = M.block_run c.around (block_of c.procedure) (begun (block_of c.procedure) c.calling.parent) w.acts
     p.state in
     let closed = statement_closed k labels acts (index + size_in k (call_of k c line)) wanted left' in
@@ -192,22 +187,21 @@ call_goes k c labels acts line index left' more h p numbers wanted f o b since m
     (λ c' f' v' r s q. record { to = behind_goes h o since q })
     (λ c' f' v' height label s q. absurd q)
     (λ c' f' v' r s q. absurd q)
-    (procedure_runs w k.call.code c p numbers (0 + size_of given') wanted g (o.stands, o.image) o.few
-    (h.callee, room_among h o) made' o.words each (omega (arith, enough, turns, later))
-    (omega (arith, n, inside, proc))
+    (procedure_comes w k.call.code c p numbers (0 + size_of given') wanted g (o.stands, o.image) o.few
+    (h.callee, room_among h o) made' o.words body (omega (arith, n, inside, proc))
     (λ b. subst (λ j. IsIn w p numbers j b (g b)) (omega (arith, n, size, at_call)) (at b).0)
     (λ b. (at b).1)))
 
-pub call_does :
+-- if the procedure's body comes to its end
+pub call_comes :
     (k : Block) (c : Callee) (line index left' more : ℕ) → IsCall k c line index more →
     ((p : Point) (numbers : ℕ → ℕ) → IsAmong k numbers p →
     AreMade k.call.surroundings k.call.code c p numbers) →
     ((p : Point) (numbers : ℕ → ℕ) → IsAmong k numbers p →
-    IsBegun (block_at k.call.surroundings k.call.code c p numbers) →
-    EachDoes (block_at k.call.surroundings k.call.code c p numbers) (labels_of c) c.procedure.body (body_index c)
-    left_over) → IsBegun k → (labels : List Label) → Does k labels (call_of k c line) index left'
+    BodyComes k.call.surroundings k.call.code c p numbers) → IsBegun k → (labels : List Label) →
+    Does k labels (call_of k c line) index left'
 unfolding M.statement ◌>>=◌ ◌>>◌
-call_does k c line index left' more h made' each b labels p numbers credits wanted f o paid there =
+call_comes k c line index left' more h made' body b labels p numbers credits wanted f o paid there =
     let w = k.call.surroundings in
     let p' = acted line p in
     let z = statement_at k c line index p' numbers in
@@ -232,5 +226,22 @@ call_does k c line index left' more h made' each b labels p numbers credits want
     behind_call))
     (sym (called_means h (newest_at b o')))
     (call_goes k c labels acts line index left' more h p' numbers wanted g o' b (omega arith) (made' p' numbers o')
-    (each p' numbers o')
-    (back_of one (given' ++ call) l) (size ∙ n0) at))))
+    (body p' numbers o') (back_of one (given' ++ call) l) (size ∙ n0) at))))
+
+pub call_does :
+    (k : Block) (c : Callee) (line index left' more : ℕ) → IsCall k c line index more →
+    ((p : Point) (numbers : ℕ → ℕ) → IsAmong k numbers p →
+    AreMade k.call.surroundings k.call.code c p numbers) →
+    ((p : Point) (numbers : ℕ → ℕ) → IsAmong k numbers p →
+    IsBegun (block_at k.call.surroundings k.call.code c p numbers) →
+    EachDoes (block_at k.call.surroundings k.call.code c p numbers) (labels_of c) c.procedure.body (body_index c)
+    left_over) → IsBegun k → (labels : List Label) → Does k labels (call_of k c line) index left'
+call_does k c line index left' more h made' each =
+    let enough = h.enough in
+    let turns = ap (λ (a : Around). a.turns) h.around in
+    call_comes k c line index left' more h made'
+    (λ p numbers o b o' f at.
+    let later = o.later.acts in
+    let same = ap (λ (u : World). u.acts) (made' p numbers o).world in
+    body_goes k.call.surroundings k.call.code c p numbers f h.callee b o' (each p numbers o b)
+    (omega (arith, enough, turns, later, same)) at)

@@ -205,7 +205,7 @@ body_closed k left' =
     }
 
 -- its statements, from behind the act of its entry
-body_goes :
+pub body_goes :
     (w : Surroundings) (code : List Instr) (c : Callee) (p : Point) (numbers : ℕ → ℕ) (f : Family) →
     IsCallee w code c → IsBegun (block_at w code c p numbers) →
     IsAmong (block_at w code c p numbers) numbers (block_at w code c p numbers).first →
@@ -237,21 +237,29 @@ body_goes w code c p numbers f h b o each few there =
     (list_does k [] x.body (body_index c) left_over k.first numbers 0 left_over f b few each h.labels o l2
     (omega arith, omega (arith, inside)) there))
 
-pub procedure_runs :
+-- what is asked of its body: from its first statement it comes to the block's end
+abbrev pub BodyComes : Surroundings → List Instr → Callee → Point → (numbers : ℕ → ℕ) → Type 0
+BodyComes w code c p numbers =
+    IsBegun (block_at w code c p numbers) →
+    IsAmong (block_at w code c p numbers) numbers (block_at w code c p numbers).first → (f : Family) →
+    AreIn w (block_at w code c p numbers).first numbers (body_index c) f →
+    Comes code 0 f (services_of (block_at w code c p numbers).first)
+    (body_aims (called_at w code c p numbers) left_over)
+    (M.list (at_line c.around c.procedure.head.line) c.procedure.body w.acts (block_at w code c p numbers).first.state)
+
+pub procedure_comes :
     (w : Surroundings) (code : List Instr) (c : Callee) (p : Point) (numbers : ℕ → ℕ) (credits wanted : ℕ)
     (f : Family) → Stands w p × IsImage w code p → AreFew w p →
     IsCallee w code c × HasRoom w p c.procedure c.calling → AreMade w code c p numbers →
     ((n : ℕ) → numbers n < 2 ^ 32) →
-    (IsBegun (block_at w code c p numbers) →
-    EachDoes (block_at w code c p numbers) (labels_of c) c.procedure.body (body_index c) left_over) →
-    w.acts < c.around.turns + (p.state.world.acts + 1) →
+    BodyComes w code c p numbers →
     credits + 4 + size_of (procedure_code c.environment c.procedure) ≤ cost code →
     AreIn w p numbers c.calling.call f →
     ((b : Base) → IsCalling p (beginning_for w p numbers c.procedure c.calling) b (f b)) →
     Comes code credits f (services_of p) (behind_aims (called_at w code c p numbers) wanted)
     (M.block_run c.around (block_of c.procedure) (begun (block_of c.procedure) c.calling.parent) w.acts p.state)
 unfolding ◌>>◌
-procedure_runs w code c p numbers credits wanted f known serials h made' words each few paid there gives =
+procedure_comes w code c p numbers credits wanted f known serials h made' words each paid there gives =
     let k = called_at w code c p numbers in
     let x = c.procedure in
     let one = act_code x.head.line in
@@ -293,7 +301,25 @@ procedure_runs w code c p numbers credits wanted f known serials h made' words e
     let o = first_among w code c p numbers stands' words less
     (few_made w p (block_at w code c p numbers).first serials made'.few (omega (arith, same))) in
     let b = first_begun w code c p numbers made' new.0 o.stands in
-    body_goes w code c p numbers g'' h.0 b o (each b) (omega (arith, few, same)) at''))))) there gives)
+    each b o g'' at''))))) there gives)
+
+pub procedure_runs :
+    (w : Surroundings) (code : List Instr) (c : Callee) (p : Point) (numbers : ℕ → ℕ) (credits wanted : ℕ)
+    (f : Family) → Stands w p × IsImage w code p → AreFew w p →
+    IsCallee w code c × HasRoom w p c.procedure c.calling → AreMade w code c p numbers →
+    ((n : ℕ) → numbers n < 2 ^ 32) →
+    (IsBegun (block_at w code c p numbers) →
+    EachDoes (block_at w code c p numbers) (labels_of c) c.procedure.body (body_index c) left_over) →
+    w.acts < c.around.turns + (p.state.world.acts + 1) →
+    credits + 4 + size_of (procedure_code c.environment c.procedure) ≤ cost code →
+    AreIn w p numbers c.calling.call f →
+    ((b : Base) → IsCalling p (beginning_for w p numbers c.procedure c.calling) b (f b)) →
+    Comes code credits f (services_of p) (behind_aims (called_at w code c p numbers) wanted)
+    (M.block_run c.around (block_of c.procedure) (begun (block_of c.procedure) c.calling.parent) w.acts p.state)
+procedure_runs w code c p numbers credits wanted f known serials h made' words each few paid there gives =
+    let same = ap (λ (u : World). u.acts) made'.world in
+    procedure_comes w code c p numbers credits wanted f known serials h made' words
+    (λ b o g at. body_goes w code c p numbers g h.0 b o (each b) (omega (arith, few, same)) at) paid there gives
 
 -- ---- no variables
 

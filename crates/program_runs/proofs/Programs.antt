@@ -9,6 +9,7 @@ use Rattle.pli_meaning.specs.Executing as M
 use Rattle.pli_meaning.specs.Executing.{begun}
 use Rattle.pli_meaning.specs.Making.{statics_from}
 use Rattle.pli_meaning.specs.StorageState.{first_state, with_world}
+use Rattle.pli_meaning.specs.World.{World}
 use Rattle.area_keeper.specs.KeeperLaws.{Keeps}
 use Rattle.granule_keeper.specs.Granules.{granules}
 use Rattle.pli_coding.specs.Assembly.{CallTo, ProcedureEntry}
@@ -27,7 +28,7 @@ use Rattle.program_runs.specs.Programs.{Whole, IsWhole, main_of}
 use Rattle.program_runs.specs.Starts.{image_parts, surroundings_of, start_point, first_family, call_index}
 use Rattle.program_runs.specs.Starts.{finish_index, main_called, no_numbers}
 use Rattle.program_runs.specs.Statements.{EachDoes, IsBegun}
-use Rattle.program_runs.proofs.Calls.{procedure_runs}
+use Rattle.program_runs.proofs.Calls.{BodyComes, body_goes, procedure_comes}
 use Rattle.program_runs.proofs.Ends.{end_comes, finished_kind}
 use Rattle.program_runs.proofs.Starts.{image_starts, start_stands}
 
@@ -64,14 +65,12 @@ finish_linked k first h =
     (rest_of _ (CallTo (ProcedureEntry main) ∷ finish_code)
     (rest_of _ _ (rest_of _ _ (back_of front (main_called main) h.start.linked))))
 
-pub program_runs :
+pub program_comes :
     Keeps granules → (k : Whole) (first : List ℕ) → IsWhole k first →
-    (IsBegun (block_at (surroundings_of k.image) k.image.code (main_of k) (start_point k.image) no_numbers) →
-    EachDoes (block_at (surroundings_of k.image) k.image.code (main_of k) (start_point k.image) no_numbers)
-    (labels_of (main_of k)) k.main.body (body_index (main_of k)) left_over) →
+    BodyComes (surroundings_of k.image) k.image.code (main_of k) (start_point k.image) no_numbers →
     Comes k.image.code 0 (first_family first (services_of (start_point k.image))) (services_of (start_point k.image))
     never (M.run k.program (suc k.image.acts) k.image.acts (first_state k.image.input))
-program_runs keeps k first h each =
+program_comes keeps k first h each =
     let i = k.image in
     let w = surroundings_of i in
     let p = start_point i in
@@ -96,7 +95,20 @@ program_runs keeps k first h each =
     (omega (arith, room), h.callee.acts) last (λ b. (at' b).0))))
     (λ c' f' v' height label s q. absurd q)
     (λ c' f' v' r s q. absurd q)
-    (procedure_runs w i.code c p no_numbers (0 + call_index) 0 g (start_stands i k.main.head.number first h.start)
-    (omega arith) (h.callee, h.room) h.made (λ n. omega arith) each (omega arith) (omega (arith, inside, proc))
+    (procedure_comes w i.code c p no_numbers (0 + call_index) 0 g (start_stands i k.main.head.number first h.start)
+    (omega arith) (h.callee, h.room) h.made (λ n. omega arith) each (omega (arith, inside, proc))
     (λ b. (at b).0)
     (λ b. record { parent = λ more. absurd (omega (arith, more, level)); texts = (at b).1 })))))
+
+pub program_runs :
+    Keeps granules → (k : Whole) (first : List ℕ) → IsWhole k first →
+    (IsBegun (block_at (surroundings_of k.image) k.image.code (main_of k) (start_point k.image) no_numbers) →
+    EachDoes (block_at (surroundings_of k.image) k.image.code (main_of k) (start_point k.image) no_numbers)
+    (labels_of (main_of k)) k.main.body (body_index (main_of k)) left_over) →
+    Comes k.image.code 0 (first_family first (services_of (start_point k.image))) (services_of (start_point k.image))
+    never (M.run k.program (suc k.image.acts) k.image.acts (first_state k.image.input))
+program_runs keeps k first h each =
+    let same = ap (λ (u : World). u.acts) h.made.world in
+    program_comes keeps k first h
+    (λ b o f at. body_goes (surroundings_of k.image) k.image.code (main_of k) (start_point k.image) no_numbers f
+    h.callee b o (each b) (omega (arith, same)) at)

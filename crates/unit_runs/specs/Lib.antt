@@ -1,0 +1,14 @@
+pub mod Establishing
+pub mod UnitBeginnings
+pub mod Raised
+pub mod UnitVariables
+pub mod Bodies
+pub mod Rows
+pub mod JumpRows
+pub mod Signals
+pub mod Changing
+pub mod LoopRows
+pub mod CallRows
+pub mod InnerLists
+pub mod BeginRows
+pub mod DeepRows
