@@ -2,7 +2,7 @@
 
 use crate::command;
 use crate::files::source_of;
-use crate::streams::{InputFeed, OutputDrain};
+use crate::streams::{InputFeed, Lines, OutputDrain};
 use crate::tell::{message_of, tell, tell_entered, tell_refusal, tell_run, unread_for};
 use clap::ArgMatches;
 use pli_activations::activations::Activations;
@@ -38,15 +38,21 @@ fn parted(
     }
 }
 
-// Tells how a run ended, and, where the words ask for them, the blocks that are entered at an error.
+// Tells how a run ended, and, where the words ask for them, the blocks that are entered at an error. What the run has
+// written is shown first.
 fn told(
     rt: &HostRuntime,
     matches: &ArgMatches<'_>,
+    lines: &Lines<'_>,
     ran: Result<Traced, RunFault>,
     source: &[u8],
 ) -> u8 {
+    let finished = lines.finish();
     let (ran, entered) = parted(rt, ran);
     let notice = report(&ran, input_name(matches), "stdout");
+    if finished.is_err() && notice.line.is_none() {
+        return tell(rt, unwritten("stdout"));
+    }
     let status = tell_run(rt, matches, notice, source);
     if matches.get_flag(command::TRACE) && is_error(&ran) {
         tell_entered(rt, entered);
@@ -61,18 +67,19 @@ pub fn run(rt: &HostRuntime, matches: &ArgMatches<'_>) -> u8 {
         Ok(source) => source,
         Err(error) => return tell(rt, unread_for(name, &error)),
     };
-    let feed = match InputFeed::open(rt, matches.get_str(command::INPUT)) {
+    let lines = Lines::new(rt);
+    let feed = match InputFeed::open(rt, matches.get_str(command::INPUT), &lines) {
         Ok(feed) => feed,
         Err(error) => return tell(rt, unread_for(input_name(matches), &error)),
     };
     let (bound, base) = bound_and_base(matches);
-    let drain = OutputDrain::new(rt);
+    let drain = OutputDrain::new(&lines);
     let (ran, _, _) = compile_and_stream(rt.alloc(), &source, base, feed, drain, bound);
     match ran {
         Err(RunFault::Source(fault)) => {
             tell_refusal(rt, message_of(rt, matches, name, &source, fault))
         }
-        ran => told(rt, matches, ran, &source),
+        ran => told(rt, matches, &lines, ran, &source),
     }
 }
 
@@ -101,15 +108,16 @@ pub fn exec(rt: &HostRuntime, matches: &ArgMatches<'_>) -> u8 {
         Ok(image) => image,
         Err(error) => return tell(rt, unread_for(name, &error)),
     };
-    let feed = match InputFeed::open(rt, matches.get_str(command::INPUT)) {
+    let lines = Lines::new(rt);
+    let feed = match InputFeed::open(rt, matches.get_str(command::INPUT), &lines) {
         Ok(feed) => feed,
         Err(error) => return tell(rt, unread_for(input_name(matches), &error)),
     };
     let (bound, base) = bound_and_base(matches);
-    let drain = OutputDrain::new(rt);
+    let drain = OutputDrain::new(&lines);
     let (ran, _, _) = stream_bytes(rt.alloc(), &image, base, feed, drain, bound);
     match ran {
-        Ok(ran) => told(rt, matches, ran, &[]),
+        Ok(ran) => told(rt, matches, &lines, ran, &[]),
         Err(fault) => tell(rt, refused_image(fault)),
     }
 }
