@@ -278,7 +278,7 @@ unit_linked more =
     (back_of (act_code 4) (over ++ standing_code (deep_standing more)) on_linked)
 
 abbrev again_setting : (input : List ℕ) → (more : ℕ) → Setting
-again_setting input more = setting_of (behind_block input (suc more)) [] 8 500
+again_setting input more = setting_of (behind_block input (suc more)) [] 8 450
 
 raised_is :
     (input : List ℕ) (more : ℕ) → suc more + 1 < 2 ^ 64 → IsBegun (deep_block input (suc more)) →
@@ -545,7 +545,7 @@ again_does input (suc more) few b =
     let over : OverflowComes six = unit_overflow six (deep_standing more) more (raised_is input more few b)
     (unit_changes input more few b) refl in
     let operand = variable_does six deep_spot b' (behind_number input (suc more)) in
-    assign_does k [] deep_spot deep_less 8 last_index left_over 1 500
+    assign_does k [] deep_spot deep_less 8 last_index left_over 1 450
     (record {
       act = record { line_fits = omega arith; acts = few };
       begun = b';
