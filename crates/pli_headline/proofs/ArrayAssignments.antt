@@ -48,7 +48,8 @@ pub element_assigned_piece : {links : Links} {code : List Instr} {i : ℕ} {g : 
     → Stores links code g v s k due type (λ u. stored_code e u source) (V.stored_value around source)
     → stored_into e taken (element block j first rest) source ≡ word_stored e taken (element block j first rest)
     → EvaluatesAll links code g v s k words e around (Y.NumberThen first rest) → suc (given_in rest) ≡ length bs
-    → taken.words + due ≤ g.words + spare taken → taken.words + suc words ≤ g.words + spare taken → Serving k s v around.line
+    → taken.words + due ≤ g.words + spare taken → taken.words + suc words ≤ g.words + spare taken
+    → Serving k s v around.line
     → ((z : ℤ) (p : ℕ) (b : Base) (h' : ℕ → ℕ) → reserved_are b g h' ≡ reserved_are b (g' z p) h')
     → ((z : ℤ) (p : ℕ) → Fits type z → p < element_count bs → (t' : ℕ → ℕ) (b : Base) (m : List ℕ)
     → length m ≡ memory_size → g.memory t' b m

@@ -508,7 +508,8 @@ stored_by_piece false {links = links} {code = code} {i = i} {g = g} g' {v = v} {
     let there : i + size_of put' + size_of a + size_of back + size_of last
     ≡ i + size_of (put' ++ (a ++ (back ++ last))) = omega (arith, e1, e2, e3) in
     let more = number_counts taken in
-    let one : is_register_left taken ≡ false → taken.words < g.words = λ none. let z = none_spare taken none in omega (arith, z, room) in
+    let one : is_register_left taken ≡ false → taken.words < g.words = λ none. let z = none_spare taken none in omega
+    (arith, z, room) in
     let h1 = held_with taken (word z) h in
     let t1 = words_with taken (word z) t in
     let next' : V.Designated → Meaning (Unit {0}) = λ d. P.element_stored d (value_as type z) in

@@ -61,7 +61,12 @@ assigned_gives around s j block type old z k h =
 
 -- code that leaves the word of what is due where a type is stored
 pub record Stores (links : Links) (code : List Instr) (g : Ground) (v : Services) (s : State) (k : ℕ) (words : ℕ) (type : Y.LeafType) (part : Taken → Code) (meaning : Meaning BasicValue) : Type 1 where
-  pub does : {i : ℕ} {h t : ℕ → ℕ} {aims : Aims BasicValue} (closed : Closed code aims) (f : Family) (taken : Taken) → taken.words + words ≤ g.words + spare taken → Linked links code i (part taken) → ((b : Base) → At b i (Known g v h t nothing b) (f b)) → ((z : ℤ) (f' : Family) (h' t' : ℕ → ℕ) → Fits type z → Stays taken h t h' t' → ((b : Base) → At b (i + size_of (part taken)) (Known g v h' t' (valued (word z)) b) (f' b)) → aims.done (i + size_of (part taken)) f' v (value_as type z) s) → Comes code i f v aims (meaning k s)
+  pub does : {i : ℕ} {h t : ℕ → ℕ} {aims : Aims BasicValue} (closed : Closed code aims) (f : Family) (taken : Taken)
+      → taken.words + words ≤ g.words + spare taken → Linked links code i (part taken)
+      → ((b : Base) → At b i (Known g v h t nothing b) (f b))
+      → ((z : ℤ) (f' : Family) (h' t' : ℕ → ℕ) → Fits type z → Stays taken h t h' t'
+      → ((b : Base) → At b (i + size_of (part taken)) (Known g v h' t' (valued (word z)) b) (f' b))
+      → aims.done (i + size_of (part taken)) f' v (value_as type z) s) → Comes code i f v aims (meaning k s)
 
 pub number_stores : {links : Links} {code : List Instr} {g : Ground} {v : Services} {s : State} {k : ℕ} {e : Environment} {block : Names} {types : Types} {held : Values} {around : Around} (p : ℕ) (x : Y.Number) → p ≤ 31 → Setting links code g v s k e block types held around → IsProvedNumber block types x → Stores links code g v s k (max 1 (number_words x)) (Y.FixedLeaf p) (λ taken. stored_code e taken (Y.StoredNumber p x)) (V.stored_value around (Y.StoredNumber p x))
 unfolding V.stored_value ◌>>=◌ give
@@ -80,7 +85,8 @@ number_stores {code = code} {v = v} {s = s} {k = k} {e = e} {around = around} p 
           ((number_does x st is).does (before_closed k fit closed) f taken (omega (arith, room, most)) (front_of a c l) at
           (λ z f1 h1 t1 wide stays at1.
           comes_on k (R.value_of around (checked p z) k s) as_value
-          (fitted_piece (before_closed k as_value closed) st.routines st.temps f1 around taken p z k few wide (λ none. let z = none_spare taken none in omega (arith, z, room, least)) (back_of a c l) st.serving at1
+          (fitted_piece (before_closed k as_value closed) st.routines st.temps f1 around taken p z k few wide
+          (λ none. let z = none_spare taken none in omega (arith, z, room, least)) (back_of a c l) st.serving at1
           (λ f2 fits at2. record {
             to =
                 subst (λ n. aims.done n f2 v (BasicNumber z) s) (sym place)

@@ -84,13 +84,19 @@ inner_code e head words body =
     inner_begun words (suc e.level)
     ++ (entered_without_texts 1 head.line ++ (stmts_code (begin_environment head e) none_taken body ++ inner_ended words))
 
-inner_code_is : (e : Environment) (head : Y.BlockHead) (body : Y.Stmts) → head.level ≡ suc e.level → variables_of_block e.program head.number ≡ [] → begin_code e head (block_words e head.number body) (stmts_code (begin_environment head e) none_taken body) ≡ inner_code e head (max 0 (body_words body)) body
+inner_code_is : (e : Environment) (head : Y.BlockHead) (body : Y.Stmts) → head.level ≡ suc e.level
+    → variables_of_block e.program head.number ≡ []
+    → begin_code e head (block_words e head.number body)
+    (stmts_code (begin_environment head e) none_taken body) ≡ inner_code e head (max 0 (body_words body)) body
 inner_code_is e head body next none =
     let e' = begin_environment head e in
     let code = stmts_code e' none_taken body in
     let enter = entered_without_texts 1 head.line in
-    ap (λ ds. inner_begun_at head.level (max (variables_take ds).words (body_words body)) (enter ++ (variables_made e' head.line 0 ds ++ (code ++ inner_ended (max (variables_take ds).words (body_words body)))))) none
-    ∙ ap (λ level. inner_begun_at level (max 0 (body_words body)) (enter ++ (code ++ inner_ended (max 0 (body_words body))))) next
+    ap (λ ds. inner_begun_at head.level (max (variables_take ds).words (body_words body))
+    (enter ++ (variables_made e' head.line 0 ds ++
+    (code ++ inner_ended (max (variables_take ds).words (body_words body)))))) none
+    ∙ ap (λ level. inner_begun_at level (max 0 (body_words body))
+    (enter ++ (code ++ inner_ended (max 0 (body_words body))))) next
   where
     inner_begun_at : (level words : ℕ) → Code → Code
     inner_begun_at level words behind = (move a0 frame_register ∷ frame_begun words level 0 None) ++ behind
@@ -338,7 +344,16 @@ own_begin_does {e} {block} {types} bl links code around (suc more) head body inn
           (λ b. record { pc = (at4 b).pc ∙ ap (address b) place; holds = (at4 b).holds }))))));
     }
 
-pub begin_does : {e : Environment} {block : Names} {types : Types} (bl : Block e block types) (links : Links) (code : List Instr) (around : Around) (more : ℕ) (head : Y.BlockHead) (body : Y.Stmts) (inner : Inner bl) → owner_level e.owner ≤ e.level → inner.words ≡ max 0 (body_words body) → e.level < 100 → (next : head.level ≡ suc e.level) (filled : IsFilled bl) → head.kind ≡ Y.BeginBlock → head.line < 2 ^ 31 → variables_of_block e.program head.number ≡ [] → Entering e.program around more → ((more' : ℕ) → more ≡ suc more' → suc (length bl.depths) < most_activations → (t0 : ℕ → ℕ) → Does (inner_block bl inner t0 head.number head.level next filled) links code (suc more') (stmts_code (begin_environment head e) none_taken body) (M.list (inner_around e.program more' head.line) body)) → Does bl links code around.turns (stmt_code e bl.taken (Y.Begin (Y.BlockOf head body))) (M.statement around (Y.Begin (Y.BlockOf head body)))
+pub begin_does : {e : Environment} {block : Names} {types : Types} (bl : Block e block types) (links : Links)
+    (code : List Instr) (around : Around) (more : ℕ) (head : Y.BlockHead) (body : Y.Stmts) (inner : Inner bl)
+    → owner_level e.owner ≤ e.level → inner.words ≡ max 0 (body_words body) → e.level < 100
+    → (next : head.level ≡ suc e.level) (filled : IsFilled bl) → head.kind ≡ Y.BeginBlock → head.line < 2 ^ 31
+    → variables_of_block e.program head.number ≡ [] → Entering e.program around more
+    → ((more' : ℕ) → more ≡ suc more' → suc (length bl.depths) < most_activations → (t0 : ℕ → ℕ)
+    → Does (inner_block bl inner t0 head.number head.level next filled) links code (suc more')
+    (stmts_code (begin_environment head e) none_taken body) (M.list (inner_around e.program more' head.line) body))
+    → Does bl links code around.turns (stmt_code e bl.taken (Y.Begin (Y.BlockOf head body)))
+    (M.statement around (Y.Begin (Y.BlockOf head body)))
 begin_does {e} bl links code around more head body inner lower same shallow next filled kind fits none entering does' =
     subst (λ c. Does bl links code around.turns (act_code head.line ++ c) (M.statement around (Y.Begin (Y.BlockOf head body)))) (ap (λ w. inner_code e head w body) same ∙ sym (inner_code_is e head body next none))
     (own_begin_does bl links code around more head body inner lower shallow next filled kind fits none entering does')

@@ -37,5 +37,6 @@ pub calculated_operates : {links : Links} {code : List Instr} {g : Ground} {v : 
 calculated_operates {k = k} routines temps around serving operator x y wx wy =
     record {
       does = λ closed f taken room l at gone.
-          calculated_piece operator closed routines temps f around taken x y k wx wy (λ none. let z = none_spare taken none in omega (arith, z, room)) l serving at gone;
+          calculated_piece operator closed routines temps f around taken x y k wx wy
+          (λ none. let z = none_spare taken none in omega (arith, z, room)) l serving at gone;
     }

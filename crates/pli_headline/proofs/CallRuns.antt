@@ -100,11 +100,13 @@ joined frame enter made act code ended =
 
 pub called_code_is : (e : Environment) (head : Y.BlockHead) (body : Y.Stmts) → head.level ≡ 1
     → ArePlain (vars_of e head) → procedure_in (procedure_environment head e) head body [] None
-    ≡ called_code e head (max 0 (body_words body)) (held_with e.program (max 0 (stmts_take none_taken body).registers) body) body
+    ≡ called_code e head (max 0 (body_words body))
+    (held_with e.program (max 0 (stmts_take none_taken body).registers) body) body
 called_code_is e head body next are =
     let words = max 0 (body_words body) in
     let held = held_with e.program (max 0 (stmts_take none_taken body).registers) body in
-    ap (λ t. code_with e head body head.level (most_taken t (stmts_take none_taken body))) (none_taken_for (vars_of e head) are)
+    ap (λ t. code_with e head body head.level (most_taken t (stmts_take none_taken body)))
+    (none_taken_for (vars_of e head) are)
     ∙ ap (λ level. code_with e head body level (most_taken none_taken (stmts_take none_taken body))) next
     ∙ ap (λ c. Mark (ProcedureEntry head.number) ∷ c)
     (joined (frame_begun words 1 0 (Some held)) (called_entry head.line) (called_variables e head)

@@ -217,7 +217,11 @@ copy_does {e} {block} {types} bl links code routines around j i {type} b bs line
           }))));
     }
 
-pub alike_does : {e : Environment} {block : Names} {types : Types} (bl : Block e block types) (links : Links) (code : List Instr) (routines : Standing bl links code) (around : Around) (target source : Y.Reference) (line : ℕ) → AreAlike block types target source → bl.taken.words + 4 ≤ bl.words → line < 2 ^ 31 → Does bl links code around.turns (act_code line ++ aggregate_code e bl.taken target source) (M.statement around (Y.AssignAggregate target source line))
+pub alike_does : {e : Environment} {block : Names} {types : Types} (bl : Block e block types) (links : Links)
+    (code : List Instr) (routines : Standing bl links code) (around : Around) (target source : Y.Reference) (line : ℕ)
+    → AreAlike block types target source → bl.taken.words + 4 ≤ bl.words → line < 2 ^ 31
+    → Does bl links code around.turns (act_code line ++ aggregate_code e bl.taken target source)
+    (M.statement around (Y.AssignAggregate target source line))
 alike_does {e} {block} {types} bl links code routines around target source line o room fits =
     let numeric = element_numeric o.type o.element in
     let into : IsArrayAt types o.target_is.index o.type o.target_is.bound o.target_is.bounds = (o.target_is.declared, numeric) in
@@ -225,4 +229,5 @@ alike_does {e} {block} {types} bl links code routines around target source line 
     (o.source_is.declared ∙ ap (λ cs. Some (kind_with o.type cs)) o.same, numeric) in
     subst (λ q. Does bl links code around.turns (act_code line ++ aggregate_code e bl.taken q source) (M.statement around (Y.AssignAggregate q source line))) (sym o.target_is.is)
     (subst (λ q. Does bl links code around.turns (act_code line ++ aggregate_code e bl.taken (whole (own block o.target_is.index)) q) (M.statement around (Y.AssignAggregate (whole (own block o.target_is.index)) q line))) (sym o.source_is.is)
-    (copy_does bl links code routines around o.target_is.index o.source_is.index o.target_is.bound o.target_is.bounds line into taken o.target_is.outermost o.source_is.outermost room fits))
+    (copy_does bl links code routines around o.target_is.index o.source_is.index o.target_is.bound o.target_is.bounds
+    line into taken o.target_is.outermost o.source_is.outermost room fits))

@@ -30,7 +30,8 @@ alike_none e t block types target source has o =
 most_four : (x y : ℕ) → x ≡ 0 → y ≡ 0 → max (4 + x) (4 + y) ≤ 4
 most_four x y e e' = subst (λ u. max (4 + u) (4 + y) ≤ 4) (sym e) (subst (λ u. max 4 (4 + u) ≤ 4) (sym e') (omega arith))
 
-alike_words : (block : Names) (types : Types) (target source : Y.Reference) → AreAlike block types target source → max (aggregate_words target) (aggregate_words source) ≤ 4
+alike_words : (block : Names) (types : Types) (target source : Y.Reference) → AreAlike block types target source
+    → max (aggregate_words target) (aggregate_words source) ≤ 4
 alike_words block types target source o =
     most_four (reference_words target) (reference_words source) (ap reference_words o.target_is.is) (ap reference_words o.source_is.is)
 
@@ -52,7 +53,8 @@ pub copies_none : (e : Environment) (t : Taken) (block : Names) (types : Types) 
 copies_none e t block types target source has (inl o) = alike_none e t block types target source has o
 copies_none e t block types target source has (inr o) = alike_texts_none e t block types target source has o
 
-pub copies_words : (block : Names) (types : Types) (target source : Y.Reference) → AreCopied block types target source → max (aggregate_words target) (aggregate_words source) ≤ 4
+pub copies_words : (block : Names) (types : Types) (target source : Y.Reference) → AreCopied block types target source
+    → max (aggregate_words target) (aggregate_words source) ≤ 4
 copies_words block types target source (inl o) = alike_words block types target source o
 copies_words block types target source (inr o) =
     most_four (reference_words target) (reference_words source) (ap reference_words o.target_is.is) (ap reference_words o.source_is.is)

@@ -1,6 +1,7 @@
 -- DO with a variable or an element that counts, as a statement: a number, a bit or a text is evaluated and waits, then limit and step,
 -- and what counts begins with the number that the start is.
-use Rattle.std.proofs.Common.{◌≡◌, ℕ, ◌+◌, ◌^◌, ◌<◌, ◌≤◌, List, ◌∷◌, ◌++◌, Option, sym, ap, ◌∙◌, subst, arith, inl, inr, Bool, refl}
+use Rattle.std.proofs.Common.{◌≡◌, ℕ, ◌+◌, ◌^◌, ◌<◌, ◌≤◌, List, ◌∷◌, ◌++◌, Option, sym, ap, ◌∙◌, subst, arith, inl}
+use Rattle.std.proofs.Common.{inr, Bool, refl}
 use Rattle.std.specs.Prelude.{ℤ}
 use Rattle.rv_meaning.specs.declared.instr.Instr.{Instr}
 use Rattle.rv_meaning.specs.Words.{word, flag}
@@ -25,10 +26,13 @@ use Rattle.pli_coding.specs.Storing.{word_stored}
 use Rattle.pli_coding.specs.Statements.{constant_step, in_turns, limit_code, step_code, stmts_code}
 use Rattle.pli_coding.specs.Statements.{before_turns, start_code, start_loaded, stmt_code}
 use Rattle.pli_coding.specs.Linking.{Links}
-use Rattle.pli_coding.specs.WordBounds.{number_words, bit_words, text_words, reference_words, subscripts_words, number_if, bit_if, value_words}
+use Rattle.pli_coding.specs.WordBounds.{number_words, bit_words, text_words, reference_words, subscripts_words}
+use Rattle.pli_coding.specs.WordBounds.{number_if, bit_if, value_words}
 use Rattle.temporary_bounds.specs.Spare.{spare}
 use Rattle.temporary_bounds.proofs.Takes.{none_spare}
-use Rattle.pli_headline.specs.ProvedSoFar.{Names, Types, IsProvedNumber, IsProvedNumberIf, IsProvedBitIf, IsPart, IsAssigned, AreSubscripts, AreProvedNumbers, IsProvedBit, IsProvedStart, IsProvedText}
+use Rattle.pli_headline.specs.ProvedSoFar.{Names, Types, IsProvedNumber, IsProvedNumberIf, IsProvedBitIf, IsPart}
+use Rattle.pli_headline.specs.ProvedSoFar.{IsAssigned, AreSubscripts, AreProvedNumbers, IsProvedBit, IsProvedStart}
+use Rattle.pli_headline.specs.ProvedSoFar.{IsProvedText}
 use Rattle.pli_headline.proofs.Storages.{storage}
 use Rattle.run_steps.specs.Engine.{Base, address}
 use Rattle.run_steps.proofs.Linking.{size_append}
@@ -50,7 +54,8 @@ use Rattle.pli_headline.proofs.Limits.{StepWaits, step_stays}
 use Rattle.pli_headline.proofs.Turnings.{LimitWaits}
 use Rattle.run_steps.specs.Reach.{Family, Aims, Comes, Closed, before}
 use Rattle.run_steps.proofs.Reach.{before_closed, comes_on, onward}
-use Rattle.pli_headline.proofs.Counts.{Counts, turning, standing_turning, turns_of, turn_rest, limit_stays, head_piece, limits_piece, word_kept}
+use Rattle.pli_headline.proofs.Counts.{Counts, turning, standing_turning, turns_of, turn_rest, limit_stays}
+use Rattle.pli_headline.proofs.Counts.{head_piece, limits_piece, word_kept}
 use Rattle.pli_headline.proofs.EditTexts.{at_other_texts}
 use Rattle.pli_headline.proofs.Expressions.{bit_does, number_does, text_does}
 use Rattle.pli_headline.proofs.Evaluations.{bit_kind, number_kind}
@@ -119,7 +124,9 @@ begun_piece {i = i} {v = v} {t = t} {s = s} {e = e} {block = block} {types = typ
     let goes : Unit {0} → Meaning (Unit {0}) = λ q. loop_of around line counter most by condition part in
     let as_stored : ℤ → Meaning BasicValue = λ u. give (BasicNumber u) in
     comes_on k (R.value_of here (checked p z) k s) as_stored
-    (fitted_piece (before_closed k as_stored (before_closed k store closed)) routines.raises (bl.temps n) f here (in_turns bl.taken) p z k few wz (λ none. let z = none_spare (in_turns bl.taken) none in omega (arith, z, room, words)) lf serving at
+    (fitted_piece (before_closed k as_stored (before_closed k store closed)) routines.raises (bl.temps n) f here
+    (in_turns bl.taken) p z k few wz (λ none. let z = none_spare (in_turns bl.taken) none in omega
+    (arith, z, room, words)) lf serving at
     (λ f1 fits1 at1.
     record {
       to =
@@ -159,7 +166,8 @@ count_does : {e : Environment} {block : Names} {types : Types} (bl : Block e blo
     Y.Stmts) (line : ℕ) → Starts bl links code (at_line around line) r p start c0 c3 → Counts bl links code r p
     → IsProvedNumberIf block types limit → IsProvedNumber block types step → IsProvedBitIf block types condition
     → bl.taken.words + 3 ≤ bl.words → bl.taken.words + 3 + number_if limit ≤ bl.words + spare bl.taken
-    → bl.taken.words + 3 + number_words step ≤ bl.words + spare bl.taken → bl.taken.words + 2 + bit_if condition ≤ bl.words + spare bl.taken
+    → bl.taken.words + 3 + number_words step ≤ bl.words + spare bl.taken
+    → bl.taken.words + 2 + bit_if condition ≤ bl.words + spare bl.taken
     → line < 2 ^ 31 → Does (turning bl) links code around.turns (stmts_code e (in_turns bl.taken) body)
     (M.list around body)
     → Does bl links code around.turns
@@ -208,7 +216,11 @@ count_does {e} {block} {types} bl links code routines around r p start c0 c3 lim
           comes_on k (V.computational here start k s') behind'
           (starts.does (before_closed k behind' closed) n f1 k (front_of c0 (c1 ++ (c2 ++ (c3 ++ c4))) lc) serving1 all1 at1
           (λ value v2 f2 h2 t2 serving2 same stays2 loads at2.
-          limits_piece bl routines here limit step n (λ most by. (M.counter_started here counter value) >>= (stored_first around line counter most by condition part)) closed f2 k isl iss room rooml rooms (front_of c1 (c2 ++ (c3 ++ c4)) l1) (front_of c2 (c3 ++ c4) l2) serving2 (subst (λ xs. AllHold bl.frames bl.serials xs (e.level ∷ bl.depths) s' block types n) (sym same) all1) at2
+          limits_piece bl routines here limit step n
+          (λ most by. (M.counter_started here counter value) >>=
+          (stored_first around line counter most by condition part)) closed f2 k isl iss room rooml rooms
+          (front_of c1 (c2 ++ (c3 ++ c4)) l1) (front_of c2 (c3 ++ c4) l2) serving2
+          (subst (λ xs. AllHold bl.frames bl.serials xs (e.level ∷ bl.depths) s' block types n) (sym same) all1) at2
           (λ most by f3 h3 t3 wby waits at_step start3 stays3 at3.
           let store = stored_first around line counter most by condition part in
           comes_on k (M.counter_started here counter value k s') store
@@ -234,7 +246,12 @@ word_loads {code = code} {v = v} {s = s} bl n around r p x value z room is wide 
           (λ f1 at1. subst (Comes code (i + size_of (start_loaded bl.taken)) f1 v aims) (sym (same s)) (goal z f1 wide at1));
     }
 
-number_starts : {e : Environment} {block : Names} {types : Types} (bl : Block e block types) (links : Links) (code : List Instr) (routines : Standing bl links code) (around : Around) (r : Y.Reference) (p precision : ℕ) (x : Y.Number) → IsProvedNumber block types x → bl.taken.words + 3 ≤ bl.words → bl.taken.words + 3 + number_words x ≤ bl.words + spare bl.taken → Starts bl links code around r p (Y.NumberValue precision x) (start_code e bl.taken (Y.NumberValue precision x)) (start_loaded bl.taken)
+number_starts : {e : Environment} {block : Names} {types : Types} (bl : Block e block types) (links : Links)
+    (code : List Instr) (routines : Standing bl links code) (around : Around) (r : Y.Reference) (p precision : ℕ)
+    (x : Y.Number) → IsProvedNumber block types x → bl.taken.words + 3 ≤ bl.words
+    → bl.taken.words + 3 + number_words x ≤ bl.words + spare bl.taken
+    → Starts bl links code around r p (Y.NumberValue precision x) (start_code e bl.taken (Y.NumberValue precision x))
+    (start_loaded bl.taken)
 unfolding V.computational M.counter_started R.or_error ◌>>=◌ give
 number_starts {e} bl links code routines around r p precision x is low room =
     record {
@@ -242,17 +259,24 @@ number_starts {e} bl links code routines around r p precision x is low room =
           let w = bl.taken.words in
           let as_value : ℤ → Meaning V.Computational = λ z. give (V.ComputationalNumber precision z) in
           comes_on k (V.number around x k s) as_value
-          (word_kept number_kind bl n (w + 2) (before_closed k as_value closed) f k (number_does x {e = e} {around = around} (setting bl routines n all serving) is) room (omega (arith, low)) l at
+          (word_kept number_kind bl n (w + 2) (before_closed k as_value closed) f k
+          (number_does x {e = e} {around = around} (setting bl routines n all serving) is) room
+          (omega (arith, low)) l at
           (λ z f1 h1 t1 wide stays at1.
           record {
             to =
                 goal (V.ComputationalNumber precision z) v f1 h1 (put t1 (w + 2) (word z)) serving refl
                 (stays_then (stays_fewer 3 stays) (stays_kept bl.taken h1 t1 (w + 2) (word z) (omega arith)))
-                (word_loads bl n around r p _ (V.ComputationalNumber precision z) z low (put_same t1 (w + 2) (word z)) wide (λ s'. refl)) at1;
+                (word_loads bl n around r p _ (V.ComputationalNumber precision z) z low
+                (put_same t1 (w + 2) (word z)) wide (λ s'. refl)) at1;
           }));
     }
 
-bit_starts : {e : Environment} {block : Names} {types : Types} (bl : Block e block types) (links : Links) (code : List Instr) (routines : Standing bl links code) (around : Around) (r : Y.Reference) (p : ℕ) (x : Y.Bit) → IsProvedBit block types x → bl.taken.words + 3 ≤ bl.words → bl.taken.words + 3 + bit_words x ≤ bl.words + spare bl.taken → Starts bl links code around r p (Y.BitValue x) (start_code e bl.taken (Y.BitValue x)) (start_loaded bl.taken)
+bit_starts : {e : Environment} {block : Names} {types : Types} (bl : Block e block types) (links : Links)
+    (code : List Instr) (routines : Standing bl links code) (around : Around) (r : Y.Reference) (p : ℕ) (x : Y.Bit)
+    → IsProvedBit block types x → bl.taken.words + 3 ≤ bl.words
+    → bl.taken.words + 3 + bit_words x ≤ bl.words + spare bl.taken
+    → Starts bl links code around r p (Y.BitValue x) (start_code e bl.taken (Y.BitValue x)) (start_loaded bl.taken)
 unfolding V.computational M.counter_started R.or_error ◌>>=◌ give
 bit_starts {e} bl links code routines around r p x is low room =
     record {
@@ -260,17 +284,23 @@ bit_starts {e} bl links code routines around r p x is low room =
           let w = bl.taken.words in
           let as_value : Bool → Meaning V.Computational = λ b. give (V.ComputationalBit b) in
           comes_on k (V.bit around x k s) as_value
-          (word_kept bit_kind bl n (w + 2) (before_closed k as_value closed) f k (bit_does x {e = e} {around = around} (setting bl routines n all serving) is) room (omega (arith, low)) l at
+          (word_kept bit_kind bl n (w + 2) (before_closed k as_value closed) f k
+          (bit_does x {e = e} {around = around} (setting bl routines n all serving) is) room (omega (arith, low)) l at
           (λ met f1 h1 t1 fits stays at1.
           record {
             to =
                 goal (V.ComputationalBit met) v f1 h1 (put t1 (w + 2) (flag met)) serving refl
                 (stays_then (stays_fewer 3 stays) (stays_kept bl.taken h1 t1 (w + 2) (flag met) (omega arith)))
-                (word_loads bl n around r p _ (V.ComputationalBit met) (bit_number met) low (put_same t1 (w + 2) (flag met) ∙ bit_word met) (bit_wide met) (λ s'. refl)) at1;
+                (word_loads bl n around r p _ (V.ComputationalBit met) (bit_number met) low
+                (put_same t1 (w + 2) (flag met) ∙ bit_word met) (bit_wide met) (λ s'. refl)) at1;
           }));
     }
 
-text_starts : {e : Environment} {block : Names} {types : Types} (bl : Block e block types) (links : Links) (code : List Instr) (routines : Standing bl links code) (around : Around) (r : Y.Reference) (p : ℕ) (x : Y.Text) → IsProvedText block types x → bl.taken.words + 3 + text_words x ≤ bl.words + spare bl.taken → Starts bl links code around r p (Y.TextValue x) (start_code e bl.taken (Y.TextValue x)) (small a0 0 ∷ tested_service 26)
+text_starts : {e : Environment} {block : Names} {types : Types} (bl : Block e block types) (links : Links)
+    (code : List Instr) (routines : Standing bl links code) (around : Around) (r : Y.Reference) (p : ℕ) (x : Y.Text)
+    → IsProvedText block types x → bl.taken.words + 3 + text_words x ≤ bl.words + spare bl.taken
+    → Starts bl links code around r p (Y.TextValue x) (start_code e bl.taken (Y.TextValue x))
+    (small a0 0 ∷ tested_service 26)
 unfolding V.computational M.counter_started ◌>>=◌ give
 text_starts {e} {block} bl links code routines around r p x is room =
     record {
@@ -296,22 +326,44 @@ text_starts {e} {block} bl links code routines around r p x is room =
 
 -- ---- the statement with a variable or an element of the block
 
-start_does : {e : Environment} {block : Names} {types : Types} (bl : Block e block types) (links : Links) (code : List Instr) (routines : Standing bl links code) (around : Around) (r : Y.Reference) (p : ℕ) (start : Y.Value) (limit : Option Y.Number) (step : Y.Number) (condition : Option Y.Bit) (body : Y.Stmts) (line : ℕ) → IsProvedStart block types start → Counts bl links code r p → IsProvedNumberIf block types limit → IsProvedNumber block types step → IsProvedBitIf block types condition → bl.taken.words + 3 ≤ bl.words → bl.taken.words + 3 + value_words start ≤ bl.words + spare bl.taken → bl.taken.words + 3 + number_if limit ≤ bl.words + spare bl.taken → bl.taken.words + 3 + number_words step ≤ bl.words + spare bl.taken → bl.taken.words + 2 + bit_if condition ≤ bl.words + spare bl.taken → line < 2 ^ 31 → Does (turning bl) links code around.turns (stmts_code e (in_turns bl.taken) body) (M.list around body) → Does bl links code around.turns (stmt_code e bl.taken (Y.DoCount (Y.NumberCounter p r) start limit step condition body line)) (M.statement around (Y.DoCount (Y.NumberCounter p r) start limit step condition body line))
-start_does bl links code routines around r p (Y.NumberValue precision x) limit step condition body line is counts isl iss isc low room rooml rooms roomc fits inner =
+start_does : {e : Environment} {block : Names} {types : Types} (bl : Block e block types) (links : Links)
+    (code : List Instr) (routines : Standing bl links code) (around : Around) (r : Y.Reference) (p : ℕ)
+    (start : Y.Value) (limit : Option Y.Number) (step : Y.Number) (condition : Option Y.Bit) (body : Y.Stmts)
+    (line : ℕ) → IsProvedStart block types start → Counts bl links code r p → IsProvedNumberIf block types limit
+    → IsProvedNumber block types step → IsProvedBitIf block types condition → bl.taken.words + 3 ≤ bl.words
+    → bl.taken.words + 3 + value_words start ≤ bl.words + spare bl.taken
+    → bl.taken.words + 3 + number_if limit ≤ bl.words + spare bl.taken
+    → bl.taken.words + 3 + number_words step ≤ bl.words + spare bl.taken
+    → bl.taken.words + 2 + bit_if condition ≤ bl.words + spare bl.taken → line < 2 ^ 31
+    → Does (turning bl) links code around.turns (stmts_code e (in_turns bl.taken) body) (M.list around body)
+    → Does bl links code around.turns (stmt_code e bl.taken
+    (Y.DoCount (Y.NumberCounter p r) start limit step condition body line))
+    (M.statement around (Y.DoCount (Y.NumberCounter p r) start limit step condition body line))
+start_does bl links code routines around r p (Y.NumberValue precision x) limit step condition body line is counts isl
+    iss isc low room rooml rooms roomc fits inner =
     let most = le-max_right 1 (number_words x) in
     count_does bl links code routines around r p (Y.NumberValue precision x) _ _ limit step condition body line
-    (number_starts bl links code routines (at_line around line) r p precision x is low (omega (arith, room, most))) counts isl iss isc low rooml rooms roomc fits inner
-start_does bl links code routines around r p (Y.BitValue x) limit step condition body line is counts isl iss isc low room rooml rooms roomc fits inner =
+    (number_starts bl links code routines (at_line around line) r p precision x is low (omega (arith, room, most)))
+    counts isl iss isc low rooml rooms roomc fits inner
+start_does bl links code routines around r p (Y.BitValue x) limit step condition body line is counts isl iss isc low
+    room rooml rooms roomc fits inner =
     let most = le-max_right 1 (bit_words x) in
     count_does bl links code routines around r p (Y.BitValue x) _ _ limit step condition body line
-    (bit_starts bl links code routines (at_line around line) r p x is low (omega (arith, room, most))) counts isl iss isc low rooml rooms roomc fits inner
-start_does bl links code routines around r p (Y.TextValue x) limit step condition body line is counts isl iss isc low room rooml rooms roomc fits inner =
+    (bit_starts bl links code routines (at_line around line) r p x is low (omega (arith, room, most))) counts isl iss
+    isc low rooml rooms roomc fits inner
+start_does bl links code routines around r p (Y.TextValue x) limit step condition body line is counts isl iss isc low
+    room rooml rooms roomc fits inner =
     count_does bl links code routines around r p (Y.TextValue x) _ _ limit step condition body line
-    (text_starts bl links code routines (at_line around line) r p x is room) counts isl iss isc low rooml rooms roomc fits inner
-start_does bl links code routines around r p _ limit step condition body line is counts isl iss isc low room rooml rooms roomc fits inner = absurd is
+    (text_starts bl links code routines (at_line around line) r p x is room) counts isl iss isc low rooml rooms roomc
+    fits inner
+start_does bl links code routines around r p _ limit step condition body line is counts isl iss isc low room rooml
+    rooms roomc fits inner = absurd is
 
 -- what is assigned to may count
-assigned_counts : {e : Environment} {block : Names} {types : Types} (bl : Block e block types) (links : Links) (code : List Instr) (routines : Standing bl links code) (r : Y.Reference) (p : ℕ) → IsAssigned block types (Y.FixedLeaf p) r → bl.taken.words + 3 + reference_words r ≤ bl.words + spare bl.taken → Counts bl links code r p
+assigned_counts : {e : Environment} {block : Names} {types : Types} (bl : Block e block types) (links : Links)
+    (code : List Instr) (routines : Standing bl links code) (r : Y.Reference) (p : ℕ)
+    → IsAssigned block types (Y.FixedLeaf p) r → bl.taken.words + 3 + reference_words r ≤ bl.words + spare bl.taken
+    → Counts bl links code r p
 assigned_counts {e} {block} {types} bl links code routines r p target room =
     record { takes = by_part target.0; reads = assigned_read block types p r target; room = room }
   where
@@ -327,6 +379,21 @@ assigned_counts {e} {block} {types} bl links code routines r p target room =
         subst (λ q. Takes (turning bl) links code q (Y.FixedLeaf p)) (sym o.is)
         (element_takes (turning bl) links code (standing_turning routines) o.index o.bound o.bounds o.first o.rest (o.declared, tt) o.many are (omega (arith, room, most, same)))
 
-pub counted_does : {e : Environment} {block : Names} {types : Types} (bl : Block e block types) (links : Links) (code : List Instr) (routines : Standing bl links code) (around : Around) (r : Y.Reference) (precision : ℕ) (start : Y.Value) (limit : Option Y.Number) (step : Y.Number) (condition : Option Y.Bit) (body : Y.Stmts) (line : ℕ) → IsAssigned block types (Y.FixedLeaf precision) r → bl.taken.words + 3 ≤ bl.words → bl.taken.words + 3 + reference_words r ≤ bl.words + spare bl.taken → IsProvedStart block types start → IsProvedNumberIf block types limit → IsProvedNumber block types step → IsProvedBitIf block types condition → bl.taken.words + 3 + value_words start ≤ bl.words + spare bl.taken → bl.taken.words + 3 + number_if limit ≤ bl.words + spare bl.taken → bl.taken.words + 3 + number_words step ≤ bl.words + spare bl.taken → bl.taken.words + 2 + bit_if condition ≤ bl.words + spare bl.taken → line < 2 ^ 31 → Does (turning bl) links code around.turns (stmts_code e (in_turns bl.taken) body) (M.list around body) → Does bl links code around.turns (stmt_code e bl.taken (Y.DoCount (Y.NumberCounter precision r) start limit step condition body line)) (M.statement around (Y.DoCount (Y.NumberCounter precision r) start limit step condition body line))
-counted_does bl links code routines around r precision start limit step condition body line target low some is isl iss isc room rooml rooms roomc fits inner =
-    start_does bl links code routines around r precision start limit step condition body line is (assigned_counts bl links code routines r precision target some) isl iss isc low room rooml rooms roomc fits inner
+pub counted_does : {e : Environment} {block : Names} {types : Types} (bl : Block e block types) (links : Links)
+    (code : List Instr) (routines : Standing bl links code) (around : Around) (r : Y.Reference) (precision : ℕ)
+    (start : Y.Value) (limit : Option Y.Number) (step : Y.Number) (condition : Option Y.Bit) (body : Y.Stmts)
+    (line : ℕ) → IsAssigned block types (Y.FixedLeaf precision) r → bl.taken.words + 3 ≤ bl.words
+    → bl.taken.words + 3 + reference_words r ≤ bl.words + spare bl.taken → IsProvedStart block types start
+    → IsProvedNumberIf block types limit → IsProvedNumber block types step → IsProvedBitIf block types condition
+    → bl.taken.words + 3 + value_words start ≤ bl.words + spare bl.taken
+    → bl.taken.words + 3 + number_if limit ≤ bl.words + spare bl.taken
+    → bl.taken.words + 3 + number_words step ≤ bl.words + spare bl.taken
+    → bl.taken.words + 2 + bit_if condition ≤ bl.words + spare bl.taken → line < 2 ^ 31
+    → Does (turning bl) links code around.turns (stmts_code e (in_turns bl.taken) body) (M.list around body)
+    → Does bl links code around.turns (stmt_code e bl.taken
+    (Y.DoCount (Y.NumberCounter precision r) start limit step condition body line))
+    (M.statement around (Y.DoCount (Y.NumberCounter precision r) start limit step condition body line))
+counted_does bl links code routines around r precision start limit step condition body line target low some is isl iss
+    isc room rooml rooms roomc fits inner =
+    start_does bl links code routines around r precision start limit step condition body line is
+    (assigned_counts bl links code routines r precision target some) isl iss isc low room rooml rooms roomc fits inner

@@ -191,7 +191,8 @@ added_piece {i = i} {v = v} {h = h} {t = t} {s = s} {aims = aims} bl routines ar
     }) (record { reserved_stay = λ y u. refl; known_stay = λ b y u q. q; set = λ y u. refl })
     (front_of c d l4) at3)
     (λ f4 at4.
-    sum_piece closed routines.raises (bl.temps n) f4 around taken z step k wz ws (λ none. let z = none_spare taken none in omega (arith, z, room, w))
+    sum_piece closed routines.raises (bl.temps n) f4 around taken z step k wz ws
+    (λ none. let z = none_spare taken none in omega (arith, z, room, w))
     (back_of c d l4) serving
     (λ b. let o =
     at4 b in record {
@@ -205,7 +206,8 @@ added_piece {code = code} {i = i} {v = v} {s = s} {aims = aims} bl routines arou
     let w = bl.words_are n in
     subst (λ q. Comes code i f v aims (R.value_of around (checked 31 (z +ℤ q)) k s)) (sym at_step)
     (constant_piece closed routines.raises (bl.temps n) f around (in_turns bl.taken) z c k wz
-    (subst IsWide at_step ws) (λ none. let z = none_spare (in_turns bl.taken) none in omega (arith, z, room, w)) l serving at gone)
+    (subst IsWide at_step ws) (λ none. let z = none_spare (in_turns bl.taken) none in omega (arith, z, room, w)) l
+    serving at gone)
 
 pub stepping_piece : {links : Links} {code : List Instr} {i : ℕ} {v : Services} {h t : ℕ → ℕ} {s : State} {aims :
     Aims (Unit {0})} {e : Environment} {block : Names} {types : Types} (bl : Block e block types) (routines :
@@ -271,7 +273,9 @@ stepping_piece {links = links} {code = code} {i = i} {v = v} {h = h} {t = t} {s 
     (λ z2 f5 w2 at5.
     comes_on k (M.counter_value here (Y.NumberCounter p r) z2 k s) store
     (comes_on k (R.value_of here (checked p z2) k s) as_value
-    (fitted_piece (before_closed k as_value (before_closed k store closed)) routines.raises (bl.temps n) f5 here taken p z2 k few w2 (λ none. let z = none_spare taken none in omega (arith, z, room, w)) (back_of d q l5) serving1 at5
+    (fitted_piece (before_closed k as_value (before_closed k store closed)) routines.raises
+    (bl.temps n) f5 here taken p z2 k few w2 (λ none. let z = none_spare taken none in omega (arith, z, room, w))
+    (back_of d q l5) serving1 at5
     (λ f6 fits6 at6. record {
       to =
           subst (λ u. Comes code u f6 v1 aims (M.assigned here r (BasicNumber z2) k s)) (sym there)
@@ -387,7 +391,8 @@ head_piece {e} {block} {types} bl {links} {code} routines around r p limit most 
     comes_on k (M.within_limit here (Y.NumberCounter p r) most step k s') conditions
     (within_piece bl routines here r p limit most fixed step (words_behind_limit u)
     (before_closed k conditions (before_closed k branch closed)) n f1 k counts.reads waits ws at_step
-    (omega (arith, room)) (omega (arith, some)) (omega (arith, inside, over1)) (front_of lim (con ++ (c ++ (sp ++ jump))) l1) serving1
+    (omega (arith, room)) (omega (arith, some)) (omega (arith, inside, over1))
+    (front_of lim (con ++ (c ++ (sp ++ jump))) l1) serving1
     all1 at1 (
       (λ f2 h2 t2 stays2 at2.
           condition_piece bl routines here condition (words_behind_condition u) (before_closed k branch closed) n f2 k is room' (omega (arith, inside, over2)) (front_of con (c ++ (sp ++ jump)) l2) serving1 all1 at2 (
@@ -445,7 +450,18 @@ other_place : (i k : ℕ) → k < i → (i == k) ≡ false
 other_place i k h = grind (arith, nat_tests)
 
 -- a value is evaluated while three words may wait, and kept in one of them
-pub word_kept : {X : Type 0} (kind : Kind X) {words : ℕ} {part : Taken → Code} {meaning : Meaning X} {links : Links} {code : List Instr} {i : ℕ} {v : Services} {h t : ℕ → ℕ} {s : State} {aims : Aims X} {e : Environment} {block : Names} {types : Types} (bl : Block e block types) (n : Values) (j : ℕ) (closed : Closed code aims) (f : Family) (k : ℕ) → Evaluates kind links code (bl.ground n) v s k words part meaning → bl.taken.words + 3 + words ≤ bl.words + spare bl.taken → j < bl.words → Linked links code i (part (before_turns bl.taken) ++ store_word frame_register a0 (words_place j 1)) → ((b : Base) → At b i (Known (bl.ground n) v h t nothing b) (f b)) → ((x : X) (f' : Family) (h' t' : ℕ → ℕ) → kind.Fits x → Stays (before_turns bl.taken) h t h' t' → ((b : Base) → At b (i + size_of (part (before_turns bl.taken) ++ store_word frame_register a0 (words_place j 1))) (Known (bl.ground n) v h' (put t' j (kind.word_of x)) nothing b) (f' b)) → aims.done (i + size_of (part (before_turns bl.taken) ++ store_word frame_register a0 (words_place j 1))) f' v x s) → Comes code i f v aims (meaning k s)
+pub word_kept : {X : Type 0} (kind : Kind X) {words : ℕ} {part : Taken → Code} {meaning : Meaning X} {links : Links}
+    {code : List Instr} {i : ℕ} {v : Services} {h t : ℕ → ℕ} {s : State} {aims : Aims X} {e : Environment}
+    {block : Names} {types : Types} (bl : Block e block types) (n : Values) (j : ℕ) (closed : Closed code aims)
+    (f : Family) (k : ℕ) → Evaluates kind links code (bl.ground n) v s k words part meaning
+    → bl.taken.words + 3 + words ≤ bl.words + spare bl.taken → j < bl.words
+    → Linked links code i (part (before_turns bl.taken) ++ store_word frame_register a0 (words_place j 1))
+    → ((b : Base) → At b i (Known (bl.ground n) v h t nothing b) (f b))
+    → ((x : X) (f' : Family) (h' t' : ℕ → ℕ) → kind.Fits x → Stays (before_turns bl.taken) h t h' t'
+    → ((b : Base) → At b (i + size_of (part (before_turns bl.taken) ++ store_word frame_register a0 (words_place j 1)))
+    (Known (bl.ground n) v h' (put t' j (kind.word_of x)) nothing b) (f' b))
+    → aims.done (i + size_of (part (before_turns bl.taken) ++ store_word frame_register a0 (words_place j 1))) f' v x
+    s) → Comes code i f v aims (meaning k s)
 word_kept kind {part = part} {i = i} {v = v} {s = s} {aims = aims} bl n j closed f k x room inside l at goal =
     let a = part (before_turns bl.taken) in
     let c = store_word frame_register a0 (words_place j 1) in
@@ -459,20 +475,45 @@ word_kept kind {part = part} {i = i} {v = v} {s = s} {aims = aims} bl n j closed
     (subst (λ u. aims.done u (reached r) v z s) (sym place)
     (goal z (reached r) h1 t1 fits stays (λ b. record { pc = (reached_holds r b).pc ∙ ap (address b) place; holds = (reached_holds r b).holds }))))
 
-number_kept : {links : Links} {code : List Instr} {i : ℕ} {v : Services} {h t : ℕ → ℕ} {s : State} {aims : Aims ℤ} {e : Environment} {block : Names} {types : Types} (bl : Block e block types) (routines : Standing bl links code) (around : Around) (x : Y.Number) (n : Values) (j : ℕ) (closed : Closed code aims) (f : Family) (k : ℕ) → IsProvedNumber block types x → bl.taken.words + 3 + number_words x ≤ bl.words + spare bl.taken → j < bl.words → Linked links code i (number_code e (before_turns bl.taken) x ++ store_word frame_register a0 (words_place j 1)) → Serving k s v around.line → AllHold bl.frames bl.serials (storage v) (e.level ∷ bl.depths) s block types n → ((b : Base) → At b i (Known (bl.ground n) v h t nothing b) (f b)) → ((z : ℤ) (f' : Family) (h' t' : ℕ → ℕ) → IsWide z → Stays (before_turns bl.taken) h t h' t' → ((b : Base) → At b (i + size_of (number_code e (before_turns bl.taken) x ++ store_word frame_register a0 (words_place j 1))) (Known (bl.ground n) v h' (put t' j (word z)) nothing b) (f' b)) → aims.done (i + size_of (number_code e (before_turns bl.taken) x ++ store_word frame_register a0 (words_place j 1))) f' v z s) → Comes code i f v aims (V.number around x k s)
+number_kept : {links : Links} {code : List Instr} {i : ℕ} {v : Services} {h t : ℕ → ℕ} {s : State} {aims : Aims ℤ}
+    {e : Environment} {block : Names} {types : Types} (bl : Block e block types) (routines : Standing bl links code)
+    (around : Around) (x : Y.Number) (n : Values) (j : ℕ) (closed : Closed code aims) (f : Family) (k : ℕ)
+    → IsProvedNumber block types x → bl.taken.words + 3 + number_words x ≤ bl.words + spare bl.taken → j < bl.words
+    → Linked links code i (number_code e (before_turns bl.taken) x ++ store_word frame_register a0 (words_place j 1))
+    → Serving k s v around.line → AllHold bl.frames bl.serials (storage v) (e.level ∷ bl.depths) s block types n
+    → ((b : Base) → At b i (Known (bl.ground n) v h t nothing b) (f b))
+    → ((z : ℤ) (f' : Family) (h' t' : ℕ → ℕ) → IsWide z → Stays (before_turns bl.taken) h t h' t'
+    → ((b : Base) → At b (i + size_of (number_code e (before_turns bl.taken) x ++ store_word frame_register a0
+    (words_place j 1))) (Known (bl.ground n) v h' (put t' j (word z)) nothing b) (f' b))
+    → aims.done (i + size_of (number_code e (before_turns bl.taken) x ++ store_word frame_register a0
+    (words_place j 1))) f' v z s) → Comes code i f v aims (V.number around x k s)
 number_kept {e = e} bl routines around x n j closed f k is room inside l serving all at goal =
     word_kept number_kind bl n j closed f k (number_does x {e = e} {around = around} (setting bl routines n all serving) is) room inside l at goal
 
-limit_kept_piece : {links : Links} {code : List Instr} {i : ℕ} {v : Services} {h t : ℕ → ℕ} {s : State} {aims : Aims (Option ℤ)} {e : Environment} {block : Names} {types : Types} (bl : Block e block types) (routines : Standing bl links code) (around : Around) (limit : Option Y.Number) (n : Values) (closed : Closed code aims) (f : Family) (k : ℕ) → IsProvedNumberIf block types limit → bl.taken.words + 3 ≤ bl.words → bl.taken.words + 3 + number_if limit ≤ bl.words + spare bl.taken → Linked links code i (limit_code e bl.taken limit) → Serving k s v around.line → AllHold bl.frames bl.serials (storage v) (e.level ∷ bl.depths) s block types n → ((b : Base) → At b i (Known (bl.ground n) v h t nothing b) (f b)) → ((most : Option ℤ) (f' : Family) (h' t' : ℕ → ℕ) → LimitWaits limit most t' bl.taken.words → Stays bl.taken h t h' t' → t' (bl.taken.words + 2) ≡ t (bl.taken.words + 2) → ((b : Base) → At b (i + size_of (limit_code e bl.taken limit)) (Known (bl.ground n) v h' t' nothing b) (f' b)) → aims.done (i + size_of (limit_code e bl.taken limit)) f' v most s) → Comes code i f v aims (M.limit_of around limit k s)
+limit_kept_piece : {links : Links} {code : List Instr} {i : ℕ} {v : Services} {h t : ℕ → ℕ} {s : State}
+    {aims : Aims (Option ℤ)} {e : Environment} {block : Names} {types : Types} (bl : Block e block types)
+    (routines : Standing bl links code) (around : Around) (limit : Option Y.Number) (n : Values)
+    (closed : Closed code aims) (f : Family) (k : ℕ) → IsProvedNumberIf block types limit
+    → bl.taken.words + 3 ≤ bl.words → bl.taken.words + 3 + number_if limit ≤ bl.words + spare bl.taken
+    → Linked links code i (limit_code e bl.taken limit) → Serving k s v around.line
+    → AllHold bl.frames bl.serials (storage v) (e.level ∷ bl.depths) s block types n
+    → ((b : Base) → At b i (Known (bl.ground n) v h t nothing b) (f b))
+    → ((most : Option ℤ) (f' : Family) (h' t' : ℕ → ℕ) → LimitWaits limit most t' bl.taken.words
+    → Stays bl.taken h t h' t' → t' (bl.taken.words + 2) ≡ t (bl.taken.words + 2)
+    → ((b : Base) → At b (i + size_of (limit_code e bl.taken limit)) (Known (bl.ground n) v h' t' nothing b) (f' b))
+    → aims.done (i + size_of (limit_code e bl.taken limit)) f' v most s)
+    → Comes code i f v aims (M.limit_of around limit k s)
 unfolding M.limit_of ◌>>=◌ give
-limit_kept_piece {i = i} {v = v} {h = h} {t = t} {s = s} {aims = aims} bl routines around None n closed f k is low room l serving all at goal =
+limit_kept_piece {i = i} {v = v} {h = h} {t = t} {s = s}
+    {aims = aims} bl routines around None n closed f k is low room l serving all at goal =
     let same : i ≡ i + 0 = omega arith in
     record { to = subst (λ u. aims.done u f v None s) (sym same) (goal None f h t tt (stays_same bl.taken h t) refl (λ b. record { pc = (at b).pc ∙ ap (address b) same; holds = (at b).holds })) }
 limit_kept_piece {h = h} {t = t} {s = s} bl routines around (Some x) n closed f k is low room l serving all at goal =
     let w = bl.taken.words in
     let next' : ℤ → Meaning (Option ℤ) = λ z. give (Some z) in
     comes_on k (V.number around x k s) next'
-    (number_kept bl routines around x n w (before_closed k next' closed) f k is room (omega (arith, low)) l serving all at
+    (number_kept bl routines around x n w (before_closed k next' closed) f k is room
+    (omega (arith, low)) l serving all at
     (λ z f1 h1 t1 wz stays at1.
     record {
       to =
@@ -485,7 +526,8 @@ step_kept_piece : {links : Links} {code : List Instr} {i : ℕ} {v : Services} {
     Aims ℤ} {e : Environment} {block : Names} {types : Types} (bl : Block e block types) (routines :
     Standing bl links code) (around : Around) (step : Y.Number) (fixed : Option ℤ) (n : Values) (closed :
     Closed code aims) (f : Family) (k : ℕ) → constant_step step ≡ fixed → IsProvedNumber block types step
-    → bl.taken.words + 3 ≤ bl.words → bl.taken.words + 3 + number_words step ≤ bl.words + spare bl.taken → Linked links code i (step_kept e bl.taken step fixed)
+    → bl.taken.words + 3 ≤ bl.words → bl.taken.words + 3 + number_words step ≤ bl.words + spare bl.taken
+    → Linked links code i (step_kept e bl.taken step fixed)
     → Serving k s v around.line → AllHold bl.frames bl.serials (storage v) (e.level ∷ bl.depths) s block types n
     → ((b : Base) → At b i (Known (bl.ground n) v h t nothing b) (f b))
     → ((by : ℤ) (f' : Family) (h' t' : ℕ → ℕ) → IsWide by → StepWaits fixed by t' (bl.taken.words + 1)
@@ -525,7 +567,8 @@ pub limits_piece : {links : Links} {code : List Instr} {i : ℕ} {v : Services} 
     Standing bl links code) (around : Around) (limit : Option Y.Number) (step : Y.Number) (n : Values) (next' :
     Option ℤ → ℤ → Meaning (Unit {0})) (closed : Closed code aims) (f : Family) (k : ℕ)
     → IsProvedNumberIf block types limit → IsProvedNumber block types step
-    → bl.taken.words + 3 ≤ bl.words → bl.taken.words + 3 + number_if limit ≤ bl.words + spare bl.taken → bl.taken.words + 3 + number_words step ≤ bl.words + spare bl.taken
+    → bl.taken.words + 3 ≤ bl.words → bl.taken.words + 3 + number_if limit ≤ bl.words + spare bl.taken
+    → bl.taken.words + 3 + number_words step ≤ bl.words + spare bl.taken
     → Linked links code i (limit_code e bl.taken limit)
     → Linked links code (i + size_of (limit_code e bl.taken limit)) (step_code e bl.taken step)
     → Serving k s v around.line → AllHold bl.frames bl.serials (storage v) (e.level ∷ bl.depths) s block types n
@@ -540,7 +583,8 @@ pub limits_piece : {links : Links} {code : List Instr} {i : ℕ} {v : Services} 
     → Comes code i f v aims
     (((M.limit_of around limit) >>= (λ most. (V.number around step) >>= (λ by. next' most by))) k s)
 unfolding ◌>>=◌
-limits_piece {s = s} bl routines around limit step n next' closed f k isl iss low rooml rooms l1 l2 serving all at goal =
+limits_piece {s = s} bl routines around limit step n next' closed f k isl iss low rooml rooms l1 l2 serving all at
+    goal =
     let w = bl.taken.words in
     let steps : Option ℤ → Meaning (Unit {0}) = λ most. (V.number around step) >>= (λ by. next' most by) in
     comes_on k (M.limit_of around limit k s) steps

@@ -156,18 +156,23 @@ declaring_code e head words body =
 pub none_taken_for : (ds : List Y.DeclaredVariable) → ArePlain ds → variables_take ds ≡ none_taken
 none_taken_for [] are = refl
 none_taken_for (d ∷ ds) are =
-    by_plain (λ u. variables_take (u ∷ ds) ≡ most_taken none_taken (variables_take ds)) (λ p i. refl) (λ i. refl) (λ n i. refl) (λ n i. refl)
-    (λ type b bs i held are'. ap (λ q. most_taken (if q then none_taken else extents_take none_taken (array_variable type (b ∷ bs) i)) (variables_take ds)) (held_constant type held (b ∷ bs) i)) d are.0
+    by_plain (λ u. variables_take (u ∷ ds) ≡ most_taken none_taken (variables_take ds)) (λ p i. refl) (λ i. refl)
+    (λ n i. refl) (λ n i. refl)
+    (λ type b bs i held are'. ap (λ q. most_taken (if q then none_taken else extents_take none_taken
+    (array_variable type (b ∷ bs) i)) (variables_take ds)) (held_constant type held (b ∷ bs) i)) d are.0
     ∙ ap (λ t. most_taken none_taken t) (none_taken_for ds are.1)
 
-declaring_code_is : (e : Environment) (head : Y.BlockHead) (body : Y.Stmts) → head.level ≡ suc e.level → ArePlain (vars_of e head) → begin_code e head (block_words e head.number body) (stmts_code (begin_environment head e) none_taken body) ≡ declaring_code e head (max 0 (body_words body)) body
+declaring_code_is : (e : Environment) (head : Y.BlockHead) (body : Y.Stmts) → head.level ≡ suc e.level
+    → ArePlain (vars_of e head) → begin_code e head (block_words e head.number body)
+    (stmts_code (begin_environment head e) none_taken body) ≡ declaring_code e head (max 0 (body_words body)) body
 declaring_code_is e head body next are =
     let e' = begin_environment head e in
     let code = stmts_code e' none_taken body in
     let made = variables_made e' head.line 0 (vars_of e head) in
     let enter = entered_without_texts 1 head.line in
     let words = max 0 (body_words body) in
-    ap (λ t. inner_begun_at head.level (max t.words (body_words body)) (enter ++ (made ++ (code ++ inner_ended (max t.words (body_words body)))))) (none_taken_for (vars_of e head) are)
+    ap (λ t. inner_begun_at head.level (max t.words (body_words body))
+    (enter ++ (made ++ (code ++ inner_ended (max t.words (body_words body)))))) (none_taken_for (vars_of e head) are)
     ∙ ap (λ level. inner_begun_at level words (enter ++ (made ++ (code ++ inner_ended words)))) next
     ∙ ap (λ c. inner_begun_at (suc e.level) words (enter ++ c)) (sym (code_joined made code (inner_ended words)))
   where
@@ -337,7 +342,17 @@ own_declares_does {e} bl links code around (suc more) head body inner lower shal
           (λ b. record { pc = (at4 b).pc ∙ ap (address b) place; holds = (at4 b).holds }))))));
     }
 
-pub declares_does : {e : Environment} {block : Names} {types : Types} (bl : Block e block types) (links : Links) (code : List Instr) (around : Around) (more : ℕ) (head : Y.BlockHead) (body : Y.Stmts) (inner : Inner bl) → owner_level e.owner ≤ e.level → inner.words ≡ max 0 (body_words body) → e.level < 100 → (next : head.level ≡ suc e.level) (filled : IsFilled bl) → IsKnown (begin_environment head e) → ArePlain (vars_of e head) → (makes : (t0 : ℕ → ℕ) → Makes (inner_block bl inner t0 head.number head.level next filled) 0 (vars_of e head)) → InnerStand bl inner head next filled links code → head.kind ≡ Y.BeginBlock → head.line < 2 ^ 31 → Entering e.program around more → ((more' : ℕ) → more ≡ suc more' → suc (length bl.depths) < most_activations → MadeDoes bl inner head next filled makes links code more' body) → Does bl links code around.turns (stmt_code e bl.taken (Y.Begin (Y.BlockOf head body))) (M.statement around (Y.Begin (Y.BlockOf head body)))
+pub declares_does : {e : Environment} {block : Names} {types : Types} (bl : Block e block types) (links : Links)
+    (code : List Instr) (around : Around) (more : ℕ) (head : Y.BlockHead) (body : Y.Stmts) (inner : Inner bl)
+    → owner_level e.owner ≤ e.level → inner.words ≡ max 0 (body_words body) → e.level < 100
+    → (next : head.level ≡ suc e.level) (filled : IsFilled bl) → IsKnown (begin_environment head e)
+    → ArePlain (vars_of e head) → (makes : (t0 : ℕ → ℕ)
+    → Makes (inner_block bl inner t0 head.number head.level next filled) 0 (vars_of e head))
+    → InnerStand bl inner head next filled links code → head.kind ≡ Y.BeginBlock → head.line < 2 ^ 31
+    → Entering e.program around more → ((more' : ℕ) → more ≡ suc more' → suc (length bl.depths) < most_activations
+    → MadeDoes bl inner head next filled makes links code more' body)
+    → Does bl links code around.turns (stmt_code e bl.taken (Y.Begin (Y.BlockOf head body)))
+    (M.statement around (Y.Begin (Y.BlockOf head body)))
 declares_does {e} bl links code around more head body inner lower same shallow next filled known are makes stand kind fits entering does' =
     subst (λ c. Does bl links code around.turns (act_code head.line ++ c) (M.statement around (Y.Begin (Y.BlockOf head body)))) (ap (λ w. declaring_code e head w body) same ∙ sym (declaring_code_is e head body next are))
     (own_declares_does bl links code around more head body inner lower shallow next filled known makes stand kind fits entering does')

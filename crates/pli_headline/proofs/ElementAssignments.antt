@@ -63,7 +63,22 @@ element_all {frames = frames} {serials = serials} {s = s} {types = types} {n = n
       stored = stored_changed (serials.of j) change (λ g. refl) all.stored;
     }
 
-pub element_assign_does : {e : Environment} {block : Names} {types : Types} (bl : Block e block types) (links : Links) (code : List Instr) (routines : Standing bl links code) (around : Around) (j : ℕ) {type : Y.LeafType} (b : Bounds) (bs : List Bounds) (first : Y.Number) (rest : Y.Numbers) (source : Y.Stored) (line due : ℕ) (below : IsArrayAt types j type b bs) → given_in rest ≡ length bs → ((v : Services) (s : State) (k : ℕ) (n : Values) → AllHold bl.frames bl.serials (storage v) (e.level ∷ bl.depths) s block types n → Serving k s v line → Stores links code (bl.ground n) v s k due type (λ taken. stored_code e taken source) (V.stored_value (at_line around line) source)) → ((v : Services) (s : State) (k : ℕ) (n : Values) → AllHold bl.frames bl.serials (storage v) (e.level ∷ bl.depths) s block types n → Serving k s v line → AllEvaluate links code (bl.ground n) v s k e (at_line around line) (Y.NumberThen first rest)) → stored_into e bl.taken (element block j first rest) source ≡ word_stored e bl.taken (element block j first rest) → bl.taken.words + due ≤ bl.words + spare bl.taken → bl.taken.words + suc (subscripts_words (Y.NumberThen first rest)) ≤ bl.words + spare bl.taken → line < 2 ^ 31 → Does bl links code around.turns (act_code line ++ assigned_code e bl.taken (element block j first rest) source) (M.statement around (Y.Assign (element block j first rest) source line))
+pub element_assign_does : {e : Environment} {block : Names} {types : Types} (bl : Block e block types) (links : Links)
+    (code : List Instr) (routines : Standing bl links code) (around : Around) (j : ℕ) {type : Y.LeafType} (b : Bounds)
+    (bs : List Bounds) (first : Y.Number) (rest : Y.Numbers) (source : Y.Stored) (line due : ℕ)
+    (below : IsArrayAt types j type b bs) → given_in rest ≡ length bs
+    → ((v : Services) (s : State) (k : ℕ) (n : Values)
+    → AllHold bl.frames bl.serials (storage v) (e.level ∷ bl.depths) s block types n → Serving k s v line
+    → Stores links code (bl.ground n) v s k due type (λ taken. stored_code e taken source)
+    (V.stored_value (at_line around line) source))
+    → ((v : Services) (s : State) (k : ℕ) (n : Values)
+    → AllHold bl.frames bl.serials (storage v) (e.level ∷ bl.depths) s block types n → Serving k s v line
+    → AllEvaluate links code (bl.ground n) v s k e (at_line around line) (Y.NumberThen first rest))
+    → stored_into e bl.taken (element block j first rest) source ≡ word_stored e bl.taken (element block j first rest)
+    → bl.taken.words + due ≤ bl.words + spare bl.taken
+    → bl.taken.words + suc (subscripts_words (Y.NumberThen first rest)) ≤ bl.words + spare bl.taken → line < 2 ^ 31
+    → Does bl links code around.turns (act_code line ++ assigned_code e bl.taken (element block j first rest) source)
+    (M.statement around (Y.Assign (element block j first rest) source line))
 unfolding M.statement ◌>>=◌ ◌>>◌
 element_assign_does {e} {block} {types} bl links code routines around j {type} b bs first rest source line due below many stores subscripts into room some fits =
     record {
@@ -106,13 +121,21 @@ setting_at bl routines around n all serving =
     record { routines = routines.raises; constants = routines.constants n; temps = bl.temps n; scope = scope_of bl n all; serving = serving }
 
 -- what a reference takes is enough for its subscripts
-pub subscripts_fit : (block : Names) (j : ℕ) (first : Y.Number) (rest : Y.Numbers) (r : Y.Reference) (taken words : ℕ) → r ≡ element block j first rest → taken + suc (reference_words r) ≤ words → taken + suc (subscripts_words (Y.NumberThen first rest)) ≤ words
+pub subscripts_fit : (block : Names) (j : ℕ) (first : Y.Number) (rest : Y.Numbers) (r : Y.Reference) (taken words : ℕ)
+    → r ≡ element block j first rest → taken + suc (reference_words r) ≤ words
+    → taken + suc (subscripts_words (Y.NumberThen first rest)) ≤ words
 subscripts_fit block j first rest r taken words e room =
     let most = le-max_right 0 (0 + subscripts_words (Y.NumberThen first rest)) in
     let same = ap reference_words e in
     omega (arith, room, most, same)
 
-pub assign_number_part_does : {e : Environment} {block : Names} {types : Types} (bl : Block e block types) (links : Links) (code : List Instr) (routines : Standing bl links code) (around : Around) (r : Y.Reference) (p : ℕ) (x : Y.Number) (line : ℕ) → IsAssigned block types (Y.FixedLeaf p) r → IsProvedNumber block types x → bl.taken.words + max 1 (number_words x) ≤ bl.words + spare bl.taken → bl.taken.words + suc (reference_words r) ≤ bl.words + spare bl.taken → line < 2 ^ 31 → Does bl links code around.turns (act_code line ++ assigned_code e bl.taken r (Y.StoredNumber p x)) (M.statement around (Y.Assign r (Y.StoredNumber p x) line))
+pub assign_number_part_does : {e : Environment} {block : Names} {types : Types} (bl : Block e block types)
+    (links : Links) (code : List Instr) (routines : Standing bl links code) (around : Around) (r : Y.Reference) (p : ℕ)
+    (x : Y.Number) (line : ℕ) → IsAssigned block types (Y.FixedLeaf p) r → IsProvedNumber block types x
+    → bl.taken.words + max 1 (number_words x) ≤ bl.words + spare bl.taken
+    → bl.taken.words + suc (reference_words r) ≤ bl.words + spare bl.taken → line < 2 ^ 31
+    → Does bl links code around.turns (act_code line ++ assigned_code e bl.taken r (Y.StoredNumber p x))
+    (M.statement around (Y.Assign r (Y.StoredNumber p x) line))
 assign_number_part_does {e} {block} {types} bl links code routines around r p x line target is room more fits = by_part target.0
   where
     by_part : IsPart block types (Y.FixedLeaf p) r → Does bl links code around.turns (act_code line ++ assigned_code e bl.taken r (Y.StoredNumber p x)) (M.statement around (Y.Assign r (Y.StoredNumber p x) line))
@@ -125,9 +148,16 @@ assign_number_part_does {e} {block} {types} bl links code routines around r p x 
         (element_assign_does bl links code routines around o.index o.bound o.bounds o.first o.rest (Y.StoredNumber p x) line (max 1 (number_words x)) (o.declared, tt) o.many
         (λ v s k n all serving. number_stores {e = e} {block = block} {types = types} {held = n} {around = at_line around line} p x ((all.arrays o.index (Y.FixedLeaf p) o.bound o.bounds (o.declared, tt)).fits 0 some).0 (setting_at bl routines (at_line around line) n all serving) is)
         (λ v s k n all serving. subscripts_do xs (setting_at bl routines (at_line around line) n all serving) are)
-        refl room (subscripts_fit block o.index o.first o.rest r bl.taken.words (bl.words + spare bl.taken) o.is more) fits)
+        refl room (subscripts_fit block o.index o.first o.rest r bl.taken.words (bl.words + spare bl.taken) o.is more)
+        fits)
 
-pub assign_bit_part_does : {e : Environment} {block : Names} {types : Types} (bl : Block e block types) (links : Links) (code : List Instr) (routines : Standing bl links code) (around : Around) (r : Y.Reference) (x : Y.Bit) (line : ℕ) → IsAssigned block types Y.BitLeaf r → IsProvedBit block types x → bl.taken.words + suc (reference_words r) ≤ bl.words + spare bl.taken → bl.taken.words + bit_words x ≤ bl.words + spare bl.taken → line < 2 ^ 31 → Does bl links code around.turns (act_code line ++ assigned_code e bl.taken r (Y.StoredBit x)) (M.statement around (Y.Assign r (Y.StoredBit x) line))
+pub assign_bit_part_does : {e : Environment} {block : Names} {types : Types} (bl : Block e block types) (links : Links)
+    (code : List Instr) (routines : Standing bl links code) (around : Around) (r : Y.Reference) (x : Y.Bit) (line : ℕ)
+    → IsAssigned block types Y.BitLeaf r → IsProvedBit block types x
+    → bl.taken.words + suc (reference_words r) ≤ bl.words + spare bl.taken
+    → bl.taken.words + bit_words x ≤ bl.words + spare bl.taken → line < 2 ^ 31
+    → Does bl links code around.turns (act_code line ++ assigned_code e bl.taken r (Y.StoredBit x))
+    (M.statement around (Y.Assign r (Y.StoredBit x) line))
 assign_bit_part_does {e} {block} {types} bl links code routines around r x line target is more room fits = by_part target.0
   where
     by_part : IsPart block types Y.BitLeaf r → Does bl links code around.turns (act_code line ++ assigned_code e bl.taken r (Y.StoredBit x)) (M.statement around (Y.Assign r (Y.StoredBit x) line))
@@ -139,4 +169,5 @@ assign_bit_part_does {e} {block} {types} bl links code routines around r x line 
         (element_assign_does bl links code routines around o.index o.bound o.bounds o.first o.rest (Y.StoredBit x) line (bit_words x) (o.declared, tt) o.many
         (λ v s k n all serving. bit_stores {e = e} {block = block} {types = types} {held = n} {around = at_line around line} x (setting_at bl routines (at_line around line) n all serving) is)
         (λ v s k n all serving. subscripts_do xs (setting_at bl routines (at_line around line) n all serving) are)
-        refl room (subscripts_fit block o.index o.first o.rest r bl.taken.words (bl.words + spare bl.taken) o.is more) fits)
+        refl room (subscripts_fit block o.index o.first o.rest r bl.taken.words (bl.words + spare bl.taken) o.is more)
+        fits)

@@ -134,7 +134,19 @@ own_place at whole' above room =
 
 -- ---- the statement
 
-elements_does : {e : Environment} {block : Names} {types : Types} (bl : Block e block types) (links : Links) (code : List Instr) (routines : Standing bl links code) (around : Around) (j : ℕ) {type : Y.LeafType} (b : Bounds) (bs : List Bounds) (source : Y.Stored) (line due : ℕ) (below : IsArrayAt types j type b bs) → level_of block j ≡ 0 → ((v : Services) (s : State) (k : ℕ) (n : Values) → AllHold bl.frames bl.serials (storage v) (e.level ∷ bl.depths) s block types n → Serving k s v line → Stores links code (bl.ground n) v s k due type (λ taken. stored_code e taken source) (V.stored_value (at_line around line) source)) → elements_code e bl.taken (whole (own block j)) source ≡ stored_code e bl.taken source ++ (save a0 bl.taken ++ (record_code e (with_number bl.taken) (whole (own block j)) ++ (record_given e (with_number bl.taken) ++ (number a1 0 ++ (fetch a2 bl.taken ++ service 41))))) → bl.taken.words + due ≤ bl.words + spare bl.taken → (with_number bl.taken).words + 4 ≤ bl.words → line < 2 ^ 31 → Does bl links code around.turns (act_code line ++ elements_code e bl.taken (whole (own block j)) source) (M.statement around (Y.AssignElements (whole (own block j)) source line))
+elements_does : {e : Environment} {block : Names} {types : Types} (bl : Block e block types) (links : Links)
+    (code : List Instr) (routines : Standing bl links code) (around : Around) (j : ℕ) {type : Y.LeafType} (b : Bounds)
+    (bs : List Bounds) (source : Y.Stored) (line due : ℕ) (below : IsArrayAt types j type b bs) → level_of block j ≡ 0
+    → ((v : Services) (s : State) (k : ℕ) (n : Values)
+    → AllHold bl.frames bl.serials (storage v) (e.level ∷ bl.depths) s block types n → Serving k s v line
+    → Stores links code (bl.ground n) v s k due type (λ taken. stored_code e taken source)
+    (V.stored_value (at_line around line) source))
+    → elements_code e bl.taken (whole (own block j)) source ≡ stored_code e bl.taken source ++
+    (save a0 bl.taken ++ (record_code e (with_number bl.taken) (whole (own block j)) ++
+    (record_given e (with_number bl.taken) ++ (number a1 0 ++ (fetch a2 bl.taken ++ service 41)))))
+    → bl.taken.words + due ≤ bl.words + spare bl.taken → (with_number bl.taken).words + 4 ≤ bl.words → line < 2 ^ 31
+    → Does bl links code around.turns (act_code line ++ elements_code e bl.taken (whole (own block j)) source)
+    (M.statement around (Y.AssignElements (whole (own block j)) source line))
 unfolding M.statement ◌>>=◌ ◌>>◌
 elements_does {e} {block} {types} bl links code routines around j {type} b bs source line due below outermost stores into room some fits =
     record {
@@ -196,7 +208,8 @@ elements_does {e} {block} {types} bl links code routines around j {type} b bs so
           let shape : shape_at v1.signatures num ≡ Some (array_shape type (b ∷ bs)) = ap (λ ts. shape_at ts num) (all1.stored.table ∙ ap (λ p. map template_of (table_of p)) bl.named) ∙ numbered_shape (table_of e.program) kind numbered in
           subst (Comes code (i + size_of front + size_of a) f2 v1 aims) (sym (elements_meant here z k mine))
           (filling_piece (bl.ground n') closed (bl.temps n) f2 taken (level == e.level) level base place num x change
-          (λ none. omega (arith, least, some, w)) room' few (word_small z (fits_wide type z fits2)) (bl.reaches n j below.0)
+          (λ none. omega (arith, least, some, w)) room' few (word_small z (fits_wide type z fits2))
+          (bl.reaches n j below.0)
           (own_place base na.aligned high na.room) (omega (arith, near)) (own_place g.frame g.whole (omega (arith, above)) (omega (arith, framed, tall, free)))
           (λ t' b' m held. na.own n t' b' m held)
           (λ t' b' m held. subst (λ u. load 4 m (u + 36) ≡ u) (sym framed) (bl.own n t' b' m held))
@@ -222,7 +235,12 @@ elements_does {e} {block} {types} bl links code routines around j {type} b bs so
 
 -- ---- of a number or a bit
 
-pub elements_number_does : {e : Environment} {block : Names} {types : Types} (bl : Block e block types) (links : Links) (code : List Instr) (routines : Standing bl links code) (around : Around) (r : Y.Reference) (p : ℕ) (x : Y.Number) (line : ℕ) → IsWhole block types (Y.FixedLeaf p) r → IsProvedNumber block types x → (elements_takes bl.taken r (Y.StoredNumber p x)).words ≤ bl.words → line < 2 ^ 31 → Does bl links code around.turns (act_code line ++ elements_code e bl.taken r (Y.StoredNumber p x)) (M.statement around (Y.AssignElements r (Y.StoredNumber p x) line))
+pub elements_number_does : {e : Environment} {block : Names} {types : Types} (bl : Block e block types) (links : Links)
+    (code : List Instr) (routines : Standing bl links code) (around : Around) (r : Y.Reference) (p : ℕ) (x : Y.Number)
+    (line : ℕ) → IsWhole block types (Y.FixedLeaf p) r → IsProvedNumber block types x
+    → (elements_takes bl.taken r (Y.StoredNumber p x)).words ≤ bl.words → line < 2 ^ 31
+    → Does bl links code around.turns (act_code line ++ elements_code e bl.taken r (Y.StoredNumber p x))
+    (M.statement around (Y.AssignElements r (Y.StoredNumber p x) line))
 elements_number_does {e} {block} {types} bl links code routines around r p x line o is room fits =
     let a = stored_needs bl.taken (Y.StoredNumber p x) in
     let d = record_grows (with_number bl.taken) r in
@@ -233,7 +251,12 @@ elements_number_does {e} {block} {types} bl links code routines around r p x lin
     (λ v s k n all serving. number_stores {e = e} {block = block} {types = types} {held = n} {around = at_line around line} p x ((all.arrays o.index (Y.FixedLeaf p) o.bound o.bounds at).fits 0 some).0 (setting_at bl routines (at_line around line) n all serving) is)
     refl (omega (arith, a, room)) (omega (arith, d, room)) fits)
 
-pub elements_bit_does : {e : Environment} {block : Names} {types : Types} (bl : Block e block types) (links : Links) (code : List Instr) (routines : Standing bl links code) (around : Around) (r : Y.Reference) (x : Y.Bit) (line : ℕ) → IsWhole block types Y.BitLeaf r → IsProvedBit block types x → (elements_takes bl.taken r (Y.StoredBit x)).words ≤ bl.words → line < 2 ^ 31 → Does bl links code around.turns (act_code line ++ elements_code e bl.taken r (Y.StoredBit x)) (M.statement around (Y.AssignElements r (Y.StoredBit x) line))
+pub elements_bit_does : {e : Environment} {block : Names} {types : Types} (bl : Block e block types) (links : Links)
+    (code : List Instr) (routines : Standing bl links code) (around : Around) (r : Y.Reference) (x : Y.Bit) (line : ℕ)
+    → IsWhole block types Y.BitLeaf r → IsProvedBit block types x
+    → (elements_takes bl.taken r (Y.StoredBit x)).words ≤ bl.words → line < 2 ^ 31
+    → Does bl links code around.turns (act_code line ++ elements_code e bl.taken r (Y.StoredBit x))
+    (M.statement around (Y.AssignElements r (Y.StoredBit x) line))
 elements_bit_does {e} {block} {types} bl links code routines around r x line o is room fits =
     let a = bit_needs bl.taken x in
     let d = record_grows (with_number bl.taken) r in

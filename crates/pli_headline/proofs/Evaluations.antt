@@ -57,7 +57,10 @@ Resulting {X} kind code g h t v s i aims =
 
 -- an operation on what some registers hold, with so many words that it may take
 pub record Operates {X : Type 0} (kind : Kind X) (links : Links) (code : List Instr) (g : Ground) (v : Services) (s : State) (k : ℕ) (words : ℕ) (rs : Base → List (ℕ × ℕ)) (part : Taken → Code) (meaning : Meaning X) : Type 1 where
-  pub does : {i : ℕ} {h t : ℕ → ℕ} {aims : Aims X} (closed : Closed code aims) (f : Family) (taken : Taken) → taken.words + words ≤ g.words + spare taken → Linked links code i (part taken) → ((b : Base) → At b i (Known g v h t rs b) (f b)) → Resulting kind code g h t v s (i + size_of (part taken)) aims → Comes code i f v aims (meaning k s)
+  pub does : {i : ℕ} {h t : ℕ → ℕ} {aims : Aims X} (closed : Closed code aims) (f : Family) (taken : Taken)
+      → taken.words + words ≤ g.words + spare taken → Linked links code i (part taken)
+      → ((b : Base) → At b i (Known g v h t rs b) (f b))
+      → Resulting kind code g h t v s (i + size_of (part taken)) aims → Comes code i f v aims (meaning k s)
 
 -- an expression leaves its value, while everything that waited before it stays
 abbrev pub Valued : {X : Type 0} → Kind X → Ground → Taken → (h t : ℕ → ℕ) → Services → State → ℕ → Aims X → Type 0
@@ -65,7 +68,10 @@ Valued {X} kind g k h t v s i aims =
     (z : X) (f' : Family) (h' t' : ℕ → ℕ) → kind.Fits z → Stays k h t h' t' → ((b : Base) → At b i (Known g v h' t' (valued (kind.word_of z)) b) (f' b)) → aims.done i f' v z s
 
 pub record Evaluates {X : Type 0} (kind : Kind X) (links : Links) (code : List Instr) (g : Ground) (v : Services) (s : State) (k : ℕ) (words : ℕ) (part : Taken → Code) (meaning : Meaning X) : Type 1 where
-  pub does : {i : ℕ} {h t : ℕ → ℕ} {aims : Aims X} (closed : Closed code aims) (f : Family) (taken : Taken) → taken.words + words ≤ g.words + spare taken → Linked links code i (part taken) → ((b : Base) → At b i (Known g v h t nothing b) (f b)) → Valued kind g taken h t v s (i + size_of (part taken)) aims → Comes code i f v aims (meaning k s)
+  pub does : {i : ℕ} {h t : ℕ → ℕ} {aims : Aims X} (closed : Closed code aims) (f : Family) (taken : Taken)
+      → taken.words + words ≤ g.words + spare taken → Linked links code i (part taken)
+      → ((b : Base) → At b i (Known g v h t nothing b) (f b))
+      → Valued kind g taken h t v s (i + size_of (part taken)) aims → Comes code i f v aims (meaning k s)
 
 -- straight code leaves a value that needs no temporary
 pub straight_operates : {X : Type 0} {kind : Kind X} {links : Links} {code : List Instr} {g : Ground} {v : Services} {s : State} {k words : ℕ} {rs : Base → List (ℕ × ℕ)} {part : Code} (z : X) → kind.Fits z → ((h t : ℕ → ℕ) (b : Base) (i : ℕ) (w : Whole) → Known g v h t rs b w → Items links code b i part w (Known g v h t (valued (kind.word_of z)) b)) → Operates kind links code g v s k words rs (λ taken. part) (give z)
@@ -140,7 +146,8 @@ both_evaluate {X = X} {Z = Z} {kx = kx} {g = g} {v = v} {s = s} {k = k} temps m 
           let e3 = size_append c (back ++ d) in
           let e4 = size_append back d in
           let place : i + size_of a + size_of put' + size_of c + size_of back + size_of d ≡ i + size_of (a ++ (put' ++ (c ++ (back ++ d)))) = omega (arith, e1, e2, e3, e4) in
-          let one : is_register_left taken ≡ false → taken.words < g.words = λ none. let z = none_spare taken none in omega (arith, z, room, m2) in
+          let one : is_register_left taken ≡ false
+          → taken.words < g.words = λ none. let z = none_spare taken none in omega (arith, z, room, m2) in
           let rest : X → Meaning Z = λ x. second >>= (λ y. next' x y) in
           comes_on k (first k s) rest
           (el.does (before_closed k rest closed) f taken (omega (arith, room, m1)) (front_of a (put' ++ (c ++ (back ++ d))) l) at

@@ -388,6 +388,14 @@ mutual
   text_does (Y.TextFrom c) st is = absurd is
 
 -- a number, wherever its code stands
-pub number_piece : {links : Links} {code : List Instr} {i : ℕ} {g : Ground} {v : Services} {h t : ℕ → ℕ} {s : State} {aims : Aims ℤ} (x : Y.Number) (closed : Closed code aims) (routines : Routines links code) (constants : ConstantsStand links code g) (temps : Temporaries g) (e : Environment) (block : Names) (types : Types) (held : Values) (f : Family) (around : Around) (taken : Taken) (k : ℕ) → IsProvedNumber block types x → taken.words + number_words x ≤ g.words + spare taken → Scope g e block types s held → Linked links code i (number_code e taken x) → Serving k s v around.line → ((b : Base) → At b i (Known g v h t nothing b) (f b)) → Valued number_kind g taken h t v s (i + size_of (number_code e taken x)) aims → Comes code i f v aims (V.number around x k s)
+pub number_piece : {links : Links} {code : List Instr} {i : ℕ} {g : Ground} {v : Services} {h t : ℕ → ℕ} {s : State}
+    {aims : Aims ℤ} (x : Y.Number) (closed : Closed code aims) (routines : Routines links code)
+    (constants : ConstantsStand links code g) (temps : Temporaries g) (e : Environment) (block : Names) (types : Types)
+    (held : Values) (f : Family) (around : Around) (taken : Taken) (k : ℕ) → IsProvedNumber block types x
+    → taken.words + number_words x ≤ g.words + spare taken → Scope g e block types s held
+    → Linked links code i (number_code e taken x) → Serving k s v around.line
+    → ((b : Base) → At b i (Known g v h t nothing b) (f b))
+    → Valued number_kind g taken h t v s (i + size_of (number_code e taken x)) aims
+    → Comes code i f v aims (V.number around x k s)
 number_piece x closed routines constants temps e block types held f around taken k is room scope l serving at goal =
     (number_does x (record { routines = routines; constants = constants; temps = temps; scope = scope; serving = serving }) is).does closed f taken room l at goal

@@ -82,7 +82,12 @@ extreme_size Y.Least = refl
 
 -- from a value in a0, the code of further ones leaves the extreme of all
 pub record Follows (links : Links) (code : List Instr) (g : Ground) (v : Services) (s : State) (k : ℕ) (words : ℕ) (extremum : Y.Extremum) (part : Taken → Code) (meaning : Meaning (List ℤ)) : Type 1 where
-  pub does : {i : ℕ} {h t : ℕ → ℕ} {aims : Aims (List ℤ)} (closed : Closed code aims) (f : Family) (taken : Taken) (a : ℤ) → IsWide a → taken.words + suc words ≤ g.words + spare taken → Linked links code i (part taken) → ((b : Base) → At b i (Known g v h t (valued (word a)) b) (f b)) → ((zs : List ℤ) (f' : Family) (h' t' : ℕ → ℕ) → IsWide (extreme extremum a zs) → Stays taken h t h' t' → ((b : Base) → At b (i + size_of (part taken)) (Known g v h' t' (valued (word (extreme extremum a zs))) b) (f' b)) → aims.done (i + size_of (part taken)) f' v zs s) → Comes code i f v aims (meaning k s)
+  pub does : {i : ℕ} {h t : ℕ → ℕ} {aims : Aims (List ℤ)} (closed : Closed code aims) (f : Family) (taken : Taken)
+      (a : ℤ) → IsWide a → taken.words + suc words ≤ g.words + spare taken → Linked links code i (part taken)
+      → ((b : Base) → At b i (Known g v h t (valued (word a)) b) (f b))
+      → ((zs : List ℤ) (f' : Family) (h' t' : ℕ → ℕ) → IsWide (extreme extremum a zs) → Stays taken h t h' t'
+      → ((b : Base) → At b (i + size_of (part taken)) (Known g v h' t' (valued (word (extreme extremum a zs))) b)
+      (f' b)) → aims.done (i + size_of (part taken)) f' v zs s) → Comes code i f v aims (meaning k s)
 
 pub follows_none : {links : Links} {code : List Instr} {g : Ground} {v : Services} {s : State} {k : ℕ} (extremum : Y.Extremum) → Follows links code g v s k 0 extremum (λ taken. []) (give [])
 unfolding give
@@ -124,7 +129,8 @@ follows_next {links = links} {code = code} {g = g} {v = v} {s = s} {k = k} temps
           let mid : j + size_of x ≡ j + 2 = omega (arith, two) in
           let place : j + 2 + size_of d ≡ i + size_of (next_part extremum first rest taken) = omega (arith, e1, e2, e3, e4, two) in
           let l6 = subst (λ u. Linked links code u d) mid l5 in
-          let left : is_register_left taken ≡ false → taken.words < g.words = λ none. let z = none_spare taken none in omega (arith, z, room) in
+          let left : is_register_left taken ≡ false
+          → taken.words < g.words = λ none. let z = none_spare taken none in omega (arith, z, room) in
           let h1 = held_with taken (word a) h in
           let t1 = words_with taken (word a) t in
           let next' : ℤ → Meaning (List ℤ) = λ z. more >>= (λ zs. give (z ∷ zs)) in

@@ -1,6 +1,7 @@
 -- An item of GET: the next data item is found, a field is taken for a number, a bit or a text, and it is stored in a variable of the block
 -- or an element of an array.
-use Rattle.std.proofs.Common.{◌≡◌, ℕ, suc, ◌+◌, ◌≤◌, List, [], ◌∷◌, ◌++◌, Option, Some, None, Bool, true, false, refl, sym, ap, ◌∙◌, subst, arith, lit<, inl, inr, length, ◌<◌}
+use Rattle.std.proofs.Common.{◌≡◌, ℕ, suc, ◌+◌, ◌≤◌, List, [], ◌∷◌, ◌++◌, Option, Some, None, Bool, true, false}
+use Rattle.std.proofs.Common.{refl, sym, ap, ◌∙◌, subst, arith, lit<, inl, inr, length, ◌<◌}
 use Rattle.std.specs.Prelude.{ℤ, pos, slice_get}
 use Rattle.rv_meaning.specs.declared.instr.Instr.{Instr}
 use Rattle.rv_meaning.specs.Words.{word, flag}
@@ -19,7 +20,8 @@ use Rattle.pli_meaning.specs.Control.{Meaning, give, ◌>>=◌}
 use Rattle.pli_meaning.specs.Raising as R
 use Rattle.pli_meaning.specs.Raising.{Around}
 use Rattle.pli_meaning.specs.Streaming as P
-use Rattle.pli_meaning.specs.Streaming.{FormatItem, DataFormat, DataItem, FixedItem, TextItem, Field, TextField, format_items}
+use Rattle.pli_meaning.specs.Streaming.{FormatItem, DataFormat, DataItem, FixedItem, TextItem, Field, TextField}
+use Rattle.pli_meaning.specs.Streaming.{format_items}
 use Rattle.pli_serving.specs.ServiceState.{Services, EditPlace, TextEntry}
 use Rattle.pli_serving.specs.Outcomes.{pushed, with_entries}
 use Rattle.pli_serving.specs.Edits as E
@@ -32,12 +34,15 @@ use Rattle.pli_coding.specs.Environments.{Environment}
 use Rattle.pli_coding.specs.Expressions.{type_in, given_in}
 use Rattle.pli_coding.specs.Storing.{word_stored, top_stored}
 use Rattle.pli_coding.specs.Streams as C
-use Rattle.pli_coding.specs.Streams.{has_fixed, has_text, controls_carried_out, awaited_before, field_awaited, field_stored, bit_got, text_got}
+use Rattle.pli_coding.specs.Streams.{has_fixed, has_text, controls_carried_out, awaited_before, field_awaited}
+use Rattle.pli_coding.specs.Streams.{field_stored, bit_got, text_got}
 use Rattle.pli_coding.specs.Linking.{Links}
 use Rattle.pli_coding.specs.WordBounds.{get_item_words, reference_words, subscripts_words}
 use Rattle.temporary_bounds.specs.Spare.{spare}
 use Rattle.temporary_bounds.proofs.Takes.{none_spare}
-use Rattle.pli_headline.specs.ProvedSoFar.{Names, Types, IsReadBy, IsProvedGetItem, AreProvedFormats, HasData, HaveWidths, text_leaf, alone, IsTarget, AreSubscripts, AreProvedNumbers, IsPart}
+use Rattle.pli_headline.specs.ProvedSoFar.{Names, Types, IsReadBy, IsProvedGetItem, AreProvedFormats, HasData}
+use Rattle.pli_headline.specs.ProvedSoFar.{HaveWidths, text_leaf, alone, IsTarget, AreSubscripts, AreProvedNumbers}
+use Rattle.pli_headline.specs.ProvedSoFar.{IsPart}
 use Rattle.pli_headline.proofs.Since.{since_closed, comes_since}
 use Rattle.pli_headline.proofs.HeldPlaces.{next_length}
 use Rattle.pli_headline.proofs.UnitRuns.{Raises}
@@ -71,7 +76,8 @@ use Rattle.pli_headline.proofs.GetItems.{getting, Gets, read_state}
 use Rattle.pli_headline.proofs.GetControls.{Kept, next_piece}
 use Rattle.pli_headline.proofs.GetWidths.{Suits, formats_suited}
 use Rattle.pli_headline.proofs.GetPieces.{endfile_tested, awaited_piece, ended_got}
-use Rattle.pli_headline.proofs.GetNumbers.{stored_value, rest_given, converting, converting_closed, got_and_stored, fixed_as_number, text_as_number, number_got, text_taken}
+use Rattle.pli_headline.proofs.GetNumbers.{stored_value, rest_given, converting, converting_closed, got_and_stored}
+use Rattle.pli_headline.proofs.GetNumbers.{fixed_as_number, text_as_number, number_got, text_taken}
 use Rattle.pli_headline.proofs.GetTexts.{number_as_text, field_as_text}
 use Rattle.run_steps.specs.Reach.{Family, Aims, Comes, Closed, before}
 use Rattle.run_steps.proofs.Reach.{before_closed, comes_on, onward}
@@ -138,7 +144,17 @@ value_stored bl {v = v} closed f around r takes z n fixed text all left below k 
 -- ---- numbers
 
 -- a number in a0 is stored where it fits
-number_stored : {e : Environment} {block : Names} {types : Types} (bl : Block e block types) {links : Links} {code : List Instr} {i : ℕ} {v : Services} {h t : ℕ → ℕ} {s : State} {aims : Aims (Option (List FormatItem))} (closed : Closed code aims) (routines : Routines links code) (f : Family) (around : Around) (r : Y.Reference) (p : ℕ) (takes : Takes bl links code r (Y.FixedLeaf p)) (z : ℤ) (n : Values) (fixed text : Bool) (all left : List FormatItem) (below : List EditPlace) (k : ℕ) → N.IsWide z → bl.taken.words + 1 ≤ bl.words + spare bl.taken → Suits fixed text left → v.edits ≡ getting all left ∷ below → Linked links code i (fitted_code bl.taken p ++ word_stored e bl.taken r) → Serving k s v around.line → AllHold bl.frames bl.serials (storage v) (e.level ∷ bl.depths) s block types n → ((b : Base) → At b i (Known (bl.ground n) v h t (valued (word z)) b) (f b)) → ItemBehind bl k around.line h t (i + size_of (fitted_code bl.taken p ++ word_stored e bl.taken r)) fixed text all below aims → Comes code i f v (converting code aims k around r left) (P.number_kept around p z k s)
+number_stored : {e : Environment} {block : Names} {types : Types} (bl : Block e block types) {links : Links}
+    {code : List Instr} {i : ℕ} {v : Services} {h t : ℕ → ℕ} {s : State} {aims : Aims (Option (List FormatItem))}
+    (closed : Closed code aims) (routines : Routines links code) (f : Family) (around : Around) (r : Y.Reference)
+    (p : ℕ) (takes : Takes bl links code r (Y.FixedLeaf p)) (z : ℤ) (n : Values) (fixed text : Bool)
+    (all left : List FormatItem) (below : List EditPlace) (k : ℕ) → N.IsWide z
+    → bl.taken.words + 1 ≤ bl.words + spare bl.taken → Suits fixed text left → v.edits ≡ getting all left ∷ below
+    → Linked links code i (fitted_code bl.taken p ++ word_stored e bl.taken r) → Serving k s v around.line
+    → AllHold bl.frames bl.serials (storage v) (e.level ∷ bl.depths) s block types n
+    → ((b : Base) → At b i (Known (bl.ground n) v h t (valued (word z)) b) (f b))
+    → ItemBehind bl k around.line h t (i + size_of (fitted_code bl.taken p ++ word_stored e bl.taken r)) fixed text all
+    below aims → Comes code i f v (converting code aims k around r left) (P.number_kept around p z k s)
 unfolding P.number_kept ◌>>=◌ give
 number_stored {e} {block} {types} bl {code = code} {i = i} {v = v} {s = s} {aims = aims} closed routines f around r p takes z n fixed text all left below k wide room suits edits l serving hold at goal =
     let fit = fitted_code bl.taken p in
@@ -149,7 +165,9 @@ number_stored {e} {block} {types} bl {code = code} {i = i} {v = v} {s = s} {aims
     let few = (takes.old s (storage v) n hold).1.0 in
     let next' : ℤ → Meaning BasicValue = λ q. give (BasicNumber q) in
     comes_on k (R.value_of around (checked p z) k s) next'
-    (fitted_piece (before_closed k next' (converting_closed k around r left closed)) routines (bl.temps n) f around bl.taken p z k few wide (λ none. let z = none_spare bl.taken none in omega (arith, z, room, w)) (front_of fit last l) serving at
+    (fitted_piece (before_closed k next' (converting_closed k around r left closed)) routines
+    (bl.temps n) f around bl.taken p z k few wide (λ none. let z = none_spare bl.taken none in omega
+    (arith, z, room, w)) (front_of fit last l) serving at
     (λ f1 fits at1.
     record {
       to =
@@ -232,7 +250,10 @@ text_target {e} {block} {types} bl {links} {code} {i} {v} {h} {t} {s} {aims} clo
 pub record Reads {e : Environment} {block : Names} {types : Types} (bl : Block e block types) (links : Links) (code : List Instr) (around : Around) (r : Y.Reference) (type : Y.LeafType) (fs : T.Formats) : Type 1 where
   pub does : {i : ℕ} {v : Services} {h t : ℕ → ℕ} {s : State} {aims : Aims (Option (List FormatItem))} (closed : Closed code aims) (f : Family) (d : DataItem) (n : Values) (all left : List FormatItem) (below : List EditPlace) (k : ℕ) → Suits (has_fixed fs) (has_text fs) (DataFormat d ∷ left) → Gets v.edits (DataFormat d) all left below → has_character v.input.marks ≡ true → Linked links code i (field_stored e bl.taken fs r type) → Serving k s v around.line → AllHold bl.frames bl.serials (storage v) (e.level ∷ bl.depths) s block types n → ((b : Base) → At b i (Known (bl.ground n) v h t (valued (E.data_number d)) b) (f b)) → ItemBehind bl k around.line h t (i + size_of (field_stored e bl.taken fs r type)) (has_fixed fs) (has_text fs) all below aims → Comes code i f v aims (got_and_stored around r left d k s)
 
-number_reads : {e : Environment} {block : Names} {types : Types} (bl : Block e block types) {links : Links} {code : List Instr} (routines : Routines links code) (around : Around) (r : Y.Reference) (p : ℕ) (fs : T.Formats) → Takes bl links code r (Y.FixedLeaf p) → P.target_type around r ≡ Some (Y.FixedLeaf p) → bl.taken.words + 1 ≤ bl.words + spare bl.taken → Reads bl links code around r (Y.FixedLeaf p) fs
+number_reads : {e : Environment} {block : Names} {types : Types} (bl : Block e block types) {links : Links}
+    {code : List Instr} (routines : Routines links code) (around : Around) (r : Y.Reference) (p : ℕ) (fs : T.Formats)
+    → Takes bl links code r (Y.FixedLeaf p) → P.target_type around r ≡ Some (Y.FixedLeaf p)
+    → bl.taken.words + 1 ≤ bl.words + spare bl.taken → Reads bl links code around r (Y.FixedLeaf p) fs
 number_reads {e} {block} {types} bl routines around r p fs takes target room =
     record {
       does = λ {i} {v} {h} {t} {s} {aims} closed f d n all left below k suits found has l serving hold at goal.
@@ -274,7 +295,10 @@ text_reads bl routines around r takes true most fs target =
     record { does = λ closed f d n all left below k suits found has l serving hold at goal. text_target bl closed routines f around r takes true most fs d n all left below k target suits found has l serving hold at goal }
 
 -- a variable
-own_reads : {e : Environment} {block : Names} {types : Types} (bl : Block e block types) {links : Links} {code : List Instr} (routines : Routines links code) (around : Around) (same : around.program ≡ e.program) (j : ℕ) (type : Y.LeafType) (fs : T.Formats) → slice_get types j ≡ Some (alone type) → IsReadBy (has_fixed fs) type → bl.taken.words + 1 ≤ bl.words + spare bl.taken → Reads bl links code around (whole (own block j)) type fs
+own_reads : {e : Environment} {block : Names} {types : Types} (bl : Block e block types) {links : Links}
+    {code : List Instr} (routines : Routines links code) (around : Around) (same : around.program ≡ e.program) (j : ℕ)
+    (type : Y.LeafType) (fs : T.Formats) → slice_get types j ≡ Some (alone type) → IsReadBy (has_fixed fs) type
+    → bl.taken.words + 1 ≤ bl.words + spare bl.taken → Reads bl links code around (whole (own block j)) type fs
 own_reads {e} {block} bl {links} {code} routines around same j (Y.FixedLeaf p) fs below read room =
     number_reads bl routines around (whole (own block j)) p fs (scalar_takes bl links code j below tt room) (target_is e around block j (Y.FixedLeaf p) same (bl.declared j below)) room
 own_reads {e} {block} bl {links} {code} routines around same j Y.BitLeaf fs below read room =
@@ -286,7 +310,13 @@ own_reads {e} {block} bl {links} {code} routines around same j (Y.VaryingLeaf (Y
 own_reads bl routines around same j _ fs below read room = absurd read
 
 -- an element
-element_reads : {e : Environment} {block : Names} {types : Types} (bl : Block e block types) {links : Links} {code : List Instr} (routines : Standing bl links code) (around : Around) (same : around.program ≡ e.program) (j : ℕ) (type : Y.LeafType) (b : Bounds) (bs : List Bounds) (first : Y.Number) (rest : Y.Numbers) (fs : T.Formats) → slice_get types j ≡ Some (record { type = type; bounds = b ∷ bs }) → given_in rest ≡ length bs → AreProvedNumbers block types (Y.NumberThen first rest) → IsReadBy (has_fixed fs) type → bl.taken.words + suc (subscripts_words (Y.NumberThen first rest)) ≤ bl.words + spare bl.taken → Reads bl links code around (element block j first rest) type fs
+element_reads : {e : Environment} {block : Names} {types : Types} (bl : Block e block types) {links : Links}
+    {code : List Instr} (routines : Standing bl links code) (around : Around) (same : around.program ≡ e.program)
+    (j : ℕ) (type : Y.LeafType) (b : Bounds) (bs : List Bounds) (first : Y.Number) (rest : Y.Numbers) (fs : T.Formats)
+    → slice_get types j ≡ Some (record { type = type; bounds = b ∷ bs }) → given_in rest ≡ length bs
+    → AreProvedNumbers block types (Y.NumberThen first rest) → IsReadBy (has_fixed fs) type
+    → bl.taken.words + suc (subscripts_words (Y.NumberThen first rest)) ≤ bl.words + spare bl.taken
+    → Reads bl links code around (element block j first rest) type fs
 element_reads {e} {block} bl {links} {code} routines around same j (Y.FixedLeaf p) b bs first rest fs below many are read room =
     number_reads bl routines.raises around (element block j first rest) p fs (element_takes bl links code routines j b bs first rest (below, tt) many are room) (element_target e around block j (Y.FixedLeaf p) (b ∷ bs) first rest same (bl.arrays j (Y.FixedLeaf p) b bs (below, tt)).declared) (omega (arith, room))
 element_reads {e} {block} bl {links} {code} routines around same j Y.BitLeaf b bs first rest fs below many are read room =
@@ -321,7 +351,10 @@ block_type {e} {block} {types} bl fixed r is = by_part is.part
     by_part (inr o) =
         ap (type_in e) o.is ∙ element_type e block o.index is.type (o.bound ∷ o.bounds) o.first o.rest (read_declared bl fixed o.index is.type o.bound o.bounds is.read o.declared)
 
-part_reads : {e : Environment} {block : Names} {types : Types} (bl : Block e block types) {links : Links} {code : List Instr} (routines : Standing bl links code) (around : Around) (same : around.program ≡ e.program) (r : Y.Reference) (fs : T.Formats) (is : IsTarget block types (has_fixed fs) r) → bl.taken.words + suc (reference_words r) ≤ bl.words + spare bl.taken → Reads bl links code around r is.type fs
+part_reads : {e : Environment} {block : Names} {types : Types} (bl : Block e block types) {links : Links}
+    {code : List Instr} (routines : Standing bl links code) (around : Around) (same : around.program ≡ e.program)
+    (r : Y.Reference) (fs : T.Formats) (is : IsTarget block types (has_fixed fs) r)
+    → bl.taken.words + suc (reference_words r) ≤ bl.words + spare bl.taken → Reads bl links code around r is.type fs
 part_reads {block = block} {types} bl {links} {code} routines around same r fs is room = by_part is.part
   where
     by_part : IsPart block types is.type r → Reads bl links code around r is.type fs
@@ -330,7 +363,8 @@ part_reads {block = block} {types} bl {links} {code} routines around same r fs i
     by_part (inr o) =
         let are = subst (AreSubscripts block types) o.is is.subscripts in
         subst (λ q. Reads bl links code around q is.type fs) (sym o.is)
-        (element_reads bl routines around same o.index is.type o.bound o.bounds o.first o.rest fs o.declared o.many are is.read (subscripts_few block o.index o.first o.rest r bl.taken.words (bl.words + spare bl.taken) o.is room))
+        (element_reads bl routines around same o.index is.type o.bound o.bounds o.first o.rest fs o.declared o.many are
+        is.read (subscripts_few block o.index o.first o.rest r bl.taken.words (bl.words + spare bl.taken) o.is room))
 
 -- ---- the whole item
 
@@ -365,7 +399,23 @@ reference_piece {e} {block} {types} bl {links} {code} {i} {v} {h} {t} {s} {aims}
     (λ s3 v3 line3 n3 h3 f3 serving3 hold3 as3 stays3 at3.
     record { to = ended s3 v3 line3 n3 h3 t f3 serving3 hold3 (as3 ∙ next_length v1 _ v1.edits below found1) stays3 at3 }))))))
 
-pub item_piece : {e : Environment} {block : Names} {types : Types} (bl : Block e block types) {links : Links} {code : List Instr} (item : Y.GetItem) {i : ℕ} {v : Services} {h t : ℕ → ℕ} {s : State} {aims : Aims (Option (List FormatItem))} (closed : Closed code aims) (routines : Standing bl links code) (f : Family) (around : Around) (same : around.program ≡ e.program) (fs : T.Formats) (n : Values) (rest : List FormatItem) (below : List EditPlace) (behind k : ℕ) (can : Raises bl links code around Conditions.Endfile endfile_code) (exit start acts : ℕ) → i + size_of (C.item_got e bl.taken fs item behind) + behind ≡ exit → exit + 2 ≤ length code → Enough bl links k around.turns start h t acts aims.jumped aims.returned → acts < v.world.acts → IsProvedGetItem block types (has_fixed fs) item → bl.taken.words + get_item_words item ≤ bl.words + spare bl.taken → AreProvedFormats fs → HasData fs → HaveWidths fs → Suits (has_fixed fs) (has_text fs) rest → v.edits ≡ getting (format_items fs) rest ∷ below → Linked links code i (C.item_got e bl.taken fs item behind) → Serving k s v around.line → AllHold bl.frames bl.serials (storage v) (e.level ∷ bl.depths) s block types n → ((b : Base) → At b i (Known (bl.ground n) v h t nothing b) (f b)) → ItemBehind bl k around.line h t (i + size_of (C.item_got e bl.taken fs item behind)) (has_fixed fs) (has_text fs) (format_items fs) below aims → AtExit bl k (length below) h t exit None aims → Comes code i f v aims (P.item_got around (format_items fs) rest item k s)
+pub item_piece : {e : Environment} {block : Names} {types : Types} (bl : Block e block types) {links : Links}
+    {code : List Instr} (item : Y.GetItem) {i : ℕ} {v : Services} {h t : ℕ → ℕ} {s : State}
+    {aims : Aims (Option (List FormatItem))} (closed : Closed code aims) (routines : Standing bl links code)
+    (f : Family) (around : Around) (same : around.program ≡ e.program) (fs : T.Formats) (n : Values)
+    (rest : List FormatItem) (below : List EditPlace) (behind k : ℕ)
+    (can : Raises bl links code around Conditions.Endfile endfile_code) (exit start acts : ℕ)
+    → i + size_of (C.item_got e bl.taken fs item behind) + behind ≡ exit → exit + 2 ≤ length code
+    → Enough bl links k around.turns start h t acts aims.jumped aims.returned → acts < v.world.acts
+    → IsProvedGetItem block types (has_fixed fs) item
+    → bl.taken.words + get_item_words item ≤ bl.words + spare bl.taken → AreProvedFormats fs → HasData fs
+    → HaveWidths fs → Suits (has_fixed fs) (has_text fs) rest → v.edits ≡ getting (format_items fs) rest ∷ below
+    → Linked links code i (C.item_got e bl.taken fs item behind) → Serving k s v around.line
+    → AllHold bl.frames bl.serials (storage v) (e.level ∷ bl.depths) s block types n
+    → ((b : Base) → At b i (Known (bl.ground n) v h t nothing b) (f b))
+    → ItemBehind bl k around.line h t (i + size_of (C.item_got e bl.taken fs item behind)) (has_fixed fs) (has_text fs)
+    (format_items fs) below aims → AtExit bl k (length below) h t exit None aims
+    → Comes code i f v aims (P.item_got around (format_items fs) rest item k s)
 item_piece {e} {block} {types} bl {links} {code} (Y.GetScalar r) {i} {v} {h} {t} {s} {aims} closed routines f around same fs n rest below behind k can exit start acts place_is inside more later is room are has wide suits edits l serving hold at goal ended =
     let code_is : C.item_got e bl.taken fs (Y.GetScalar r) behind ≡ awaited_before (field_stored e bl.taken fs r is.type) behind =
     ap (λ u. awaited_before (field_stored e bl.taken fs r u) behind) (block_type bl (has_fixed fs) r is) in

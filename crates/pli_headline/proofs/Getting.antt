@@ -73,7 +73,22 @@ abbrev pub ItemsBehind : {e : Environment} {block : Names} {types : Types} → B
 ItemsBehind {e = e} {block = block} {types = types} bl k line h0 t0 i whole below aims =
     (s : State) (v : Services) (rest : List FormatItem) (n : Values) (h t : ℕ → ℕ) (f : Family) → Serving k s v line → AllHold bl.frames bl.serials (storage v) (e.level ∷ bl.depths) s block types n → v.edits ≡ getting whole rest ∷ below → Stays bl.taken h0 t0 h t → ((b : Base) → At b i (Known (bl.ground n) v h t nothing b) (f b)) → aims.done i f v true s
 
-items_piece : {e : Environment} {block : Names} {types : Types} (bl : Block e block types) {links : Links} {code : List Instr} (items : List Y.GetItem) {i : ℕ} {v : Services} {h t : ℕ → ℕ} {s : State} {aims : Aims Bool} (closed : Closed code aims) (routines : Standing bl links code) (f : Family) (around : Around) (same : around.program ≡ e.program) (fs : T.Formats) (n : Values) (rest : List FormatItem) (below : List EditPlace) (behind k : ℕ) (can : Raises bl links code around Conditions.Endfile endfile_code) (exit start acts : ℕ) → i + size_of (C.items_got e bl.taken fs behind items) + behind ≡ exit → exit + 2 ≤ length code → Enough bl links k around.turns start h t acts aims.jumped aims.returned → acts < v.world.acts → AreProvedGetItems block types (has_fixed fs) items → bl.taken.words + get_items_words items ≤ bl.words + spare bl.taken → AreProvedFormats fs → HasData fs → HaveWidths fs → Suits (has_fixed fs) (has_text fs) rest → v.edits ≡ getting (format_items fs) rest ∷ below → Linked links code i (C.items_got e bl.taken fs behind items) → Serving k s v around.line → AllHold bl.frames bl.serials (storage v) (e.level ∷ bl.depths) s block types n → ((b : Base) → At b i (Known (bl.ground n) v h t nothing b) (f b)) → ItemsBehind bl k around.line h t (i + size_of (C.items_got e bl.taken fs behind items)) (format_items fs) below aims → AtExit bl k (length below) h t exit false aims → Comes code i f v aims (P.items_got around (format_items fs) rest items k s)
+items_piece : {e : Environment} {block : Names} {types : Types} (bl : Block e block types) {links : Links}
+    {code : List Instr} (items : List Y.GetItem) {i : ℕ} {v : Services} {h t : ℕ → ℕ} {s : State} {aims : Aims Bool}
+    (closed : Closed code aims) (routines : Standing bl links code) (f : Family) (around : Around)
+    (same : around.program ≡ e.program) (fs : T.Formats) (n : Values) (rest : List FormatItem) (below : List EditPlace)
+    (behind k : ℕ) (can : Raises bl links code around Conditions.Endfile endfile_code) (exit start acts : ℕ)
+    → i + size_of (C.items_got e bl.taken fs behind items) + behind ≡ exit → exit + 2 ≤ length code
+    → Enough bl links k around.turns start h t acts aims.jumped aims.returned → acts < v.world.acts
+    → AreProvedGetItems block types (has_fixed fs) items
+    → bl.taken.words + get_items_words items ≤ bl.words + spare bl.taken → AreProvedFormats fs → HasData fs
+    → HaveWidths fs → Suits (has_fixed fs) (has_text fs) rest → v.edits ≡ getting (format_items fs) rest ∷ below
+    → Linked links code i (C.items_got e bl.taken fs behind items) → Serving k s v around.line
+    → AllHold bl.frames bl.serials (storage v) (e.level ∷ bl.depths) s block types n
+    → ((b : Base) → At b i (Known (bl.ground n) v h t nothing b) (f b))
+    → ItemsBehind bl k around.line h t (i + size_of (C.items_got e bl.taken fs behind items))
+    (format_items fs) below aims → AtExit bl k (length below) h t exit false aims
+    → Comes code i f v aims (P.items_got around (format_items fs) rest items k s)
 unfolding P.items_got ◌>>=◌ give given
 items_piece bl [] {i = i} {v = v} {h = h} {t = t} {s = s} {aims = aims} closed routines f around same fs n rest below behind k can exit start acts place_is inside more later is room are has wide suits edits l serving all at goal ended =
     let e : i ≡ i + 0 = omega arith in
@@ -119,7 +134,19 @@ exit_piece bl {v = v} {h = h} {t = t} {s = s} {line = line} {aims = aims} closed
     }))
 
 -- pairs, and the way past the exit
-pairs_piece : {e : Environment} {block : Names} {types : Types} (bl : Block e block types) {links : Links} {code : List Instr} (pairs : List Y.GetPair) {i : ℕ} {v : Services} {h t : ℕ → ℕ} {s : State} {aims : Aims (Unit {0})} (closed : Closed code aims) (routines : Standing bl links code) (f : Family) (around : Around) (same : around.program ≡ e.program) (n : Values) (k : ℕ) (can : Raises bl links code around Conditions.Endfile endfile_code) (exit start acts : ℕ) → i + size_of (get_pairs e bl.taken pairs) ≡ exit → Linked links code exit edit_ended → Enough bl links k around.turns start h t acts aims.jumped aims.returned → acts < v.world.acts → AreProvedGetPairs block types pairs → bl.taken.words + get_words pairs ≤ bl.words + spare bl.taken → Linked links code i (get_pairs e bl.taken pairs) → i + size_of (get_pairs e bl.taken pairs) + 2 ≤ length code → Serving k s v around.line → AllHold bl.frames bl.serials (storage v) (e.level ∷ bl.depths) s block types n → ((b : Base) → At b i (Known (bl.ground n) v h t nothing b) (f b)) → Behind bl k h t (i + size_of (get_pairs e bl.taken pairs) + 2) aims → Comes code i f v aims (P.pairs_got around pairs k s)
+pairs_piece : {e : Environment} {block : Names} {types : Types} (bl : Block e block types) {links : Links}
+    {code : List Instr} (pairs : List Y.GetPair) {i : ℕ} {v : Services} {h t : ℕ → ℕ} {s : State}
+    {aims : Aims (Unit {0})} (closed : Closed code aims) (routines : Standing bl links code) (f : Family)
+    (around : Around) (same : around.program ≡ e.program) (n : Values) (k : ℕ)
+    (can : Raises bl links code around Conditions.Endfile endfile_code) (exit start acts : ℕ)
+    → i + size_of (get_pairs e bl.taken pairs) ≡ exit → Linked links code exit edit_ended
+    → Enough bl links k around.turns start h t acts aims.jumped aims.returned → acts < v.world.acts
+    → AreProvedGetPairs block types pairs → bl.taken.words + get_words pairs ≤ bl.words + spare bl.taken
+    → Linked links code i (get_pairs e bl.taken pairs) → i + size_of (get_pairs e bl.taken pairs) + 2 ≤ length code
+    → Serving k s v around.line → AllHold bl.frames bl.serials (storage v) (e.level ∷ bl.depths) s block types n
+    → ((b : Base) → At b i (Known (bl.ground n) v h t nothing b) (f b))
+    → Behind bl k h t (i + size_of (get_pairs e bl.taken pairs) + 2) aims
+    → Comes code i f v aims (P.pairs_got around pairs k s)
 unfolding P.pairs_got ◌>>=◌ choose give
 pairs_piece bl [] {i = i} {v = v} {h = h} {t = t} {s = s} {aims = aims} closed routines f around same n k can exit start acts exit_is le more later is room l inside serving all at goal =
     let e : i + (2 + 2) ≡ i + 2 + 2 = omega arith in
@@ -221,7 +248,13 @@ skip_piece {code = code} {i = i} {g = g} {v = v} {h = h} {t = t} {s = s} closed 
 
 -- ---- the statement
 
-pub get_does : {e : Environment} {block : Names} {types : Types} (bl : Block e block types) (links : Links) (code : List Instr) (routines : Standing bl links code) (around : Around) (same : around.program ≡ e.program) (pairs : List Y.GetPair) (line : ℕ) → Raises bl links code (at_line around line) Conditions.Endfile endfile_code → AreProvedGetPairs block types pairs → line < 2 ^ 31 → bl.taken.words + get_words pairs ≤ bl.words + spare bl.taken → Does bl links code around.turns (stmt_code e bl.taken (Y.Get None pairs line)) (M.statement around (Y.Get None pairs line))
+pub get_does : {e : Environment} {block : Names} {types : Types} (bl : Block e block types) (links : Links)
+    (code : List Instr) (routines : Standing bl links code) (around : Around) (same : around.program ≡ e.program)
+    (pairs : List Y.GetPair) (line : ℕ) → Raises bl links code (at_line around line) Conditions.Endfile endfile_code
+    → AreProvedGetPairs block types pairs → line < 2 ^ 31
+    → bl.taken.words + get_words pairs ≤ bl.words + spare bl.taken
+    → Does bl links code around.turns (stmt_code e bl.taken (Y.Get None pairs line))
+    (M.statement around (Y.Get None pairs line))
 unfolding M.statement P.get ◌>>◌
 get_does {e} {block} {types} bl links code routines around same pairs line can is fits room =
     record {
@@ -244,7 +277,13 @@ get_does {e} {block} {types} bl links code routines around same pairs line can i
           (goal s2 v2 line2 n2 h2 t2 f2 serving2 all2 stays2 (λ b. record { pc = (at2 b).pc ∙ ap (address b) place; holds = (at2 b).holds })))));
     }
 
-pub get_skip_does : {e : Environment} {block : Names} {types : Types} (bl : Block e block types) (links : Links) (code : List Instr) (routines : Standing bl links code) (around : Around) (same : around.program ≡ e.program) (n : ℕ) (pairs : List Y.GetPair) (line : ℕ) → Raises bl links code (at_line around line) Conditions.Endfile endfile_code → 1 ≤ n → n ≤ 1000 → AreProvedGetPairs block types pairs → line < 2 ^ 31 → bl.taken.words + get_words pairs ≤ bl.words + spare bl.taken → Does bl links code around.turns (stmt_code e bl.taken (Y.Get (Some n) pairs line)) (M.statement around (Y.Get (Some n) pairs line))
+pub get_skip_does : {e : Environment} {block : Names} {types : Types} (bl : Block e block types) (links : Links)
+    (code : List Instr) (routines : Standing bl links code) (around : Around) (same : around.program ≡ e.program)
+    (n : ℕ) (pairs : List Y.GetPair) (line : ℕ) → Raises bl links code
+    (at_line around line) Conditions.Endfile endfile_code → 1 ≤ n → n ≤ 1000 → AreProvedGetPairs block types pairs
+    → line < 2 ^ 31 → bl.taken.words + get_words pairs ≤ bl.words + spare bl.taken
+    → Does bl links code around.turns (stmt_code e bl.taken (Y.Get (Some n) pairs line))
+    (M.statement around (Y.Get (Some n) pairs line))
 unfolding M.statement P.get ◌>>◌
 get_skip_does {e} {block} {types} bl links code routines around same n pairs line can least most is fits room =
     record {

@@ -82,7 +82,13 @@ setting bl routines n all serving =
 -- ---- the statements
 
 -- code that runs where a test behind an act is met
-pub tested_does : {e : Environment} {block : Names} {types : Types} (bl : Block e block types) (links : Links) (code : List Instr) (turns : ℕ) (routines : Standing bl links code) (around : Around) (condition : Y.Bit) (line : ℕ) (c : Code) (meaning : Meaning (Unit {0})) → IsProvedBit block types condition → bl.taken.words + bit_words condition ≤ bl.words + spare bl.taken → line < 2 ^ 31 → Does bl links code turns c meaning → Does bl links code turns (act_code line ++ (bit_code e bl.taken condition ++ if_met c)) ((act counted) >> ((V.bit (at_line around line) condition) >>= (λ met. choose met meaning (give tt))))
+pub tested_does : {e : Environment} {block : Names} {types : Types} (bl : Block e block types) (links : Links)
+    (code : List Instr) (turns : ℕ) (routines : Standing bl links code) (around : Around) (condition : Y.Bit)
+    (line : ℕ) (c : Code) (meaning : Meaning (Unit {0})) → IsProvedBit block types condition
+    → bl.taken.words + bit_words condition ≤ bl.words + spare bl.taken → line < 2 ^ 31
+    → Does bl links code turns c meaning → Does bl links code turns
+    (act_code line ++ (bit_code e bl.taken condition ++ if_met c))
+    ((act counted) >> ((V.bit (at_line around line) condition) >>= (λ met. choose met meaning (give tt))))
 unfolding ◌>>=◌ ◌>>◌ give
 tested_does {e} {block} {types} bl links code turns routines around condition line c meaning is room fits inner =
     record {
@@ -123,12 +129,24 @@ tested_does {e} {block} {types} bl links code turns routines around condition li
           })))));
     }
 
-pub if_does : {e : Environment} {block : Names} {types : Types} (bl : Block e block types) (links : Links) (code : List Instr) (routines : Standing bl links code) (around : Around) (condition : Y.Bit) (unit : Y.Stmt) (line : ℕ) → IsProvedBit block types condition → bl.taken.words + bit_words condition ≤ bl.words + spare bl.taken → line < 2 ^ 31 → Does bl links code around.turns (stmt_code e bl.taken unit) (M.statement around unit) → Does bl links code around.turns (stmt_code e bl.taken (Y.If condition unit line)) (M.statement around (Y.If condition unit line))
+pub if_does : {e : Environment} {block : Names} {types : Types} (bl : Block e block types) (links : Links)
+    (code : List Instr) (routines : Standing bl links code) (around : Around) (condition : Y.Bit) (unit : Y.Stmt)
+    (line : ℕ) → IsProvedBit block types condition → bl.taken.words + bit_words condition ≤ bl.words + spare bl.taken
+    → line < 2 ^ 31 → Does bl links code around.turns (stmt_code e bl.taken unit) (M.statement around unit)
+    → Does bl links code around.turns (stmt_code e bl.taken (Y.If condition unit line))
+    (M.statement around (Y.If condition unit line))
 unfolding M.statement
 if_does {e} bl links code routines around condition unit line is room fits inner =
     tested_does bl links code around.turns routines around condition line (stmt_code e bl.taken unit) (M.statement around unit) is room fits inner
 
-pub if_else_does : {e : Environment} {block : Names} {types : Types} (bl : Block e block types) (links : Links) (code : List Instr) (routines : Standing bl links code) (around : Around) (condition : Y.Bit) (unit otherwise : Y.Stmt) (line : ℕ) → IsProvedBit block types condition → bl.taken.words + bit_words condition ≤ bl.words + spare bl.taken → line < 2 ^ 31 → Does bl links code around.turns (stmt_code e bl.taken unit) (M.statement around unit) → Does bl links code around.turns (stmt_code e bl.taken otherwise) (M.statement around otherwise) → Does bl links code around.turns (stmt_code e bl.taken (Y.IfElse condition unit otherwise line)) (M.statement around (Y.IfElse condition unit otherwise line))
+pub if_else_does : {e : Environment} {block : Names} {types : Types} (bl : Block e block types) (links : Links)
+    (code : List Instr) (routines : Standing bl links code) (around : Around) (condition : Y.Bit)
+    (unit otherwise : Y.Stmt) (line : ℕ) → IsProvedBit block types condition
+    → bl.taken.words + bit_words condition ≤ bl.words + spare bl.taken → line < 2 ^ 31
+    → Does bl links code around.turns (stmt_code e bl.taken unit) (M.statement around unit)
+    → Does bl links code around.turns (stmt_code e bl.taken otherwise) (M.statement around otherwise)
+    → Does bl links code around.turns (stmt_code e bl.taken (Y.IfElse condition unit otherwise line))
+    (M.statement around (Y.IfElse condition unit otherwise line))
 unfolding M.statement ◌>>=◌ ◌>>◌
 if_else_does {e} {block} {types} bl links code routines around condition unit otherwise line is room fits first second =
     record {

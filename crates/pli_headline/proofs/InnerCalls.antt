@@ -68,7 +68,25 @@ labels_called head next named among =
     }
 
 -- once its variables are made
-called_does : {program : Y.Program} {block : ℕ} {all : List (ℕ × Label)} {called : List ℕ} {procedure : Y.Procedure} (q : IsInner program block all called procedure) (can : IsCallable program called q.head q.body) {links : Links} {code : List Instr} {o : Owner} {number level : ℕ} (bl : Block (owned_by o (in_frame number level (main_environment program block))) (main_names program block) (types_of (variables_of_block program block))) (callee : Callee bl) → callee.words ≡ max 0 (body_words q.body) → length bl.depths < most_activations → suc (length bl.depths) < most_activations → bl.stack.free + 4000 * (500 - length bl.depths) ≤ 14 * 2 ^ 20 → Standing bl links code → (named : LabelsStand (main_environment program block) links all block true) → ((b : BlockPlace) → IsAmong b (place_of_head q.head ∷ blocks_among q.body) → IsAmong b (blocks_of program.procedures)) → IsEndMarkedOnce links q.head.number → (bound : ℕ) → Calls (main_environment program block) (main_names program block) (types_of (variables_of_block program block)) all block bound links code called → Signals (main_environment program block) (main_names program block) (types_of (variables_of_block program block)) all block bound links code called → Tells (main_environment program block) (main_names program block) (types_of (variables_of_block program block)) all block called links code bl.base bl.frames.known → (has : HasMain block (main_labels program.procedures) level number bl.labels bl.outer) → (makes : CalleeMakes bl callee q.head q.level block (main_labels program.procedures) has) → CalleeDoes bl callee q.head q.level block (main_labels program.procedures) has makes links code bound q.body
+called_does : {program : Y.Program} {block : ℕ} {all : List (ℕ × Label)} {called : List ℕ} {procedure : Y.Procedure}
+    (q : IsInner program block all called procedure) (can : IsCallable program called q.head q.body) {links : Links}
+    {code : List Instr} {o : Owner} {number level : ℕ}
+    (bl : Block (owned_by o (in_frame number level (main_environment program block))) (main_names program block)
+    (types_of (variables_of_block program block))) (callee : Callee bl) → callee.words ≡ max 0 (body_words q.body)
+    → length bl.depths < most_activations → suc (length bl.depths) < most_activations
+    → bl.stack.free + 4000 * (500 - length bl.depths) ≤ 14 * 2 ^ 20 → Standing bl links code
+    → (named : LabelsStand (main_environment program block) links all block true)
+    → ((b : BlockPlace) → IsAmong b (place_of_head q.head ∷ blocks_among q.body)
+    → IsAmong b (blocks_of program.procedures)) → IsEndMarkedOnce links q.head.number → (bound : ℕ)
+    → Calls (main_environment program block) (main_names program block)
+    (types_of (variables_of_block program block)) all block bound links code called
+    → Signals (main_environment program block) (main_names program block)
+    (types_of (variables_of_block program block)) all block bound links code called
+    → Tells (main_environment program block) (main_names program block)
+    (types_of (variables_of_block program block)) all block called links code bl.base bl.frames.known
+    → (has : HasMain block (main_labels program.procedures) level number bl.labels bl.outer)
+    → (makes : CalleeMakes bl callee q.head q.level block (main_labels program.procedures) has)
+    → CalleeDoes bl callee q.head q.level block (main_labels program.procedures) has makes links code bound q.body
 called_does {program} {block} {all} {called} q can {links} {code} {o} {number} {level} bl callee words deep deeper space standing named known ended bound calls signals tells has makes back h0 t0 serial =
     let e = owned_by o (in_frame number level (main_environment program block)) in
     let outer = main_names program block in
@@ -103,7 +121,8 @@ called_does {program} {block} {all} {called} q can {links} {code} {o} {number} {
     (subst (λ n. AllJumpAround head.number n all blocks main' (main' ∷ []) (labels_in body) body) (sym next) q.jumps)) in
     subst (λ tk. Does mb links code (suc bound) (stmts_code (procedure_environment head e) tk body) (M.list (inner_around program bound head.line) body)) made.taken
     (body_does mb links code standing' (inner_around program bound head.line) refl {small = true} {taken = 0} {bound = bound}
-    (labels_called head next named (known (place_of_head head) (inl refl))) body q.statements jumps (subst (λ tk. (stmts_take tk body).words ≤ mb.words) (sym made.taken) (omega (arith, most', words, w)))
+    (labels_called head next named (known (place_of_head head) (inl refl))) body q.statements jumps
+    (subst (λ tk. (stmts_take tk body).words ≤ mb.words) (sym made.taken) (omega (arith, most', words, w)))
     ((omega (arith, place, words, low, space, deeper, free, depths, few), omega (arith, few)), omega (arith, deeper, depths)) (declare_plain program body standing.known.plain)
     (inner_entering program bound head.line) (omega arith) (λ b h. known b (inr h)) can.calls
     (record {

@@ -11,7 +11,8 @@ use Rattle.pli_coding.specs.Expressions.{number_code, bit_code, text_code}
 use Rattle.pli_coding.specs.Storing.{word_stored, stored_into}
 use Rattle.pli_coding.specs.Allocating.{act_code}
 use Rattle.pli_headline.specs.InnerWords.{body_words, inner_words, all_inner_words}
-use Rattle.pli_headline.specs.ProvedSoFar.{Names, Types, ArePlain, IsProvedStatement, AreProvedStatements, IsProvedBitIf, names_in, types_in}
+use Rattle.pli_headline.specs.ProvedSoFar.{Names, Types, ArePlain, IsProvedStatement, AreProvedStatements}
+use Rattle.pli_headline.specs.ProvedSoFar.{IsProvedBitIf, names_in, types_in}
 use Rattle.pli_coding.specs.Procedures.{procedure_begun, procedure_ended, procedure_in}
 use Rattle.run_steps.proofs.Linking.{size_append}
 use Rattle.pli_coding.specs.Entries.{frame_begun, frame_ended, block_left, entered_without_texts, variables_code}
@@ -20,7 +21,8 @@ use Rattle.pli_coding.specs.Statements.{stmts_code, marked, once_code, in_turns}
 use Rattle.pli_coding.specs.Statements.{start_code, limit_code, constant_step, step_code, started_code}
 use Rattle.pli_coding.specs.Statements.{turn_of, turns_code, words_back, words_behind_limit, words_behind_condition}
 use Rattle.pli_coding.specs.Statements.{limit_kept, while_kept, stepped_code, block_held}
-use Rattle.pli_coding.specs.WordBounds.{number_words, bit_words, reference_words, stmt_words, stmts_words, bit_if, number_if, value_words}
+use Rattle.pli_coding.specs.WordBounds.{number_words, bit_words, reference_words, stmt_words, stmts_words, bit_if}
+use Rattle.pli_coding.specs.WordBounds.{number_if, value_words}
 use Rattle.temporary_bounds.proofs.StatementBounds.{statements_bound, block_bound}
 use Rattle.pli_headline.proofs.Variables.{HasTypes}
 use Rattle.pli_headline.proofs.DeclaredNames.{named_in, has_in}
@@ -162,7 +164,8 @@ mutual
       let s5 = size_append c ended in
       let four = act_size head.line in
       let few = statements_bound none_taken body in
-      most_more _ _ _ _ (omega (arith, few, m, four, s1, s2, s3, s4, s5)) (omega (arith, few, m, four, s1, s2, s3, s4, s5))
+      most_more _ _ _ _ (omega (arith, few, m, four, s1, s2, s3, s4, s5))
+      (omega (arith, few, m, four, s1, s2, s3, s4, s5))
   inside_size e t block types named has (Y.Goto level label line) is bare = omega arith
   inside_size e t block types named has (Y.CallProcedure (Y.Calling procedure level Y.NoArgument) line) is bare = omega arith
   inside_size e t block types named has (Y.Return line) is bare = omega arith
@@ -355,7 +358,9 @@ mutual
       let s5 = size_append c ended in
       let four = act_size head.line in
       let few = statements_bound none_taken body in
-      let a : max 0 (body_words body) + all_inner_words body ≤ size_of (stmt_code e t (Y.Begin (Y.BlockOf head body))) = most_more _ _ _ _ (omega (arith, few, m, four, s1, s2, s3, s4, s5)) (omega (arith, few, m, four, s1, s2, s3, s4, s5)) in
+      let a : max 0 (body_words body) + all_inner_words body ≤ size_of
+      (stmt_code e t (Y.Begin (Y.BlockOf head body))) = most_more _ _ _ _
+      (omega (arith, few, m, four, s1, s2, s3, s4, s5)) (omega (arith, few, m, four, s1, s2, s3, s4, s5)) in
       omega (arith, a)
   statement_inner e t block types named has (Y.Goto level label line) is bare = omega arith
   statement_inner e t block types named has (Y.CallProcedure (Y.Calling procedure level Y.NoArgument) line) is bare = omega arith
@@ -387,7 +392,10 @@ mutual
       both_most _ _ _ _ _ (omega (arith, a, s1, s2)) (omega (arith, c, s1, s2)) (omega (arith, a, c', s1, s2)) (omega (arith, a', c, s1, s2))
 
 -- they are fewer than the words of the procedure's code
-pub procedure_inner : (e : Environment) (head : Y.BlockHead) (block : Names) (types : Types) (body : Y.Stmts) → block.program ≡ e.program → HasTypes e block types → ArePlain (variables_of_block e.program head.number) → AreProvedStatements block types body → DeclarePlain e.program body → block_words e head.number body + all_inner_words body ≤ size_of (procedure_in e head body [] None)
+pub procedure_inner : (e : Environment) (head : Y.BlockHead) (block : Names) (types : Types) (body : Y.Stmts)
+    → block.program ≡ e.program → HasTypes e block types → ArePlain (variables_of_block e.program head.number)
+    → AreProvedStatements block types body → DeclarePlain e.program body
+    → block_words e head.number body + all_inner_words body ≤ size_of (procedure_in e head body [] None)
 procedure_inner e head block types body named has plain are bare =
     let words = block_words e head.number body in
     let held = block_held e head.number body in

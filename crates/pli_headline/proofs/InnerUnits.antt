@@ -67,7 +67,19 @@ Done e block types all procedure bound links code may = Calls e block types all 
 
 -- ---- a single statement
 
-simple_does : {e : Environment} {block : Names} {types : Types} (bl : Block e block types) (links : Links) (code : List Instr) (routines : Standing bl links code) (around : Around) → around.program ≡ e.program → {all : List (ℕ × Label)} {procedure : ℕ} {may : List ℕ} {bound : ℕ} → Done e block types all procedure bound links code may → Tells e block types all procedure may links code bl.base bl.frames.known → HasMain procedure (main_labels e.program.procedures) e.level e.block bl.labels bl.outer → length bl.depths < most_activations → bl.stack.free + 4000 * (500 - length bl.depths) ≤ 14 * 2 ^ 20 → bl.words < 2 ^ 22 → {more : ℕ} → Entering e.program around more → more ≤ bound → (x : Y.Stmt) → IsSimple x → IsProvedStatement block types x → (stmt_takes bl.taken x).words ≤ bl.words → CallsAmong e.program may false 0 x → ((number : ℕ) (label : Label) → times number label all ≡ 1 → IsMarkedOnce links number label) → e.level ≤ 100 → JumpsAround e.block e.level all e.blocks (main_outer procedure e.program.procedures) bl.outer [] x → ((level : ℕ) (label : Label) → IsOutward e.block level label all e.blocks bl.outer → level ≡ 0) → Does bl links code around.turns (stmt_code e bl.taken x) (M.statement around x)
+simple_does : {e : Environment} {block : Names} {types : Types} (bl : Block e block types) (links : Links)
+    (code : List Instr) (routines : Standing bl links code) (around : Around) → around.program ≡ e.program
+    → {all : List (ℕ × Label)} {procedure : ℕ} {may : List ℕ} {bound : ℕ}
+    → Done e block types all procedure bound links code may
+    → Tells e block types all procedure may links code bl.base bl.frames.known
+    → HasMain procedure (main_labels e.program.procedures) e.level e.block bl.labels bl.outer
+    → length bl.depths < most_activations → bl.stack.free + 4000 * (500 - length bl.depths) ≤ 14 * 2 ^ 20
+    → bl.words < 2 ^ 22 → {more : ℕ} → Entering e.program around more → more ≤ bound → (x : Y.Stmt) → IsSimple x
+    → IsProvedStatement block types x → (stmt_takes bl.taken x).words ≤ bl.words → CallsAmong e.program may false 0 x
+    → ((number : ℕ) (label : Label) → times number label all ≡ 1 → IsMarkedOnce links number label) → e.level ≤ 100
+    → JumpsAround e.block e.level all e.blocks (main_outer procedure e.program.procedures) bl.outer [] x
+    → ((level : ℕ) (label : Label) → IsOutward e.block level label all e.blocks bl.outer → level ≡ 0)
+    → Does bl links code around.turns (stmt_code e bl.taken x) (M.statement around x)
 simple_does bl links code routines around same can tells has deep space narrow entering least (Y.Null line) simple is room calls once few jumps low = null_does bl links code around line is
 simple_does bl links code routines around same can tells has deep space narrow entering least (Y.Assign target (Y.StoredNumber precision x) line) simple is room calls once few jumps low =
     let a = stored_needs bl.taken (Y.StoredNumber precision x) in
@@ -113,11 +125,18 @@ simple_does bl links code routines around same can tells has deep space narrow e
 simple_does bl links code routines around same can tells has deep space narrow entering least (Y.Put None pairs line) simple is room calls once few jumps low =
     put_does bl links code routines around pairs line is.0 is.1 (put_room bl.taken pairs bl.words room)
 simple_does bl links code routines around same can tells has deep space narrow entering least (Y.Put (Some n) pairs line) simple is room calls once few jumps low =
-    put_skip_does bl links code routines around n pairs line is.0.0 is.0.1 is.1.0 is.1.1 (put_room bl.taken pairs bl.words room)
+    put_skip_does bl links code routines around n pairs line is.0.0 is.0.1 is.1.0 is.1.1
+    (put_room bl.taken pairs bl.words room)
 simple_does {e} bl links code routines around same can tells has deep space narrow {more} entering least (Y.Get None pairs line) simple is room calls once few jumps low =
-    get_does bl links code routines around same pairs line (can.1 e.owner e.block e.level bl deep space narrow routines tells has (at_line around line) same more (entering_at line entering) least C.Endfile endfile_code (lit< tt) refl) is.0 is.1 (get_room bl.taken pairs bl.words room)
+    get_does bl links code routines around same pairs line
+    (can.1 e.owner e.block e.level bl deep space narrow routines tells has (at_line around line) same more
+    (entering_at line entering) least C.Endfile endfile_code (lit< tt) refl) is.0 is.1
+    (get_room bl.taken pairs bl.words room)
 simple_does {e} bl links code routines around same can tells has deep space narrow {more} entering least (Y.Get (Some n) pairs line) simple is room calls once few jumps low =
-    get_skip_does bl links code routines around same n pairs line (can.1 e.owner e.block e.level bl deep space narrow routines tells has (at_line around line) same more (entering_at line entering) least C.Endfile endfile_code (lit< tt) refl) is.0.0 is.0.1 is.1.0 is.1.1 (get_room bl.taken pairs bl.words room)
+    get_skip_does bl links code routines around same n pairs line
+    (can.1 e.owner e.block e.level bl deep space narrow routines tells has (at_line around line) same more
+    (entering_at line entering) least C.Endfile endfile_code (lit< tt) refl) is.0.0 is.0.1 is.1.0 is.1.1
+    (get_room bl.taken pairs bl.words room)
 simple_does bl links code routines around same can tells has deep space narrow entering least _ simple is room calls once few jumps low = absurd simple
 
 -- ---- a unit that is raised
@@ -153,7 +172,31 @@ is_unit Y.UnitBlock body what = inr refl
 is_unit _ body what = absurd what
 
 -- its statements, where calls and signals in it do what they mean
-body_by : {e : Environment} {block : Names} {types : Types} (bl : Block e block types) {links : Links} {code : List Instr} (standing : Standing bl links code) {all : List (ℕ × Label)} {procedure : ℕ} {may : List ℕ} (m : ℕ) → Done e block types all procedure m links code may → Tells e block types all procedure may links code bl.base bl.frames.known → (has : HasMain procedure (main_labels e.program.procedures) e.level e.block bl.labels bl.outer) → suc (length bl.depths) < most_activations → bl.stack.free + 4000 * (500 - length bl.depths) ≤ 14 * 2 ^ 20 → (head : Y.BlockHead) (next : head.level ≡ 1) (ds : List Y.DeclaredVariable) → (IsOwned (owner_of_unit head head.kind) → frame_end e.parts e.program head.number head.level ≡ fixed_size head.level 0 + bytes_of ds) → (kind : Y.BlockKind) → head.kind ≡ kind → ds ≡ unit_declares e.program head kind → (body : Y.Stmts) → IsUnitBody kind body → AreProvedStatements (names_in block types head (unit_declares e.program head kind)) (types_in types (unit_declares e.program head kind)) body → AllJumpAround head.number head.level all e.blocks (main_outer procedure e.program.procedures) (main_outer procedure e.program.procedures ∷ []) (labels_in body) body → DeclarePlain e.program body → AllCallAmong e.program may false 0 body → 4 * (body_words body + all_inner_words body) + (bytes_of ds + inner_bytes e.program body) ≤ 3200 → ((number : ℕ) (label : Label) → times number label all ≡ 1 → IsMarkedOnce links number label) → (head.kind ≡ Y.UnitBlock → LabelsStand (unit_environment head (program_around e)) links all procedure false) → ((b : BlockPlace) → IsAmong b (blocks_among body) → IsAmong b e.blocks) → (callee : Callee bl) → callee.words ≡ (taken_by_unit kind (stmts_take none_taken body)).words → (entered : Way) (back : Base → ℕ) (h0 t0 : ℕ → ℕ) (makes : Makes (unit_block bl callee entered back h0 t0 head next procedure (main_labels e.program.procedures) has) 0 ds) (serial : ℕ) → Does (made_block (unit_block bl callee entered back h0 t0 head next procedure (main_labels e.program.procedures) has) ds makes serial) links code (suc m) (stmts_code (unit_environment head e) none_taken body) (M.list (inner_around e.program m head.line) body)
+body_by : {e : Environment} {block : Names} {types : Types} (bl : Block e block types) {links : Links}
+    {code : List Instr} (standing : Standing bl links code) {all : List (ℕ × Label)} {procedure : ℕ} {may : List ℕ}
+    (m : ℕ) → Done e block types all procedure m links code may
+    → Tells e block types all procedure may links code bl.base bl.frames.known
+    → (has : HasMain procedure (main_labels e.program.procedures) e.level e.block bl.labels bl.outer)
+    → suc (length bl.depths) < most_activations → bl.stack.free + 4000 * (500 - length bl.depths) ≤ 14 * 2 ^ 20
+    → (head : Y.BlockHead) (next : head.level ≡ 1) (ds : List Y.DeclaredVariable)
+    → (IsOwned (owner_of_unit head head.kind) → frame_end e.parts e.program head.number head.level ≡ fixed_size
+    head.level 0 + bytes_of ds) → (kind : Y.BlockKind) → head.kind ≡ kind → ds ≡ unit_declares e.program head kind
+    → (body : Y.Stmts) → IsUnitBody kind body → AreProvedStatements
+    (names_in block types head (unit_declares e.program head kind))
+    (types_in types (unit_declares e.program head kind)) body
+    → AllJumpAround head.number head.level all e.blocks (main_outer procedure e.program.procedures)
+    (main_outer procedure e.program.procedures ∷ []) (labels_in body) body → DeclarePlain e.program body
+    → AllCallAmong e.program may false 0 body → 4 * (body_words body + all_inner_words body) +
+    (bytes_of ds + inner_bytes e.program body) ≤ 3200
+    → ((number : ℕ) (label : Label) → times number label all ≡ 1 → IsMarkedOnce links number label)
+    → (head.kind ≡ Y.UnitBlock → LabelsStand (unit_environment head (program_around e)) links all procedure false)
+    → ((b : BlockPlace) → IsAmong b (blocks_among body) → IsAmong b e.blocks) → (callee : Callee bl)
+    → callee.words ≡ (taken_by_unit kind (stmts_take none_taken body)).words
+    → (entered : Way) (back : Base → ℕ) (h0 t0 : ℕ → ℕ)
+    (makes : Makes (unit_block bl callee entered back h0 t0 head next procedure (main_labels e.program.procedures) has)
+    0 ds) (serial : ℕ) → Does (made_block (unit_block bl callee entered back h0 t0 head next procedure
+    (main_labels e.program.procedures) has) ds makes serial) links code (suc m)
+    (stmts_code (unit_environment head e) none_taken body) (M.list (inner_around e.program m head.line) body)
 body_by {e} bl {links} {code} standing {all} {procedure} m can tells has deeper space head next ds sized Y.SimpleUnit kind none (Y.StmtThen [] x (Y.EndOfList [])) what proved jumps inside calls few once labels blocks callee words entered back h0 t0 makes serial =
     let mains = main_labels e.program.procedures in
     let body = Y.StmtThen [] x (Y.EndOfList []) in
@@ -163,8 +206,16 @@ body_by {e} bl {links} {code} standing {all} {procedure} m can tells has deeper 
     let T : List Y.DeclaredVariable → Type 1 = λ vs. ((IsOwned (owner_of_unit head head.kind) → frame_end e.parts e.program head.number head.level ≡ fixed_size head.level 0 + bytes_of vs) → (made : Makes cb 0 vs) → Does (made_block cb vs made serial) links code (suc m) (stmts_code (unit_environment head e) none_taken body) (M.list here body)) in
     subst T (sym none)
     (λ sized' made.
-    listed cb here body
-    (simple_does (within [] cb) links code (standing_within [] (standing_raised callee entered back h0 t0 head next procedure mains has [] sized' made serial standing)) here refl can tells (inr (inl (refl, (refl, λ label among. among)))) deeper (omega (arith, place, words, few, space, deeper)) (omega (arith, words, few)) (inner_entering e.program m head.line) (omega arith) x what proved.0 (omega (arith, words)) calls.0 once (omega (arith, next)) jumps.0 (main_level head.number all e.blocks (main_of procedure mains) refl), tt))
+    listed cb here body (
+      simple_does (within [] cb) links code (standing_within []
+          (standing_raised callee entered back h0 t0 head next procedure mains has [] sized' made serial standing))
+          here refl can tells (inr (inl (refl, (refl, λ label among. among)))) deeper
+          (omega (arith, place, words, few, space, deeper))
+          (omega (arith, words, few)) (inner_entering e.program m head.line) (omega arith) x what proved.0
+          (omega (arith, words)) calls.0 once (omega (arith, next)) jumps.0
+          (main_level head.number all e.blocks (main_of procedure mains) refl),
+      tt,
+    ))
     sized makes
 body_by {e} {block} {types} bl {links} {code} standing {all} {procedure} {may} m can tells has deeper space head next ds sized Y.UnitBlock kind are body what proved jumps inside calls few once labels blocks callee words entered back h0 t0 makes serial =
     let mains = main_labels e.program.procedures in
@@ -184,7 +235,8 @@ body_by {e} {block} {types} bl {links} {code} standing {all} {procedure} {may} m
     (subst (λ ls. AllJumpAround head.number head.level all e.blocks main' (main' ∷ []) ls body) (sym (ap (λ ls. labels_in body ++ ls) made.labels ∙ append-nil (labels_in body))) jumps) in
     subst (λ tk. Does mb links code (suc m) (stmts_code (unit_environment head e) tk body) (M.list (inner_around e.program m head.line) body)) made.taken
     (body_does mb links code (standing_raised callee entered back h0 t0 head next procedure mains has ds sized makes serial standing) (inner_around e.program m head.line) refl {small = true} {taken = 0} {bound = m}
-    (labels kind) body proved' high (subst (λ tk. (stmts_take tk body).words ≤ mb.words) (sym made.taken) (omega (arith, most', words, w)))
+    (labels kind) body proved' high (subst (λ tk. (stmts_take tk body).words ≤ mb.words) (sym made.taken)
+    (omega (arith, most', words, w)))
     ((omega (arith, place, words, low, space, deeper, free, depths, few), omega (arith, few)), omega (arith, deeper, depths)) inside
     (inner_entering e.program m head.line) (omega arith) blocks calls
     (record {

@@ -69,7 +69,19 @@ abbrev pub test_code : Environment → Taken → (line : ℕ) → Y.Bit → Code
 test_code e taken line condition = act_code line ++ bit_code e taken condition
 
 -- from the beginning of a turn, with credits enough for its act
-turns_piece : {e : Environment} {block : Names} {types : Types} (bl : Block e block types) {links : Links} {code : List Instr} (routines : Standing bl links code) (around : Around) (condition : Y.Bit) (body : Code) (line : ℕ) (part : Meaning (Unit {0})) → IsProvedBit block types condition → bl.taken.words + bit_words condition ≤ bl.words + spare bl.taken → line < 2 ^ 31 → Does bl links code around.turns body part → (turns : ℕ) {i : ℕ} {s : State} {v : Services} {h t : ℕ → ℕ} {aims : Aims (Unit {0})} (closed : Closed code aims) (credits old : ℕ) (n : Values) (f : Family) (k : ℕ) → k < turns + v.world.acts → credits + size_of (act_code line) ≤ cost code → Linked links code i (while_met (test_code e bl.taken line condition) body) → Serving k s v old → AllHold bl.frames bl.serials (storage v) (e.level ∷ bl.depths) s block types n → ((b : Base) → At b i (Known (bl.ground n) v h t nothing b) (f b)) → Behind bl k h t (i + size_of (while_met (test_code e bl.taken line condition) body)) aims → Enough bl links k around.turns i h t v.world.acts aims.jumped aims.returned → Comes code credits f v aims (repeated_while turns (M.met_after_act (at_line around line) condition) part k s)
+turns_piece : {e : Environment} {block : Names} {types : Types} (bl : Block e block types) {links : Links}
+    {code : List Instr} (routines : Standing bl links code) (around : Around) (condition : Y.Bit) (body : Code)
+    (line : ℕ) (part : Meaning (Unit {0})) → IsProvedBit block types condition
+    → bl.taken.words + bit_words condition ≤ bl.words + spare bl.taken → line < 2 ^ 31
+    → Does bl links code around.turns body part → (turns : ℕ) {i : ℕ} {s : State} {v : Services} {h t : ℕ → ℕ}
+    {aims : Aims (Unit {0})} (closed : Closed code aims) (credits old : ℕ) (n : Values) (f : Family) (k : ℕ)
+    → k < turns + v.world.acts → credits + size_of (act_code line) ≤ cost code
+    → Linked links code i (while_met (test_code e bl.taken line condition) body) → Serving k s v old
+    → AllHold bl.frames bl.serials (storage v) (e.level ∷ bl.depths) s block types n
+    → ((b : Base) → At b i (Known (bl.ground n) v h t nothing b) (f b))
+    → Behind bl k h t (i + size_of (while_met (test_code e bl.taken line condition) body)) aims
+    → Enough bl links k around.turns i h t v.world.acts aims.jumped aims.returned
+    → Comes code credits f v aims (repeated_while turns (M.met_after_act (at_line around line) condition) part k s)
 unfolding repeated_while M.met_after_act ◌>>=◌ ◌>>◌ give stuck
 turns_piece bl routines around condition body line part is room fits inner zero closed credits old n f k enough paid l serving all at goal more =
     absurd (let a = serving.allowed in omega (arith, a, enough))
@@ -124,7 +136,12 @@ turns_piece {e} {block} {types} bl {links} {code} routines around condition body
           (goal s1 (acted line v) line n h2 t2 f3 serving1 all1 stays (λ b. record { pc = (at3 b).pc ∙ ap (address b) place; holds = (at3 b).holds }));
     })))))
 
-pub while_does : {e : Environment} {block : Names} {types : Types} (bl : Block e block types) (links : Links) (code : List Instr) (routines : Standing bl links code) (around : Around) (condition : Y.Bit) (body : Y.Stmts) (line : ℕ) → IsProvedBit block types condition → bl.taken.words + bit_words condition ≤ bl.words + spare bl.taken → line < 2 ^ 31 → Does bl links code around.turns (stmts_code e bl.taken body) (M.list around body) → Does bl links code around.turns (stmt_code e bl.taken (Y.DoWhile condition body line)) (M.statement around (Y.DoWhile condition body line))
+pub while_does : {e : Environment} {block : Names} {types : Types} (bl : Block e block types) (links : Links)
+    (code : List Instr) (routines : Standing bl links code) (around : Around) (condition : Y.Bit) (body : Y.Stmts)
+    (line : ℕ) → IsProvedBit block types condition → bl.taken.words + bit_words condition ≤ bl.words + spare bl.taken
+    → line < 2 ^ 31 → Does bl links code around.turns (stmts_code e bl.taken body) (M.list around body)
+    → Does bl links code around.turns (stmt_code e bl.taken (Y.DoWhile condition body line))
+    (M.statement around (Y.DoWhile condition body line))
 unfolding M.statement M.list ◌>>◌
 while_does {e} {block} {types} bl links code routines around condition body line is room fits inner =
     record {

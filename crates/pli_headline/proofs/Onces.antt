@@ -79,13 +79,25 @@ once_meant around target start condition body line k s =
     flows_joined k (act counted k s) value last
     ∙ (λ i. flow_on k (act counted k s) (λ u k' s'. flows_joined k' (V.stored_value here start k' s') store last i))
 
-by_condition : {e : Environment} {block : Names} {types : Types} (bl : Block e block types) (links : Links) (code : List Instr) (turns : ℕ) (routines : Standing bl links code) (around : Around) (condition : Option Y.Bit) (line : ℕ) (c : Code) (body : Meaning (Unit {0})) → IsProvedBitIf block types condition → bl.taken.words + bit_if condition ≤ bl.words + spare bl.taken → line < 2 ^ 31 → Does bl links code turns c body → Does bl links code turns (once_code e bl.taken condition line c) (M.once (at_line around line) condition body)
+by_condition : {e : Environment} {block : Names} {types : Types} (bl : Block e block types) (links : Links)
+    (code : List Instr) (turns : ℕ) (routines : Standing bl links code) (around : Around) (condition : Option Y.Bit)
+    (line : ℕ) (c : Code) (body : Meaning (Unit {0})) → IsProvedBitIf block types condition
+    → bl.taken.words + bit_if condition ≤ bl.words + spare bl.taken → line < 2 ^ 31 → Does bl links code turns c body
+    → Does bl links code turns (once_code e bl.taken condition line c) (M.once (at_line around line) condition body)
 unfolding M.once
 by_condition bl links code turns routines around None line c body is room fits inner = inner
 by_condition bl links code turns routines around (Some x) line c body is room fits inner =
     tested_does bl links code turns routines around x line c body is room fits inner
 
-pub once_does : {e : Environment} {block : Names} {types : Types} (bl : Block e block types) (links : Links) (code : List Instr) (routines : Standing bl links code) (around : Around) (target : Y.Reference) (start : Y.Stored) (condition : Option Y.Bit) (body : Y.Stmts) (line : ℕ) → IsProvedBitIf block types condition → bl.taken.words + bit_if condition ≤ bl.words + spare bl.taken → line < 2 ^ 31 → Does bl links code around.turns (stmt_code e bl.taken (Y.Assign target start line)) (M.statement around (Y.Assign target start line)) → Does bl links code around.turns (stmts_code e bl.taken body) (M.list around body) → Does bl links code around.turns (stmt_code e bl.taken (Y.DoOnce target start condition body line)) (M.statement around (Y.DoOnce target start condition body line))
+pub once_does : {e : Environment} {block : Names} {types : Types} (bl : Block e block types) (links : Links)
+    (code : List Instr) (routines : Standing bl links code) (around : Around) (target : Y.Reference) (start : Y.Stored)
+    (condition : Option Y.Bit) (body : Y.Stmts) (line : ℕ) → IsProvedBitIf block types condition
+    → bl.taken.words + bit_if condition ≤ bl.words + spare bl.taken → line < 2 ^ 31
+    → Does bl links code around.turns (stmt_code e bl.taken (Y.Assign target start line))
+    (M.statement around (Y.Assign target start line))
+    → Does bl links code around.turns (stmts_code e bl.taken body) (M.list around body)
+    → Does bl links code around.turns (stmt_code e bl.taken (Y.DoOnce target start condition body line))
+    (M.statement around (Y.DoOnce target start condition body line))
 unfolding M.list
 once_does {e} bl links code routines around target start condition body line is room fits first inner =
     let a = act_code line in

@@ -142,7 +142,8 @@ divided_operates {v = v} {s = s} {k = k} routines temps around serving p most x 
       does = λ {i} {h} {t} {aims} closed f taken room l at gone.
           divisor_piece (same_int y (pos 0)) closed routines f around (by_precision (nat_lt p 31) taken p) x y k (checked p (int_div x y)) wy refl l serving at
           (λ f' other l' at'.
-          precise_quotient (nat_lt p 31) closed routines temps f' around taken p x y k most refl wx wy other (λ none. let z = none_spare taken none in omega (arith, z, room)) l' serving at'
+          precise_quotient (nat_lt p 31) closed routines temps f' around taken p x y k most refl wx wy other
+          (λ none. let z = none_spare taken none in omega (arith, z, room)) l' serving at'
           (λ z' f'' w at''.
           let size = size_append (skip_where Test.NotEqual a0 zero_register (zero_divide_raised ++ JumpAhead (size_of (by_precision (nat_lt p 31) taken p)) ∷ [])) (by_precision (nat_lt p 31) taken p) in
           subst (λ n. aims.done n f'' v z' s) (omega (arith, size)) (gone z' f'' w (λ b. record { pc = (at'' b).pc ∙ ap (address b) (omega (arith, size)); holds = (at'' b).holds }))));

@@ -1,6 +1,7 @@
 -- The statements that are proved so far: each list of them does what it means, where the constant bytes that its code names stand in
 -- memory.
-use Rattle.std.proofs.Common.{◌∷◌, ◌≡◌, ℕ, suc, ◌+◌, ◌-◌, ◌*◌, ◌^◌, ◌<◌, ◌≤◌, List, [], ◌++◌, None, Some, inl, inr, Bool, true, false, refl, sym, ap, ◌∙◌, subst, arith, append-nil, length, lit<}
+use Rattle.std.proofs.Common.{◌∷◌, ◌≡◌, ℕ, suc, ◌+◌, ◌-◌, ◌*◌, ◌^◌, ◌<◌, ◌≤◌, List, [], ◌++◌, None, Some, inl, inr}
+use Rattle.std.proofs.Common.{Bool, true, false, refl, sym, ap, ◌∙◌, subst, arith, append-nil, length, lit<}
 use Rattle.std.specs.Prelude.{max, ◌==◌}
 use Rattle.std.proofs.Math.Nat.{le-max_left, le-max_right}
 use Rattle.rv_meaning.specs.declared.instr.Instr.{Instr}
@@ -15,17 +16,22 @@ use Rattle.pli_meaning.specs.Executing.{labels_in}
 use Rattle.pli_coding.specs.Environments.{BlockOwner, BlockPlace, Environment, Taken, in_frame, Owner, owned_by}
 use Rattle.pli_coding.specs.Frames.{fixed_size, frame_end, temporary_bytes}
 use Rattle.pli_meaning.specs.StorageState.{most_activations}
-use Rattle.pli_coding.specs.Statements.{owner_of_unit, unit_environment, before_turns, in_turns, stmt_takes, stmts_take, stmt_code, stmts_code}
+use Rattle.pli_coding.specs.Statements.{owner_of_unit, unit_environment, before_turns, in_turns, stmt_takes}
+use Rattle.pli_coding.specs.Statements.{stmts_take, stmt_code, stmts_code}
 use Rattle.pli_coding.specs.Images.{place_of_head, place_of_unit, blocks_in, blocks_among}
 use Rattle.pli_coding.specs.Linking.{Links}
 use Rattle.temporary_bounds.specs.Spare.{spare}
 use Rattle.temporary_bounds.proofs.TakesMore.{number_grows}
 use Rattle.temporary_bounds.proofs.TakesNeeds.{number_needs, text_needs, bit_needs, reference_needs, stored_needs}
 use Rattle.temporary_bounds.proofs.StatementNeeds.{number_if_needs, bit_if_needs, value_needs}
-use Rattle.pli_headline.specs.ProvedSoFar.{Names, names_in, types_in, unit_declares, IsShallow, ArePlain, bytes_of, bytes_in, inner_bytes, Types, OuterBlock, main_labels, main_outer, IsProvedStatement, AreProvedStatements, JumpsAround, AllJumpAround, is_number, CallsAmong, AllCallAmong}
+use Rattle.pli_headline.specs.ProvedSoFar.{Names, names_in, types_in, unit_declares, IsShallow, ArePlain, bytes_of}
+use Rattle.pli_headline.specs.ProvedSoFar.{bytes_in, inner_bytes, Types, OuterBlock, main_labels, main_outer}
+use Rattle.pli_headline.specs.ProvedSoFar.{IsProvedStatement, AreProvedStatements, JumpsAround, AllJumpAround}
+use Rattle.pli_headline.specs.ProvedSoFar.{is_number, CallsAmong, AllCallAmong}
 use Rattle.pli_headline.specs.EndUnits.{HasUnitFor, main_catches_end}
 use Rattle.pli_meaning.specs.DeclaredShapes.{variables_of_block}
-use Rattle.pli_headline.proofs.Statements.{owner_level, IsOwned, known_in, Standing, Block, Does, EachDoes, null_does, IsEndMarkedOnce}
+use Rattle.pli_headline.proofs.Statements.{owner_level, IsOwned, known_in, Standing, Block, Does, EachDoes}
+use Rattle.pli_headline.proofs.Statements.{null_does, IsEndMarkedOnce}
 use Rattle.pli_headline.proofs.Ifs.{if_does, if_else_does}
 use Rattle.pli_headline.proofs.Catching.{within, listed}
 use Rattle.pli_headline.proofs.InnerLevels.{IsAmong, among_front, among_back}
@@ -234,7 +240,18 @@ return_by false bl links code around line number fits few owner ended home =
     home_does bl links code around line few fits (home refl)
 
 mutual
-  pub statement_does : {e : Environment} {block : Names} {types : Types} (bl : Block e block types) (links : Links) (code : List Instr) (routines : Standing bl links code) (around : Around) (same : around.program ≡ e.program) {all : List (ℕ × Label)} {procedure : ℕ} {main returns small : Bool} {taken : ℕ} {may : List ℕ} {bound : ℕ} {outer : Names} {outers : Types} (named : LabelsStand e links all procedure main) (x : Y.Stmt) → IsProvedStatement block types x → JumpsAround e.block e.level all e.blocks (main_outer procedure e.program.procedures) bl.outer bl.labels x → (stmt_takes bl.taken x).words ≤ bl.words → Room small taken bl.stack.free (length bl.depths) (inner_words x) (bytes_in e.program x) e.level → DeclaresPlain e.program x → {more : ℕ} → Entering e.program around more → more ≤ bound → ((b : BlockPlace) → IsAmong b (blocks_in x) → IsAmong b e.blocks) → CallsAmong e.program may returns taken x → Ways e outer outers block types bl.words bound small taken bl.labels bl.outer bl.base bl.frames.known all procedure links code main returns may → Does bl links code around.turns (stmt_code e bl.taken x) (M.statement around x)
+  pub statement_does : {e : Environment} {block : Names} {types : Types} (bl : Block e block types) (links : Links)
+      (code : List Instr) (routines : Standing bl links code) (around : Around) (same : around.program ≡ e.program)
+      {all : List (ℕ × Label)} {procedure : ℕ} {main returns small : Bool} {taken : ℕ} {may : List ℕ} {bound : ℕ}
+      {outer : Names} {outers : Types} (named : LabelsStand e links all procedure main) (x : Y.Stmt)
+      → IsProvedStatement block types x → JumpsAround e.block e.level all e.blocks
+      (main_outer procedure e.program.procedures) bl.outer bl.labels x → (stmt_takes bl.taken x).words ≤ bl.words
+      → Room small taken bl.stack.free (length bl.depths) (inner_words x) (bytes_in e.program x) e.level
+      → DeclaresPlain e.program x → {more : ℕ} → Entering e.program around more → more ≤ bound
+      → ((b : BlockPlace) → IsAmong b (blocks_in x) → IsAmong b e.blocks) → CallsAmong e.program may returns taken x
+      → Ways e outer outers block types bl.words bound small taken bl.labels bl.outer bl.base bl.frames.known all
+      procedure links code main returns may → Does bl links code around.turns (stmt_code e bl.taken x)
+      (M.statement around x)
   statement_does bl links code routines around same named (Y.Null line) is jumps room space bare entering least known calls ways = null_does bl links code around line is
   statement_does bl links code routines around same named (Y.Assign target (Y.StoredNumber precision x) line) is jumps room space bare entering least known calls ways =
       let a = stored_needs bl.taken (Y.StoredNumber precision x) in
@@ -260,7 +277,8 @@ mutual
   statement_does bl links code routines around same named (Y.If condition unit line) is jumps room space bare entering least known calls ways =
       let a = bit_needs bl.taken condition in
       if_does bl links code routines around condition unit line is.0 (omega (arith, a, room)) is.1.1
-      (statement_does bl links code routines around same named unit is.1.0 jumps (omega (arith, room)) space bare entering least known calls ways)
+      (statement_does bl links code routines around same named unit is.1.0 jumps
+      (omega (arith, room)) space bare entering least known calls ways)
   statement_does {e} bl links code routines around same {all} {procedure} {main} {small = small} {taken = filled} named (Y.IfElse condition unit otherwise line) is jumps room space bare entering least known calls ways =
       let a = bit_needs bl.taken condition in
       let i1 = le-max_left (inner_words unit) (inner_words otherwise) in
@@ -278,28 +296,42 @@ mutual
   statement_does bl links code routines around same named (Y.DoWhile condition body line) is jumps room space bare entering least known calls ways =
       let a = bit_needs bl.taken condition in
       while_does bl links code routines around condition body line is.0 (omega (arith, a, room)) is.1.1
-      (listed bl around body (each_does (within (labels_in body) bl) links code (standing_within (labels_in body) routines) around same named body is.1.0 jumps (omega (arith, room)) space bare entering least known calls (ways_within (labels_in body) ways)))
+      (listed bl around body (each_does (within (labels_in body) bl) links code
+      (standing_within (labels_in body) routines) around same named body is.1.0 jumps
+      (omega (arith, room)) space bare entering least known calls (ways_within (labels_in body) ways)))
   statement_does bl links code routines around same named (Y.DoOnce target (Y.StoredNumber precision x) condition body line) is jumps room space bare entering least known calls ways =
       let a = stored_needs bl.taken (Y.StoredNumber precision x) in
       let d = behind_number bl.taken target in
       let d1 = bit_if_needs bl.taken condition in
-      once_does bl links code routines around target (Y.StoredNumber precision x) condition body line is.1.0 (omega (arith, d1, room)) is.1.1.1
-      (assign_number_part_does bl links code routines around target precision x line is.0.0 is.0.1 (omega (arith, a, room)) (omega (arith, d, room)) is.1.1.1)
-      (listed bl around body (each_does (within (labels_in body) bl) links code (standing_within (labels_in body) routines) around same named body is.1.1.0 jumps (omega (arith, room)) space bare entering least known calls (ways_within (labels_in body) ways)))
+      once_does bl links code routines around target (Y.StoredNumber precision x) condition body line is.1.0
+      (omega (arith, d1, room)) is.1.1.1
+      (assign_number_part_does bl links code routines around target precision x line is.0.0 is.0.1
+      (omega (arith, a, room)) (omega (arith, d, room)) is.1.1.1)
+      (listed bl around body (each_does (within (labels_in body) bl) links code
+      (standing_within (labels_in body) routines) around same named body is.1.1.0 jumps
+      (omega (arith, room)) space bare entering least known calls (ways_within (labels_in body) ways)))
   statement_does bl links code routines around same named (Y.DoOnce target (Y.StoredBit x) condition body line) is jumps room space bare entering least known calls ways =
       let a = bit_needs bl.taken x in
       let d = behind_number bl.taken target in
       let d1 = bit_if_needs bl.taken condition in
-      once_does bl links code routines around target (Y.StoredBit x) condition body line is.1.0 (omega (arith, d1, room)) is.1.1.1
-      (assign_bit_part_does bl links code routines around target x line is.0.0 is.0.1 (omega (arith, d, room)) (omega (arith, a, room)) is.1.1.1)
-      (listed bl around body (each_does (within (labels_in body) bl) links code (standing_within (labels_in body) routines) around same named body is.1.1.0 jumps (omega (arith, room)) space bare entering least known calls (ways_within (labels_in body) ways)))
+      once_does bl links code routines around target (Y.StoredBit x) condition body line is.1.0
+      (omega (arith, d1, room)) is.1.1.1
+      (assign_bit_part_does bl links code routines around target x line is.0.0 is.0.1 (omega (arith, d, room))
+      (omega (arith, a, room)) is.1.1.1)
+      (listed bl around body (each_does (within (labels_in body) bl) links code
+      (standing_within (labels_in body) routines) around same named body is.1.1.0 jumps
+      (omega (arith, room)) space bare entering least known calls (ways_within (labels_in body) ways)))
   statement_does bl links code routines around same named (Y.DoOnce target (Y.StoredText x) condition body line) is jumps room space bare entering least known calls ways =
       let a = text_needs bl.taken x in
       let d = reference_needs bl.taken target in
       let d1 = bit_if_needs bl.taken condition in
-      once_does bl links code routines around target (Y.StoredText x) condition body line is.1.0 (omega (arith, d1, room)) is.1.1.1
-      (assign_text_part_does bl links code routines around target x line is.0.0 is.0.1 (omega (arith, a, room)) (omega (arith, d, room)) is.1.1.1)
-      (listed bl around body (each_does (within (labels_in body) bl) links code (standing_within (labels_in body) routines) around same named body is.1.1.0 jumps (omega (arith, room)) space bare entering least known calls (ways_within (labels_in body) ways)))
+      once_does bl links code routines around target (Y.StoredText x) condition body line is.1.0
+      (omega (arith, d1, room)) is.1.1.1
+      (assign_text_part_does bl links code routines around target x line is.0.0 is.0.1 (omega (arith, a, room))
+      (omega (arith, d, room)) is.1.1.1)
+      (listed bl around body (each_does (within (labels_in body) bl) links code
+      (standing_within (labels_in body) routines) around same named body is.1.1.0 jumps
+      (omega (arith, room)) space bare entering least known calls (ways_within (labels_in body) ways)))
   statement_does bl links code routines around same named (Y.DoCount (Y.NumberCounter precision target) start limit step condition body line) is jumps room space bare entering least known calls ways =
       let b = before_turns bl.taken in
       let a1 = value_needs b start in
@@ -308,9 +340,12 @@ mutual
       let a4 = number_grows b step in
       let d1 = behind_number (in_turns bl.taken) target in
       let d2 = bit_if_needs (in_turns bl.taken) condition in
-      counted_does bl links code routines around target precision start limit step condition body line is.0.0 (omega (arith, room, a4)) (omega (arith, room, d1)) is.0.1 is.1.0.0 is.1.0.1 is.1.1.0
+      counted_does bl links code routines around target precision start limit step condition body line is.0.0
+      (omega (arith, room, a4)) (omega (arith, room, d1)) is.0.1 is.1.0.0 is.1.0.1 is.1.1.0
       (omega (arith, room, a1)) (omega (arith, room, a2)) (omega (arith, room, a3)) (omega (arith, room, d2)) is.1.1.1.1
-      (listed (turning bl) around body (each_does (within (labels_in body) (turning bl)) links code (standing_within (labels_in body) (standing_turning routines)) around same named body is.1.1.1.0 jumps (omega (arith, room)) space bare entering least known calls (ways_within (labels_in body) ways)))
+      (listed (turning bl) around body (each_does (within (labels_in body) (turning bl)) links code
+      (standing_within (labels_in body) (standing_turning routines)) around same named body is.1.1.1.0 jumps
+      (omega (arith, room)) space bare entering least known calls (ways_within (labels_in body) ways)))
   statement_does {e} {block} {types} bl links code routines around same {all} {procedure} {main} {returns} {small = small} {taken = filled} {may = may} {bound = bound} {outer = outer} {outers = outers} named (Y.Begin (Y.BlockOf head body)) is jumps room space bare {more} entering least known calls ways =
       let vars = variables_of_block e.program head.number in
       let next = jumps.0.0 in
@@ -360,7 +395,10 @@ mutual
       } in
       subst (λ tk. Does mb links code (suc more') (stmts_code (in_frame head.number head.level e) tk body) (M.list (here more') body)) taken
       (listed mb (here more') body
-      (each_does (within (labels_in body) mb) links code (standing_within (labels_in body) standing) (here more') refl {bound = bound} (inner_labels_stand named head.number head.level next deep (known (place_of_head head) (inl refl))) body are high (subst (λ tk. (stmts_take tk body).words ≤ mb.words) (sym taken) (omega (arith, most, w)))
+      (each_does (within (labels_in body) mb) links code (standing_within (labels_in body) standing) (here more') refl
+      {bound = bound} (inner_labels_stand named head.number head.level next deep
+      (known (place_of_head head) (inl refl))) body are high
+      (subst (λ tk. (stmts_take tk body).words ≤ mb.words) (sym taken) (omega (arith, most, w)))
       (subst (λ d. Room small (filled + bytes_of vars) mb.stack.free d (all_inner_words body) (inner_bytes e.program body) head.level) (sym (ap (λ (ds : List ℕ). length ds) depths))
       (subst (λ fr. Room small (filled + bytes_of vars) fr (suc (length bl.depths)) (all_inner_words body) (inner_bytes e.program body) head.level) (sym free')
       (room_inner small filled bl.stack.free (length bl.depths) words (all_inner_words body) (bytes_of vars) (inner_bytes e.program body) e.level head.level shallow next deeper space)))
@@ -430,9 +468,12 @@ mutual
   statement_does bl links code routines around same named (Y.Put None pairs line) is jumps room space bare entering least known calls ways =
       put_does bl links code routines around pairs line is.0 is.1 (put_room bl.taken pairs bl.words room)
   statement_does bl links code routines around same named (Y.Put (Some n) pairs line) is jumps room space bare entering least known calls ways =
-      put_skip_does bl links code routines around n pairs line is.0.0 is.0.1 is.1.0 is.1.1 (put_room bl.taken pairs bl.words room)
+      put_skip_does bl links code routines around n pairs line is.0.0 is.0.1 is.1.0 is.1.1
+      (put_room bl.taken pairs bl.words room)
   statement_does bl links code routines around same named (Y.Get None pairs line) is jumps room space bare entering least known (inl none) ways =
-      get_does bl links code routines around same pairs line (none_raises bl links code (at_line around line) C.Endfile endfile_code (none_ends bl ways.tells none)) is.0 is.1 (get_room bl.taken pairs bl.words room)
+      get_does bl links code routines around same pairs line
+      (none_raises bl links code (at_line around line) C.Endfile endfile_code (none_ends bl ways.tells none)) is.0 is.1
+      (get_room bl.taken pairs bl.words room)
   statement_does {e} bl links code routines around same {all} {procedure} {small = small} {taken = filled} named (Y.Get None pairs line) is jumps room space bare {more} entering least known (inr shallow) ways =
       let mains = main_labels e.program.procedures in
       get_does bl links code routines around same pairs line
@@ -440,7 +481,9 @@ mutual
       (λ n0 x. ways.signals e.owner e.block e.level (narrowed bl ways.narrows n0 x procedure mains ways.mains) (room_deep small filled bl.stack.free (length bl.depths) 0 0 e.level space) (room_calls small filled bl.stack.free (length bl.depths) 0 0 e.level shallow space) ways.narrow (standing_narrowed ways.narrows n0 x procedure mains ways.mains routines) ways.tells (narrowed_has bl procedure mains ways.mains) (at_line around line) same more (entering_at line entering) least C.Endfile endfile_code (lit< tt) refl))
       is.0 is.1 (get_room bl.taken pairs bl.words room)
   statement_does bl links code routines around same named (Y.Get (Some n) pairs line) is jumps room space bare entering least known (inl none) ways =
-      get_skip_does bl links code routines around same n pairs line (none_raises bl links code (at_line around line) C.Endfile endfile_code (none_ends bl ways.tells none)) is.0.0 is.0.1 is.1.0 is.1.1 (get_room bl.taken pairs bl.words room)
+      get_skip_does bl links code routines around same n pairs line
+      (none_raises bl links code (at_line around line) C.Endfile endfile_code (none_ends bl ways.tells none)) is.0.0
+      is.0.1 is.1.0 is.1.1 (get_room bl.taken pairs bl.words room)
   statement_does {e} bl links code routines around same {all} {procedure} {small = small} {taken = filled} named (Y.Get (Some n) pairs line) is jumps room space bare {more} entering least known (inr shallow) ways =
       let mains = main_labels e.program.procedures in
       get_skip_does bl links code routines around same n pairs line
@@ -449,7 +492,18 @@ mutual
       is.0.0 is.0.1 is.1.0 is.1.1 (get_room bl.taken pairs bl.words room)
   statement_does bl links code routines around same named _ is jumps room space bare entering least known calls ways = absurd is
 
-  pub each_does : {e : Environment} {block : Names} {types : Types} (bl : Block e block types) (links : Links) (code : List Instr) (routines : Standing bl links code) (around : Around) (same : around.program ≡ e.program) {all : List (ℕ × Label)} {procedure : ℕ} {main returns small : Bool} {taken : ℕ} {may : List ℕ} {bound : ℕ} {outer : Names} {outers : Types} (named : LabelsStand e links all procedure main) (body : Y.Stmts) → AreProvedStatements block types body → AllJumpAround e.block e.level all e.blocks (main_outer procedure e.program.procedures) bl.outer bl.labels body → (stmts_take bl.taken body).words ≤ bl.words → Room small taken bl.stack.free (length bl.depths) (all_inner_words body) (inner_bytes e.program body) e.level → DeclarePlain e.program body → {more : ℕ} → Entering e.program around more → more ≤ bound → ((b : BlockPlace) → IsAmong b (blocks_among body) → IsAmong b e.blocks) → AllCallAmong e.program may returns taken body → Ways e outer outers block types bl.words bound small taken bl.labels bl.outer bl.base bl.frames.known all procedure links code main returns may → EachDoes bl links code around body
+  pub each_does : {e : Environment} {block : Names} {types : Types} (bl : Block e block types) (links : Links)
+      (code : List Instr) (routines : Standing bl links code) (around : Around) (same : around.program ≡ e.program)
+      {all : List (ℕ × Label)} {procedure : ℕ} {main returns small : Bool} {taken : ℕ} {may : List ℕ} {bound : ℕ}
+      {outer : Names} {outers : Types} (named : LabelsStand e links all procedure main) (body : Y.Stmts)
+      → AreProvedStatements block types body → AllJumpAround e.block e.level all e.blocks
+      (main_outer procedure e.program.procedures) bl.outer bl.labels body → (stmts_take bl.taken body).words ≤ bl.words
+      → Room small taken bl.stack.free (length bl.depths) (all_inner_words body) (inner_bytes e.program body) e.level
+      → DeclarePlain e.program body → {more : ℕ} → Entering e.program around more → more ≤ bound
+      → ((b : BlockPlace) → IsAmong b (blocks_among body) → IsAmong b e.blocks)
+      → AllCallAmong e.program may returns taken body
+      → Ways e outer outers block types bl.words bound small taken bl.labels bl.outer bl.base bl.frames.known all
+      procedure links code main returns may → EachDoes bl links code around body
   each_does bl links code routines around same named (Y.EndOfList labels) are jumps room space bare entering least known calls ways = tt
   each_does {e} bl links code routines around same {all} {procedure} {main} {small = small} {taken = filled} named (Y.StmtThen labels first rest) are jumps room space bare entering least known calls ways =
       let i1 = le-max_left (inner_words first) (all_inner_words rest) in
@@ -458,12 +512,31 @@ mutual
       let b2 = le-max_right (bytes_in e.program first) (inner_bytes e.program rest) in
       let words = max (inner_words first) (all_inner_words rest) in
       let bytes = max (bytes_in e.program first) (inner_bytes e.program rest) in (
-        statement_does bl links code routines around same named first are.0 jumps.0 (omega (arith, room)) (room_less small filled bl.stack.free (length bl.depths) words (inner_words first) bytes (bytes_in e.program first) e.level i1 b1 space) bare.0 entering least (λ b h. known b (among_front b (blocks_in first) (blocks_among rest) h)) calls.0 ways,
-        each_does bl links code routines around same named rest are.1 jumps.1 (omega (arith, room)) (room_less small filled bl.stack.free (length bl.depths) words (all_inner_words rest) bytes (inner_bytes e.program rest) e.level i2 b2 space) bare.1 entering least (λ b h. known b (among_back b (blocks_in first) (blocks_among rest) h)) calls.1 ways,
+        statement_does bl links code routines around same named first are.0 jumps.0 (omega (arith, room))
+            (room_less small filled bl.stack.free (length bl.depths) words (inner_words first) bytes
+            (bytes_in e.program first) e.level i1 b1 space) bare.0 entering least
+            (λ b h. known b (among_front b (blocks_in first) (blocks_among rest) h)) calls.0 ways,
+        each_does bl links code routines around same named rest are.1 jumps.1 (omega (arith, room))
+            (room_less small filled bl.stack.free (length bl.depths) words (all_inner_words rest) bytes
+            (inner_bytes e.program rest) e.level i2 b2 space) bare.1 entering least
+            (λ b h. known b (among_back b (blocks_in first) (blocks_among rest) h)) calls.1 ways,
       )
 
 -- the statements of a block
-pub body_does : {e : Environment} {block : Names} {types : Types} (bl : Block e block types) (links : Links) (code : List Instr) (routines : Standing bl links code) (around : Around) (same : around.program ≡ e.program) {all : List (ℕ × Label)} {procedure : ℕ} {main returns small : Bool} {taken : ℕ} {may : List ℕ} {bound : ℕ} {outer : Names} {outers : Types} (named : LabelsStand e links all procedure main) (body : Y.Stmts) → AreProvedStatements block types body → AllJumpAround e.block e.level all e.blocks (main_outer procedure e.program.procedures) bl.outer (labels_in body ++ bl.labels) body → (stmts_take bl.taken body).words ≤ bl.words → Room small taken bl.stack.free (length bl.depths) (all_inner_words body) (inner_bytes e.program body) e.level → DeclarePlain e.program body → {more : ℕ} → Entering e.program around more → more ≤ bound → ((b : BlockPlace) → IsAmong b (blocks_among body) → IsAmong b e.blocks) → AllCallAmong e.program may returns taken body → Ways e outer outers block types bl.words bound small taken (labels_in body ++ bl.labels) bl.outer bl.base bl.frames.known all procedure links code main returns may → Does bl links code around.turns (stmts_code e bl.taken body) (M.list around body)
+pub body_does : {e : Environment} {block : Names} {types : Types} (bl : Block e block types) (links : Links)
+    (code : List Instr) (routines : Standing bl links code) (around : Around) (same : around.program ≡ e.program)
+    {all : List (ℕ × Label)} {procedure : ℕ} {main returns small : Bool} {taken : ℕ} {may : List ℕ} {bound : ℕ}
+    {outer : Names} {outers : Types} (named : LabelsStand e links all procedure main) (body : Y.Stmts)
+    → AreProvedStatements block types body → AllJumpAround e.block e.level all e.blocks
+    (main_outer procedure e.program.procedures) bl.outer (labels_in body ++ bl.labels) body
+    → (stmts_take bl.taken body).words ≤ bl.words → Room small taken bl.stack.free (length bl.depths)
+    (all_inner_words body) (inner_bytes e.program body) e.level → DeclarePlain e.program body → {more : ℕ}
+    → Entering e.program around more → more ≤ bound
+    → ((b : BlockPlace) → IsAmong b (blocks_among body) → IsAmong b e.blocks)
+    → AllCallAmong e.program may returns taken body
+    → Ways e outer outers block types bl.words bound small taken
+    (labels_in body ++ bl.labels) bl.outer bl.base bl.frames.known all procedure links code main returns may
+    → Does bl links code around.turns (stmts_code e bl.taken body) (M.list around body)
 body_does bl links code routines around same named body are jumps room space bare entering least known calls ways =
     listed bl around body
     (each_does (within (labels_in body) bl) links code (standing_within (labels_in body) routines) around same named body are jumps room space bare entering least known calls ways)

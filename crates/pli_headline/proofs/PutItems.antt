@@ -72,10 +72,23 @@ all_kept frames serials levels block types n = record { keeps = λ xs w s all. c
 
 -- ---- a word in a0
 
-word_piece : {e : Environment} {block : Names} {types : Types} (bl : Block e block types) {links : Links} {code : List Instr} {i : ℕ} {v : Services} {h t : ℕ → ℕ} {s : State} {aims : Aims (List FormatItem)} (closed : Closed code aims) (routines : Routines links code) (f : Family) (around : Around) (fs : T.Formats) (shown : Computational) (p : ℕ) (z : ℤ) (n : Values) (rest : List FormatItem) (below : List EditPlace) (k : ℕ) → ShownAs around (has_text fs) shown p z → bl.taken.words + 1 ≤ bl.words + spare bl.taken → AreProvedFormats fs → HasData fs → Suit (has_fixed fs) (has_text fs) rest → v.edits ≡ putting (format_items fs) rest ∷ below → Linked links code i (save a0 bl.taken ++ C.number_put bl.taken fs (C.as_text p)) → Serving k s v around.line → AllHold bl.frames bl.serials (storage v) (e.level ∷ bl.depths) s block types n → ((b : Base) → At b i (Known (bl.ground n) v h t (valued (word z)) b) (f b)) → ItemBehind bl k around.line h t (i + size_of (save a0 bl.taken ++ C.number_put bl.taken fs (C.as_text p))) n fs below aims → Comes code i f v aims (((P.next_item P.control_put (format_items fs) rest) >>= (λ next. (P.shown_by around shown next.0) >> (give next.1))) k s)
+word_piece : {e : Environment} {block : Names} {types : Types} (bl : Block e block types) {links : Links}
+    {code : List Instr} {i : ℕ} {v : Services} {h t : ℕ → ℕ} {s : State} {aims : Aims (List FormatItem)}
+    (closed : Closed code aims) (routines : Routines links code) (f : Family) (around : Around) (fs : T.Formats)
+    (shown : Computational) (p : ℕ) (z : ℤ) (n : Values) (rest : List FormatItem) (below : List EditPlace) (k : ℕ)
+    → ShownAs around (has_text fs) shown p z → bl.taken.words + 1 ≤ bl.words + spare bl.taken → AreProvedFormats fs
+    → HasData fs → Suit (has_fixed fs) (has_text fs) rest → v.edits ≡ putting (format_items fs) rest ∷ below
+    → Linked links code i (save a0 bl.taken ++ C.number_put bl.taken fs (C.as_text p)) → Serving k s v around.line
+    → AllHold bl.frames bl.serials (storage v) (e.level ∷ bl.depths) s block types n
+    → ((b : Base) → At b i (Known (bl.ground n) v h t (valued (word z)) b) (f b))
+    → ItemBehind bl k around.line h t (i + size_of (save a0 bl.taken ++ C.number_put bl.taken fs (C.as_text p))) n fs
+    below aims → Comes code i f v aims (((P.next_item P.control_put (format_items fs) rest) >>=
+    (λ next. (P.shown_by around shown next.0) >> (give next.1))) k s)
 unfolding ◌>>=◌ ◌>>◌ give
 word_piece {e} {block} {types} bl {i = i} {h = h} {t = t} {s = s} {aims = aims} closed routines f around fs shown p z n rest below k as' room are has suits edits l serving all at goal =
-    let left : is_register_left bl.taken ≡ false → bl.taken.words < (bl.ground n).words = λ none. let z = none_spare bl.taken none in let w = bl.words_are n in omega (arith, z, room, w) in
+    let left : is_register_left bl.taken ≡ false → bl.taken.words <
+    (bl.ground n).words = λ none. let z = none_spare bl.taken none in let w = bl.words_are n in omega
+    (arith, z, room, w) in
     let put' = save a0 bl.taken in
     let field = by_item fs (by_fixed bl.taken) (by_text bl.taken p) in
     let l1 = back_of put' (controls_carried_out ++ field) l in
@@ -97,7 +110,18 @@ word_piece {e} {block} {types} bl {i = i} {h = h} {t = t} {s = s} {aims = aims} 
 
 -- ---- a number, and a bit
 
-number_item_piece : {e : Environment} {block : Names} {types : Types} (bl : Block e block types) {links : Links} {code : List Instr} {i : ℕ} {v : Services} {h t : ℕ → ℕ} {s : State} {aims : Aims (List FormatItem)} (closed : Closed code aims) (routines : Standing bl links code) (f : Family) (around : Around) (fs : T.Formats) (p : ℕ) (x : Y.Number) (n : Values) (rest : List FormatItem) (below : List EditPlace) (k : ℕ) → IsProvedNumber block types x → bl.taken.words + max 1 (number_words x) ≤ bl.words + spare bl.taken → AreProvedFormats fs → HasData fs → (has_text fs ≡ true → IsPrecision p) → Suit (has_fixed fs) (has_text fs) rest → v.edits ≡ putting (format_items fs) rest ∷ below → Linked links code i (C.item_put e bl.taken fs (number_item p x)) → Serving k s v around.line → AllHold bl.frames bl.serials (storage v) (e.level ∷ bl.depths) s block types n → ((b : Base) → At b i (Known (bl.ground n) v h t nothing b) (f b)) → ItemBehind bl k around.line h t (i + size_of (C.item_put e bl.taken fs (number_item p x))) n fs below aims → Comes code i f v aims (P.item_put around (format_items fs) rest (number_item p x) k s)
+number_item_piece : {e : Environment} {block : Names} {types : Types} (bl : Block e block types) {links : Links}
+    {code : List Instr} {i : ℕ} {v : Services} {h t : ℕ → ℕ} {s : State} {aims : Aims (List FormatItem)}
+    (closed : Closed code aims) (routines : Standing bl links code) (f : Family) (around : Around) (fs : T.Formats)
+    (p : ℕ) (x : Y.Number) (n : Values) (rest : List FormatItem) (below : List EditPlace) (k : ℕ)
+    → IsProvedNumber block types x → bl.taken.words + max 1 (number_words x) ≤ bl.words + spare bl.taken
+    → AreProvedFormats fs → HasData fs → (has_text fs ≡ true → IsPrecision p) → Suit (has_fixed fs) (has_text fs) rest
+    → v.edits ≡ putting (format_items fs) rest ∷ below
+    → Linked links code i (C.item_put e bl.taken fs (number_item p x)) → Serving k s v around.line
+    → AllHold bl.frames bl.serials (storage v) (e.level ∷ bl.depths) s block types n
+    → ((b : Base) → At b i (Known (bl.ground n) v h t nothing b) (f b))
+    → ItemBehind bl k around.line h t (i + size_of (C.item_put e bl.taken fs (number_item p x))) n fs below aims
+    → Comes code i f v aims (P.item_put around (format_items fs) rest (number_item p x) k s)
 unfolding P.item_put V.computational ◌>>=◌ ◌>>◌ give
 number_item_piece {e} {block} {types} bl {i = i} {s = s} {aims = aims} closed routines f around fs p x n rest below k is room are has precise suits edits l serving all at goal =
     let least = le-max_left 1 (number_words x) in
@@ -121,7 +145,17 @@ number_item_piece {e} {block} {types} bl {i = i} {s = s} {aims = aims} closed ro
           (goal s2 v2 rest2 h2 t2 f2 serving2 all2 suits2 edits2 (stays_then stays stays2) (λ b. record { pc = (at2 b).pc ∙ ap (address b) place; holds = (at2 b).holds })));
     })))
 
-bit_item_piece : {e : Environment} {block : Names} {types : Types} (bl : Block e block types) {links : Links} {code : List Instr} {i : ℕ} {v : Services} {h t : ℕ → ℕ} {s : State} {aims : Aims (List FormatItem)} (closed : Closed code aims) (routines : Standing bl links code) (f : Family) (around : Around) (fs : T.Formats) (x : Y.Bit) (n : Values) (rest : List FormatItem) (below : List EditPlace) (k : ℕ) → IsProvedBit block types x → bl.taken.words + max 1 (bit_words x) ≤ bl.words + spare bl.taken → AreProvedFormats fs → HasData fs → Suit (has_fixed fs) (has_text fs) rest → v.edits ≡ putting (format_items fs) rest ∷ below → Linked links code i (C.item_put e bl.taken fs (bit_item x)) → Serving k s v around.line → AllHold bl.frames bl.serials (storage v) (e.level ∷ bl.depths) s block types n → ((b : Base) → At b i (Known (bl.ground n) v h t nothing b) (f b)) → ItemBehind bl k around.line h t (i + size_of (C.item_put e bl.taken fs (bit_item x))) n fs below aims → Comes code i f v aims (P.item_put around (format_items fs) rest (bit_item x) k s)
+bit_item_piece : {e : Environment} {block : Names} {types : Types} (bl : Block e block types) {links : Links}
+    {code : List Instr} {i : ℕ} {v : Services} {h t : ℕ → ℕ} {s : State} {aims : Aims (List FormatItem)}
+    (closed : Closed code aims) (routines : Standing bl links code) (f : Family) (around : Around) (fs : T.Formats)
+    (x : Y.Bit) (n : Values) (rest : List FormatItem) (below : List EditPlace) (k : ℕ) → IsProvedBit block types x
+    → bl.taken.words + max 1 (bit_words x) ≤ bl.words + spare bl.taken → AreProvedFormats fs → HasData fs
+    → Suit (has_fixed fs) (has_text fs) rest → v.edits ≡ putting (format_items fs) rest ∷ below
+    → Linked links code i (C.item_put e bl.taken fs (bit_item x)) → Serving k s v around.line
+    → AllHold bl.frames bl.serials (storage v) (e.level ∷ bl.depths) s block types n
+    → ((b : Base) → At b i (Known (bl.ground n) v h t nothing b) (f b))
+    → ItemBehind bl k around.line h t (i + size_of (C.item_put e bl.taken fs (bit_item x))) n fs below aims
+    → Comes code i f v aims (P.item_put around (format_items fs) rest (bit_item x) k s)
 unfolding P.item_put V.computational ◌>>=◌ ◌>>◌ give
 bit_item_piece {e} {block} {types} bl {i = i} {v = v} {s = s} {aims = aims} closed routines f around fs x n rest below k is room are has suits edits l serving all at goal =
     let least = le-max_left 1 (bit_words x) in
@@ -148,7 +182,17 @@ bit_item_piece {e} {block} {types} bl {i = i} {v = v} {s = s} {aims = aims} clos
 
 -- ---- a text
 
-text_item_piece : {e : Environment} {block : Names} {types : Types} (bl : Block e block types) {links : Links} {code : List Instr} {i : ℕ} {v : Services} {h t : ℕ → ℕ} {s : State} {aims : Aims (List FormatItem)} (closed : Closed code aims) (routines : Standing bl links code) (f : Family) (around : Around) (fs : T.Formats) (x : Y.Text) (n : Values) (rest : List FormatItem) (below : List EditPlace) (k : ℕ) → IsProvedText block types x → bl.taken.words + text_words x ≤ bl.words + spare bl.taken → AreProvedFormats fs → HasData fs → Suit (has_fixed fs) (has_text fs) rest → v.edits ≡ putting (format_items fs) rest ∷ below → Linked links code i (C.item_put e bl.taken fs (text_item x)) → Serving k s v around.line → AllHold bl.frames bl.serials (storage v) (e.level ∷ bl.depths) s block types n → ((b : Base) → At b i (Known (bl.ground n) v h t nothing b) (f b)) → ItemBehind bl k around.line h t (i + size_of (C.item_put e bl.taken fs (text_item x))) n fs below aims → Comes code i f v aims (P.item_put around (format_items fs) rest (text_item x) k s)
+text_item_piece : {e : Environment} {block : Names} {types : Types} (bl : Block e block types) {links : Links}
+    {code : List Instr} {i : ℕ} {v : Services} {h t : ℕ → ℕ} {s : State} {aims : Aims (List FormatItem)}
+    (closed : Closed code aims) (routines : Standing bl links code) (f : Family) (around : Around) (fs : T.Formats)
+    (x : Y.Text) (n : Values) (rest : List FormatItem) (below : List EditPlace) (k : ℕ) → IsProvedText block types x
+    → bl.taken.words + text_words x ≤ bl.words + spare bl.taken → AreProvedFormats fs → HasData fs
+    → Suit (has_fixed fs) (has_text fs) rest → v.edits ≡ putting (format_items fs) rest ∷ below
+    → Linked links code i (C.item_put e bl.taken fs (text_item x)) → Serving k s v around.line
+    → AllHold bl.frames bl.serials (storage v) (e.level ∷ bl.depths) s block types n
+    → ((b : Base) → At b i (Known (bl.ground n) v h t nothing b) (f b))
+    → ItemBehind bl k around.line h t (i + size_of (C.item_put e bl.taken fs (text_item x))) n fs below aims
+    → Comes code i f v aims (P.item_put around (format_items fs) rest (text_item x) k s)
 unfolding P.item_put V.computational ◌>>=◌ ◌>>◌ give
 text_item_piece {e} {block} {types} bl {links} {code} {i} {v} {h} {t} {s} {aims} closed routines f around fs x n rest below k is room are has suits edits l serving all at goal =
     let w = bl.words_are n in
@@ -179,7 +223,18 @@ text_item_piece {e} {block} {types} bl {links} {code} {i} {v} {h} {t} {s} {aims}
 
 -- ---- any of these
 
-pub item_piece : {e : Environment} {block : Names} {types : Types} (bl : Block e block types) {links : Links} {code : List Instr} (item : Y.PutItem) {i : ℕ} {v : Services} {h t : ℕ → ℕ} {s : State} {aims : Aims (List FormatItem)} (closed : Closed code aims) (routines : Standing bl links code) (f : Family) (around : Around) (fs : T.Formats) (n : Values) (rest : List FormatItem) (below : List EditPlace) (k : ℕ) → IsProvedItem block types item → bl.taken.words + put_item_words item ≤ bl.words + spare bl.taken → AreProvedFormats fs → HasData fs → (has_text fs ≡ true → HasPrecision item) → Suit (has_fixed fs) (has_text fs) rest → v.edits ≡ putting (format_items fs) rest ∷ below → Linked links code i (C.item_put e bl.taken fs item) → Serving k s v around.line → AllHold bl.frames bl.serials (storage v) (e.level ∷ bl.depths) s block types n → ((b : Base) → At b i (Known (bl.ground n) v h t nothing b) (f b)) → ItemBehind bl k around.line h t (i + size_of (C.item_put e bl.taken fs item)) n fs below aims → Comes code i f v aims (P.item_put around (format_items fs) rest item k s)
+pub item_piece : {e : Environment} {block : Names} {types : Types} (bl : Block e block types) {links : Links}
+    {code : List Instr} (item : Y.PutItem) {i : ℕ} {v : Services} {h t : ℕ → ℕ} {s : State}
+    {aims : Aims (List FormatItem)} (closed : Closed code aims) (routines : Standing bl links code) (f : Family)
+    (around : Around) (fs : T.Formats) (n : Values) (rest : List FormatItem) (below : List EditPlace) (k : ℕ)
+    → IsProvedItem block types item → bl.taken.words + put_item_words item ≤ bl.words + spare bl.taken
+    → AreProvedFormats fs → HasData fs → (has_text fs ≡ true → HasPrecision item)
+    → Suit (has_fixed fs) (has_text fs) rest → v.edits ≡ putting (format_items fs) rest ∷ below
+    → Linked links code i (C.item_put e bl.taken fs item) → Serving k s v around.line
+    → AllHold bl.frames bl.serials (storage v) (e.level ∷ bl.depths) s block types n
+    → ((b : Base) → At b i (Known (bl.ground n) v h t nothing b) (f b))
+    → ItemBehind bl k around.line h t (i + size_of (C.item_put e bl.taken fs item)) n fs below aims
+    → Comes code i f v aims (P.item_put around (format_items fs) rest item k s)
 item_piece bl (Y.PutValue (Y.NumberValue p x)) closed routines f around fs n rest below k is room are has precise suits edits l serving all at goal =
     number_item_piece bl closed routines f around fs p x n rest below k is room are has precise suits edits l serving all at goal
 item_piece bl (Y.PutValue (Y.BitValue x)) closed routines f around fs n rest below k is room are has precise suits edits l serving all at goal =

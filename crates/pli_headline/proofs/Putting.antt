@@ -1,5 +1,6 @@
 -- PUT EDIT: items one behind the other, pairs, and the statement.
-use Rattle.std.proofs.Common.{length, ◌≡◌, ℕ, ◌+◌, ◌^◌, ◌<◌, ◌≤◌, inl, List, [], ◌∷◌, ◌++◌, None, true, refl, sym, ap, ◌∙◌, subst, arith}
+use Rattle.std.proofs.Common.{length, ◌≡◌, ℕ, ◌+◌, ◌^◌, ◌<◌, ◌≤◌, inl, List, [], ◌∷◌, ◌++◌, None, true, refl, sym}
+use Rattle.std.proofs.Common.{ap, ◌∙◌, subst, arith}
 use Rattle.std.proofs.Math.Nat.{le-max_left, le-max_right}
 use Rattle.rv_meaning.specs.declared.instr.Instr.{Instr}
 use Rattle.pli_language.specs.Tree as T
@@ -16,10 +17,12 @@ use Rattle.pli_coding.specs.Assembly.{ConstantBytes, size_of}
 use Rattle.pli_coding.specs.Allocating.{act_code}
 use Rattle.pli_coding.specs.Environments.{Environment}
 use Rattle.pli_coding.specs.Streams as C
-use Rattle.pli_coding.specs.Streams.{has_fixed, has_text, by_item, controls_carried_out, number_written, text_written, as_text, edit_begun, edit_ended, put_pair, put_pairs}
+use Rattle.pli_coding.specs.Streams.{has_fixed, has_text, by_item, controls_carried_out, number_written}
+use Rattle.pli_coding.specs.Streams.{text_written, as_text, edit_begun, edit_ended, put_pair, put_pairs}
 use Rattle.pli_coding.specs.Statements.{stmt_code}
 use Rattle.pli_coding.specs.Linking.{Links}
-use Rattle.pli_headline.specs.ProvedSoFar.{Names, Types, HavePrecisions, AreProvedFormats, HasData, AreProvedItems, AreProvedPairs}
+use Rattle.pli_headline.specs.ProvedSoFar.{Names, Types, HavePrecisions, AreProvedFormats, HasData, AreProvedItems}
+use Rattle.pli_headline.specs.ProvedSoFar.{AreProvedPairs}
 use Rattle.pli_headline.proofs.HeldPlaces.{places_grown, places_same}
 use Rattle.pli_headline.proofs.Storages.{storage}
 use Rattle.run_steps.specs.Engine.{Base, address}
@@ -52,7 +55,18 @@ abbrev pub ItemsBehind : {e : Environment} {block : Names} {types : Types} → B
 ItemsBehind {e = e} {block = block} {types = types} bl k line h0 t0 i n fs below aims =
     (s : State) (v : Services) (rest : List FormatItem) (h t : ℕ → ℕ) (f : Family) → Serving k s v line → AllHold bl.frames bl.serials (storage v) (e.level ∷ bl.depths) s block types n → Suit (has_fixed fs) (has_text fs) rest → v.edits ≡ putting (format_items fs) rest ∷ below → Stays bl.taken h0 t0 h t → ((b : Base) → At b i (Known (bl.ground n) v h t nothing b) (f b)) → aims.done i f v tt s
 
-items_piece : {e : Environment} {block : Names} {types : Types} (bl : Block e block types) {links : Links} {code : List Instr} (items : List Y.PutItem) {i : ℕ} {v : Services} {h t : ℕ → ℕ} {s : State} {aims : Aims (Unit {0})} (closed : Closed code aims) (routines : Standing bl links code) (f : Family) (around : Around) (fs : T.Formats) (n : Values) (rest : List FormatItem) (below : List EditPlace) (k : ℕ) → AreProvedItems block types items → bl.taken.words + put_items_words items ≤ bl.words + spare bl.taken → AreProvedFormats fs → HasData fs → (has_text fs ≡ true → HavePrecisions items) → Suit (has_fixed fs) (has_text fs) rest → v.edits ≡ putting (format_items fs) rest ∷ below → Linked links code i (C.items_put e bl.taken fs items) → Serving k s v around.line → AllHold bl.frames bl.serials (storage v) (e.level ∷ bl.depths) s block types n → ((b : Base) → At b i (Known (bl.ground n) v h t nothing b) (f b)) → ItemsBehind bl k around.line h t (i + size_of (C.items_put e bl.taken fs items)) n fs below aims → Comes code i f v aims (P.items_put around (format_items fs) rest items k s)
+items_piece : {e : Environment} {block : Names} {types : Types} (bl : Block e block types) {links : Links}
+    {code : List Instr} (items : List Y.PutItem) {i : ℕ} {v : Services} {h t : ℕ → ℕ} {s : State}
+    {aims : Aims (Unit {0})} (closed : Closed code aims) (routines : Standing bl links code) (f : Family)
+    (around : Around) (fs : T.Formats) (n : Values) (rest : List FormatItem) (below : List EditPlace) (k : ℕ)
+    → AreProvedItems block types items → bl.taken.words + put_items_words items ≤ bl.words + spare bl.taken
+    → AreProvedFormats fs → HasData fs → (has_text fs ≡ true → HavePrecisions items)
+    → Suit (has_fixed fs) (has_text fs) rest → v.edits ≡ putting (format_items fs) rest ∷ below
+    → Linked links code i (C.items_put e bl.taken fs items) → Serving k s v around.line
+    → AllHold bl.frames bl.serials (storage v) (e.level ∷ bl.depths) s block types n
+    → ((b : Base) → At b i (Known (bl.ground n) v h t nothing b) (f b))
+    → ItemsBehind bl k around.line h t (i + size_of (C.items_put e bl.taken fs items)) n fs below aims
+    → Comes code i f v aims (P.items_put around (format_items fs) rest items k s)
 unfolding P.items_put ◌>>=◌ give
 items_piece bl [] {i = i} {v = v} {h = h} {t = t} {s = s} {aims = aims} closed routines f around fs n rest below k is room are has precise suits edits l serving all at goal =
     let e : i ≡ i + 0 = omega arith in
@@ -77,7 +91,15 @@ items_piece {e} bl {links} {code} (item ∷ items) {i} {v} {h} {t} {s} {aims} cl
 
 -- ---- pairs
 
-pub pairs_piece : {e : Environment} {block : Names} {types : Types} (bl : Block e block types) {links : Links} {code : List Instr} (pairs : List Y.PutPair) {i : ℕ} {v : Services} {h t : ℕ → ℕ} {s : State} {aims : Aims (Unit {0})} (closed : Closed code aims) (routines : Standing bl links code) (f : Family) (around : Around) (n : Values) (k : ℕ) → AreProvedPairs block types pairs → bl.taken.words + put_words pairs ≤ bl.words + spare bl.taken → Linked links code i (put_pairs e bl.taken pairs) → Serving k s v around.line → AllHold bl.frames bl.serials (storage v) (e.level ∷ bl.depths) s block types n → ((b : Base) → At b i (Known (bl.ground n) v h t nothing b) (f b)) → Behind bl k h t (i + size_of (put_pairs e bl.taken pairs)) aims → Comes code i f v aims (P.pairs_put around pairs k s)
+pub pairs_piece : {e : Environment} {block : Names} {types : Types} (bl : Block e block types) {links : Links}
+    {code : List Instr} (pairs : List Y.PutPair) {i : ℕ} {v : Services} {h t : ℕ → ℕ} {s : State}
+    {aims : Aims (Unit {0})} (closed : Closed code aims) (routines : Standing bl links code) (f : Family)
+    (around : Around) (n : Values) (k : ℕ) → AreProvedPairs block types pairs
+    → bl.taken.words + put_words pairs ≤ bl.words + spare bl.taken → Linked links code i (put_pairs e bl.taken pairs)
+    → Serving k s v around.line → AllHold bl.frames bl.serials (storage v) (e.level ∷ bl.depths) s block types n
+    → ((b : Base) → At b i (Known (bl.ground n) v h t nothing b) (f b))
+    → Behind bl k h t (i + size_of (put_pairs e bl.taken pairs)) aims
+    → Comes code i f v aims (P.pairs_put around pairs k s)
 unfolding P.pairs_put ◌>>◌ give
 pairs_piece bl [] {i = i} {v = v} {h = h} {t = t} {s = s} {aims = aims} closed routines f around n k is room l serving all at goal =
     let e : i ≡ i + 0 = omega arith in
@@ -124,7 +146,11 @@ pairs_piece {e} bl {links} {code} (p ∷ pairs) {i} {v} {h} {t} {s} {aims} close
 
 -- ---- the statement
 
-pub put_does : {e : Environment} {block : Names} {types : Types} (bl : Block e block types) (links : Links) (code : List Instr) (routines : Standing bl links code) (around : Around) (pairs : List Y.PutPair) (line : ℕ) → AreProvedPairs block types pairs → line < 2 ^ 31 → bl.taken.words + put_words pairs ≤ bl.words + spare bl.taken → Does bl links code around.turns (stmt_code e bl.taken (Y.Put None pairs line)) (M.statement around (Y.Put None pairs line))
+pub put_does : {e : Environment} {block : Names} {types : Types} (bl : Block e block types) (links : Links)
+    (code : List Instr) (routines : Standing bl links code) (around : Around) (pairs : List Y.PutPair) (line : ℕ)
+    → AreProvedPairs block types pairs → line < 2 ^ 31 → bl.taken.words + put_words pairs ≤ bl.words + spare bl.taken
+    → Does bl links code around.turns (stmt_code e bl.taken (Y.Put None pairs line))
+    (M.statement around (Y.Put None pairs line))
 unfolding M.statement P.put ◌>>◌
 put_does {e} {block} {types} bl links code routines around pairs line is fits room =
     record {

@@ -37,7 +37,8 @@ pub signed_operates : {links : Links} {code : List Instr} {g : Ground} {v : Serv
 signed_operates {k = k} routines temps around serving sign x wx =
     record {
       does = λ closed f taken room l at gone.
-          signed_piece sign closed routines temps f around taken x k wx (λ none. let z = none_spare taken none in omega (arith, z, room)) l serving at gone;
+          signed_piece sign closed routines temps f around taken x k wx
+          (λ none. let z = none_spare taken none in omega (arith, z, room)) l serving at gone;
     }
 
 pub absolute_operates : {links : Links} {code : List Instr} {g : Ground} {v : Services} {s : State} {k : ℕ} (routines : Routines links code) (temps : Temporaries g) (around : Around) → Serving k s v around.line → (x : ℤ) → IsWide x → Operates number_kind links code g v s k 1 (valued (word x)) absolute_code (R.value_of around (absolute x))
@@ -56,7 +57,9 @@ absolute_operates {g = g} {v = v} {s = s} {k = k} routines temps around serving 
             regs = (ap absolute_bits_of o.regs.0 ∙ absolute-word x wx, (refl, tt));
           }) in
           onward closed r (λ f' at'.
-          lowest_by (is_of_precision 31 z) closed routines temps f' around taken z k (omega (arith, most)) refl (absolute_tested (is_of_precision 31 z) (nat_abs x) most refl) (λ none. let z = none_spare taken none in omega (arith, z, room)) (back_of front behind l) serving at'
+          lowest_by (is_of_precision 31 z) closed routines temps f' around taken z k (omega (arith, most)) refl
+          (absolute_tested (is_of_precision 31 z) (nat_abs x) most refl)
+          (λ none. let z = none_spare taken none in omega (arith, z, room)) (back_of front behind l) serving at'
           (λ z' f'' w at''. subst (λ n. aims.done n f'' v z' s) (omega arith) (gone z' f'' w (λ b. record { pc = (at'' b).pc ∙ ap (address b) (omega arith); holds = (at'' b).holds }))));
     }
 

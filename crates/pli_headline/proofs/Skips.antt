@@ -107,7 +107,12 @@ skip_piece {code = code} {i = i} {g = g} {v = v} {h = h} {t = t} {s = s} closed 
     (goal (reached r3) (with_act (skipped_world n) (λ w. refl) (λ w. refl) serving below)
     (λ b. record { pc = (reached_holds r3 b).pc ∙ ap (address b) place; holds = (reached_holds r3 b).holds })))))
 
-pub put_skip_does : {e : Environment} {block : Names} {types : Types} (bl : Block e block types) (links : Links) (code : List Instr) (routines : Standing bl links code) (around : Around) (n : ℕ) (pairs : List Y.PutPair) (line : ℕ) → 1 ≤ n → n ≤ 1000 → AreProvedPairs block types pairs → line < 2 ^ 31 → bl.taken.words + put_words pairs ≤ bl.words + spare bl.taken → Does bl links code around.turns (stmt_code e bl.taken (Y.Put (Some n) pairs line)) (M.statement around (Y.Put (Some n) pairs line))
+pub put_skip_does : {e : Environment} {block : Names} {types : Types} (bl : Block e block types) (links : Links)
+    (code : List Instr) (routines : Standing bl links code) (around : Around) (n : ℕ) (pairs : List Y.PutPair)
+    (line : ℕ) → 1 ≤ n → n ≤ 1000 → AreProvedPairs block types pairs → line < 2 ^ 31
+    → bl.taken.words + put_words pairs ≤ bl.words + spare bl.taken
+    → Does bl links code around.turns (stmt_code e bl.taken (Y.Put (Some n) pairs line))
+    (M.statement around (Y.Put (Some n) pairs line))
 unfolding M.statement P.put ◌>>◌
 put_skip_does {e} {block} {types} bl links code routines around n pairs line least most is fits room =
     record {

@@ -520,7 +520,18 @@ null_does bl links code around line fits =
     }
 
 -- an assignment of a value that fits its target, a variable of the block
-pub assign_does : {e : Environment} {block : Names} {types : Types} (bl : Block e block types) (links : Links) (code : List Instr) (routines : Standing bl links code) (around : Around) (j : ℕ) {type : Y.LeafType} (source : Y.Stored) (line words : ℕ) (below : slice_get types j ≡ Some (alone type)) → ((v : Services) (s : State) (k : ℕ) (n : Values) → AllHold bl.frames bl.serials (storage v) (e.level ∷ bl.depths) s block types n → Serving k s v line → Stores links code (bl.ground n) v s k words type (λ taken. stored_code e taken source) (V.stored_value (at_line around line) source)) → stored_into e bl.taken (whole (own block j)) source ≡ word_stored e bl.taken (whole (own block j)) → bl.taken.words + 1 ≤ bl.words + spare bl.taken → bl.taken.words + words ≤ bl.words + spare bl.taken → line < 2 ^ 31 → Does bl links code around.turns (act_code line ++ assigned_code e bl.taken (whole (own block j)) source) (M.statement around (Y.Assign (whole (own block j)) source line))
+pub assign_does : {e : Environment} {block : Names} {types : Types} (bl : Block e block types) (links : Links)
+    (code : List Instr) (routines : Standing bl links code) (around : Around) (j : ℕ) {type : Y.LeafType}
+    (source : Y.Stored) (line words : ℕ) (below : slice_get types j ≡ Some (alone type))
+    → ((v : Services) (s : State) (k : ℕ) (n : Values)
+    → AllHold bl.frames bl.serials (storage v) (e.level ∷ bl.depths) s block types n → Serving k s v line
+    → Stores links code (bl.ground n) v s k words type (λ taken. stored_code e taken source)
+    (V.stored_value (at_line around line) source))
+    → stored_into e bl.taken (whole (own block j)) source ≡ word_stored e bl.taken (whole (own block j))
+    → bl.taken.words + 1 ≤ bl.words + spare bl.taken → bl.taken.words + words ≤ bl.words + spare bl.taken
+    → line < 2 ^ 31 → Does bl links code around.turns
+    (act_code line ++ assigned_code e bl.taken (whole (own block j)) source)
+    (M.statement around (Y.Assign (whole (own block j)) source line))
 unfolding M.statement ◌>>=◌ ◌>>◌
 assign_does {e} {block} {types} bl links code routines around j {type} source line words below stores into some room fits =
     record {
@@ -561,7 +572,12 @@ assign_does {e} {block} {types} bl links code routines around j {type} source li
           (λ b. record { pc = (at3 b).pc ∙ ap (address b) place; holds = (at3 b).holds })))))));
     }
 
-pub assign_number_does : {e : Environment} {block : Names} {types : Types} (bl : Block e block types) (links : Links) (code : List Instr) (routines : Standing bl links code) (around : Around) (r : Y.Reference) (p : ℕ) (x : Y.Number) (line : ℕ) → IsOwn block types (Y.FixedLeaf p) r → IsProvedNumber block types x → bl.taken.words + max 1 (number_words x) ≤ bl.words + spare bl.taken → line < 2 ^ 31 → Does bl links code around.turns (act_code line ++ assigned_code e bl.taken r (Y.StoredNumber p x)) (M.statement around (Y.Assign r (Y.StoredNumber p x) line))
+pub assign_number_does : {e : Environment} {block : Names} {types : Types} (bl : Block e block types) (links : Links)
+    (code : List Instr) (routines : Standing bl links code) (around : Around) (r : Y.Reference) (p : ℕ) (x : Y.Number)
+    (line : ℕ) → IsOwn block types (Y.FixedLeaf p) r → IsProvedNumber block types x
+    → bl.taken.words + max 1 (number_words x) ≤ bl.words + spare bl.taken → line < 2 ^ 31
+    → Does bl links code around.turns (act_code line ++ assigned_code e bl.taken r (Y.StoredNumber p x))
+    (M.statement around (Y.Assign r (Y.StoredNumber p x) line))
 assign_number_does {e} {block} {types} bl links code routines around r p x line own' is room fits =
     let least = le-max_left 1 (number_words x) in
     subst (λ q. Does bl links code around.turns (act_code line ++ assigned_code e bl.taken q (Y.StoredNumber p x)) (M.statement around (Y.Assign q (Y.StoredNumber p x) line))) (sym own'.is)
@@ -569,7 +585,12 @@ assign_number_does {e} {block} {types} bl links code routines around r p x line 
     (λ v s k n all serving. number_stores {e = e} {block = block} {types = types} {held = n} {around = at_line around line} p x (all.numbers own'.index (Y.FixedLeaf p, own'.declared) tt).fits.0 (record { routines = routines.raises; constants = routines.constants n; temps = bl.temps n; scope = scope_of bl n all; serving = serving }) is)
     refl (omega (arith, room, least)) room fits)
 
-pub assign_bit_does : {e : Environment} {block : Names} {types : Types} (bl : Block e block types) (links : Links) (code : List Instr) (routines : Standing bl links code) (around : Around) (r : Y.Reference) (x : Y.Bit) (line : ℕ) → IsOwn block types Y.BitLeaf r → IsProvedBit block types x → bl.taken.words + 1 ≤ bl.words + spare bl.taken → bl.taken.words + bit_words x ≤ bl.words + spare bl.taken → line < 2 ^ 31 → Does bl links code around.turns (act_code line ++ assigned_code e bl.taken r (Y.StoredBit x)) (M.statement around (Y.Assign r (Y.StoredBit x) line))
+pub assign_bit_does : {e : Environment} {block : Names} {types : Types} (bl : Block e block types) (links : Links)
+    (code : List Instr) (routines : Standing bl links code) (around : Around) (r : Y.Reference) (x : Y.Bit) (line : ℕ)
+    → IsOwn block types Y.BitLeaf r → IsProvedBit block types x → bl.taken.words + 1 ≤ bl.words + spare bl.taken
+    → bl.taken.words + bit_words x ≤ bl.words + spare bl.taken → line < 2 ^ 31
+    → Does bl links code around.turns (act_code line ++ assigned_code e bl.taken r (Y.StoredBit x))
+    (M.statement around (Y.Assign r (Y.StoredBit x) line))
 assign_bit_does {e} {block} {types} bl links code routines around r x line own' is some room fits =
     subst (λ q. Does bl links code around.turns (act_code line ++ assigned_code e bl.taken q (Y.StoredBit x)) (M.statement around (Y.Assign q (Y.StoredBit x) line))) (sym own'.is)
     (assign_does bl links code routines around own'.index (Y.StoredBit x) line (bit_words x) own'.declared

@@ -155,7 +155,8 @@ next_does false {g = g} {v = v} {s = s} {k = k} {e = e'} {around = around} temps
     let e1 = size_append a (put' ++ c) in
     let e2 = size_append put' c in
     let place : i + size_of a + size_of put' + size_of c ≡ i + size_of (a ++ (put' ++ c)) = omega (arith, e1, e2) in
-    let some : is_register_left taken ≡ false → taken.words < g.words = λ none. let z = none_spare taken none in omega (arith, z, room, m2) in
+    let some : is_register_left taken ≡ false → taken.words < g.words = λ none. let z = none_spare taken none in omega
+    (arith, z, room, m2) in
     let behind : ℤ → Meaning (List ℤ) = λ z. (V.numbers around rest) >>= (λ zs. give (z ∷ zs)) in
     comes_on k (V.number around first k s) behind
     (e.does (before_closed k behind closed) f taken (omega (arith, room, m1)) (front_of a (put' ++ c) l) at

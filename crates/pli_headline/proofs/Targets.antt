@@ -78,7 +78,9 @@ scalar_serving : {k : ℕ} {s : State} {v : Services} {line : ℕ} (type : Y.Lea
 scalar_serving type j values z o =
     record { world = o.world; running = o.running; line_is = o.line_is; input = o.input; allowed = o.allowed; fits = o.fits; nested = o.nested; waiting = o.waiting; places = o.places }
 
-pub scalar_takes : {e : Environment} {block : Names} {types : Types} (bl : Block e block types) (links : Links) (code : List Instr) (j : ℕ) {type : Y.LeafType} (below : slice_get types j ≡ Some (alone type)) → IsNumeric type → bl.taken.words + 1 ≤ bl.words + spare bl.taken → Takes bl links code (whole (own block j)) type
+pub scalar_takes : {e : Environment} {block : Names} {types : Types} (bl : Block e block types) (links : Links)
+    (code : List Instr) (j : ℕ) {type : Y.LeafType} (below : slice_get types j ≡ Some (alone type)) → IsNumeric type
+    → bl.taken.words + 1 ≤ bl.words + spare bl.taken → Takes bl links code (whole (own block j)) type
 scalar_takes {e} {block} {types} bl links code j {type} below numeric room =
     record {
       old = λ s xs n hold. (n.numbers j, (hold.numbers j (type, below) numeric).fits);
@@ -94,7 +96,12 @@ element_serving : {k : ℕ} {s : State} {v : Services} {line : ℕ} (type : Y.Le
 element_serving type bs serial values is z o =
     record { world = o.world; running = o.running; line_is = o.line_is; input = o.input; allowed = o.allowed; fits = o.fits; nested = o.nested; waiting = o.waiting; places = o.places }
 
-pub element_takes : {e : Environment} {block : Names} {types : Types} (bl : Block e block types) (links : Links) (code : List Instr) (routines : Standing bl links code) (j : ℕ) {type : Y.LeafType} (b : Bounds) (bs : List Bounds) (first : Y.Number) (rest : Y.Numbers) (below : IsArrayAt types j type b bs) → given_in rest ≡ length bs → AreProvedNumbers block types (Y.NumberThen first rest) → bl.taken.words + suc (subscripts_words (Y.NumberThen first rest)) ≤ bl.words + spare bl.taken → Takes bl links code (element block j first rest) type
+pub element_takes : {e : Environment} {block : Names} {types : Types} (bl : Block e block types) (links : Links)
+    (code : List Instr) (routines : Standing bl links code) (j : ℕ) {type : Y.LeafType} (b : Bounds) (bs : List Bounds)
+    (first : Y.Number) (rest : Y.Numbers) (below : IsArrayAt types j type b bs) → given_in rest ≡ length bs
+    → AreProvedNumbers block types (Y.NumberThen first rest)
+    → bl.taken.words + suc (subscripts_words (Y.NumberThen first rest)) ≤ bl.words + spare bl.taken
+    → Takes bl links code (element block j first rest) type
 element_takes {e} {block} {types} bl links code routines j {type} b bs first rest below many are room =
     let xs = Y.NumberThen first rest in
     let on = bl.arrays j type b bs below in

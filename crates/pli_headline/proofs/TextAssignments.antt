@@ -81,7 +81,12 @@ assigned_piece {e} {block} {types} bl {t = t} closed f around j varying most tex
     (λ b m len held. (length-with_bytes bytes m o (omega (arith, inside, long, len)) ∙ len, bl.texts.writes n j varying most text below t b m len held))
     l at goal
 
-text_assigned_does : {e : Environment} {block : Names} {types : Types} (bl : Block e block types) (links : Links) (code : List Instr) (routines : Standing bl links code) (around : Around) (j : ℕ) (varying : Bool) (most : ℕ) (x : Y.Text) (line : ℕ) → IsTextAt types j varying most → IsProvedText block types x → bl.taken.words + text_words x ≤ bl.words + spare bl.taken → line < 2 ^ 31 → Does bl links code around.turns (act_code line ++ assigned_code e bl.taken (whole (own block j)) (Y.StoredText x)) (M.statement around (Y.Assign (whole (own block j)) (Y.StoredText x) line))
+text_assigned_does : {e : Environment} {block : Names} {types : Types} (bl : Block e block types) (links : Links)
+    (code : List Instr) (routines : Standing bl links code) (around : Around) (j : ℕ) (varying : Bool) (most : ℕ)
+    (x : Y.Text) (line : ℕ) → IsTextAt types j varying most → IsProvedText block types x
+    → bl.taken.words + text_words x ≤ bl.words + spare bl.taken → line < 2 ^ 31
+    → Does bl links code around.turns (act_code line ++ assigned_code e bl.taken (whole (own block j))
+    (Y.StoredText x)) (M.statement around (Y.Assign (whole (own block j)) (Y.StoredText x) line))
 unfolding M.statement V.stored_value give ◌>>=◌ ◌>>◌
 text_assigned_does {e} {block} {types} bl links code routines around j varying most x line below is room fits =
     record {
@@ -125,7 +130,12 @@ text_assigned_does {e} {block} {types} bl links code routines around j varying m
           })))));
     }
 
-pub assign_text_does : {e : Environment} {block : Names} {types : Types} (bl : Block e block types) (links : Links) (code : List Instr) (routines : Standing bl links code) (around : Around) (varying : Bool) (most : ℕ) (r : Y.Reference) (x : Y.Text) (line : ℕ) → IsOwn block types (text_leaf varying most) r → IsProvedText block types x → bl.taken.words + text_words x ≤ bl.words + spare bl.taken → line < 2 ^ 31 → Does bl links code around.turns (act_code line ++ assigned_code e bl.taken r (Y.StoredText x)) (M.statement around (Y.Assign r (Y.StoredText x) line))
+pub assign_text_does : {e : Environment} {block : Names} {types : Types} (bl : Block e block types) (links : Links)
+    (code : List Instr) (routines : Standing bl links code) (around : Around) (varying : Bool) (most : ℕ)
+    (r : Y.Reference) (x : Y.Text) (line : ℕ) → IsOwn block types (text_leaf varying most) r
+    → IsProvedText block types x → bl.taken.words + text_words x ≤ bl.words + spare bl.taken → line < 2 ^ 31
+    → Does bl links code around.turns (act_code line ++ assigned_code e bl.taken r (Y.StoredText x))
+    (M.statement around (Y.Assign r (Y.StoredText x) line))
 assign_text_does {e} bl links code routines around varying most r x line own' is room fits =
     subst (λ q. Does bl links code around.turns (act_code line ++ assigned_code e bl.taken q (Y.StoredText x)) (M.statement around (Y.Assign q (Y.StoredText x) line))) (sym own'.is)
     (text_assigned_does bl links code routines around own'.index varying most x line own'.declared is room fits)

@@ -157,16 +157,26 @@ copy_texts {e} {block} {types} bl links code routines around j i varying most ot
           }))));
     }
 
-alike_texts_does : {e : Environment} {block : Names} {types : Types} (bl : Block e block types) (links : Links) (code : List Instr) (routines : Standing bl links code) (around : Around) (target source : Y.Reference) (line : ℕ) → AreAlikeTexts block types target source → bl.taken.words + 4 ≤ bl.words → line < 2 ^ 31 → Does bl links code around.turns (act_code line ++ aggregate_code e bl.taken target source) (M.statement around (Y.AssignAggregate target source line))
+alike_texts_does : {e : Environment} {block : Names} {types : Types} (bl : Block e block types) (links : Links)
+    (code : List Instr) (routines : Standing bl links code) (around : Around) (target source : Y.Reference) (line : ℕ)
+    → AreAlikeTexts block types target source → bl.taken.words + 4 ≤ bl.words → line < 2 ^ 31
+    → Does bl links code around.turns (act_code line ++ aggregate_code e bl.taken target source)
+    (M.statement around (Y.AssignAggregate target source line))
 alike_texts_does {e} {block} {types} bl links code routines around target source line o room fits =
     let taken : IsTextArrayAt types o.source_is.index o.varying o.other o.target_is.bound o.target_is.bounds =
     o.source_is.declared ∙ ap (λ cs. Some (kind_with (text_leaf o.varying o.other) cs)) o.alike in
     subst (λ q. Does bl links code around.turns (act_code line ++ aggregate_code e bl.taken q source) (M.statement around (Y.AssignAggregate q source line))) (sym o.target_is.is)
     (subst (λ q. Does bl links code around.turns (act_code line ++ aggregate_code e bl.taken (whole (own block o.target_is.index)) q) (M.statement around (Y.AssignAggregate (whole (own block o.target_is.index)) q line))) (sym o.source_is.is)
-    (copy_texts bl links code routines around o.target_is.index o.source_is.index o.varying o.most o.other o.target_is.bound o.target_is.bounds line o.target_is.declared taken o.target_is.outermost o.source_is.outermost room fits))
+    (copy_texts bl links code routines around o.target_is.index o.source_is.index o.varying o.most o.other
+    o.target_is.bound o.target_is.bounds line o.target_is.declared taken o.target_is.outermost o.source_is.outermost
+    room fits))
 
 -- numbers, bits or texts
-pub copies_does : {e : Environment} {block : Names} {types : Types} (bl : Block e block types) (links : Links) (code : List Instr) (routines : Standing bl links code) (around : Around) (target source : Y.Reference) (line : ℕ) → AreCopied block types target source → bl.taken.words + 4 ≤ bl.words → line < 2 ^ 31 → Does bl links code around.turns (act_code line ++ aggregate_code e bl.taken target source) (M.statement around (Y.AssignAggregate target source line))
+pub copies_does : {e : Environment} {block : Names} {types : Types} (bl : Block e block types) (links : Links)
+    (code : List Instr) (routines : Standing bl links code) (around : Around) (target source : Y.Reference) (line : ℕ)
+    → AreCopied block types target source → bl.taken.words + 4 ≤ bl.words → line < 2 ^ 31
+    → Does bl links code around.turns (act_code line ++ aggregate_code e bl.taken target source)
+    (M.statement around (Y.AssignAggregate target source line))
 copies_does bl links code routines around target source line (inl o) room fits =
     alike_does bl links code routines around target source line o room fits
 copies_does bl links code routines around target source line (inr o) room fits =

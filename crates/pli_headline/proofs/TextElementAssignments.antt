@@ -83,7 +83,23 @@ text_serving varying most bs serial values is text o =
     record { world = o.world; running = o.running; line_is = o.line_is; input = o.input; allowed = o.allowed; fits = o.fits; nested = o.nested; waiting = o.waiting; places = o.places }
 
 -- the top text is assigned to an element
-pub element_assigned_piece : {e : Environment} {block : Names} {types : Types} (bl : Block e block types) {links : Links} {code : List Instr} (routines : Standing bl links code) {i : ℕ} {v : Services} {h t : ℕ → ℕ} {s : State} {aims : Aims (Unit {0})} (closed : Closed code aims) (f : Family) (around : Around) (j : ℕ) (varying : Bool) (most : ℕ) (b : Bounds) (bs : List Bounds) (first : Y.Number) (rest : Y.Numbers) (text : List ℕ) (n : Values) (k : ℕ) (below : IsTextArrayAt types j varying most b bs) → given_in rest ≡ length bs → AreProvedNumbers block types (Y.NumberThen first rest) → bl.taken.words + subscripts_words (Y.NumberThen first rest) ≤ bl.words + spare bl.taken → Linked links code i (top_stored e bl.taken (element block j first rest)) → Serving k s v around.line → (all : AllHold bl.frames bl.serials (storage v) (e.level ∷ bl.depths) s block types n) → ((c : Base) → At c i (Known (bl.ground n) (pushed (TextEntry text) v) h t nothing c) (f c)) → ((s' : State) (n' : Values) (h' t' : ℕ → ℕ) (f' : Family) → Serving k s' v around.line → AllHold bl.frames bl.serials (storage v) (e.level ∷ bl.depths) s' block types n' → Stays bl.taken h t h' t' → ((c : Base) → At c (i + size_of (top_stored e bl.taken (element block j first rest))) (Known (bl.ground n') v h' t' nothing c) (f' c)) → aims.done (i + size_of (top_stored e bl.taken (element block j first rest))) f' v tt s') → Comes code i f (pushed (TextEntry text) v) aims (M.assigned around (element block j first rest) (BasicText text) k s)
+pub element_assigned_piece : {e : Environment} {block : Names} {types : Types} (bl : Block e block types)
+    {links : Links} {code : List Instr} (routines : Standing bl links code) {i : ℕ} {v : Services} {h t : ℕ → ℕ}
+    {s : State} {aims : Aims (Unit {0})} (closed : Closed code aims) (f : Family) (around : Around) (j : ℕ)
+    (varying : Bool) (most : ℕ) (b : Bounds) (bs : List Bounds) (first : Y.Number) (rest : Y.Numbers) (text : List ℕ)
+    (n : Values) (k : ℕ) (below : IsTextArrayAt types j varying most b bs) → given_in rest ≡ length bs
+    → AreProvedNumbers block types (Y.NumberThen first rest)
+    → bl.taken.words + subscripts_words (Y.NumberThen first rest) ≤ bl.words + spare bl.taken
+    → Linked links code i (top_stored e bl.taken (element block j first rest)) → Serving k s v around.line
+    → (all : AllHold bl.frames bl.serials (storage v) (e.level ∷ bl.depths) s block types n)
+    → ((c : Base) → At c i (Known (bl.ground n) (pushed (TextEntry text) v) h t nothing c) (f c))
+    → ((s' : State) (n' : Values) (h' t' : ℕ → ℕ) (f' : Family) → Serving k s' v around.line
+    → AllHold bl.frames bl.serials (storage v) (e.level ∷ bl.depths) s' block types n' → Stays bl.taken h t h' t'
+    → ((c : Base) → At c (i + size_of (top_stored e bl.taken (element block j first rest)))
+    (Known (bl.ground n') v h' t' nothing c) (f' c))
+    → aims.done (i + size_of (top_stored e bl.taken (element block j first rest))) f' v tt s')
+    → Comes code i f (pushed (TextEntry text) v) aims
+    (M.assigned around (element block j first rest) (BasicText text) k s)
 element_assigned_piece {e} {block} {types} bl routines {v = v} closed f around j varying most b bs first rest text n k below many are room l serving all at goal =
     let mine = all.text_arrays j varying most b bs below in
     let on = bl.text_arrays j varying most b bs below in
@@ -104,7 +120,15 @@ element_assigned_piece {e} {block} {types} bl routines {v = v} closed f around j
     (λ is f1 h1 t1 inside stays1 at1.
     goal (text_element_state _ varying most (b ∷ bs) (bl.serials.of j) mine.values is text) (with_text_of n j (element_place (b ∷ bs) is) kept) h1 t1 f1 (text_serving varying most (b ∷ bs) (bl.serials.of j) mine.values is text serving) (text_element_all j varying most b bs is text below inside on.short all) stays1 at1)
 
-text_element_does : {e : Environment} {block : Names} {types : Types} (bl : Block e block types) (links : Links) (code : List Instr) (routines : Standing bl links code) (around : Around) (j : ℕ) (varying : Bool) (most : ℕ) (b : Bounds) (bs : List Bounds) (first : Y.Number) (rest : Y.Numbers) (x : Y.Text) (line : ℕ) → IsTextArrayAt types j varying most b bs → given_in rest ≡ length bs → AreProvedNumbers block types (Y.NumberThen first rest) → IsProvedText block types x → bl.taken.words + text_words x ≤ bl.words + spare bl.taken → bl.taken.words + subscripts_words (Y.NumberThen first rest) ≤ bl.words + spare bl.taken → line < 2 ^ 31 → Does bl links code around.turns (act_code line ++ assigned_code e bl.taken (element block j first rest) (Y.StoredText x)) (M.statement around (Y.Assign (element block j first rest) (Y.StoredText x) line))
+text_element_does : {e : Environment} {block : Names} {types : Types} (bl : Block e block types) (links : Links)
+    (code : List Instr) (routines : Standing bl links code) (around : Around) (j : ℕ) (varying : Bool) (most : ℕ)
+    (b : Bounds) (bs : List Bounds) (first : Y.Number) (rest : Y.Numbers) (x : Y.Text) (line : ℕ)
+    → IsTextArrayAt types j varying most b bs → given_in rest ≡ length bs
+    → AreProvedNumbers block types (Y.NumberThen first rest) → IsProvedText block types x
+    → bl.taken.words + text_words x ≤ bl.words + spare bl.taken
+    → bl.taken.words + subscripts_words (Y.NumberThen first rest) ≤ bl.words + spare bl.taken → line < 2 ^ 31
+    → Does bl links code around.turns (act_code line ++ assigned_code e bl.taken (element block j first rest)
+    (Y.StoredText x)) (M.statement around (Y.Assign (element block j first rest) (Y.StoredText x) line))
 unfolding M.statement V.stored_value give ◌>>=◌ ◌>>◌
 text_element_does {e} {block} {types} bl links code routines around j varying most b bs first rest x line below many are is room some fits =
     record {
@@ -143,7 +167,13 @@ text_element_does {e} {block} {types} bl links code routines around j varying mo
 
 -- ---- a variable or an element
 
-pub assign_text_part_does : {e : Environment} {block : Names} {types : Types} (bl : Block e block types) (links : Links) (code : List Instr) (routines : Standing bl links code) (around : Around) (r : Y.Reference) (x : Y.Text) (line : ℕ) → IsAssignedText block types r → IsProvedText block types x → bl.taken.words + text_words x ≤ bl.words + spare bl.taken → bl.taken.words + reference_words r ≤ bl.words + spare bl.taken → line < 2 ^ 31 → Does bl links code around.turns (act_code line ++ assigned_code e bl.taken r (Y.StoredText x)) (M.statement around (Y.Assign r (Y.StoredText x) line))
+pub assign_text_part_does : {e : Environment} {block : Names} {types : Types} (bl : Block e block types)
+    (links : Links) (code : List Instr) (routines : Standing bl links code) (around : Around) (r : Y.Reference)
+    (x : Y.Text) (line : ℕ) → IsAssignedText block types r → IsProvedText block types x
+    → bl.taken.words + text_words x ≤ bl.words + spare bl.taken
+    → bl.taken.words + reference_words r ≤ bl.words + spare bl.taken → line < 2 ^ 31
+    → Does bl links code around.turns (act_code line ++ assigned_code e bl.taken r (Y.StoredText x))
+    (M.statement around (Y.Assign r (Y.StoredText x) line))
 assign_text_part_does {e} {block} {types} bl links code routines around r x line target is room more fits = by_part target.0.part
   where
     by_part : IsPart block types (text_leaf target.0.varying target.0.most) r → Does bl links code around.turns (act_code line ++ assigned_code e bl.taken r (Y.StoredText x)) (M.statement around (Y.Assign r (Y.StoredText x) line))
@@ -153,4 +183,5 @@ assign_text_part_does {e} {block} {types} bl links code routines around r x line
         let most = le-max_right 0 (0 + subscripts_words (Y.NumberThen o.first o.rest)) in
         let same = ap reference_words o.is in
         subst (λ q. Does bl links code around.turns (act_code line ++ assigned_code e bl.taken q (Y.StoredText x)) (M.statement around (Y.Assign q (Y.StoredText x) line))) (sym o.is)
-        (text_element_does bl links code routines around o.index target.0.varying target.0.most o.bound o.bounds o.first o.rest x line o.declared o.many are is room (omega (arith, more, most, same)) fits)
+        (text_element_does bl links code routines around o.index target.0.varying target.0.most o.bound o.bounds
+        o.first o.rest x line o.declared o.many are is room (omega (arith, more, most, same)) fits)

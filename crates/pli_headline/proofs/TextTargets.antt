@@ -55,7 +55,12 @@ variable_takes {e} {block} {types} bl links code j varying most below =
           goal (text_state s (text_leaf varying most) (bl.serials.of j) values text) (with_text_at n j (text_kept_as varying most text)) h t f1 (text_serving varying most (bl.serials.of j) values text serving) (text_assigned_all j varying most text below (bl.texts.room.short j varying most below) hold) (stays_same bl.taken h t) at1);
     }
 
-pub text_element_takes : {e : Environment} {block : Names} {types : Types} (bl : Block e block types) (links : Links) (code : List Instr) (routines : Standing bl links code) (j : ℕ) (varying : Bool) (most : ℕ) (b : Bounds) (bs : List Bounds) (first : Y.Number) (rest : Y.Numbers) → IsTextArrayAt types j varying most b bs → given_in rest ≡ length bs → AreProvedNumbers block types (Y.NumberThen first rest) → bl.taken.words + subscripts_words (Y.NumberThen first rest) ≤ bl.words + spare bl.taken → TakesText bl links code (element block j first rest)
+pub text_element_takes : {e : Environment} {block : Names} {types : Types} (bl : Block e block types) (links : Links)
+    (code : List Instr) (routines : Standing bl links code) (j : ℕ) (varying : Bool) (most : ℕ) (b : Bounds)
+    (bs : List Bounds) (first : Y.Number) (rest : Y.Numbers) → IsTextArrayAt types j varying most b bs
+    → given_in rest ≡ length bs → AreProvedNumbers block types (Y.NumberThen first rest)
+    → bl.taken.words + subscripts_words (Y.NumberThen first rest) ≤ bl.words + spare bl.taken
+    → TakesText bl links code (element block j first rest)
 text_element_takes bl links code routines j varying most b bs first rest below many are room =
     record {
       does = λ closed f around text n k l serving hold at goal.

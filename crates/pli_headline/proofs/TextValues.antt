@@ -54,7 +54,10 @@ use Rattle.run_steps.proofs.Reach.{before_closed, comes_on, onward}
 
 -- code that takes texts from the stack, which others stood on, and leaves a value
 pub record Finishes {X : Type 0} (kind : Kind X) (links : Links) (code : List Instr) (g : Ground) (v' v : Services) (s : State) (k : ℕ) (part : Code) (meaning : Meaning X) : Type 1 where
-  pub does : {i : ℕ} {h t : ℕ → ℕ} {aims : Aims X} (closed : Closed code aims) (f : Family) (taken : Taken) → taken.words ≤ g.words + spare taken → Linked links code i part → ((b : Base) → At b i (Known g v' h t nothing b) (f b)) → Resulting kind code g h t v s (i + size_of part) aims → Comes code i f v' aims (meaning k s)
+  pub does : {i : ℕ} {h t : ℕ → ℕ} {aims : Aims X} (closed : Closed code aims) (f : Family) (taken : Taken)
+      → taken.words ≤ g.words + spare taken → Linked links code i part
+      → ((b : Base) → At b i (Known g v' h t nothing b) (f b)) → Resulting kind code g h t v s (i + size_of part) aims
+      → Comes code i f v' aims (meaning k s)
 
 pub one_finishes : {X : Type 0} {kind : Kind X} {links : Links} {code : List Instr} {g : Ground} {v : Services} {s : State} {k n : ℕ} {part : Taken → Code} {last : Code} {meaning : Meaning (List ℕ)} {next' : List ℕ → Meaning X} → EvaluatesText links code g v s k n part meaning → ((text : List ℕ) → IsShort text → Finishes kind links code g (pushed (TextEntry text) v) v s k last (next' text)) → Evaluates kind links code g v s k n (λ taken. part taken ++ last) (meaning >>= next')
 unfolding ◌>>=◌

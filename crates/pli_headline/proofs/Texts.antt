@@ -57,7 +57,10 @@ Texted g k h t v s i aims =
     (text : List ℕ) (f' : Family) (h' t' : ℕ → ℕ) → IsShort text → Stays k h t h' t' → ((b : Base) → At b i (Known g (pushed (TextEntry text) v) h' t' nothing b) (f' b)) → aims.done i f' (pushed (TextEntry text) v) text s
 
 pub record EvaluatesText (links : Links) (code : List Instr) (g : Ground) (v : Services) (s : State) (k : ℕ) (words : ℕ) (part : Taken → Code) (meaning : Meaning (List ℕ)) : Type 1 where
-  pub does : {i : ℕ} {h t : ℕ → ℕ} {aims : Aims (List ℕ)} (closed : Closed code aims) (f : Family) (taken : Taken) → taken.words + words ≤ g.words + spare taken → Linked links code i (part taken) → ((b : Base) → At b i (Known g v h t nothing b) (f b)) → Texted g taken h t v s (i + size_of (part taken)) aims → Comes code i f v aims (meaning k s)
+  pub does : {i : ℕ} {h t : ℕ → ℕ} {aims : Aims (List ℕ)} (closed : Closed code aims) (f : Family) (taken : Taken)
+      → taken.words + words ≤ g.words + spare taken → Linked links code i (part taken)
+      → ((b : Base) → At b i (Known g v h t nothing b) (f b)) → Texted g taken h t v s (i + size_of (part taken)) aims
+      → Comes code i f v aims (meaning k s)
 
 -- ---- what services 22 and 23 answer
 
@@ -252,7 +255,8 @@ part_evaluates {code = code} {g = g} {v = v} {s = s} {k = k} temps m n p routine
           let e4 = size_append d r4 in
           let e5 = size_append back (mode ++ cut) in
           let place : i + size_of a + size_of c + size_of put' + size_of d + 1 + size_of back + 1 + 5 ≡ i + size_of (a ++ r1) = omega (arith, e1, e2, e3, e4, e5) in
-          let one : is_register_left taken ≡ false → taken.words < g.words = λ none. let z = none_spare taken none in omega (arith, z, room, m2, m4) in
+          let one : is_register_left taken ≡ false
+          → taken.words < g.words = λ none. let z = none_spare taken none in omega (arith, z, room, m2, m4) in
           let rest : List ℕ → Meaning (List ℕ) = λ whole. two >>= (λ from. three' >>= (λ many. R.or_error around substring_code (substring whole from many))) in
           comes_on k (meant k s) rest
           (x.does (before_closed k rest closed) f taken (omega (arith, room, m1)) (front_of a r1 l) at

@@ -105,7 +105,13 @@ texts_all {frames = frames} {serials = serials} {s = s} {block = block} {types =
 
 -- ---- the statement
 
-text_does_all : {e : Environment} {block : Names} {types : Types} (bl : Block e block types) (links : Links) (code : List Instr) (routines : Standing bl links code) (around : Around) (j : ℕ) (varying : Bool) (most : ℕ) (b : Bounds) (bs : List Bounds) (x : Y.Text) (line : ℕ) (below : IsTextArrayAt types j varying most b bs) → level_of block j ≡ 0 → IsProvedText block types x → bl.taken.words + text_words x ≤ bl.words + spare bl.taken → bl.taken.words + 4 ≤ bl.words → line < 2 ^ 31 → Does bl links code around.turns (act_code line ++ elements_code e bl.taken (whole (own block j)) (Y.StoredText x)) (M.statement around (Y.AssignElements (whole (own block j)) (Y.StoredText x) line))
+text_does_all : {e : Environment} {block : Names} {types : Types} (bl : Block e block types) (links : Links)
+    (code : List Instr) (routines : Standing bl links code) (around : Around) (j : ℕ) (varying : Bool) (most : ℕ)
+    (b : Bounds) (bs : List Bounds) (x : Y.Text) (line : ℕ) (below : IsTextArrayAt types j varying most b bs)
+    → level_of block j ≡ 0 → IsProvedText block types x → bl.taken.words + text_words x ≤ bl.words + spare bl.taken
+    → bl.taken.words + 4 ≤ bl.words → line < 2 ^ 31
+    → Does bl links code around.turns (act_code line ++ elements_code e bl.taken (whole (own block j))
+    (Y.StoredText x)) (M.statement around (Y.AssignElements (whole (own block j)) (Y.StoredText x) line))
 unfolding M.statement V.stored_value give ◌>>=◌ ◌>>◌
 text_does_all {e} {block} {types} bl links code routines around j varying most b bs x line below outermost is room some fits =
     record {
@@ -192,7 +198,12 @@ text_does_all {e} {block} {types} bl links code routines around j varying most b
           })))));
     }
 
-pub elements_text_does : {e : Environment} {block : Names} {types : Types} (bl : Block e block types) (links : Links) (code : List Instr) (routines : Standing bl links code) (around : Around) (r : Y.Reference) (x : Y.Text) (line : ℕ) → IsWholeText block types r → IsProvedText block types x → (elements_takes bl.taken r (Y.StoredText x)).words ≤ bl.words → line < 2 ^ 31 → Does bl links code around.turns (act_code line ++ elements_code e bl.taken r (Y.StoredText x)) (M.statement around (Y.AssignElements r (Y.StoredText x) line))
+pub elements_text_does : {e : Environment} {block : Names} {types : Types} (bl : Block e block types) (links : Links)
+    (code : List Instr) (routines : Standing bl links code) (around : Around) (r : Y.Reference) (x : Y.Text) (line : ℕ)
+    → IsWholeText block types r → IsProvedText block types x
+    → (elements_takes bl.taken r (Y.StoredText x)).words ≤ bl.words → line < 2 ^ 31
+    → Does bl links code around.turns (act_code line ++ elements_code e bl.taken r (Y.StoredText x))
+    (M.statement around (Y.AssignElements r (Y.StoredText x) line))
 elements_text_does {e} {block} {types} bl links code routines around r x line w is room fits =
     let o = w.whole in
     let a = text_needs bl.taken x in

@@ -142,7 +142,8 @@ within_piece {code = code} {i = i} {v = v} {h = h} {t = t} {s = s} {aims = aims}
     (omega (arith, inside, place')) (back_of a c l) at1
     (λ f2 at2. record { to = subst (λ u. aims.done u f2 v true s) (sym place) (met.0 f2 h1 t1 stays (λ b. record { pc = (at2 b).pc ∙ ap (address b) place; holds = (at2 b).holds })) })
     (λ f2 at2. record { to = subst (λ u. aims.done u f2 v false s) (sym place') (met.1 f2 h1 t1 stays (λ b. record { pc = (at2 b).pc ∙ ap (address b) place'; holds = (at2 b).holds })) }))))
-within_piece bl routines around r p None (Some limit) fixed step behind closed n f k mine waits ws at_step low room inside
+within_piece bl routines around r p None (Some limit) fixed step behind closed n f k mine waits ws at_step low room
+    inside
     l serving all at met = absurd waits
 within_piece bl routines around r p (Some x) None fixed step behind closed n f k mine waits ws at_step low room inside l
     serving all at met = absurd waits
@@ -163,7 +164,18 @@ kept_by {i = i} {v = v} {aims = aims} s false closed f behind inside l at met ov
     let there : i + 1 + (2 + behind) ≡ i + 3 + behind = omega arith in
     closed.done r false s (closed.done q false s (subst (λ u. aims.done u (reached q) v false s) (sym there) (over (reached q) (λ b. let o = reached_holds q b in record { pc = o.pc ∙ ap (address b) there; holds = o.holds }))))
 
-pub condition_piece : {links : Links} {code : List Instr} {i : ℕ} {v : Services} {h t : ℕ → ℕ} {s : State} {aims : Aims Bool} {e : Environment} {block : Names} {types : Types} (bl : Block e block types) (routines : Standing bl links code) (around : Around) (condition : Option Y.Bit) (behind : ℕ) (closed : Closed code aims) (n : Values) (f : Family) (k : ℕ) → IsProvedBitIf block types condition → bl.taken.words + 2 + bit_if condition ≤ bl.words + spare bl.taken → i + size_of (while_kept e bl.taken condition behind) + behind ≤ length code → Linked links code i (while_kept e bl.taken condition behind) → Serving k s v around.line → AllHold bl.frames bl.serials (storage v) (e.level ∷ bl.depths) s block types n → ((b : Base) → At b i (Known (bl.ground n) v h t nothing b) (f b)) → Met bl n v s h t (i + size_of (while_kept e bl.taken condition behind)) (i + size_of (while_kept e bl.taken condition behind) + behind) aims → Comes code i f v aims (M.condition_met around condition k s)
+pub condition_piece : {links : Links} {code : List Instr} {i : ℕ} {v : Services} {h t : ℕ → ℕ} {s : State}
+    {aims : Aims Bool} {e : Environment} {block : Names} {types : Types} (bl : Block e block types)
+    (routines : Standing bl links code) (around : Around) (condition : Option Y.Bit) (behind : ℕ)
+    (closed : Closed code aims) (n : Values) (f : Family) (k : ℕ) → IsProvedBitIf block types condition
+    → bl.taken.words + 2 + bit_if condition ≤ bl.words + spare bl.taken
+    → i + size_of (while_kept e bl.taken condition behind) + behind ≤ length code
+    → Linked links code i (while_kept e bl.taken condition behind) → Serving k s v around.line
+    → AllHold bl.frames bl.serials (storage v) (e.level ∷ bl.depths) s block types n
+    → ((b : Base) → At b i (Known (bl.ground n) v h t nothing b) (f b))
+    → Met bl n v s h t (i + size_of (while_kept e bl.taken condition behind))
+    (i + size_of (while_kept e bl.taken condition behind) + behind) aims
+    → Comes code i f v aims (M.condition_met around condition k s)
 unfolding M.condition_met give
 condition_piece {i = i} {v = v} {h = h} {t = t} {s = s} {aims = aims} bl routines around None behind closed n f k is room inside l serving all at met =
     let same : i ≡ i + 0 = omega arith in

@@ -10,12 +10,15 @@ use Rattle.pli_meaning.specs.Executing.{labels_in}
 use Rattle.pli_coding.specs.Assembly.{Code}
 use Rattle.pli_coding.specs.Allocating.{act_code}
 use Rattle.pli_coding.specs.Entries.{frame_begun, entered_without_texts}
-use Rattle.pli_coding.specs.Environments.{BlockPlace, UnitOwner, Environment, in_frame, owned_by, Taken, none_taken, most_taken}
+use Rattle.pli_coding.specs.Environments.{BlockPlace, UnitOwner, Environment, in_frame, owned_by, Taken, none_taken}
+use Rattle.pli_coding.specs.Environments.{most_taken}
 use Rattle.pli_coding.specs.Images.{blocks_among}
 use Rattle.pli_coding.specs.Statements.{unit_environment, unit_variables, unit_takes, unit_mark, unit_left}
 use Rattle.pli_coding.specs.Statements.{stmts_take, stmts_code, held_with}
 use Rattle.pli_coding.specs.Linking.{Links}
-use Rattle.pli_headline.specs.ProvedSoFar.{Types, main_outer, times, IsLine, IsUnitBody, AreProvedStatements, AllJumpAround, AllCallAmong, ArePlain, Names, names_in, types_in, unit_declares, inner_bytes, bytes_of}
+use Rattle.pli_headline.specs.ProvedSoFar.{Types, main_outer, times, IsLine, IsUnitBody, AreProvedStatements}
+use Rattle.pli_headline.specs.ProvedSoFar.{AllJumpAround, AllCallAmong, ArePlain, Names, names_in, types_in}
+use Rattle.pli_headline.specs.ProvedSoFar.{unit_declares, inner_bytes, bytes_of}
 use Rattle.pli_headline.specs.EndUnits.{HasUnitFor}
 use Rattle.pli_headline.specs.InnerWords.{all_inner_words}
 use Rattle.run_steps.specs.Items.{Linked}
@@ -51,7 +54,8 @@ pub record UnitStands (e : Environment) (block : Names) (types : Types) (all : L
   pub declares : ArePlain (unit_declares e.program head head.kind)
   pub inside : DeclarePlain e.program body
   pub calls : AllCallAmong e.program may false 0 body
-  pub few : 4 * (body_words body + all_inner_words body) + (bytes_of (unit_declares e.program head head.kind) + inner_bytes e.program body) ≤ 3200
+  pub few : 4 * (body_words body + all_inner_words body) +
+      (bytes_of (unit_declares e.program head head.kind) + inner_bytes e.program body) ≤ 3200
   pub once : (number : ℕ) (label : Label) → times number label all ≡ 1 → IsMarkedOnce links number label
   pub labels : head.kind ≡ Y.UnitBlock → LabelsStand (unit_environment head e) links all procedure false
   pub blocks : (b : BlockPlace) → IsAmong b (blocks_among body) → IsAmong b e.blocks
@@ -61,7 +65,8 @@ pub record UnitStands (e : Environment) (block : Names) (types : Types) (all : L
   pub linked :
       Linked links code index
       (unit_with (taken_by_unit head.kind (stmts_take none_taken body)).words
-      (held_with e.program (taken_by_unit head.kind (stmts_take none_taken body)).registers body) head.line (unit_made e head head.kind)
+      (held_with e.program (taken_by_unit head.kind (stmts_take none_taken body)).registers body) head.line
+      (unit_made e head head.kind)
       (stmts_code (unit_environment head e) none_taken body) (unit_mark head head.kind))
 
 -- a block's units are such, in the frame of the main procedure
@@ -71,18 +76,25 @@ Tells e block types all procedure may links code base known =
 
 -- ---- the code of one
 
-abbrev code_with : Y.Program → Y.BlockHead → Y.Stmts → (made statements mark : Code) → (taken : Taken) (level : ℕ) → Code
+abbrev code_with : Y.Program → Y.BlockHead → Y.Stmts → (made statements mark : Code) → (taken : Taken) (level : ℕ)
+    → Code
 code_with program head body made statements mark taken level =
     frame_begun taken.words level 0 (Some (held_with program taken.registers body))
     ++ (entered_without_texts 2 head.line
-    ++ (made ++ (act_code head.line ++ (statements ++ (mark ++ unit_left taken.words (held_with program taken.registers body))))))
+    ++ (made ++ (act_code head.line ++ (statements ++
+    (mark ++ unit_left taken.words (held_with program taken.registers body))))))
 
 -- no words are needed for its variables
-taken_is : (e : Environment) (head : Y.BlockHead) (kind : Y.BlockKind) (body : Y.Stmts) → ArePlain (unit_declares e.program head kind) → unit_takes e.program head kind body ≡ taken_by_unit kind (stmts_take none_taken body)
+taken_is : (e : Environment) (head : Y.BlockHead) (kind : Y.BlockKind) (body : Y.Stmts)
+    → ArePlain (unit_declares e.program head kind)
+    → unit_takes e.program head kind body ≡ taken_by_unit kind (stmts_take none_taken body)
 taken_is e head Y.SimpleUnit body are = refl
-taken_is e head Y.UnitBlock body are = ap (λ t. most_taken t (stmts_take none_taken body)) (none_taken_for (variables_of_block e.program head.number) are)
-taken_is e head Y.ProcedureBlock body are = ap (λ t. most_taken t (stmts_take none_taken body)) (none_taken_for (variables_of_block e.program head.number) are)
-taken_is e head Y.BeginBlock body are = ap (λ t. most_taken t (stmts_take none_taken body)) (none_taken_for (variables_of_block e.program head.number) are)
+taken_is e head Y.UnitBlock body are = ap (λ t. most_taken t (stmts_take none_taken body))
+    (none_taken_for (variables_of_block e.program head.number) are)
+taken_is e head Y.ProcedureBlock body are = ap (λ t. most_taken t (stmts_take none_taken body))
+    (none_taken_for (variables_of_block e.program head.number) are)
+taken_is e head Y.BeginBlock body are = ap (λ t. most_taken t (stmts_take none_taken body))
+    (none_taken_for (variables_of_block e.program head.number) are)
 
 made_is : (e : Environment) (head : Y.BlockHead) (kind : Y.BlockKind) → unit_variables (unit_environment head e) head kind ≡ unit_made e head kind
 made_is e head Y.SimpleUnit = refl
@@ -97,7 +109,8 @@ joined frame enter made act statements ended =
 pub unit_is : (e : Environment) (head : Y.BlockHead) (body : Y.Stmts)
     → ArePlain (unit_declares e.program head head.kind) → head.level ≡ 1 → unit_by e head body head.kind head.level
     ≡ unit_with (taken_by_unit head.kind (stmts_take none_taken body)).words
-    (held_with e.program (taken_by_unit head.kind (stmts_take none_taken body)).registers body) head.line (unit_made e head head.kind)
+    (held_with e.program (taken_by_unit head.kind (stmts_take none_taken body)).registers body) head.line
+    (unit_made e head head.kind)
     (stmts_code (unit_environment head e) none_taken body) (unit_mark head head.kind)
 unit_is e head body are level =
     let st = stmts_code (unit_environment head e) none_taken body in

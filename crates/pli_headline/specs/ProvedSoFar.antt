@@ -679,7 +679,8 @@ abbrev mutual
   CallsAmong program may returns bytes (Y.Get skip pairs line) = MayEnd program bytes
   CallsAmong program may returns bytes (Y.OnUnit condition (Y.BlockOf head body) line) =
       AllCallAmong program may false 0 body
-      × ((4 * (body_words body + all_inner_words body) + (bytes_of (unit_declares program head head.kind) + inner_bytes program body) ≤ 3200)
+      × ((4 * (body_words body + all_inner_words body)
+      + (bytes_of (unit_declares program head head.kind) + inner_bytes program body) ≤ 3200)
       × IsUnitNew may head head.kind)
   CallsAmong program may returns bytes _ = ⊤
 
@@ -732,7 +733,8 @@ pub record IsCallable (program : Y.Program) (called : List ℕ) (head : Y.BlockH
   pub kind : head.kind ≡ Y.ProcedureBlock
   pub line : IsLine head.line
   pub calls : AllCallAmong program called true 0 body
-  pub few : 4 * (body_words body + all_inner_words body) + (bytes_of (variables_of_block program head.number) + inner_bytes program body) ≤ 3200
+  pub few : 4 * (body_words body + all_inner_words body)
+      + (bytes_of (variables_of_block program head.number) + inner_bytes program body) ≤ 3200
 
 -- a procedure inside the main one, whose number is the given block's: it has no parameters and no result
 pub record IsInner (program : Y.Program) (block : ℕ) (all : List (ℕ × Label)) (called : List ℕ) (p : Y.Procedure) : Type 0 where

@@ -61,8 +61,8 @@ pub fn compile_and_run(
 }
 
 /// Compiles a source and runs it at a base, on what a feed gives, for at most `bound` instructions. It answers what
-/// `compile_and_run` does, or `Read` or `Write` where a stream fails, as `run_traced` does; a source that is refused, and
-/// one whose run asks for no input, makes no read.
+/// `compile_and_run` does, or `Read` or `Write` where a stream fails, as `run_traced` does; a source that is refused,
+/// and one whose run asks for no input, makes no read.
 ///
 /// # Errors
 ///

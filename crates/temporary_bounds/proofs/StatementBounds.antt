@@ -1,22 +1,26 @@
 -- Statements take no more words than their bounds, behind those that are taken already; so do blocks.
-use Rattle.std.proofs.Common.{◌≡◌, ℕ, suc, ◌+◌, ◌≤◌, max, Bool, true, false, cond, List, [], ◌∷◌, Option, Some, None, arith}
+use Rattle.std.proofs.Common.{◌≡◌, ℕ, suc, ◌+◌, ◌≤◌, max, Bool, true, false, cond, List, [], ◌∷◌, Option, Some, None}
+use Rattle.std.proofs.Common.{arith}
 use Rattle.pli_typing.specs.TypedTree as Y
 use Rattle.pli_meaning.specs.DeclaredShapes.{variables_of_block}
 use Rattle.pli_coding.specs.Frames.{has_constant_size, is_automatic}
 use Rattle.pli_coding.specs.Environments.{Taken, none_taken, with_words, with_number}
 use Rattle.pli_coding.specs.Locating.{locator_words, is_found_first, behind_locator}
-use Rattle.pli_coding.specs.Storing.{behind_value, behind_record, record_words, assigned_takes, aggregate_takes, elements_takes}
+use Rattle.pli_coding.specs.Storing.{behind_value, behind_record, record_words, assigned_takes, aggregate_takes}
+use Rattle.pli_coding.specs.Storing.{elements_takes}
 use Rattle.pli_coding.specs.Extents.{extent_words, evaluations_take, extents_take}
 use Rattle.pli_coding.specs.Allocating.{behind_amounts, target_takes, allocation_takes, allocations_take, freeing_takes}
 use Rattle.pli_coding.specs.Allocating.{freeings_take}
 use Rattle.pli_coding.specs.Streams.{free_in, elements_of, value_takes, elements_take, put_item_takes, put_items_take}
 use Rattle.pli_coding.specs.Streams.{put_takes, get_item_takes, get_items_take, get_takes}
 use Rattle.pli_coding.specs.Entries.{variable_takes, variables_take}
-use Rattle.pli_coding.specs.Statements.{before_turns, in_turns, number_if_takes, bit_if_takes, counter_takes, begun_takes}
+use Rattle.pli_coding.specs.Statements.{before_turns, in_turns, number_if_takes, bit_if_takes, counter_takes}
+use Rattle.pli_coding.specs.Statements.{begun_takes}
 use Rattle.pli_coding.specs.Statements.{turn_takes, stmt_takes, stmts_take, block_takes}
 use Rattle.pli_coding.specs.WordBounds as W
 use Rattle.temporary_bounds.proofs.Takes.{number_most}
-use Rattle.temporary_bounds.proofs.TakesBounds.{number_bound, text_bound, bit_bound, pointer_bound, reference_bound, call_bound}
+use Rattle.temporary_bounds.proofs.TakesBounds.{number_bound, text_bound, bit_bound, pointer_bound, reference_bound}
+use Rattle.temporary_bounds.proofs.TakesBounds.{call_bound}
 use Rattle.temporary_bounds.proofs.TakesBounds.{stored_bound, locator_words_are}
 
 -- ---- assignments
@@ -84,7 +88,8 @@ pub extents_bound : (t : Taken) (d : Y.DeclaredVariable) → (extents_take t d).
 extents_bound t d = let a = evaluations_bound (with_words extent_words t) d.evaluations in omega (arith, a)
 
 variable_by : (p q : Bool) (d : Y.DeclaredVariable)
-    → (cond p (cond q none_taken (extents_take none_taken d)) none_taken).words ≤ cond p (cond q 0 (W.extents_words d)) 0
+    → (cond p (cond q none_taken (extents_take none_taken d)) none_taken).words ≤ cond p
+    (cond q 0 (W.extents_words d)) 0
 variable_by true true d = omega arith
 variable_by true false d = let a = extents_bound none_taken d in omega (arith, a)
 variable_by false q d = omega arith

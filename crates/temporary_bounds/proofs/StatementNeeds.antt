@@ -12,7 +12,8 @@ use Rattle.temporary_bounds.proofs.Takes.{number_counts}
 use Rattle.temporary_bounds.proofs.TakesBounds.{locator_words_are}
 use Rattle.temporary_bounds.proofs.TakesNeeds.{number_needs, text_needs, bit_needs, reference_needs, locator_spares}
 
-pub number_if_needs : (t : Taken) (x : Option Y.Number) → t.words + W.number_if x ≤ (number_if_takes t x).words + spare t
+pub number_if_needs : (t : Taken) (x : Option Y.Number)
+    → t.words + W.number_if x ≤ (number_if_takes t x).words + spare t
 number_if_needs t None = omega arith
 number_if_needs t (Some x) = number_needs t x
 

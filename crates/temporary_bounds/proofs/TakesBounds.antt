@@ -8,7 +8,8 @@ use Rattle.pli_coding.specs.Temporaries.{number_takes, numbers_take, text_takes,
 use Rattle.pli_coding.specs.Temporaries.{reference_takes, locator_takes, subscripts_take, call_takes, arguments_take}
 use Rattle.pli_coding.specs.Temporaries.{argument_takes, stored_takes}
 use Rattle.pli_coding.specs.WordBounds.{number_words, numbers_words, text_words, bit_words, pointer_words, offset_words}
-use Rattle.pli_coding.specs.WordBounds.{reference_words, locator_value_words, subscripts_words, call_words, located_words}
+use Rattle.pli_coding.specs.WordBounds.{reference_words, locator_value_words, subscripts_words, call_words}
+use Rattle.pli_coding.specs.WordBounds.{located_words}
 use Rattle.pli_coding.specs.WordBounds.{arguments_words, argument_words, stored_words}
 use Rattle.temporary_bounds.proofs.Takes.{number_most}
 
@@ -51,17 +52,21 @@ mutual
       let b = number_bound (with_number t) divisor in
       omega (arith, m, a, b)
   number_bound t (Y.LengthOf x) = text_bound t x
-  number_bound t (Y.IndexOf searched sought) = let a = text_bound t searched in let b = text_bound t sought in omega (arith, a, b)
-  number_bound t (Y.VerifyOf searched allowed) = let a = text_bound t searched in let b = text_bound t allowed in omega (arith, a, b)
+  number_bound t (Y.IndexOf searched sought) =
+      let a = text_bound t searched in let b = text_bound t sought in omega (arith, a, b)
+  number_bound t (Y.VerifyOf searched allowed) =
+      let a = text_bound t searched in let b = text_bound t allowed in omega (arith, a, b)
   number_bound t (Y.LowerBound r dimension) = reference_bound t r
   number_bound t (Y.UpperBound r dimension) = reference_bound t r
-  number_bound t (Y.ElementsOf r dimension) = let m = number_most t in let a = reference_bound t r in omega (arith, m, a)
+  number_bound t (Y.ElementsOf r dimension) =
+      let m = number_most t in let a = reference_bound t r in omega (arith, m, a)
   number_bound t (Y.AllocationsOf v) = omega arith
   number_bound t Y.OnCode = omega arith
 
   pub numbers_bound : (t : Taken) (x : Y.Numbers) → (numbers_take t x).words ≤ t.words + numbers_words x
   numbers_bound t Y.NoNumber = omega arith
-  numbers_bound t (Y.NumberThen first rest) = let a = number_bound t first in let b = numbers_bound t rest in omega (arith, a, b)
+  numbers_bound t (Y.NumberThen first rest) =
+      let a = number_bound t first in let b = numbers_bound t rest in omega (arith, a, b)
 
   pub text_bound : (t : Taken) (x : Y.Text) → (text_takes t x).words ≤ t.words + text_words x
   text_bound t (Y.TextConstant bytes) = omega arith
@@ -94,7 +99,8 @@ mutual
       let a = number_bound t left in
       let b = number_bound (with_number t) right in
       omega (arith, m, a, b)
-  bit_bound t (Y.TextsCompared comparison left right) = let a = text_bound t left in let b = text_bound t right in omega (arith, a, b)
+  bit_bound t (Y.TextsCompared comparison left right) =
+      let a = text_bound t left in let b = text_bound t right in omega (arith, a, b)
   bit_bound t (Y.BitsCompared comparison left right) =
       let m = number_most t in
       let a = bit_bound t left in
@@ -148,7 +154,8 @@ mutual
 
   pub arguments_bound : (t : Taken) (x : Y.Arguments) → (arguments_take t x).words ≤ t.words + arguments_words x
   arguments_bound t Y.NoArgument = omega arith
-  arguments_bound t (Y.ArgumentThen first rest) = let a = argument_bound t first in let b = arguments_bound t rest in omega (arith, a, b)
+  arguments_bound t (Y.ArgumentThen first rest) =
+      let a = argument_bound t first in let b = arguments_bound t rest in omega (arith, a, b)
 
   pub argument_bound : (t : Taken) (x : Y.Argument) → (argument_takes t x).words ≤ t.words + argument_words x
   argument_bound t (Y.ByReference r) = reference_bound t r

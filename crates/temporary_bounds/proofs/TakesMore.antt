@@ -86,7 +86,8 @@ mutual
   subscripts_grow t (Y.NumberThen first rest) = let a = number_grows t first in omega (arith, a)
 
   pub call_grows : (t : Taken) (x : Y.Call) → t.words ≤ (call_takes t x).words
-  call_grows t (Y.Calling procedure level as') = let a = arguments_grow (with_words (list_words as') t) as' in omega (arith, a)
+  call_grows t (Y.Calling procedure level as') =
+      let a = arguments_grow (with_words (list_words as') t) as' in omega (arith, a)
 
   pub arguments_grow : (t : Taken) (x : Y.Arguments) → t.words ≤ (arguments_take t x).words
   arguments_grow t Y.NoArgument = omega arith
@@ -122,7 +123,8 @@ mutual
   number_takes_more t u less (Y.NumberFrom c) = call_takes_more t u less c
   number_takes_more t u less (Y.NumberOfText x) = text_takes_more t u less x
   number_takes_more t u less (Y.NumberOfBit b) = bit_takes_more t u less b
-  number_takes_more t u less (Y.Signed sign x) = most_fewer _ _ _ _ (number_fewer t u less) (number_takes_more t u less x)
+  number_takes_more t u less (Y.Signed sign x) =
+      most_fewer _ _ _ _ (number_fewer t u less) (number_takes_more t u less x)
   number_takes_more t u less (Y.Calculated operator left right) =
       most_fewer _ _ _ _ (number_takes_more t u less left) (number_takes_more _ _ (number_fewer t u less) right)
   number_takes_more t u less (Y.Absolute x) = most_fewer _ _ _ _ (number_fewer t u less) (number_takes_more t u less x)
@@ -134,17 +136,21 @@ mutual
   number_takes_more t u less (Y.Divided precision dividend divisor) =
       most_fewer _ _ _ _ (number_takes_more t u less dividend) (number_takes_more _ _ (number_fewer t u less) divisor)
   number_takes_more t u less (Y.LengthOf x) = text_takes_more t u less x
-  number_takes_more t u less (Y.IndexOf searched sought) = most_fewer _ _ _ _ (text_takes_more t u less searched) (text_takes_more t u less sought)
-  number_takes_more t u less (Y.VerifyOf searched allowed) = most_fewer _ _ _ _ (text_takes_more t u less searched) (text_takes_more t u less allowed)
+  number_takes_more t u less (Y.IndexOf searched sought) =
+      most_fewer _ _ _ _ (text_takes_more t u less searched) (text_takes_more t u less sought)
+  number_takes_more t u less (Y.VerifyOf searched allowed) =
+      most_fewer _ _ _ _ (text_takes_more t u less searched) (text_takes_more t u less allowed)
   number_takes_more t u less (Y.LowerBound r dimension) = reference_takes_more t u less r
   number_takes_more t u less (Y.UpperBound r dimension) = reference_takes_more t u less r
-  number_takes_more t u less (Y.ElementsOf r dimension) = most_fewer _ _ _ _ (number_fewer t u less) (reference_takes_more t u less r)
+  number_takes_more t u less (Y.ElementsOf r dimension) =
+      most_fewer _ _ _ _ (number_fewer t u less) (reference_takes_more t u less r)
   number_takes_more t u less (Y.AllocationsOf v) = less
   number_takes_more t u less Y.OnCode = less
 
   pub numbers_take_more : (t u : Taken) → Fewer t u → (x : Y.Numbers) → Fewer (numbers_take t x) (numbers_take u x)
   numbers_take_more t u less Y.NoNumber = less
-  numbers_take_more t u less (Y.NumberThen first rest) = most_fewer _ _ _ _ (number_takes_more t u less first) (numbers_take_more t u less rest)
+  numbers_take_more t u less (Y.NumberThen first rest) =
+      most_fewer _ _ _ _ (number_takes_more t u less first) (numbers_take_more t u less rest)
 
   pub text_takes_more : (t u : Taken) → Fewer t u → (x : Y.Text) → Fewer (text_takes t x) (text_takes u x)
   text_takes_more t u less (Y.TextConstant bytes) = less
@@ -152,8 +158,10 @@ mutual
   text_takes_more t u less (Y.TextFrom c) = call_takes_more t u less c
   text_takes_more t u less (Y.TextOfNumber precision x) = number_takes_more t u less x
   text_takes_more t u less (Y.TextOfBit b) = bit_takes_more t u less b
-  text_takes_more t u less (Y.Joined left right) = most_fewer _ _ _ _ (text_takes_more t u less left) (text_takes_more t u less right)
-  text_takes_more t u less (Y.SubstringFrom x start) = most_fewer _ _ _ _ (text_takes_more t u less x) (number_takes_more t u less start)
+  text_takes_more t u less (Y.Joined left right) =
+      most_fewer _ _ _ _ (text_takes_more t u less left) (text_takes_more t u less right)
+  text_takes_more t u less (Y.SubstringFrom x start) =
+      most_fewer _ _ _ _ (text_takes_more t u less x) (number_takes_more t u less start)
   text_takes_more t u less (Y.Substring x start count) =
       most_fewer _ _ _ _ (text_takes_more t u less x)
       (most_fewer _ _ _ _ (number_takes_more t u less start) (number_takes_more _ _ (number_fewer t u less) count))
@@ -168,7 +176,8 @@ mutual
       most_fewer _ _ _ _ (bit_takes_more t u less left) (bit_takes_more _ _ (number_fewer t u less) right)
   bit_takes_more t u less (Y.NumbersCompared comparison left right) =
       most_fewer _ _ _ _ (number_takes_more t u less left) (number_takes_more _ _ (number_fewer t u less) right)
-  bit_takes_more t u less (Y.TextsCompared comparison left right) = most_fewer _ _ _ _ (text_takes_more t u less left) (text_takes_more t u less right)
+  bit_takes_more t u less (Y.TextsCompared comparison left right) =
+      most_fewer _ _ _ _ (text_takes_more t u less left) (text_takes_more t u less right)
   bit_takes_more t u less (Y.BitsCompared comparison left right) =
       most_fewer _ _ _ _ (bit_takes_more t u less left) (bit_takes_more _ _ (number_fewer t u less) right)
   bit_takes_more t u less (Y.PointersCompared equal left right) =
@@ -178,10 +187,14 @@ mutual
 
   pub pointer_takes_more : (t u : Taken) → Fewer t u → (x : Y.Pointer) → Fewer (pointer_takes t x) (pointer_takes u x)
   pointer_takes_more t u less Y.NullPointer = words_fewer 4 t u less
-  pointer_takes_more t u less (Y.PointerIn r) = most_fewer _ _ _ _ (words_fewer 4 t u less) (reference_takes_more t u less r)
-  pointer_takes_more t u less (Y.PointerFrom c) = most_fewer _ _ _ _ (words_fewer 4 t u less) (call_takes_more t u less c)
-  pointer_takes_more t u less (Y.AddressOf r) = most_fewer _ _ _ _ (words_fewer 4 t u less) (reference_takes_more t u less r)
-  pointer_takes_more t u less (Y.PointerInto x area) = most_fewer _ _ _ _ (words_fewer 4 t u less) (offset_takes_more t u less x)
+  pointer_takes_more t u less (Y.PointerIn r) =
+      most_fewer _ _ _ _ (words_fewer 4 t u less) (reference_takes_more t u less r)
+  pointer_takes_more t u less (Y.PointerFrom c) =
+      most_fewer _ _ _ _ (words_fewer 4 t u less) (call_takes_more t u less c)
+  pointer_takes_more t u less (Y.AddressOf r) =
+      most_fewer _ _ _ _ (words_fewer 4 t u less) (reference_takes_more t u less r)
+  pointer_takes_more t u less (Y.PointerInto x area) =
+      most_fewer _ _ _ _ (words_fewer 4 t u less) (offset_takes_more t u less x)
 
   pub offset_takes_more : (t u : Taken) → Fewer t u → (x : Y.Offset) → Fewer (offset_takes t x) (offset_takes u x)
   offset_takes_more t u less Y.NullOffset = less
@@ -189,34 +202,42 @@ mutual
   offset_takes_more t u less (Y.OffsetFrom c) = call_takes_more t u less c
   offset_takes_more t u less (Y.OffsetInto x area) = pointer_takes_more t u less x
 
-  pub reference_takes_more : (t u : Taken) → Fewer t u → (x : Y.Reference) → Fewer (reference_takes t x) (reference_takes u x)
+  pub reference_takes_more : (t u : Taken) → Fewer t u → (x : Y.Reference)
+      → Fewer (reference_takes t x) (reference_takes u x)
   reference_takes_more t u less (Y.Referring v locator part subscripts) =
-      most_fewer _ _ _ _ (locator_takes_more t u less locator) (subscripts_take_more _ _ (locator_fewer v t u less) subscripts)
+      most_fewer _ _ _ _ (locator_takes_more t u less locator)
+      (subscripts_take_more _ _ (locator_fewer v t u less) subscripts)
 
   pub locator_takes_more : (t u : Taken) → Fewer t u → (x : Y.Locator) → Fewer (locator_takes t x) (locator_takes u x)
   locator_takes_more t u less Y.NotLocated = less
   locator_takes_more t u less (Y.LocatedBy p) = pointer_takes_more t u less p
 
-  pub subscripts_take_more : (t u : Taken) → Fewer t u → (x : Y.Numbers) → Fewer (subscripts_take t x) (subscripts_take u x)
+  pub subscripts_take_more : (t u : Taken) → Fewer t u → (x : Y.Numbers)
+      → Fewer (subscripts_take t x) (subscripts_take u x)
   subscripts_take_more t u less Y.NoNumber = less
   subscripts_take_more t u less (Y.NumberThen first rest) =
       most_fewer _ _ _ _ (number_takes_more t u less first) (subscripts_take_more _ _ (number_fewer t u less) rest)
 
   pub call_takes_more : (t u : Taken) → Fewer t u → (x : Y.Call) → Fewer (call_takes t x) (call_takes u x)
-  call_takes_more t u less (Y.Calling procedure level as') = arguments_take_more _ _ (words_fewer (list_words as') t u less) as'
+  call_takes_more t u less (Y.Calling procedure level as') =
+      arguments_take_more _ _ (words_fewer (list_words as') t u less) as'
 
-  pub arguments_take_more : (t u : Taken) → Fewer t u → (x : Y.Arguments) → Fewer (arguments_take t x) (arguments_take u x)
+  pub arguments_take_more : (t u : Taken) → Fewer t u → (x : Y.Arguments)
+      → Fewer (arguments_take t x) (arguments_take u x)
   arguments_take_more t u less Y.NoArgument = less
-  arguments_take_more t u less (Y.ArgumentThen first rest) = most_fewer _ _ _ _ (argument_takes_more t u less first) (arguments_take_more t u less rest)
+  arguments_take_more t u less (Y.ArgumentThen first rest) =
+      most_fewer _ _ _ _ (argument_takes_more t u less first) (arguments_take_more t u less rest)
 
-  pub argument_takes_more : (t u : Taken) → Fewer t u → (x : Y.Argument) → Fewer (argument_takes t x) (argument_takes u x)
+  pub argument_takes_more : (t u : Taken) → Fewer t u → (x : Y.Argument)
+      → Fewer (argument_takes t x) (argument_takes u x)
   argument_takes_more t u less (Y.ByReference r) = reference_takes_more t u less r
   argument_takes_more t u less (Y.ByCopy type v) = stored_takes_more t u less v
   argument_takes_more t u less (Y.ByOffsetInParameter p parameter) = pointer_takes_more t u less p
   argument_takes_more t u less (Y.ByOffsetInAutomatic p) = pointer_takes_more t u less p
 
   pub stored_takes_more : (t u : Taken) → Fewer t u → (x : Y.Stored) → Fewer (stored_takes t x) (stored_takes u x)
-  stored_takes_more t u less (Y.StoredNumber precision x) = most_fewer _ _ _ _ (number_fewer t u less) (number_takes_more t u less x)
+  stored_takes_more t u less (Y.StoredNumber precision x) =
+      most_fewer _ _ _ _ (number_fewer t u less) (number_takes_more t u less x)
   stored_takes_more t u less (Y.StoredText x) = text_takes_more t u less x
   stored_takes_more t u less (Y.StoredBit x) = bit_takes_more t u less x
   stored_takes_more t u less (Y.StoredPointer x) = pointer_takes_more t u less x

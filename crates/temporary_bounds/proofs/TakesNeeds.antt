@@ -8,7 +8,8 @@ use Rattle.pli_coding.specs.Temporaries.{number_takes, numbers_take, text_takes,
 use Rattle.pli_coding.specs.Temporaries.{reference_takes, locator_takes, subscripts_take, call_takes, arguments_take}
 use Rattle.pli_coding.specs.Temporaries.{argument_takes, stored_takes}
 use Rattle.pli_coding.specs.WordBounds.{number_words, numbers_words, text_words, bit_words, pointer_words, offset_words}
-use Rattle.pli_coding.specs.WordBounds.{reference_words, locator_value_words, subscripts_words, call_words, located_words}
+use Rattle.pli_coding.specs.WordBounds.{reference_words, locator_value_words, subscripts_words, call_words}
+use Rattle.pli_coding.specs.WordBounds.{located_words}
 use Rattle.pli_coding.specs.WordBounds.{arguments_words, argument_words, stored_words}
 use Rattle.temporary_bounds.specs.Spare.{spare}
 use Rattle.temporary_bounds.proofs.Takes.{number_counts}
@@ -52,17 +53,21 @@ mutual
       let b = number_needs (with_number t) divisor in
       omega (arith, n, a, b)
   number_needs t (Y.LengthOf x) = text_needs t x
-  number_needs t (Y.IndexOf searched sought) = let a = text_needs t searched in let b = text_needs t sought in omega (arith, a, b)
-  number_needs t (Y.VerifyOf searched allowed) = let a = text_needs t searched in let b = text_needs t allowed in omega (arith, a, b)
+  number_needs t (Y.IndexOf searched sought) =
+      let a = text_needs t searched in let b = text_needs t sought in omega (arith, a, b)
+  number_needs t (Y.VerifyOf searched allowed) =
+      let a = text_needs t searched in let b = text_needs t allowed in omega (arith, a, b)
   number_needs t (Y.LowerBound r dimension) = reference_needs t r
   number_needs t (Y.UpperBound r dimension) = reference_needs t r
-  number_needs t (Y.ElementsOf r dimension) = let n = number_counts t in let a = reference_needs t r in omega (arith, n, a)
+  number_needs t (Y.ElementsOf r dimension) =
+      let n = number_counts t in let a = reference_needs t r in omega (arith, n, a)
   number_needs t (Y.AllocationsOf v) = omega arith
   number_needs t Y.OnCode = omega arith
 
   pub numbers_need : (t : Taken) (x : Y.Numbers) → t.words + numbers_words x ≤ (numbers_take t x).words + spare t
   numbers_need t Y.NoNumber = omega arith
-  numbers_need t (Y.NumberThen first rest) = let a = number_needs t first in let b = numbers_need t rest in omega (arith, a, b)
+  numbers_need t (Y.NumberThen first rest) =
+      let a = number_needs t first in let b = numbers_need t rest in omega (arith, a, b)
 
   pub text_needs : (t : Taken) (x : Y.Text) → t.words + text_words x ≤ (text_takes t x).words + spare t
   text_needs t (Y.TextConstant bytes) = omega arith
@@ -95,7 +100,8 @@ mutual
       let a = number_needs t left in
       let b = number_needs (with_number t) right in
       omega (arith, n, a, b)
-  bit_needs t (Y.TextsCompared comparison left right) = let a = text_needs t left in let b = text_needs t right in omega (arith, a, b)
+  bit_needs t (Y.TextsCompared comparison left right) =
+      let a = text_needs t left in let b = text_needs t right in omega (arith, a, b)
   bit_needs t (Y.BitsCompared comparison left right) =
       let n = number_counts t in
       let a = bit_needs t left in
@@ -124,7 +130,8 @@ mutual
   offset_needs t (Y.OffsetFrom c) = call_needs t c
   offset_needs t (Y.OffsetInto x area) = pointer_needs t x
 
-  pub reference_needs : (t : Taken) (x : Y.Reference) → t.words + reference_words x ≤ (reference_takes t x).words + spare t
+  pub reference_needs : (t : Taken) (x : Y.Reference)
+      → t.words + reference_words x ≤ (reference_takes t x).words + spare t
   reference_needs t (Y.Referring v locator part subscripts) =
       let a = locator_needs t locator in
       let b = subscripts_need (behind_locator v t) subscripts in
@@ -132,11 +139,13 @@ mutual
       let d = locator_spares v t in
       omega (arith, a, b, c, d)
 
-  pub locator_needs : (t : Taken) (x : Y.Locator) → t.words + locator_value_words x ≤ (locator_takes t x).words + spare t
+  pub locator_needs : (t : Taken) (x : Y.Locator) → t.words + locator_value_words x ≤
+      (locator_takes t x).words + spare t
   locator_needs t Y.NotLocated = omega arith
   locator_needs t (Y.LocatedBy p) = pointer_needs t p
 
-  pub subscripts_need : (t : Taken) (x : Y.Numbers) → t.words + subscripts_words x ≤ (subscripts_take t x).words + spare t
+  pub subscripts_need : (t : Taken) (x : Y.Numbers)
+      → t.words + subscripts_words x ≤ (subscripts_take t x).words + spare t
   subscripts_need t Y.NoNumber = omega arith
   subscripts_need t (Y.NumberThen first rest) =
       let n = number_counts t in
@@ -148,9 +157,11 @@ mutual
   call_needs t (Y.Calling procedure level as') =
       let a = arguments_need (with_words (list_words as') t) as' in omega (arith, a)
 
-  pub arguments_need : (t : Taken) (x : Y.Arguments) → t.words + arguments_words x ≤ (arguments_take t x).words + spare t
+  pub arguments_need : (t : Taken) (x : Y.Arguments)
+      → t.words + arguments_words x ≤ (arguments_take t x).words + spare t
   arguments_need t Y.NoArgument = omega arith
-  arguments_need t (Y.ArgumentThen first rest) = let a = argument_needs t first in let b = arguments_need t rest in omega (arith, a, b)
+  arguments_need t (Y.ArgumentThen first rest) =
+      let a = argument_needs t first in let b = arguments_need t rest in omega (arith, a, b)
 
   pub argument_needs : (t : Taken) (x : Y.Argument) → t.words + argument_words x ≤ (argument_takes t x).words + spare t
   argument_needs t (Y.ByReference r) = reference_needs t r
@@ -159,7 +170,8 @@ mutual
   argument_needs t (Y.ByOffsetInAutomatic p) = pointer_needs t p
 
   pub stored_needs : (t : Taken) (x : Y.Stored) → t.words + stored_words x ≤ (stored_takes t x).words + spare t
-  stored_needs t (Y.StoredNumber precision x) = let n = number_counts t in let a = number_needs t x in omega (arith, n, a)
+  stored_needs t (Y.StoredNumber precision x) =
+      let n = number_counts t in let a = number_needs t x in omega (arith, n, a)
   stored_needs t (Y.StoredText x) = text_needs t x
   stored_needs t (Y.StoredBit x) = bit_needs t x
   stored_needs t (Y.StoredPointer x) = pointer_needs t x
