@@ -1,5 +1,5 @@
--- Operators on numbers and bits: a right operand in a0 and a left one in u1 come to a result in a0. A raise saves what is there
--- as a temporary, since its on-unit may return.
+-- Operators on numbers and bits: a right operand in a0 and a left one in u1 come to a result in a0. A raise saves what
+-- is there as a temporary, since its on-unit may return.
 use Rattle.std.specs.Prelude.{ℕ, ◌-◌, ℤ, pos, Bool, true, false, nat_lt, int_lt, [], ◌∷◌, ◌++◌, if◌then◌else◌}
 use Rattle.rv_meaning.specs.declared.instr.RegisterOp.TheVariants as Op
 use Rattle.rv_meaning.specs.declared.instr.ImmediateOp.TheVariants as Imm

@@ -1,5 +1,5 @@
--- Code before its places are known: instructions, and items that a place elsewhere completes. Each item's size is known by
--- itself, so that distances are sums of sizes.
+-- Code before its places are known: instructions, and items that a place elsewhere completes. Each item's size is known
+-- by itself, so that distances are sums of sizes.
 use Rattle.std.specs.Prelude.{ℕ, ◌+◌, Bool, true, false, ◌&&◌, ◌==◌, List, [], ◌∷◌}
 use Rattle.rv_meaning.specs.declared.instr.Instr.{Instr}
 use Rattle.rv_meaning.specs.declared.instr.Register.{Register}
@@ -12,16 +12,17 @@ pub record InitialLeaf : Type 0 where
   pub leaf : ℕ
   pub values : List ℕ
 
--- data that stands with the code: bytes that never change, by what they are; the INITIAL values of a variable; and by a variable's
--- block and place a word that keeps its signature's number, and its name with so many bytes of storage behind it
+-- data that stands with the code: bytes that never change, by what they are; the INITIAL values of a variable; and by a
+-- variable's block and place a word that keeps its signature's number, and its name with so many bytes of storage
+-- behind it
 pub data Datum : Type 0 where
   ConstantBytes : List ℕ → Datum
   InitialValues : List InitialLeaf → Datum
   NumberWord : (block index : ℕ) → Datum
   StaticStorage : (block index bytes : ℕ) → Datum
 
--- a procedure by its block, and where a RETURN of a procedure or an on-unit goes, a label by its block and letters, the routines of
--- a raise, and what gives the extents of a variable's next generation
+-- a procedure by its block, and where a RETURN of a procedure or an on-unit goes, a label by its block and letters, the
+-- routines of a raise, and what gives the extents of a variable's next generation
 pub data Symbol : Type 0 where
   ProcedureEntry ReturnPlace : (block : ℕ) → Symbol
   LabelPlace : (block : ℕ) → (letters : List ℕ) → Symbol

@@ -29,7 +29,8 @@ registers_saved frame n (suc left) = store_word frame (held n) (saved_register n
 
 abbrev pub registers_restored : (n left : ℕ) → Code
 registers_restored n zero = []
-registers_restored n (suc left) = load_word (held n) frame_register (saved_register n) ++ registers_restored (suc n) left
+registers_restored n (suc left) =
+    load_word (held n) frame_register (saved_register n) ++ registers_restored (suc n) left
 
 -- where its code goes on, and the first so many of these registers
 abbrev pub all_saved : Register → (held : ℕ) → Code
@@ -70,7 +71,8 @@ frame_begun words level parameters saved =
 
 abbrev pub frame_ended : (words : ℕ) → Code
 frame_ended words =
-    plus stack_register frame_register (neg_ℤ (pos (temporary_bytes words))) ++ load_word frame_register frame_register frame_below
+    plus stack_register frame_register (neg_ℤ (pos (temporary_bytes words)))
+        ++ load_word frame_register frame_register frame_below
 
 -- 0 a procedure, 1 a begin block, 2 an on-unit; argument texts are counted in a3
 abbrev pub block_entered : (kind line : ℕ) → Code
@@ -218,7 +220,8 @@ constant_made e place d =
     ++ (number a1 (table_number e d)
     ++ (initial_code a2 d
     ++ (own_place e a3 (pos (place + name_bytes))
-    ++ (small a4 0 ∷ (service 7 ++ plus stack_register frame_register (pos (min last_place (place + frame_bytes e.parts d))))))))
+    ++ (small a4 0
+        ∷ (service 7 ++ plus stack_register frame_register (pos (min last_place (place + frame_bytes e.parts d))))))))
 
 abbrev pub extents_act : (line : ℕ) → List Y.Evaluation → Code
 extents_act line [] = []

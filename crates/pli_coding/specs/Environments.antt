@@ -1,6 +1,7 @@
--- What is known around a piece of code: the program with its table, the parts of memory, and the block whose frame it runs in;
--- and the temporaries in use.
-use Rattle.std.specs.Prelude.{ℕ, ◌+◌, max, Bool, ◌&&◌, ◌==◌, nat_lt, nat_le, List, [], ◌∷◌, None, unwrap_or, if◌then◌else◌}
+-- What is known around a piece of code: the program with its table, the parts of memory, and the block whose frame it
+-- runs in; and the temporaries in use.
+use Rattle.std.specs.Prelude.{ℕ, ◌+◌, max, Bool, ◌&&◌, ◌==◌, nat_lt, nat_le, List, [], ◌∷◌, None, unwrap_or}
+use Rattle.std.specs.Prelude.{if◌then◌else◌}
 use Rattle.rv_meaning.specs.declared.instr.Register.{Register}
 use Rattle.rv_meaning.specs.Tables.{TableSignature}
 use Rattle.pli_typing.specs.TypedTree as Y
@@ -17,8 +18,8 @@ pub record BlockPlace : Type 0 where
   pub number : ℕ
   pub level : ℕ
 
--- where a RETURN goes: to the end of the procedure or on-unit of a block, in the frame at a level, or behind the only statement of a
--- simple unit
+-- where a RETURN goes: to the end of the procedure or on-unit of a block, in the frame at a level, or behind the only
+-- statement of a simple unit
 pub data Owner : Type 0 where
   BlockOwner : BlockPlace → Owner
   UnitOwner : Owner

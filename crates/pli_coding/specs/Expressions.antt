@@ -1,5 +1,5 @@
--- The code of expressions. A number, a bit or an OFFSET value comes in a0, a text on top of the text stack, and a POINTER value in
--- the four words of the frame behind the temporaries in use.
+-- The code of expressions. A number, a bit or an OFFSET value comes in a0, a text on top of the text stack, and a
+-- POINTER value in the four words of the frame behind the temporaries in use.
 use Rattle.std.specs.Prelude.{ℕ, zero, suc, ◌+◌, ◌*◌, ℤ, pos, negsuc, ◌+ℤ◌, ◌-ℤ◌, Bool, true, false, not, ◌&&◌, List}
 use Rattle.std.specs.Prelude.{[], ◌∷◌, ◌++◌, length, slice_get, unwrap_or, if◌then◌else◌, Option, Some, None, is_some}
 use Rattle.rv_meaning.specs.declared.instr.Register.{Register}
@@ -9,10 +9,13 @@ use Rattle.pli_typing.specs.TypedTree as Y
 use Rattle.pli_meaning.specs.Numbers.{is_of_precision, operator_precision}
 use Rattle.pli_coding.specs.Registers.{zero_register, frame_register, a0, a1, a2, a3, u0, u1, u2}
 use Rattle.pli_coding.specs.Assembly.{ConstantBytes, ProcedureEntry, DataPlace, OffsetOf, CallTo, Code}
-use Rattle.pli_coding.specs.Instructions.{immediate, registers, subtract, move, small, constant, number, plus, load_word, store_word, service, tested_service}
+use Rattle.pli_coding.specs.Instructions.{immediate, registers, subtract, move, small, constant, number, plus}
+use Rattle.pli_coding.specs.Instructions.{load_word, store_word, service, tested_service}
 use Rattle.pli_coding.specs.Frames.{buffer_lower, buffer_upper, are_constant, words_place, word_in}
 use Rattle.pli_coding.specs.Environments.{Environment, Taken, with_words, with_number, save, fetch}
-use Rattle.pli_coding.specs.Arithmetic.{calculated_code, fitted_code, divided_code, signed_code, absolute_code, count_checked, sign_code, modulo_code, extreme_code, negated_code, combined_code, equal_code, compared_code}
+use Rattle.pli_coding.specs.Arithmetic.{calculated_code, fitted_code, divided_code, signed_code, absolute_code}
+use Rattle.pli_coding.specs.Arithmetic.{count_checked, sign_code, modulo_code, extreme_code, negated_code}
+use Rattle.pli_coding.specs.Arithmetic.{combined_code, equal_code, compared_code}
 use Rattle.pli_coding.specs.Locating.{frame_found, frame_in, own_place, Located, located, name_offset, number_loaded}
 use Rattle.pli_coding.specs.Locating.{controlled_number, class_found, behind_locator, waiting_name, leaf_number}
 use Rattle.pli_coding.specs.Locating.{is_direct, is_referred, refer_read, leaf_found, bound_loaded, is_simple}
@@ -100,7 +103,8 @@ abbrev pub elements_code : Taken → Y.Bounds → (n : ℕ) → Code
 elements_code t b n =
     upper_code b n
     ++ (bound_loaded u1 b.lower (buffer_lower n)
-    ++ (subtract a0 a0 u1 ∷ immediate Imm.Add a0 a0 (pos 1) ∷ (if are_few b.lower b.upper then [] else count_checked t)))
+    ++ (subtract a0 a0 u1 ∷ immediate Imm.Add a0 a0 (pos 1)
+        ∷ (if are_few b.lower b.upper then [] else count_checked t)))
 
 abbrev pub bound_code : Taken → BoundAsked → Y.Bounds → (dimension : ℕ) → Code
 bound_code t asked b zero = []
@@ -111,11 +115,13 @@ bound_code t ElementsAsked b (suc n) = elements_code t b n
 abbrev pub bounds_found : Environment → Taken → Y.Variable → Y.Part → Y.Bounds → Code
 bounds_found e t v part b =
     if is_direct e v then []
-    else class_found e t v v.class ++ leaf_found e (located e t v) part.first (not (are_constant b)) (is_referred e v part)
+    else class_found e t v v.class
+        ++ leaf_found e (located e t v) part.first (not (are_constant b)) (is_referred e v part)
 
 abbrev pub dimension_code : Environment → Taken → Y.Variable → Y.Part → BoundAsked → (dimension : ℕ) → Code
 dimension_code e t v part asked dimension =
-    bounds_found e t v part (bounds_at e v part dimension) ++ bound_code t asked (bounds_at e v part dimension) dimension
+    bounds_found e t v part (bounds_at e v part dimension)
+        ++ bound_code t asked (bounds_at e v part dimension) dimension
 
 -- ---- names
 
@@ -129,12 +135,14 @@ null_name place = null_word place 0 ++ (null_word place 1 ++ (null_word place 2 
 abbrev pub words_differ : (left right : ℤ) → (n : ℕ) → Code
 words_differ left right n =
     load_word u1 frame_register (left +ℤ pos (4 * n))
-    ++ (load_word u2 frame_register (right +ℤ pos (4 * n)) ++ (registers Op.Xor u1 u1 u2 ∷ registers Op.Or u0 u0 u1 ∷ []))
+    ++ (load_word u2 frame_register (right +ℤ pos (4 * n))
+        ++ (registers Op.Xor u1 u1 u2 ∷ registers Op.Or u0 u0 u1 ∷ []))
 
 abbrev pub names_differ : (left right : ℤ) → Code
 names_differ left right =
     small u0 0
-    ∷ (words_differ left right 0 ++ (words_differ left right 1 ++ (words_differ left right 2 ++ words_differ left right 3)))
+    ∷ (words_differ left right 0
+        ++ (words_differ left right 1 ++ (words_differ left right 2 ++ words_differ left right 3)))
 
 abbrev pub names_compared : (equal : Bool) → (left right : ℤ) → Code
 names_compared equal left right = names_differ left right ++ (move u1 zero_register ∷ move a0 u0 ∷ equal_code equal)
@@ -219,7 +227,8 @@ offset_in_argument e l n area =
     own_place e a0 (argument_place l n 0) ++ (area ++ (small a3 1 ∷ (tested_service 14 ++ argument_stored l n 0 a0)))
 
 abbrev pub converted_last : Environment → ArgumentList → (n : ℕ) → Y.Argument → Code
-converted_last e l n (Y.ByOffsetInParameter p parameter) = offset_in_argument e l n (own_place e a1 (argument_place l parameter 0))
+converted_last e l n (Y.ByOffsetInParameter p parameter) =
+    offset_in_argument e l n (own_place e a1 (argument_place l parameter 0))
 converted_last e l n (Y.ByOffsetInAutomatic p) = offset_in_argument e l n (small a1 0 ∷ [])
 converted_last e l n _ = []
 
@@ -261,17 +270,21 @@ abbrev mutual
   number_code e t (Y.NumberOfBit b) = bit_code e t b
   number_code e t (Y.Signed sign x) = number_code e t x ++ signed_code t sign
   number_code e t (Y.Calculated operator left right) =
-      number_code e t left ++ (save a0 t ++ (number_code e (with_number t) right ++ (fetch u1 t ++ calculated_code t operator)))
+      number_code e t left
+          ++ (save a0 t ++ (number_code e (with_number t) right ++ (fetch u1 t ++ calculated_code t operator)))
   number_code e t (Y.Absolute x) = number_code e t x ++ absolute_code t
   number_code e t (Y.SignOf x) = number_code e t x ++ sign_code
   number_code e t (Y.Extreme extremum first more) = number_code e t first ++ extremes_code e t extremum more
   number_code e t (Y.Modulo dividend divisor) =
       number_code e t dividend ++ (save a0 t ++ (number_code e (with_number t) divisor ++ (fetch u1 t ++ modulo_code)))
   number_code e t (Y.Divided precision dividend divisor) =
-      number_code e t dividend ++ (save a0 t ++ (number_code e (with_number t) divisor ++ (fetch u1 t ++ divided_code t precision)))
+      number_code e t dividend
+          ++ (save a0 t ++ (number_code e (with_number t) divisor ++ (fetch u1 t ++ divided_code t precision)))
   number_code e t (Y.LengthOf x) = text_code e t x ++ (small a2 3 ∷ service 27)
-  number_code e t (Y.IndexOf searched sought) = text_code e t searched ++ (text_code e t sought ++ (small a0 0 ∷ service 25))
-  number_code e t (Y.VerifyOf searched allowed) = text_code e t searched ++ (text_code e t allowed ++ (small a0 1 ∷ service 25))
+  number_code e t (Y.IndexOf searched sought) =
+      text_code e t searched ++ (text_code e t sought ++ (small a0 0 ∷ service 25))
+  number_code e t (Y.VerifyOf searched allowed) =
+      text_code e t searched ++ (text_code e t allowed ++ (small a0 1 ∷ service 25))
   number_code e t (Y.LowerBound r dimension) = asked_code e t r LowerAsked dimension
   number_code e t (Y.UpperBound r dimension) = asked_code e t r UpperAsked dimension
   number_code e t (Y.ElementsOf r dimension) = asked_code e t r ElementsAsked dimension
@@ -283,7 +296,8 @@ abbrev mutual
   extremes_code e t extremum Y.NoNumber = []
   extremes_code e t extremum (Y.NumberThen first rest) =
       save a0 t
-      ++ (number_code e (with_number t) first ++ (fetch u1 t ++ (extreme_code extremum ++ extremes_code e t extremum rest)))
+      ++ (number_code e (with_number t) first
+          ++ (fetch u1 t ++ (extreme_code extremum ++ extremes_code e t extremum rest)))
 
   pub text_code : Environment → Taken → Y.Text → Code
   text_code e t (Y.TextConstant bytes) = constant_pushed bytes
@@ -292,7 +306,8 @@ abbrev mutual
   text_code e t (Y.TextOfNumber precision x) = number_code e t x ++ (small a1 precision ∷ service 21)
   text_code e t (Y.TextOfBit b) = bit_code e t b ++ (small a1 0 ∷ service 21)
   text_code e t (Y.Joined left right) = text_code e t left ++ (text_code e t right ++ tested_service 22)
-  text_code e t (Y.SubstringFrom x start) = text_code e t x ++ (number_code e t start ++ (small a2 0 ∷ tested_service 23))
+  text_code e t (Y.SubstringFrom x start) =
+      text_code e t x ++ (number_code e t start ++ (small a2 0 ∷ tested_service 23))
   text_code e t (Y.Substring x start count) =
       text_code e t x
       ++ (number_code e t start
@@ -307,11 +322,14 @@ abbrev mutual
   bit_code e t (Y.BitOfText x) = text_code e t x ++ (small a0 1 ∷ tested_service 26)
   bit_code e t (Y.Negated x) = bit_code e t x ++ negated_code ∷ []
   bit_code e t (Y.Combined operator left right) =
-      bit_code e t left ++ (save a0 t ++ (bit_code e (with_number t) right ++ (fetch u1 t ++ combined_code operator ∷ [])))
+      bit_code e t left
+          ++ (save a0 t ++ (bit_code e (with_number t) right ++ (fetch u1 t ++ combined_code operator ∷ [])))
   bit_code e t (Y.NumbersCompared comparison left right) =
-      number_code e t left ++ (save a0 t ++ (number_code e (with_number t) right ++ (fetch u1 t ++ compared_code comparison)))
+      number_code e t left
+          ++ (save a0 t ++ (number_code e (with_number t) right ++ (fetch u1 t ++ compared_code comparison)))
   bit_code e t (Y.TextsCompared comparison left right) =
-      text_code e t left ++ (text_code e t right ++ (service 24 ++ (move u1 a0 ∷ small a0 0 ∷ compared_code comparison)))
+      text_code e t left
+          ++ (text_code e t right ++ (service 24 ++ (move u1 a0 ∷ small a0 0 ∷ compared_code comparison)))
   bit_code e t (Y.BitsCompared comparison left right) =
       bit_code e t left ++ (save a0 t ++ (bit_code e (with_number t) right ++ (fetch u1 t ++ compared_code comparison)))
   bit_code e t (Y.PointersCompared equal left right) =

@@ -1,6 +1,8 @@
--- Extents that are evaluated: each is checked, and filled in at all places that share it. The number of the signature so far, the
--- bytes to reserve, a lower bound and the extent for REFER wait in four words behind the temporaries in use.
-use Rattle.std.specs.Prelude.{ℕ, suc, ◌+◌, ◌-◌, ◌==◌, ℤ, pos, nat_lt, max, Bool, true, false, List, [], ◌∷◌, ◌++◌, Option, Some, None, slice_get, if◌then◌else◌}
+-- Extents that are evaluated: each is checked, and filled in at all places that share it. The number of the signature
+-- so far, the bytes to reserve, a lower bound and the extent for REFER wait in four words behind the temporaries in
+-- use.
+use Rattle.std.specs.Prelude.{ℕ, suc, ◌+◌, ◌-◌, ◌==◌, ℤ, pos, nat_lt, max, Bool, true, false, List, [], ◌∷◌, ◌++◌}
+use Rattle.std.specs.Prelude.{Option, Some, None, slice_get, if◌then◌else◌}
 use Rattle.rv_meaning.specs.declared.instr.Register.{Register}
 use Rattle.rv_meaning.specs.declared.instr.ImmediateOp.TheVariants as Imm
 use Rattle.rv_meaning.specs.declared.instr.ShiftOp.TheVariants as Shift
@@ -11,7 +13,8 @@ use Rattle.pli_meaning.specs.Numbers.{operator_precision}
 use Rattle.pli_meaning.specs.Texts.{most_text}
 use Rattle.pli_coding.specs.Registers.{zero_register, frame_register, a0, a1, a2, a3, u1}
 use Rattle.pli_coding.specs.Assembly.{Datum, DataPlace, OffsetOf, Code}
-use Rattle.pli_coding.specs.Instructions.{immediate, shift, move, small, constant, number, load_word, store_word, skip_where, service, error_raised}
+use Rattle.pli_coding.specs.Instructions.{immediate, shift, move, small, constant, number, load_word, store_word}
+use Rattle.pli_coding.specs.Instructions.{skip_where, service, error_raised}
 use Rattle.pli_coding.specs.Frames.{greatest_area, capacity_of, words_place}
 use Rattle.pli_coding.specs.StaticForms.{size_datum, bounds_datum, same_extent, initial_datum}
 use Rattle.pli_coding.specs.Environments.{Environment, Taken, with_words, most_taken}
@@ -133,7 +136,8 @@ amount_loaded t _ = load_word a1 frame_register (refer_word t)
 
 abbrev pub refer_amount : Taken → List Y.Leaf → Option Y.ReferMember → Code
 refer_amount t leaves None = small a1 0 ∷ []
-refer_amount t leaves (Some r) = amount_loaded t r.amount ++ precision_checked (member_precision (slice_get leaves r.member))
+refer_amount t leaves (Some r) =
+    amount_loaded t r.amount ++ precision_checked (member_precision (slice_get leaves r.member))
 
 -- ---- INITIAL values, 0 for none
 

@@ -1,5 +1,5 @@
--- The code of a whole program, and its image: the start, the routines of raises, those of extents, and the procedures; the static
--- data that they name; and the table.
+-- The code of a whole program, and its image: the start, the routines of raises, those of extents, and the procedures;
+-- the static data that they name; and the table.
 use Rattle.std.specs.Prelude.{ℕ, suc, ◌-◌, pos, nat_lt, List, [], ◌∷◌, ◌++◌, length, map, if◌then◌else◌}
 use Rattle.rv_meaning.specs.declared.instr.Instr.TheVariants as I
 use Rattle.rv_meaning.specs.declared.instr.Instr.{Instr}
@@ -10,10 +10,13 @@ use Rattle.rv_meaning.specs.Tables.{table_words}
 use Rattle.pli_typing.specs.TypedTree as Y
 use Rattle.pli_meaning.specs.DeclaredShapes.{head_of}
 use Rattle.pli_meaning.specs.Pictures.{Picture}
-use Rattle.pli_coding.specs.Registers.{zero_register, return_register, stack_register, frame_register, a0, a1, a2, a3, a4, u0, u1}
-use Rattle.pli_coding.specs.Assembly.{NumberWord, ProcedureEntry, RaiseCondition, RaiseError, ErrorEnd, DataPlace, Plain, BaseIn, OffsetOf, CallTo, JumpAhead, Mark, Code, size_of}
+use Rattle.pli_coding.specs.Registers.{zero_register, return_register, stack_register, frame_register, a0, a1, a2, a3}
+use Rattle.pli_coding.specs.Registers.{a4, u0, u1}
+use Rattle.pli_coding.specs.Assembly.{NumberWord, ProcedureEntry, RaiseCondition, RaiseError, ErrorEnd, DataPlace}
+use Rattle.pli_coding.specs.Assembly.{Plain, BaseIn, OffsetOf, CallTo, JumpAhead, Mark, Code, size_of}
 use Rattle.pli_coding.specs.Linking.{linked, links_of, data_bytes}
-use Rattle.pli_coding.specs.Instructions.{add, subtract, move, small, constant, number, plus, store_word, skip_where, service}
+use Rattle.pli_coding.specs.Instructions.{add, subtract, move, small, constant, number, plus, store_word, skip_where}
+use Rattle.pli_coding.specs.Instructions.{service}
 use Rattle.pli_coding.specs.Frames.{MemoryParts, own_offset, lower_top, name_bytes}
 use Rattle.pli_coding.specs.SignatureTable.{table_of}
 use Rattle.pli_coding.specs.StaticForms.{places_datum}
@@ -160,7 +163,8 @@ error_code =
     ∷ OffsetOf a2 ErrorEnd
     ∷ (service 30 ++ (to_unit (size_of error_end) ++ error_end))
 
--- another condition in a0, with its code in a1 and the place to go on in the return register; ERROR where there is no unit
+-- another condition in a0, with its code in a1 and the place to go on in the return register; ERROR where there is no
+-- unit
 abbrev pub condition_code : Code
 condition_code =
     Mark RaiseCondition

@@ -17,6 +17,5 @@ pub mod Allocating
 pub mod Streams
 pub mod Entries
 pub mod Statements
-pub mod WordBounds
 pub mod Procedures
 pub mod Images

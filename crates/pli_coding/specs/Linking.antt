@@ -1,5 +1,5 @@
--- Code at its places: items become instructions once the place of each symbol is known. Places are counted from the base, in
--- bytes; the code stands at the base, and its data from the next multiple of 16 on.
+-- Code at its places: items become instructions once the place of each symbol is known. Places are counted from the
+-- base, in bytes; the code stands at the base, and its data from the next multiple of 16 on.
 use Rattle.std.specs.Prelude.{ℕ, ◌+◌, ◌*◌, ◌/◌, ◌%◌, ◌^◌, ℤ, pos, ◌-ℤ◌, List, [], ◌∷◌, ◌++◌, if◌then◌else◌}
 use Rattle.rv_meaning.specs.declared.instr.Instr.{Instr}
 use Rattle.rv_meaning.specs.declared.instr.Instr.TheVariants as I
@@ -8,7 +8,8 @@ use Rattle.rv_meaning.specs.declared.instr.Register.{Register}
 use Rattle.rv_meaning.specs.Words.{word}
 use Rattle.pli_typing.specs.Signatures.{rounded_up}
 use Rattle.pli_coding.specs.Registers.{zero_register, return_register, far_register}
-use Rattle.pli_coding.specs.Assembly.{Symbol, DataPlace, same_symbol, Item, Plain, BaseIn, OffsetOf, OffsetAhead, JumpTo, CallTo, JumpAhead, JumpBack, Mark, Code, item_size, size_of}
+use Rattle.pli_coding.specs.Assembly.{Symbol, DataPlace, same_symbol, Item, Plain, BaseIn, OffsetOf, OffsetAhead}
+use Rattle.pli_coding.specs.Assembly.{JumpTo, CallTo, JumpAhead, JumpBack, Mark, Code, item_size, size_of}
 use Rattle.pli_coding.specs.StaticData.{PlacedDatum, datum_place, placed_from, static_data, bytes_from}
 
 -- ---- numbers of 32 bits in two instructions
@@ -90,4 +91,5 @@ links_of code = record { marks = marks_from 0 code; data' = placed_from (data_st
 
 abbrev pub data_bytes : Code → List ℕ
 data_bytes code =
-    bytes_from (placed_from (data_start code) (static_data code)) (data_start code) (placed_from (data_start code) (static_data code))
+    bytes_from (placed_from (data_start code) (static_data code)) (data_start code)
+        (placed_from (data_start code) (static_data code))

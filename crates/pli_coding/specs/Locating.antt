@@ -98,7 +98,8 @@ abbrev pub needs_number_word : Y.DeclaredVariable → Bool
 needs_number_word d = is_some d.refer && not (begin_at_one (referred_bounds d.leaves))
 
 abbrev pub based_number : Environment → Y.Variable → Y.DeclaredVariable → NumberPlace
-based_number e v d = if needs_number_word d then DataNumber (NumberWord v.block v.index) else KnownNumber (table_number e d)
+based_number e v d =
+    if needs_number_word d then DataNumber (NumberWord v.block v.index) else KnownNumber (table_number e d)
 
 abbrev pub static_datum : Environment → (block index : ℕ) → Y.DeclaredVariable → Datum
 static_datum e block index d = StaticStorage block index (constant_size e.parts d)
@@ -132,14 +133,19 @@ waiting_number t = words_place (t.words + 4) 1
 
 abbrev pub located_by_class : Environment → Taken → Y.Variable → Y.DeclaredVariable → Y.StorageClass → Located
 located_by_class e t v d Y.AutomaticClass =
-    record { name = FrameName v.level (pos (automatic_place e.parts e.program v.block v.level v.index)); number = known_or_own e d }
+    record {
+      name = FrameName v.level (pos (automatic_place e.parts e.program v.block v.level v.index));
+      number = known_or_own e d
+    }
 located_by_class e t v d Y.ParameterClass =
     record {
       name = ListName v.level (argument_at (number_of_parameter e v) 0);
       number = ListNumber v.level (argument_at (number_of_parameter e v) 4);
     }
-located_by_class e t v d Y.StaticClass = record { name = DataName (static_datum e v.block v.index d); number = known_or_own e d }
-located_by_class e t v d Y.BasedClass = record { name = FrameName e.level (waiting_name t); number = based_number e v d }
+located_by_class e t v d Y.StaticClass =
+    record { name = DataName (static_datum e v.block v.index d); number = known_or_own e d }
+located_by_class e t v d Y.BasedClass =
+    record { name = FrameName e.level (waiting_name t); number = based_number e v d }
 located_by_class e t v d Y.ControlledClass =
     record { name = FrameName e.level (waiting_name t); number = FrameNumber e.level (waiting_number t) }
 
@@ -358,7 +364,8 @@ range_loaded b dimension = range_between b.lower b.upper
     range_between : (lower upper : Y.Extent) → Code
     range_between (Y.ConstantExtent l) (Y.ConstantExtent u) = constant u2 (u -ℤ l)
     range_between l u =
-        bound_loaded u2 u (buffer_upper dimension) ++ (bound_loaded u0 l (buffer_lower dimension) ++ subtract u2 u2 u0 ∷ [])
+        bound_loaded u2 u (buffer_upper dimension)
+            ++ (bound_loaded u0 l (buffer_lower dimension) ++ subtract u2 u2 u0 ∷ [])
 
 -- the place among the elements of the dimensions so far makes room in u1 for the next subscript
 abbrev pub place_kept : (dimension : ℕ) → Code
@@ -407,8 +414,10 @@ times_size more =
 
 -- the distance of an element from the first one
 abbrev pub times_stride : Y.LeafType → Code
-times_stride (Y.CharacterLeaf e) = if is_constant e then times_constant (rounded_up 4 (leaf_bytes (kind_of [] (Y.CharacterLeaf e)))) else times_size 0
-times_stride (Y.VaryingLeaf e) = if is_constant e then times_constant (rounded_up 4 (leaf_bytes (kind_of [] (Y.VaryingLeaf e)))) else times_size 2
+times_stride (Y.CharacterLeaf e) =
+    if is_constant e then times_constant (rounded_up 4 (leaf_bytes (kind_of [] (Y.CharacterLeaf e)))) else times_size 0
+times_stride (Y.VaryingLeaf e) =
+    if is_constant e then times_constant (rounded_up 4 (leaf_bytes (kind_of [] (Y.VaryingLeaf e)))) else times_size 2
 times_stride type = times_constant (rounded_up 4 (leaf_bytes (kind_of [] type)))
 
 -- u3, or what stands in a register, and the element's distance
@@ -488,7 +497,8 @@ word_copied from to n =
     ++ store_word to.register u1 (place_behind (4 * n) to.displacement)
 
 abbrev pub name_copied : (from to : Address) → Code
-name_copied from to = word_copied from to 0 ++ (word_copied from to 1 ++ (word_copied from to 2 ++ word_copied from to 3))
+name_copied from to =
+    word_copied from to 0 ++ (word_copied from to 1 ++ (word_copied from to 2 ++ word_copied from to 3))
 
 -- a place of the running frame
 abbrev pub in_own_frame : ℤ → Address

@@ -1,5 +1,6 @@
 -- The signatures of a program's variables, each once: the table of its image. Equal signatures have one number.
-use Rattle.std.specs.Prelude.{ℕ, suc, Bool, true, ◌&&◌, ◌==◌, nat_le, List, [], ◌∷◌, map, Option, Some, None, if◌then◌else◌}
+use Rattle.std.specs.Prelude.{ℕ, suc, Bool, true, ◌&&◌, ◌==◌, nat_le, List, [], ◌∷◌, map, Option, Some, None}
+use Rattle.std.specs.Prelude.{if◌then◌else◌}
 use Rattle.std.specs.List.{flat_map, list_any}
 use Rattle.rv_meaning.specs.declared.image.TableKind.{TableKind}
 use Rattle.rv_meaning.specs.declared.image.TableKind.TheVariants as K

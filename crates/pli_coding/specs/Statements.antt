@@ -12,19 +12,25 @@ use Rattle.pli_meaning.specs.Numbers.{operator_precision, signed_result}
 use Rattle.pli_meaning.specs.DeclaredShapes.{variables_of_block}
 use Rattle.pli_coding.specs.Registers.{held_registers, zero_register, stack_register, frame_register, a0, a1, a2, u0}
 use Rattle.pli_coding.specs.Registers.{u1, u2, u3}
-use Rattle.pli_coding.specs.Assembly.{Item, Plain, BaseIn, LabelPlace, ReturnPlace, Mark, OffsetAhead, JumpTo, JumpAhead, JumpBack, Code, size_of}
-use Rattle.pli_coding.specs.Instructions.{registers, add, move, small, number, plus, load_word, store_word, skip_where, service, tested_service, error_raised}
+use Rattle.pli_coding.specs.Assembly.{Item, Plain, BaseIn, LabelPlace, ReturnPlace, Mark, OffsetAhead, JumpTo}
+use Rattle.pli_coding.specs.Assembly.{JumpAhead, JumpBack, Code, size_of}
+use Rattle.pli_coding.specs.Instructions.{registers, add, move, small, number, plus, load_word, store_word, skip_where}
+use Rattle.pli_coding.specs.Instructions.{service, tested_service, error_raised}
 use Rattle.pli_coding.specs.Frames.{own_offset, result, display, frame_end, words_place}
-use Rattle.pli_coding.specs.Environments.{Owner, BlockOwner, UnitOwner, Environment, in_frame, owned_by, block_around, Taken, none_taken, with_words, with_number, most_taken}
+use Rattle.pli_coding.specs.Environments.{Owner, BlockOwner, UnitOwner, Environment, in_frame, owned_by, block_around}
+use Rattle.pli_coding.specs.Environments.{Taken, none_taken, with_words, with_number, most_taken}
 use Rattle.pli_coding.specs.Arithmetic.{condition_number, raised, sum_code, constant_added, fitted_code}
-use Rattle.pli_coding.specs.Locating.{frame_found, frame_in, waiting_name, Address, loaded, name_copied, in_own_frame, text_pushed, length_loaded}
-use Rattle.pli_coding.specs.Expressions.{type_in, address_in, number_code, text_code, bit_code, reference_code, call_code, stored_code}
+use Rattle.pli_coding.specs.Locating.{frame_found, frame_in, waiting_name, Address, loaded, name_copied, in_own_frame}
+use Rattle.pli_coding.specs.Locating.{text_pushed, length_loaded}
+use Rattle.pli_coding.specs.Expressions.{type_in, address_in, number_code, text_code, bit_code, reference_code}
+use Rattle.pli_coding.specs.Expressions.{call_code, stored_code}
 use Rattle.pli_coding.specs.Temporaries.{number_takes, bit_takes, reference_takes, call_takes, stored_takes}
 use Rattle.pli_coding.specs.Storing.{word_stored, top_stored, assignment_code, elements_code, aggregate_code}
 use Rattle.pli_coding.specs.Storing.{area_code', emptied_code, assigned_takes, elements_takes, aggregate_takes}
 use Rattle.pli_coding.specs.Allocating.{act_code, allocations_code, freeings_code, allocations_take, freeings_take}
 use Rattle.pli_coding.specs.Streams.{as_text, put_code, get_code, value_takes, put_takes, get_takes}
-use Rattle.pli_coding.specs.Entries.{registers_restored, frame_begun, frame_ended, entered_without_texts, block_left, variables_code, variables_take}
+use Rattle.pli_coding.specs.Entries.{registers_restored, frame_begun, frame_ended, entered_without_texts, block_left}
+use Rattle.pli_coding.specs.Entries.{variables_code, variables_take}
 
 -- ---- tests
 
@@ -40,8 +46,8 @@ abbrev pub while_met : (test body : Code) → Code
 while_met test body =
     test ++ if_met (body ++ JumpBack (size_of test + (3 + size_of body)) ∷ [])
 
--- ---- DO with a variable that counts: its limit and its step stand in two words as long as the turns go on, and its start in a
--- third one until it is assigned. A step that is a constant stands in the code, and its word has nothing.
+-- ---- DO with a variable that counts: its limit and its step stand in two words as long as the turns go on, and its
+-- start in a third one until it is assigned. A step that is a constant stands in the code, and its word has nothing.
 
 abbrev pub constant_step : Y.Number → Option ℤ
 constant_step (Y.NumberConstant n) = Some (pos n)
@@ -65,7 +71,8 @@ before_turns t = with_words 3 t
 
 -- a start isn't converted before limit and step are evaluated; a text waits on the stack
 abbrev pub start_code : Environment → Taken → Y.Value → Code
-start_code e t (Y.NumberValue precision x) = number_code e (before_turns t) x ++ store_word frame_register a0 (start_place t)
+start_code e t (Y.NumberValue precision x) =
+    number_code e (before_turns t) x ++ store_word frame_register a0 (start_place t)
 start_code e t (Y.TextValue x) = text_code e (before_turns t) x
 start_code e t (Y.BitValue x) = bit_code e (before_turns t) x ++ store_word frame_register a0 (start_place t)
 start_code e t _ = []
@@ -103,7 +110,8 @@ counter_stored e t (Y.NumberCounter precision r) = word_stored e (in_turns t) r
 counter_stored e t (Y.TextCounter r) = top_stored e (in_turns t) r
 
 abbrev pub counter_read : Environment → Taken → Y.Counter → Code
-counter_read e t (Y.NumberCounter precision r) = reference_code e (in_turns t) r ++ loaded (type_in e r) a0 (address_in e r)
+counter_read e t (Y.NumberCounter precision r) =
+    reference_code e (in_turns t) r ++ loaded (type_in e r) a0 (address_in e r)
 counter_read e t (Y.TextCounter r) =
     reference_code e (in_turns t) r ++ (text_pushed (type_in e r) (address_in e r) ++ (small a0 0 ∷ tested_service 26))
 
@@ -278,7 +286,8 @@ counter_takes t (Y.TextCounter r) = reference_takes (with_number t) r
 
 -- start, limit and step, which are evaluated before the first turn
 abbrev pub begun_takes : Taken → Y.Value → Option Y.Number → Y.Number → Taken
-begun_takes t start limit step = most_taken (value_takes t start) (most_taken (number_if_takes t limit) (number_takes t step))
+begun_takes t start limit step =
+    most_taken (value_takes t start) (most_taken (number_if_takes t limit) (number_takes t step))
 
 -- what each turn takes while limit and step wait
 abbrev pub turn_takes : Taken → Y.Counter → Option Y.Bit → (body : Taken) → Taken
@@ -313,7 +322,8 @@ abbrev mutual
 
 -- and a block, with what its variables' extents take
 abbrev pub block_takes : Y.Program → (block : ℕ) → Y.Stmts → Taken
-block_takes program block body = most_taken (variables_take (variables_of_block program block)) (stmts_take none_taken body)
+block_takes program block body =
+    most_taken (variables_take (variables_of_block program block)) (stmts_take none_taken body)
 
 -- a simple unit declares nothing
 abbrev pub unit_takes : Y.Program → Y.BlockHead → Y.BlockKind → Y.Stmts → Taken

@@ -1,9 +1,11 @@
 -- The data that stands behind the code: what the code names, each thing once, at its place and with its bytes.
-use Rattle.std.specs.Prelude.{ℕ, ◌+◌, ◌-◌, ◌*◌, Bool, true, false, List, [], ◌∷◌, ◌++◌, length, map, replicate, if◌then◌else◌}
+use Rattle.std.specs.Prelude.{ℕ, ◌+◌, ◌-◌, ◌*◌, Bool, true, false, List, [], ◌∷◌, ◌++◌, length, map, replicate}
+use Rattle.std.specs.Prelude.{if◌then◌else◌}
 use Rattle.std.specs.List.{flat_map, filter, list_any}
 use Rattle.rv_meaning.specs.Memory.{bytes_of_word}
 use Rattle.pli_typing.specs.Signatures.{rounded_up}
-use Rattle.pli_coding.specs.Assembly.{InitialLeaf, Datum, ConstantBytes, InitialValues, NumberWord, StaticStorage, same_datum, Symbol, DataPlace, OffsetOf, Code}
+use Rattle.pli_coding.specs.Assembly.{InitialLeaf, Datum, ConstantBytes, InitialValues, NumberWord, StaticStorage}
+use Rattle.pli_coding.specs.Assembly.{same_datum, Symbol, DataPlace, OffsetOf, Code}
 
 -- ---- what the code names
 
@@ -46,7 +48,8 @@ values_of _ = []
 abbrev pub ordered : List Datum → List Datum
 ordered named =
     filter is_initial named
-    ++ (once [] (filter is_constant named ++ flat_map values_of named) ++ (filter is_word named ++ filter is_storage named))
+    ++ (once [] (filter is_constant named ++ flat_map values_of named)
+        ++ (filter is_word named ++ filter is_storage named))
 
 abbrev pub static_data : Code → List Datum
 static_data code = ordered (once [] (data_named code))

@@ -1,5 +1,7 @@
--- What the code names of its static data: texts, INITIAL values, places of extents, format lists and shapes, each as its bytes.
-use Rattle.std.specs.Prelude.{ℕ, suc, ◌+◌, ◌-◌, Bool, true, false, ◌&&◌, ◌==◌, List, [], ◌∷◌, ◌++◌, length, replicate, Option, Some, None, if◌then◌else◌}
+-- What the code names of its static data: texts, INITIAL values, places of extents, format lists and shapes, each as
+-- its bytes.
+use Rattle.std.specs.Prelude.{ℕ, suc, ◌+◌, ◌-◌, Bool, true, false, ◌&&◌, ◌==◌, List, [], ◌∷◌, ◌++◌, length, replicate}
+use Rattle.std.specs.Prelude.{Option, Some, None, if◌then◌else◌}
 use Rattle.std.specs.List.{flat_map}
 use Rattle.rv_meaning.specs.Words.{word, flag}
 use Rattle.rv_meaning.specs.Memory.{bytes_of_words}
@@ -17,7 +19,8 @@ words_datum words = ConstantBytes (bytes_of_words words)
 
 abbrev pub value_bytes : T.InitialValue → List ℕ
 value_bytes (T.InitialNumber z) = bytes_of_words (1 ∷ word z ∷ [])
-value_bytes (T.InitialText t) = bytes_of_words (2 ∷ length t ∷ []) ++ (t ++ replicate (rounded_up 4 (length t) - length t) 0)
+value_bytes (T.InitialText t) =
+    bytes_of_words (2 ∷ length t ∷ []) ++ (t ++ replicate (rounded_up 4 (length t) - length t) 0)
 value_bytes (T.InitialBit b) = bytes_of_words (1 ∷ flag b ∷ [])
 value_bytes T.InitialSkip = bytes_of_words (0 ∷ 0 ∷ [])
 value_bytes T.InitialNull = bytes_of_words (3 ∷ 0 ∷ [])
@@ -76,7 +79,8 @@ sizes_from leaf e (l ∷ ls) = size_places leaf e l.type ++ sizes_from (suc leaf
 abbrev pub bounds_places : (leaf dimension : ℕ) → Y.Bounds → List Y.Bounds → List ℕ
 bounds_places leaf dimension b [] = []
 bounds_places leaf dimension b (c ∷ cs) =
-    place_if (same_extent b.lower c.lower && same_extent b.upper c.upper) leaf dimension ++ bounds_places leaf (suc dimension) b cs
+    place_if (same_extent b.lower c.lower && same_extent b.upper c.upper) leaf dimension
+        ++ bounds_places leaf (suc dimension) b cs
 
 abbrev pub bounds_from : (leaf : ℕ) → Y.Bounds → List Y.Leaf → List ℕ
 bounds_from leaf b [] = []

@@ -34,7 +34,8 @@ abbrev pub word_stored : Environment → Taken → Y.Reference → Code
 word_stored e t target =
     if is_near e target then reference_code e t target ++ stored (type_in e target) a0 (address_in e target)
     else
-    save a0 t ++ (reference_code e (with_number t) target ++ (fetch a0 t ++ stored (type_in e target) a0 (address_in e target)))
+    save a0 t ++ (reference_code e (with_number t) target
+        ++ (fetch a0 t ++ stored (type_in e target) a0 (address_in e target)))
 
 -- the top text
 abbrev pub top_stored : Environment → Taken → Y.Reference → Code
@@ -73,8 +74,8 @@ abbrev pub assignment_code : Environment → Taken → Y.Reference → Y.Stored 
 assignment_code e t target (Y.StoredPointer x) = name_assigned e t target x (place_assigned e target x)
 assignment_code e t target source = assigned_code e t target source
 
--- ---- records of aggregates: where a name stands, its signature's number, the place of the subscripts given, and the extent that
--- REFER tells, in four words behind the temporaries in use
+-- ---- records of aggregates: where a name stands, its signature's number, the place of the subscripts given, and the
+-- extent that REFER tells, in four words behind the temporaries in use
 
 abbrev pub record_words : ℕ
 record_words = 4
@@ -165,7 +166,8 @@ elements_code e t target source =
     stored_code e t source
     ++ (value_saved t source
     ++ (record_code e (behind_value source t) target
-    ++ (record_given e (behind_value source t) ++ (number a1 (first_leaf target) ++ (value_given e t source ++ service 41)))))
+    ++ (record_given e (behind_value source t)
+        ++ (number a1 (first_leaf target) ++ (value_given e t source ++ service 41)))))
 
 -- a part is taken onto the text stack with mode 0, and put with mode 1
 abbrev pub aggregate_given : Environment → Taken → Y.Reference → (mode : ℕ) → Code

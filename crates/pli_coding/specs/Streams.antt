@@ -1,5 +1,5 @@
--- GET and PUT with EDIT. What is written waits while control items are carried out; a format item is asked for by a service that
--- makes no act before the one that acts.
+-- GET and PUT with EDIT. What is written waits while control items are carried out; a format item is asked for by a
+-- service that makes no act before the one that acts.
 use Rattle.std.specs.Prelude.{ℕ, suc, ◌+◌, ◌^◌, max, ℤ, pos, negsuc, Bool, true, false, ◌&&◌, ◌||◌, ◌==◌, nat_lt}
 use Rattle.std.specs.Prelude.{List, [], ◌∷◌, ◌++◌, take, drop, Option, Some, None, if◌then◌else◌}
 use Rattle.std.specs.List.{list_any}
@@ -26,7 +26,8 @@ use Rattle.pli_coding.specs.Instructions.{store_word, skip_where, choice, repeat
 use Rattle.pli_coding.specs.Instructions.{tested_service, status_tested}
 use Rattle.pli_coding.specs.Frames.{buffer, buffer_kind, buffer_size, word_in}
 use Rattle.pli_coding.specs.StaticForms.{formats_datum, shape_datum}
-use Rattle.pli_coding.specs.Environments.{Environment, declaration_of, Taken, with_words, with_number, most_taken, save, fetch}
+use Rattle.pli_coding.specs.Environments.{Environment, declaration_of, Taken, with_words, with_number, most_taken, save}
+use Rattle.pli_coding.specs.Environments.{fetch}
 use Rattle.pli_coding.specs.Arithmetic.{raised, overflow_raised, fitted_code}
 use Rattle.pli_coding.specs.Locating.{own_place, leaf_number, is_direct, direct_base, direct_register, Address}
 use Rattle.pli_coding.specs.Locating.{address_of, loaded, stored, text_pushed, text_stored}
@@ -89,7 +90,8 @@ abbrev pub as_text : (precision : ℕ) → Code
 as_text precision = small a1 precision ∷ service 21
 
 abbrev pub value_put : Environment → Taken → T.Formats → Y.Value → Code
-value_put e t formats (Y.NumberValue precision x) = number_code e t x ++ (save a0 t ++ number_put t formats (as_text precision))
+value_put e t formats (Y.NumberValue precision x) =
+    number_code e t x ++ (save a0 t ++ number_put t formats (as_text precision))
 value_put e t formats (Y.TextValue x) = text_code e t x ++ text_put formats
 value_put e t formats (Y.BitValue x) = bit_code e t x ++ (save a0 t ++ number_put t formats (as_text 0))
 value_put e t formats _ = []
@@ -157,14 +159,15 @@ next_counted l =
     ++ (immediate Imm.Add u1 u1 (pos 1)
     ∷ (store_word frame_register u1 (next_place l 0)
     ++ (immediate Imm.SetLessUnsigned u1 u1 (pos 1)
-    ∷ (load_word u2 frame_register (next_place l 1) ++ (add u2 u2 u1 ∷ store_word frame_register u2 (next_place l 1))))))
+    ∷ (load_word u2 frame_register (next_place l 1)
+        ++ (add u2 u2 u1 ∷ store_word frame_register u2 (next_place l 1))))))
 
 -- the offset of the next one in a0, and in u1 what is told where there is none
 abbrev pub next_asked : Environment → Elements → Y.Reference → Code
 next_asked e l r = element_asked e l r ++ immediate Imm.Add u1 zero_register (negsuc 0) ∷ []
 
--- what is done for each, given the words behind it, while what is asked first leaves a0 and u1 different; both sizes are those of the
--- code itself
+-- what is done for each, given the words behind it, while what is asked first leaves a0 and u1 different; both sizes
+-- are those of the code itself
 abbrev pub turns : Elements → (asked each : Code) → Code
 turns l asked each =
     asked
@@ -404,7 +407,8 @@ mixed_field_taken e t formats r =
 abbrev pub element_field_taken : Environment → Taken → T.Formats → Y.Reference → Code
 element_field_taken e t formats r =
     if has_kind e r K.Fixed then
-    (if has_kind e r K.Bit || has_texts e r then mixed_field_taken e t formats r else number_got formats ++ number_fitted t)
+    (if has_kind e r K.Bit || has_texts e r then mixed_field_taken e t formats r
+      else number_got formats ++ number_fitted t)
     else (if has_kind e r K.Bit then
     (if has_texts e r then mixed_field_taken e t formats r else bit_got ++ save a0 t)
     else text_got formats)
@@ -484,7 +488,8 @@ value_takes t (Y.TextValue x) = text_takes t x
 value_takes t (Y.BitValue x) = most_taken (with_number t) (bit_takes t x)
 value_takes t _ = t
 
--- a record, the number of the next element, and up to two numbers that wait; what is counted by its distance needs no more
+-- a record, the number of the next element, and up to two numbers that wait; what is counted by its distance needs no
+-- more
 abbrev pub elements_take : Taken → Y.Reference → Taken
 elements_take t r = most_taken (aggregate_takes t r) (with_number (with_number (free_in (elements_of t r))))
 

@@ -12,11 +12,12 @@ abbrev mutual
   number_takes t (Y.NumberOfText x) = text_takes t x
   number_takes t (Y.NumberOfBit b) = bit_takes t b
   number_takes t (Y.Signed sign x) = most_taken (with_number t) (number_takes t x)
-  number_takes t (Y.Calculated operator left right) = most_taken (number_takes t left) (number_takes (with_number t) right)
+  number_takes t (Y.Calculated how left right) = most_taken (number_takes t left) (number_takes (with_number t) right)
   number_takes t (Y.Absolute x) = most_taken (with_number t) (number_takes t x)
   number_takes t (Y.SignOf x) = number_takes t x
   number_takes t (Y.Extreme extremum first more) = most_taken (number_takes t first) (numbers_take (with_number t) more)
-  number_takes t (Y.Modulo dividend divisor) = most_taken (number_takes t dividend) (number_takes (with_number t) divisor)
+  number_takes t (Y.Modulo dividend divisor) =
+      most_taken (number_takes t dividend) (number_takes (with_number t) divisor)
   number_takes t (Y.Divided precision dividend divisor) =
       most_taken (number_takes t dividend) (number_takes (with_number t) divisor)
   number_takes t (Y.LengthOf x) = text_takes t x
@@ -55,8 +56,10 @@ abbrev mutual
       most_taken (number_takes t left) (number_takes (with_number t) right)
   bit_takes t (Y.TextsCompared comparison left right) = most_taken (text_takes t left) (text_takes t right)
   bit_takes t (Y.BitsCompared comparison left right) = most_taken (bit_takes t left) (bit_takes (with_number t) right)
-  bit_takes t (Y.PointersCompared equal left right) = most_taken (pointer_takes t left) (pointer_takes (with_words 4 t) right)
-  bit_takes t (Y.OffsetsCompared equal left right) = most_taken (offset_takes t left) (offset_takes (with_number t) right)
+  bit_takes t (Y.PointersCompared equal left right) =
+      most_taken (pointer_takes t left) (pointer_takes (with_words 4 t) right)
+  bit_takes t (Y.OffsetsCompared equal left right) =
+      most_taken (offset_takes t left) (offset_takes (with_number t) right)
 
   -- with the four words of the name
   pub pointer_takes : Taken → Y.Pointer → Taken

@@ -29,7 +29,7 @@ use Rattle.pli_coding.specs.Arithmetic.{count_checked}
 use Rattle.pli_coding.specs.Expressions.{BoundAsked, LowerAsked, UpperAsked, ElementsAsked, bounds_at, no_bounds, bound_code, number_code, asked_code}
 use Rattle.pli_coding.specs.Locating as L
 use Rattle.pli_coding.specs.Linking.{Links}
-use Rattle.pli_coding.specs.WordBounds.{number_words}
+use Rattle.temporary_bounds.specs.WordBounds.{number_words}
 use Rattle.pli_headline.specs.ProvedSoFar.{Names, constant_bounds, IsBounds, AreBounds, array_variable, text_leaf}
 use Rattle.run_steps.specs.Engine.{address}
 use Rattle.run_steps.proofs.Linking.{size_append}

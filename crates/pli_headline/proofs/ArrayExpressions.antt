@@ -16,7 +16,7 @@ use Rattle.pli_coding.specs.Assembly.{Code}
 use Rattle.pli_coding.specs.Environments.{Environment, Taken}
 use Rattle.pli_coding.specs.Expressions.{given_in, number_code, bit_code}
 use Rattle.pli_coding.specs.Linking.{Links}
-use Rattle.pli_coding.specs.WordBounds.{number_words, bit_words, subscripts_words}
+use Rattle.temporary_bounds.specs.WordBounds.{number_words, bit_words, subscripts_words}
 use Rattle.pli_headline.specs.ProvedSoFar.{Names}
 use Rattle.run_steps.specs.Bodies.{Ground}
 use Rattle.pli_headline.proofs.Serving.{Serving}

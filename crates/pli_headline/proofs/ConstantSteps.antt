@@ -13,7 +13,7 @@ use Rattle.pli_meaning.specs.Raising as R
 use Rattle.pli_meaning.specs.Raising.{Around}
 use Rattle.pli_meaning.specs.Evaluating as V
 use Rattle.pli_coding.specs.Statements.{constant_step}
-use Rattle.pli_coding.specs.WordBounds.{number_words}
+use Rattle.temporary_bounds.specs.WordBounds.{number_words}
 use Rattle.pli_headline.specs.ProvedSoFar.{Names, Types, IsProvedNumber}
 use Rattle.run_steps.specs.Numbers.{IsWide}
 

@@ -4,7 +4,7 @@ use Rattle.std.specs.Prelude.{max}
 use Rattle.pli_typing.specs.TypedTree as Y
 use Rattle.pli_coding.specs.Environments.{Environment, Taken}
 use Rattle.pli_coding.specs.Storing as K
-use Rattle.pli_coding.specs.WordBounds.{aggregate_words, reference_words}
+use Rattle.temporary_bounds.specs.WordBounds.{aggregate_words, reference_words}
 use Rattle.pli_headline.specs.ProvedSoFar.{Names, Types, AreAlike, AreAlikeTexts, AreCopied, array_variable, text_leaf}
 use Rattle.pli_headline.proofs.Scalars.{element_numeric}
 use Rattle.pli_headline.proofs.Variables.{HasTypes, own, whole}

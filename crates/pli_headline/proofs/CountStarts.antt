@@ -26,8 +26,8 @@ use Rattle.pli_coding.specs.Storing.{word_stored}
 use Rattle.pli_coding.specs.Statements.{constant_step, in_turns, limit_code, step_code, stmts_code}
 use Rattle.pli_coding.specs.Statements.{before_turns, start_code, start_loaded, stmt_code}
 use Rattle.pli_coding.specs.Linking.{Links}
-use Rattle.pli_coding.specs.WordBounds.{number_words, bit_words, text_words, reference_words, subscripts_words}
-use Rattle.pli_coding.specs.WordBounds.{number_if, bit_if, value_words}
+use Rattle.temporary_bounds.specs.WordBounds.{number_words, bit_words, text_words, reference_words, subscripts_words}
+use Rattle.temporary_bounds.specs.WordBounds.{number_if, bit_if, value_words}
 use Rattle.temporary_bounds.specs.Spare.{spare}
 use Rattle.temporary_bounds.proofs.Takes.{none_spare}
 use Rattle.pli_headline.specs.ProvedSoFar.{Names, Types, IsProvedNumber, IsProvedNumberIf, IsProvedBitIf, IsPart}

@@ -30,7 +30,7 @@ use Rattle.pli_coding.specs.Statements.{constant_step, step_place, in_turns, bef
 use Rattle.pli_coding.specs.Statements.{step_code, limit_kept, while_kept, step_added, stepped_code}
 use Rattle.pli_coding.specs.Statements.{turn_of, words_behind_condition, words_behind_limit, words_back, turns_code}
 use Rattle.pli_coding.specs.Linking.{Links}
-use Rattle.pli_coding.specs.WordBounds.{number_words, reference_words, number_if, bit_if}
+use Rattle.temporary_bounds.specs.WordBounds.{number_words, reference_words, number_if, bit_if}
 use Rattle.temporary_bounds.specs.Spare.{spare}
 use Rattle.temporary_bounds.proofs.Takes.{none_spare}
 use Rattle.pli_headline.specs.ProvedSoFar.{Names, Types, IsProvedNumber, IsProvedNumberIf, IsProvedBitIf}

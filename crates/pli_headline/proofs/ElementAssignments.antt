@@ -20,7 +20,7 @@ use Rattle.pli_coding.specs.Environments.{Environment}
 use Rattle.pli_coding.specs.Expressions.{given_in, stored_code}
 use Rattle.pli_coding.specs.Storing.{word_stored, stored_into, assigned_code}
 use Rattle.pli_coding.specs.Linking.{Links}
-use Rattle.pli_coding.specs.WordBounds.{number_words, bit_words, reference_words, subscripts_words}
+use Rattle.temporary_bounds.specs.WordBounds.{number_words, bit_words, reference_words, subscripts_words}
 use Rattle.temporary_bounds.specs.Spare.{spare}
 use Rattle.pli_headline.specs.ProvedSoFar.{Names, Types, text_leaf, IsPart, IsAssigned, AreSubscripts, IsProvedNumber, AreProvedNumbers, IsProvedBit}
 use Rattle.pli_headline.proofs.Storages.{storage, Storage, Serials, stored_changed}

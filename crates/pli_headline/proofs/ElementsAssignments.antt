@@ -29,7 +29,7 @@ use Rattle.pli_coding.specs.Expressions.{stored_code}
 use Rattle.pli_coding.specs.Storing.{elements_takes, elements_code, record_code, record_given}
 use Rattle.pli_coding.specs.SignatureTable.{table_of}
 use Rattle.pli_coding.specs.Linking.{Links}
-use Rattle.pli_coding.specs.WordBounds.{number_words, bit_words}
+use Rattle.temporary_bounds.specs.WordBounds.{number_words, bit_words}
 use Rattle.temporary_bounds.specs.Spare.{spare}
 use Rattle.temporary_bounds.proofs.Takes.{number_least}
 use Rattle.temporary_bounds.proofs.TakesNeeds.{bit_needs, stored_needs}

@@ -24,7 +24,7 @@ use Rattle.pli_coding.specs.Locating.{is_simple, simple_loaded}
 use Rattle.pli_coding.specs.Expressions.{number_code, extremes_code, bit_code, text_code, BoundAsked, LowerAsked}
 use Rattle.pli_coding.specs.Expressions.{UpperAsked, ElementsAsked}
 use Rattle.pli_coding.specs.Linking.{Links}
-use Rattle.pli_coding.specs.WordBounds.{number_words, numbers_words, bit_words, text_words, subscripts_words}
+use Rattle.temporary_bounds.specs.WordBounds.{number_words, numbers_words, bit_words, text_words, subscripts_words}
 use Rattle.temporary_bounds.specs.Spare.{spare}
 use Rattle.pli_headline.specs.ProvedSoFar.{Names, Types, IsOwn, IsProvedNumber, AreProvedNumbers, IsProvedBit, IsProvedText, IsPart, IsPartNumber, alone, IsDimension, IsPartText, text_leaf, IsScalar}
 use Rattle.run_steps.specs.Engine.{Base}

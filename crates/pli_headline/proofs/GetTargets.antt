@@ -37,7 +37,7 @@ use Rattle.pli_coding.specs.Streams as C
 use Rattle.pli_coding.specs.Streams.{has_fixed, has_text, controls_carried_out, awaited_before, field_awaited}
 use Rattle.pli_coding.specs.Streams.{field_stored, bit_got, text_got}
 use Rattle.pli_coding.specs.Linking.{Links}
-use Rattle.pli_coding.specs.WordBounds.{get_item_words, reference_words, subscripts_words}
+use Rattle.temporary_bounds.specs.WordBounds.{get_item_words, reference_words, subscripts_words}
 use Rattle.temporary_bounds.specs.Spare.{spare}
 use Rattle.temporary_bounds.proofs.Takes.{none_spare}
 use Rattle.pli_headline.specs.ProvedSoFar.{Names, Types, IsReadBy, IsProvedGetItem, AreProvedFormats, HasData}

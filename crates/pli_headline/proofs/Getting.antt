@@ -30,7 +30,7 @@ use Rattle.pli_coding.specs.Streams as C
 use Rattle.pli_coding.specs.Streams.{has_fixed, has_text, edit_begun, edit_ended, skip_option, get_pair, get_pairs}
 use Rattle.pli_coding.specs.Statements.{stmt_code}
 use Rattle.pli_coding.specs.Linking.{Links}
-use Rattle.pli_coding.specs.WordBounds.{get_item_words, get_items_words, get_words}
+use Rattle.temporary_bounds.specs.WordBounds.{get_item_words, get_items_words, get_words}
 use Rattle.temporary_bounds.specs.Spare.{spare}
 use Rattle.pli_headline.specs.ProvedSoFar.{Names, Types, AreProvedFormats, HasData, HaveWidths, AreProvedGetItems, AreProvedGetPairs}
 use Rattle.pli_headline.proofs.Since.{since_closed, comes_since}

@@ -21,8 +21,8 @@ use Rattle.pli_coding.specs.Statements.{stmts_code, marked, once_code, in_turns}
 use Rattle.pli_coding.specs.Statements.{start_code, limit_code, constant_step, step_code, started_code}
 use Rattle.pli_coding.specs.Statements.{turn_of, turns_code, words_back, words_behind_limit, words_behind_condition}
 use Rattle.pli_coding.specs.Statements.{limit_kept, while_kept, stepped_code, block_held}
-use Rattle.pli_coding.specs.WordBounds.{number_words, bit_words, reference_words, stmt_words, stmts_words, bit_if}
-use Rattle.pli_coding.specs.WordBounds.{number_if, value_words}
+use Rattle.temporary_bounds.specs.WordBounds.{number_words, bit_words, reference_words, stmt_words, stmts_words, bit_if}
+use Rattle.temporary_bounds.specs.WordBounds.{number_if, value_words}
 use Rattle.temporary_bounds.proofs.StatementBounds.{statements_bound, block_bound}
 use Rattle.pli_headline.proofs.Variables.{HasTypes}
 use Rattle.pli_headline.proofs.DeclaredNames.{named_in, has_in}

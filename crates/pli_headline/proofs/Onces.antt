@@ -17,7 +17,7 @@ use Rattle.pli_coding.specs.Environments.{Environment}
 use Rattle.pli_coding.specs.Storing.{assignment_code}
 use Rattle.pli_coding.specs.Statements.{once_code, stmt_code, stmts_code}
 use Rattle.pli_coding.specs.Linking.{Links}
-use Rattle.pli_coding.specs.WordBounds.{bit_if}
+use Rattle.temporary_bounds.specs.WordBounds.{bit_if}
 use Rattle.temporary_bounds.specs.Spare.{spare}
 use Rattle.pli_headline.specs.ProvedSoFar.{Names, Types, IsProvedBitIf}
 use Rattle.run_steps.specs.Engine.{address}

@@ -9,7 +9,7 @@ use Rattle.pli_coding.specs.Assembly.{Code, size_of}
 use Rattle.pli_coding.specs.Instructions.{is_immediate, store_word}
 use Rattle.pli_coding.specs.Frames.{words_place}
 use Rattle.pli_coding.specs.Environments.{Taken, is_register_left, save}
-use Rattle.pli_coding.specs.WordBounds.{reference_words}
+use Rattle.temporary_bounds.specs.WordBounds.{reference_words}
 use Rattle.pli_headline.specs.ProvedSoFar.{Names, Types, IsOwn, IsDimension}
 use Rattle.run_steps.proofs.Linking.{size_append}
 

@@ -22,7 +22,7 @@ use Rattle.pli_coding.specs.Expressions.{number_code, bit_code, text_code}
 use Rattle.pli_coding.specs.Streams as C
 use Rattle.pli_coding.specs.Streams.{has_fixed, has_text, by_item, controls_carried_out, number_written, text_written}
 use Rattle.pli_coding.specs.Linking.{Links}
-use Rattle.pli_coding.specs.WordBounds.{number_words, bit_words, text_words, put_item_words}
+use Rattle.temporary_bounds.specs.WordBounds.{number_words, bit_words, text_words, put_item_words}
 use Rattle.temporary_bounds.specs.Spare.{spare}
 use Rattle.temporary_bounds.proofs.Takes.{none_spare}
 use Rattle.pli_headline.specs.ProvedSoFar.{Names, Types, IsProvedNumber, IsProvedBit, IsProvedText, IsPrecision, HasPrecision, AreProvedFormats, HasData, IsProvedItem}

@@ -42,7 +42,7 @@ use Rattle.run_steps.specs.Reach.{Family, Aims, Comes, Closed}
 use Rattle.run_steps.proofs.Reach.{before_closed, comes_on}
 use Rattle.rv_meaning.specs.Memory.{bytes_of_words}
 use Rattle.pli_coding.specs.StaticForms.{formats_length, formats_words}
-use Rattle.pli_coding.specs.WordBounds.{put_words, put_item_words, put_items_words}
+use Rattle.temporary_bounds.specs.WordBounds.{put_words, put_item_words, put_items_words}
 use Rattle.temporary_bounds.specs.Spare.{spare}
 use Rattle.pli_headline.proofs.StandingFormats.{formats_found}
 use Rattle.pli_headline.proofs.PutItems.{item_piece}

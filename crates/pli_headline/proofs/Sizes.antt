@@ -54,10 +54,10 @@ use Rattle.pli_coding.specs.Locating.{loaded, stored, reached, found_reached, fr
 use Rattle.pli_coding.specs.Locating.{leaf_number, is_simple, are_simple, less_lower, range_loaded, place_kept}
 use Rattle.pli_coding.specs.Locating.{counted_in, subscript_counted, subscript_given, subscripts_counted, text_pushed}
 use Rattle.pli_coding.specs.Locating.{text_stored}
-use Rattle.pli_coding.specs.WordBounds.{get_item_words, get_items_words, get_words, put_item_words, put_items_words}
-use Rattle.pli_coding.specs.WordBounds.{put_words, value_words, stmt_words, stmts_words, bit_if, number_if}
-use Rattle.pli_coding.specs.WordBounds.{number_words, numbers_words, text_words, bit_words, reference_words}
-use Rattle.pli_coding.specs.WordBounds.{subscripts_words}
+use Rattle.temporary_bounds.specs.WordBounds.{get_item_words, get_items_words, get_words, put_item_words, put_items_words}
+use Rattle.temporary_bounds.specs.WordBounds.{put_words, value_words, stmt_words, stmts_words, bit_if, number_if}
+use Rattle.temporary_bounds.specs.WordBounds.{number_words, numbers_words, text_words, bit_words, reference_words}
+use Rattle.temporary_bounds.specs.WordBounds.{subscripts_words}
 use Rattle.pli_headline.proofs.Targets.{part_type}
 use Rattle.pli_headline.proofs.PieceSizes.{most, own_words, asked_words, displaced_by, saved_size, both_size, two_size}
 

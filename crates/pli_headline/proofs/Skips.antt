@@ -28,7 +28,7 @@ use Rattle.pli_coding.specs.Environments.{Environment}
 use Rattle.pli_coding.specs.Streams.{skip_option, put_pairs}
 use Rattle.pli_coding.specs.Statements.{stmt_code}
 use Rattle.pli_coding.specs.Linking.{Links}
-use Rattle.pli_coding.specs.WordBounds.{put_words}
+use Rattle.temporary_bounds.specs.WordBounds.{put_words}
 use Rattle.temporary_bounds.specs.Spare.{spare}
 use Rattle.pli_headline.specs.ProvedSoFar.{Names, Types, AreProvedPairs}
 use Rattle.run_steps.specs.Engine.{Base, address, call_at}

@@ -27,7 +27,7 @@ use Rattle.pli_coding.specs.Storing.{word_stored, stored_into, assigned_code}
 use Rattle.pli_coding.specs.Statements.{stmt_code, stmts_code, marked}
 use Rattle.pli_coding.specs.Linking.{Links, place_of}
 use Rattle.pli_coding.specs.SignatureTable.{table_of}
-use Rattle.pli_coding.specs.WordBounds.{number_words, bit_words}
+use Rattle.temporary_bounds.specs.WordBounds.{number_words, bit_words}
 use Rattle.temporary_bounds.specs.Spare.{spare}
 use Rattle.pli_meaning.specs.DeclaredShapes.{variables_of_block}
 use Rattle.pli_headline.specs.Headline.{parts}

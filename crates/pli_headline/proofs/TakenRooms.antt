@@ -5,7 +5,7 @@ use Rattle.pli_coding.specs.Environments.{Taken, with_words, with_number}
 use Rattle.pli_coding.specs.Temporaries.{reference_takes}
 use Rattle.pli_coding.specs.Storing.{record_words, aggregate_takes}
 use Rattle.pli_coding.specs.Streams.{put_takes, get_takes}
-use Rattle.pli_coding.specs.WordBounds.{reference_words, put_words, get_words}
+use Rattle.temporary_bounds.specs.WordBounds.{reference_words, put_words, get_words}
 use Rattle.temporary_bounds.specs.Spare.{spare}
 use Rattle.temporary_bounds.proofs.Takes.{number_counts}
 use Rattle.temporary_bounds.proofs.TakesMore.{reference_grows}

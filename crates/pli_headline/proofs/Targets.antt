@@ -18,7 +18,7 @@ use Rattle.pli_coding.specs.Environments.{Environment}
 use Rattle.pli_coding.specs.Expressions.{given_in, type_in}
 use Rattle.pli_coding.specs.Storing.{word_stored}
 use Rattle.pli_coding.specs.Linking.{Links}
-use Rattle.pli_coding.specs.WordBounds.{subscripts_words}
+use Rattle.temporary_bounds.specs.WordBounds.{subscripts_words}
 use Rattle.temporary_bounds.specs.Spare.{spare}
 use Rattle.pli_headline.specs.ProvedSoFar.{Names, Types, Kind, alone, IsAssigned, IsProvedNumber, AreProvedNumbers, IsPart}
 use Rattle.pli_headline.proofs.Storages.{storage, Storage}

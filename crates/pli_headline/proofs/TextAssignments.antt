@@ -19,7 +19,7 @@ use Rattle.pli_coding.specs.Environments.{Environment}
 use Rattle.pli_coding.specs.Expressions.{text_code}
 use Rattle.pli_coding.specs.Storing.{top_stored, assigned_code}
 use Rattle.pli_coding.specs.Linking.{Links}
-use Rattle.pli_coding.specs.WordBounds.{text_words}
+use Rattle.temporary_bounds.specs.WordBounds.{text_words}
 use Rattle.temporary_bounds.specs.Spare.{spare}
 use Rattle.pli_headline.specs.ProvedSoFar.{Names, Types, IsProvedText, text_leaf, IsOwn}
 use Rattle.pli_headline.proofs.Storages.{storage, Storage, Serials, stored_changed}

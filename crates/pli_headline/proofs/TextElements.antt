@@ -36,7 +36,7 @@ use Rattle.pli_coding.specs.Expressions.{given_in, reference_code, subscripts_co
 use Rattle.pli_coding.specs.Storing.{top_stored}
 use Rattle.pli_coding.specs.Locating as L
 use Rattle.pli_coding.specs.Linking.{Links}
-use Rattle.pli_coding.specs.WordBounds.{subscripts_words, text_words}
+use Rattle.temporary_bounds.specs.WordBounds.{subscripts_words, text_words}
 use Rattle.temporary_bounds.specs.Spare.{spare}
 use Rattle.pli_headline.specs.ProvedSoFar.{Names, constant_bounds, AreBounds, array_variable, text_leaf}
 use Rattle.run_steps.specs.Engine.{Base, address, most_code}

@@ -24,7 +24,7 @@ use Rattle.pli_coding.specs.Expressions.{text_code}
 use Rattle.pli_coding.specs.Storing.{elements_takes, elements_code}
 use Rattle.pli_coding.specs.SignatureTable.{table_of}
 use Rattle.pli_coding.specs.Linking.{Links}
-use Rattle.pli_coding.specs.WordBounds.{text_words}
+use Rattle.temporary_bounds.specs.WordBounds.{text_words}
 use Rattle.temporary_bounds.specs.Spare.{spare}
 use Rattle.temporary_bounds.proofs.TakesNeeds.{text_needs}
 use Rattle.pli_headline.specs.ProvedSoFar.{Names, Types, Kind, text_leaf, IsWholeText, IsProvedText}

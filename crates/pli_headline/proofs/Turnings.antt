@@ -21,7 +21,7 @@ use Rattle.pli_coding.specs.Expressions.{number_code, bit_code}
 use Rattle.pli_coding.specs.Statements.{limit_place, step_place, in_turns, counter_read, passed, passed_by}
 use Rattle.pli_coding.specs.Statements.{limit_tested, limit_kept, while_kept}
 use Rattle.pli_coding.specs.Linking.{Links}
-use Rattle.pli_coding.specs.WordBounds.{bit_if, reference_words}
+use Rattle.temporary_bounds.specs.WordBounds.{bit_if, reference_words}
 use Rattle.temporary_bounds.specs.Spare.{spare}
 use Rattle.pli_headline.specs.ProvedSoFar.{Names, Types, IsProvedBitIf, IsProvedNumber}
 use Rattle.pli_headline.proofs.Storages.{storage}

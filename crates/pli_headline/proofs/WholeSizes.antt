@@ -17,7 +17,7 @@ use Rattle.pli_coding.specs.Environments.{Environment, none_taken}
 use Rattle.pli_coding.specs.Statements.{block_words, stmts_code, block_held}
 use Rattle.pli_headline.specs.ProvedSoFar.{Names, ArePlain, Types, AreProvedStatements, array_variable}
 use Rattle.pli_coding.specs.Procedures.{procedure_begun, procedure_ended, procedure_in}
-use Rattle.pli_coding.specs.WordBounds.{stmts_words, variables_words, extents_words}
+use Rattle.temporary_bounds.specs.WordBounds.{stmts_words, variables_words, extents_words}
 use Rattle.temporary_bounds.proofs.StatementBounds.{block_bound}
 use Rattle.pli_headline.specs.Headline.{FitsMemory}
 use Rattle.pli_headline.proofs.Scalars.{by_plain}

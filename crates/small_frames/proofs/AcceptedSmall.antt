@@ -9,7 +9,7 @@ use Rattle.pli_coding.specs.Frames.{parameters_of_block}
 use Rattle.pli_coding.specs.Environments.{none_taken}
 use Rattle.pli_coding.specs.Extents.{extents_take}
 use Rattle.pli_coding.specs.Entries.{variables_take}
-use Rattle.pli_coding.specs.WordBounds.{variables_words, evaluations_words, extents_words, number_words}
+use Rattle.temporary_bounds.specs.WordBounds.{variables_words, evaluations_words, extents_words, number_words}
 use Rattle.temporary_bounds.proofs.StatementBounds.{extents_bound, variables_bound}
 use Rattle.pli_frames.specs.Blocks.{BlockWords, blocks_of}
 use Rattle.pli_frames.specs.Plans.{BlockFrame, frame_with, frame_by_kind, frame_of, planned}

@@ -20,8 +20,8 @@ use Rattle.well_formed_trees.proofs.Lists.{HoldsIf}
 use Rattle.small_frames.specs.Within.{ValueWithin, Within}
 use Rattle.small_frames.proofs.ValuesWithin.{OperandWithin, operand_within, wanted_within, number_operand_within}
 use Rattle.small_frames.proofs.ValuesWithin.{text_operand_within, pointer_operand_within}
-use Rattle.pli_coding.specs.WordBounds.{number_words, numbers_words, text_words, pointer_words, offset_words}
-use Rattle.pli_coding.specs.WordBounds.{reference_words}
+use Rattle.temporary_bounds.specs.WordBounds.{number_words, numbers_words, text_words, pointer_words, offset_words}
+use Rattle.temporary_bounds.specs.WordBounds.{reference_words}
 
 abbrev pub AllWithin : (words : ℕ) → List Operand → Type 0
 AllWithin w os = Every (OperandWithin w) os

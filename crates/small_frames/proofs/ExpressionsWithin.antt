@@ -33,8 +33,8 @@ use Rattle.pli_typing.specs.References.{is_builtin_name, found_referent, names_r
 use Rattle.pli_typing.specs.References.{given, expression, reference, qualified, arguments, expressions}
 use Rattle.pli_coding.specs.Expressions as C
 use Rattle.pli_coding.specs.Locating.{is_found_first}
-use Rattle.pli_coding.specs.WordBounds.{located_words, pointer_words, reference_words, call_words}
-use Rattle.pli_coding.specs.WordBounds.{locator_value_words, subscripts_words, arguments_words, argument_words}
+use Rattle.temporary_bounds.specs.WordBounds.{located_words, pointer_words, reference_words, call_words}
+use Rattle.temporary_bounds.specs.WordBounds.{locator_value_words, subscripts_words, arguments_words, argument_words}
 use Rattle.well_formed_trees.specs.Every.{Every}
 use Rattle.well_formed_trees.proofs.Lists.{every_first, every_second, HoldsIf}
 use Rattle.small_frames.specs.Weights.{listed_count, argument_count, qualified_count, weight}

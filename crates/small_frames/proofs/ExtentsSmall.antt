@@ -36,7 +36,7 @@ use Rattle.small_frames.specs.Light.{LightBound, LightSize, LightAttribute, HasL
 use Rattle.small_frames.proofs.ValuesWithin.{within_more, number_operand_within}
 use Rattle.small_frames.proofs.ExpressionsWithin.{weight_least, expressions_within}
 use Rattle.small_frames.proofs.DeclaredLight.{LightHeld, BlockLight, all_blocks_light, variables_light}
-use Rattle.pli_coding.specs.WordBounds.{number_words}
+use Rattle.temporary_bounds.specs.WordBounds.{number_words}
 
 -- ---- the extents of a variable
 

@@ -28,8 +28,8 @@ use Rattle.pli_typing.specs.SingleStatements.{goto_statement, not_called, called
 use Rattle.pli_typing.specs.SingleStatements.{called_found, call_statement, returned, not_returned, return_statement}
 use Rattle.pli_typing.specs.SingleStatements.{result_around, condition, number_at, step_or_one, turns_of, turns_with}
 use Rattle.pli_typing.specs.SingleStatements.{turns, assign_statement}
-use Rattle.pli_coding.specs.WordBounds.{stmt_words, number_words, bit_words, reference_words}
-use Rattle.pli_coding.specs.WordBounds as W
+use Rattle.temporary_bounds.specs.WordBounds.{stmt_words, number_words, bit_words, reference_words}
+use Rattle.temporary_bounds.specs.WordBounds as W
 use Rattle.pli_frames.specs.Blocks.{blocks_in}
 use Rattle.well_formed_trees.specs.Spelled.{RangedIf}
 use Rattle.well_formed_trees.proofs.Lists.{HoldsIf}

@@ -26,7 +26,7 @@ use Rattle.small_frames.proofs.SingleWithin.{SingleWithin, TurnsWithin, assign_w
 use Rattle.small_frames.proofs.SingleWithin.{goto_within, condition_light, turns_light}
 use Rattle.small_frames.proofs.StorageWithin.{allocate_light, free_light, get_light, put_light}
 use Rattle.pli_coding.specs.Environments.{none_taken}
-use Rattle.pli_coding.specs.WordBounds.{stmt_words, stmts_words, bit_words}
+use Rattle.temporary_bounds.specs.WordBounds.{stmt_words, stmts_words, bit_words}
 use Rattle.temporary_bounds.proofs.StatementBounds.{statement_bound, statements_bound}
 
 -- ---- what is small

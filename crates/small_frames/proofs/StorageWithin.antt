@@ -24,10 +24,10 @@ use Rattle.pli_typing.specs.Generations.{freed_whole, freed_reference, freed_ref
 use Rattle.pli_typing.specs.References.{locator_found, expressions, referred}
 use Rattle.pli_typing.specs.SingleStatements.{allocate_statement, free_statement, get_of, put_of, get_statement}
 use Rattle.pli_typing.specs.SingleStatements.{put_statement}
-use Rattle.pli_coding.specs.WordBounds.{target_words, allocation_words, allocations_words, freeing_words}
-use Rattle.pli_coding.specs.WordBounds.{freeings_words, words_behind_record, pointer_words, reference_words}
-use Rattle.pli_coding.specs.WordBounds.{locator_value_words}
-use Rattle.pli_coding.specs.WordBounds as W
+use Rattle.temporary_bounds.specs.WordBounds.{target_words, allocation_words, allocations_words, freeing_words}
+use Rattle.temporary_bounds.specs.WordBounds.{freeings_words, words_behind_record, pointer_words, reference_words}
+use Rattle.temporary_bounds.specs.WordBounds.{locator_value_words}
+use Rattle.temporary_bounds.specs.WordBounds as W
 use Rattle.well_formed_trees.specs.Every.{Every}
 use Rattle.well_formed_trees.specs.Spelled.{RangedIf}
 use Rattle.well_formed_trees.proofs.Lists.{HoldsIf}

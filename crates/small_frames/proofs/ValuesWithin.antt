@@ -20,8 +20,8 @@ use Rattle.pli_typing.specs.Operators.{values_compared, kinds_compared, half_com
 use Rattle.well_formed_trees.proofs.Lists.{HoldsIf}
 use Rattle.small_frames.specs.Weights.{right_words}
 use Rattle.small_frames.specs.Within.{ValueWithin, Within}
-use Rattle.pli_coding.specs.WordBounds.{number_words, text_words, bit_words, pointer_words, offset_words}
-use Rattle.pli_coding.specs.WordBounds.{reference_words, stored_words}
+use Rattle.temporary_bounds.specs.WordBounds.{number_words, text_words, bit_words, pointer_words, offset_words}
+use Rattle.temporary_bounds.specs.WordBounds.{reference_words, stored_words}
 
 -- ---- more words
 

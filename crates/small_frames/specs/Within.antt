@@ -6,8 +6,8 @@ use Rattle.pli_typing.specs.Judging.{Scope, Mention, MentionsFunction, MentionsV
 use Rattle.pli_typing.specs.Converting.{Referent, Designates, Gives}
 use Rattle.pli_typing.specs.References.{expression, reference}
 use Rattle.pli_coding.specs.Expressions.{argument_words}
-use Rattle.pli_coding.specs.WordBounds.{number_words, text_words, bit_words, pointer_words, offset_words}
-use Rattle.pli_coding.specs.WordBounds.{reference_words}
+use Rattle.temporary_bounds.specs.WordBounds.{number_words, text_words, bit_words, pointer_words, offset_words}
+use Rattle.temporary_bounds.specs.WordBounds.{reference_words}
 use Rattle.well_formed_trees.specs.Every.{Every}
 use Rattle.small_frames.specs.Weights.{weight, reference_weight}
 

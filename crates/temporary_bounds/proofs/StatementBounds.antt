@@ -17,7 +17,7 @@ use Rattle.pli_coding.specs.Entries.{variable_takes, variables_take}
 use Rattle.pli_coding.specs.Statements.{before_turns, in_turns, number_if_takes, bit_if_takes, counter_takes}
 use Rattle.pli_coding.specs.Statements.{begun_takes}
 use Rattle.pli_coding.specs.Statements.{turn_takes, stmt_takes, stmts_take, block_takes}
-use Rattle.pli_coding.specs.WordBounds as W
+use Rattle.temporary_bounds.specs.WordBounds as W
 use Rattle.temporary_bounds.proofs.Takes.{number_most}
 use Rattle.temporary_bounds.proofs.TakesBounds.{number_bound, text_bound, bit_bound, pointer_bound, reference_bound}
 use Rattle.temporary_bounds.proofs.TakesBounds.{call_bound}

@@ -6,7 +6,7 @@ use Rattle.pli_coding.specs.Storing.{record_words, behind_record, aggregate_take
 use Rattle.pli_coding.specs.Streams.{free_in, elements_of, value_takes, elements_take, put_item_takes, put_items_take}
 use Rattle.pli_coding.specs.Streams.{put_takes, get_item_takes, get_items_take, get_takes}
 use Rattle.pli_coding.specs.Statements.{number_if_takes, bit_if_takes}
-use Rattle.pli_coding.specs.WordBounds as W
+use Rattle.temporary_bounds.specs.WordBounds as W
 use Rattle.temporary_bounds.specs.Spare.{spare}
 use Rattle.temporary_bounds.proofs.Takes.{number_counts}
 use Rattle.temporary_bounds.proofs.TakesBounds.{locator_words_are}

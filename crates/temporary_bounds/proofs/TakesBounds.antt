@@ -7,10 +7,10 @@ use Rattle.pli_coding.specs.Expressions.{list_words}
 use Rattle.pli_coding.specs.Temporaries.{number_takes, numbers_take, text_takes, bit_takes, pointer_takes, offset_takes}
 use Rattle.pli_coding.specs.Temporaries.{reference_takes, locator_takes, subscripts_take, call_takes, arguments_take}
 use Rattle.pli_coding.specs.Temporaries.{argument_takes, stored_takes}
-use Rattle.pli_coding.specs.WordBounds.{number_words, numbers_words, text_words, bit_words, pointer_words, offset_words}
-use Rattle.pli_coding.specs.WordBounds.{reference_words, locator_value_words, subscripts_words, call_words}
-use Rattle.pli_coding.specs.WordBounds.{located_words}
-use Rattle.pli_coding.specs.WordBounds.{arguments_words, argument_words, stored_words}
+use Rattle.temporary_bounds.specs.WordBounds.{number_words, numbers_words, text_words, bit_words, pointer_words, offset_words}
+use Rattle.temporary_bounds.specs.WordBounds.{reference_words, locator_value_words, subscripts_words, call_words}
+use Rattle.temporary_bounds.specs.WordBounds.{located_words}
+use Rattle.temporary_bounds.specs.WordBounds.{arguments_words, argument_words, stored_words}
 use Rattle.temporary_bounds.proofs.Takes.{number_most}
 
 locator_words_by : (q : Bool) (t : Taken)

@@ -4,7 +4,7 @@ use Rattle.pli_typing.specs.TypedTree as Y
 use Rattle.pli_coding.specs.Environments.{Taken}
 use Rattle.pli_coding.specs.Temporaries.{number_takes}
 use Rattle.pli_coding.specs.Statements.{stmts_take}
-use Rattle.pli_coding.specs.WordBounds.{number_words, stmts_words}
+use Rattle.temporary_bounds.specs.WordBounds.{number_words, stmts_words}
 use Rattle.temporary_bounds.specs.Spare.{spare}
 
 -- statements take no more words

@@ -1,2 +1,3 @@
+pub mod WordBounds
 pub mod Spare
 pub mod Laws

@@ -221,7 +221,8 @@ abbrev mutual
   stmt_words (Y.AssignElements target source line) = elements_words target source
   stmt_words (Y.AssignAggregate target source line) = max (aggregate_words target) (aggregate_words source)
   stmt_words (Y.If condition unit line) = max (bit_words condition) (stmt_words unit)
-  stmt_words (Y.IfElse condition unit otherwise line) = max (bit_words condition) (max (stmt_words unit) (stmt_words otherwise))
+  stmt_words (Y.IfElse condition unit otherwise line) =
+      max (bit_words condition) (max (stmt_words unit) (stmt_words otherwise))
   stmt_words (Y.Do body line) = stmts_words body
   stmt_words (Y.DoWhile condition body line) = max (bit_words condition) (stmts_words body)
   stmt_words (Y.DoOnce variable start condition body line) =
