@@ -120,8 +120,7 @@ impl<F: Feed> FeedInput<F> {
     }
 
     /// The next `width` characters, padded with blanks where the input ends inside. `AtEnd` where none is left, and
-    /// `Memory`: then
-    /// nothing is taken.
+    /// `Memory`: then nothing is taken.
     pub fn get_a(&mut self, width: u32) -> Result<Vec<u8>, EditFault>
         ensures { Tells (wants_field width) (λ i j. TakesText width i (lines.has_character i.marks) result j) result
             self.old self.new }
@@ -134,8 +133,7 @@ impl<F: Feed> FeedInput<F> {
     }
 
     /// The number that the next field of `width` characters stands for. `NotNumber` where it stands for none: it is
-    /// taken all the
-    /// same. `AtEnd` where no character is left, and `Memory`: then nothing is taken.
+    /// taken all the same. `AtEnd` where no character is left, and `Memory`: then nothing is taken.
     pub fn get_f(&mut self, width: u32) -> Result<i32, EditFault>
         ensures { Tells (wants_field width) (λ i j. TakesNumber width i (lines.has_character i.marks) result j) result
             self.old self.new }

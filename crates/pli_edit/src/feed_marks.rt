@@ -1,6 +1,7 @@
 // What stands from a place of an input on that comes from a feed: characters, and the ends of lines.
 
-ghost use Rattle.std.specs.Prelude.{◌≡◌, ◌+◌, ◌≤◌, ℕ, List, [], false, length, true, MatchOption, MatchResult, ⊤};
+ghost use Rattle.std.specs.Prelude.{◌≡◌, ◌+◌, ◌≤◌, ℕ, List, [], false, get_or, length, true, MatchOption, MatchResult};
+ghost use Rattle.std.specs.Prelude.{Some, ⊤};
 ghost use Rattle.pli_meaning.specs.InputLines as lines;
 ghost use Rattle.pli_edit.specs.Feeding.{Agrees, first_fed, is_broken};
 ghost use Rattle.pli_edit.specs.KnownMarks.{marks_left, most_left, wants_mark, wants_characters};
@@ -152,6 +153,9 @@ impl<F: Feed> FeedMarks<F> {
             × ((all : List ℕ) → Agrees self.new.fed all → lines.has_character (marks_left self.new all) ≡ is_left))
             (λ e. (e ≡ EditFault.Read) × Breaks (wants_characters 1) self.old self.new) }
     {
+        if begins_with_character(self.bytes.pending()) {
+            return Ok(true);
+        }
         while let Some((mark, size)) = self.first()? {
             match mark {
                 Mark::Character(_) => return Ok(true),
@@ -189,6 +193,14 @@ impl<F: Feed> FeedMarks<F> {
         self.bytes.pass(count as usize);
         self.is_begun = true;
     }
+}
+
+// Whether the first byte is a character, whatever comes behind it.
+#[tactic(auto, using(crate::proofs::Known::known_character))]
+fn begins_with_character(bytes: &[u8]) -> bool
+    ensures { result ≡ true → IsKnownMark bytes.now (Some (Mark.Character (get_or bytes.now 0 0), 1)) }
+{
+    !bytes.is_empty() && bytes[0] != b'\n' && bytes[0] != b'\r'
 }
 
 // The first mark of bytes that go on, and how many it takes; none where more bytes are wanted.
