@@ -1,13 +1,13 @@
 // What stands from a place of an input on that comes from a feed: characters, and the ends of lines.
 
-ghost use Rattle.std.specs.Prelude.{◌≡◌, ◌+◌, ◌≤◌, ℕ, List, [], false, get_or, length, true, MatchOption, MatchResult};
-ghost use Rattle.std.specs.Prelude.{Some, ⊤};
+ghost use Rattle.std.specs.Prelude.{◌≡◌, ◌+◌, ◌≤◌, ℕ, List, [], false, get_or, length, nat_lt, true, MatchOption};
+ghost use Rattle.std.specs.Prelude.{MatchResult, Some, ⊤};
 ghost use Rattle.pli_meaning.specs.InputLines as lines;
 ghost use Rattle.pli_edit.specs.Feeding.{Agrees, first_fed, is_broken};
 ghost use Rattle.pli_edit.specs.KnownMarks.{marks_left, most_left, wants_mark, wants_characters};
 ghost use Rattle.pli_edit.specs.Marks.{IsInLine};
-ghost use Rattle.pli_edit.specs.Streams.{behind_mark, over_line, Breaks, IsKnownMark, LooksAt, LooksInVain, Moves};
-ghost use Rattle.pli_edit.specs.Streams.{Takes, TakesInLine};
+ghost use Rattle.pli_edit.specs.Streams.{behind_mark, over_line, without_lines, Breaks, IsKnownMark, LooksAt, LooksInVain};
+ghost use Rattle.pli_edit.specs.Streams.{Moves, Takes, TakesInLine};
 
 use crate::fault::EditFault;
 use crate::feed::Feed;
@@ -103,6 +103,16 @@ impl<F: Feed> FeedMarks<F> {
         self.bytes.pass(size);
         self.is_begun = false;
         self.lines += 1;
+    }
+
+    /// The ends of lines that were looked over are taken; whether there were any.
+    pub fn take_lines(&mut self) -> bool
+        ensures taken { self.new ≡ without_lines self.old }
+        ensures some { result ≡ nat_lt 0 self.old.lines }
+    {
+        let lines = self.lines;
+        self.lines = 0;
+        lines > 0
     }
 
     /// The first mark is taken.
