@@ -83,6 +83,7 @@ fn leave_block<O: OutputStream>(
         (with_both k (flow_seen O.output flow.old) held.old m c) result (with_both k (flow_seen O.output flow.new)
         held.new m c) }
     ensures kept { held.new ≡ record held.old { variables = held.new.variables } }
+    ensures grows { O.grows flow.old.shown.output flow.new.shown.output }
 {
     if !can_keep(keep, block.texts, top) {
         return Err(Refusal::Bad);
@@ -111,6 +112,7 @@ pub fn leave<O: OutputStream>(
         (with_both k (flow_seen O.output flow.old) held.old m c) result (with_both k (flow_seen O.output flow.new)
         held.new m c) }
     ensures kept { held.new ≡ record held.old { variables = held.new.variables } }
+    ensures grows { O.grows flow.old.shown.output flow.new.shown.output }
 {
     match flow.activations.newest() {
         Some(block) => leave_block(flow, held, block, keep, second, top),
@@ -136,6 +138,7 @@ fn unwind_block<O: OutputStream>(
         (with_both k (flow_seen O.output flow.old) held.old m c) result (with_both k (flow_seen O.output flow.new)
         held.new m c) }
     ensures kept { held.new ≡ record held.old { variables = held.new.variables } }
+    ensures grows { O.grows flow.old.shown.output flow.new.shown.output }
 {
     if !can_keep(keep, block.texts, top) {
         return Err(Refusal::Bad);
@@ -165,6 +168,7 @@ pub fn unwind<O: OutputStream>(
         (with_both k (flow_seen O.output flow.old) held.old m c) result (with_both k (flow_seen O.output flow.new)
         held.new m c) }
     ensures kept { held.new ≡ record held.old { variables = held.new.variables } }
+    ensures grows { O.grows flow.old.shown.output flow.new.shown.output }
 {
     let Some(block) = block else {
         return Err(Refusal::Bad);
@@ -193,6 +197,7 @@ fn leave_unit<O: OutputStream>(
         (with_both k (flow_seen O.output flow.old) held.old m c) (Ok result)
         (with_both k (flow_seen O.output flow.new) held.new m c) }
     ensures kept { held.new ≡ record held.old { variables = held.new.variables } }
+    ensures grows { O.grows flow.old.shown.output flow.new.shown.output }
 {
     flow.line = block.line;
     let height = flow.activations.height() - 1;
@@ -217,6 +222,7 @@ fn return_block<O: OutputStream>(
         (with_both k (flow_seen O.output flow.old) held.old m c) result (with_both k (flow_seen O.output flow.new)
         held.new m c) }
     ensures kept { held.new ≡ record held.old { variables = held.new.variables } }
+    ensures grows { O.grows flow.old.shown.output flow.new.shown.output }
 {
     match block.kind {
         BlockKind::OnUnit { code, resume } => Ok(leave_unit(flow, held, block, code, resume)),
@@ -234,6 +240,7 @@ pub fn return_from<O: OutputStream>(flow: &mut Flow<O>, held: &mut Held) -> Resu
         (with_both k (flow_seen O.output flow.old) held.old m c) result (with_both k (flow_seen O.output flow.new)
         held.new m c) }
     ensures kept { held.new ≡ record held.old { variables = held.new.variables } }
+    ensures grows { O.grows flow.old.shown.output flow.new.shown.output }
 {
     match flow.activations.newest() {
         Some(block) => return_block(flow, held, block),

@@ -126,6 +126,7 @@ fn end_limited<O: OutputStream>(flow: &mut Flow<O>) -> Result<Reply, Refusal>
     ensures answers { (c : Call) → Answers (λ c. run_ended (E.Limit L.Automatic) c.services)
         (with_flow (flow_seen O.output flow.old) c) result (with_flow (flow_seen O.output flow.new) c) }
     ensures kept { flow.new ≡ record flow.old { shown = flow.new.shown } }
+    ensures grows { O.grows flow.old.shown.output flow.new.shown.output }
 {
     flow.shown.finish(End::Limit(Limit::Automatic))?;
     Ok(Reply::Ended)
@@ -153,6 +154,7 @@ fn make_started<K: AreaKeeper, O: OutputStream>(
     ensures long { length in_use.new ≤ max owner (length in_use.old) }
     ensures held_kept { held.new ≡ record held.old { variables = held.new.variables } }
     ensures flow_kept { flow.new ≡ record flow.old { shown = flow.new.shown } }
+    ensures grows { O.grows flow.old.shown.output flow.new.shown.output }
 {
     match started {
         Started::Limited => end_limited(flow),
@@ -182,6 +184,7 @@ fn make_owned<K: AreaKeeper, O: OutputStream>(
     ensures long { length in_use.new ≤ max owner (length in_use.old) }
     ensures held_kept { held.new ≡ record held.old { variables = held.new.variables } }
     ensures flow_kept { flow.new ≡ record flow.old { shown = flow.new.shown } }
+    ensures grows { O.grows flow.old.shown.output flow.new.shown.output }
 {
     match start::<K>(held, in_use, alloc, memory, wanted, owner) {
         Ok(started) => make_started::<K, O>(flow, held, in_use, memory, wanted, owner, started),
@@ -211,6 +214,7 @@ pub fn make<K: AreaKeeper, O: OutputStream>(
     ensures height { length in_use.new ≤ length flow.new.activations }
     ensures held_kept { held.new ≡ record held.old { variables = held.new.variables } }
     ensures flow_kept { flow.new ≡ record flow.old { shown = flow.new.shown } }
+    ensures grows { O.grows flow.old.shown.output flow.new.shown.output }
 {
     match owner_of(wanted.class, flow.activations.height()) {
         Some(owner) => make_owned::<K, O>(flow, held, in_use, alloc, memory, wanted, owner),

@@ -107,6 +107,7 @@ impl<O: OutputStream> Flow<O> {
             Answers (λ c. entered_as c kind frame line texts e) (with_flow (flow_seen O.output self.old) c) result
             (with_flow (flow_seen O.output self.new) c) }
         ensures height { length self.old.activations ≤ length self.new.activations }
+        ensures grows { O.grows self.old.shown.output self.new.shown.output }
     {
         if self.activations.enter(block).is_err() {
             return Err(Refusal::Memory);
@@ -131,6 +132,7 @@ impl<O: OutputStream> Flow<O> {
             Answers (λ c. entered_as c kind frame line texts (entered_shown entered))
             (with_flow (flow_seen O.output self.old) c) result (with_flow (flow_seen O.output self.new) c) }
         ensures height { length self.old.activations ≤ length self.new.activations }
+        ensures grows { O.grows self.old.shown.output self.new.shown.output }
     {
         if self.activations.height() >= MOST_ACTIVATIONS {
             self.shown.finish(End::Limit(Limit::Depth))?;
@@ -155,6 +157,7 @@ impl<O: OutputStream> Flow<O> {
             Answers (λ c. blocks.enter_served c kind frame line texts) (with_flow (flow_seen O.output self.old) c)
             result (with_flow (flow_seen O.output self.new) c) }
         ensures height { length self.old.activations ≤ length self.new.activations }
+        ensures grows { O.grows self.old.shown.output self.new.shown.output }
     {
         match self.entered(kind) {
             Some(entered) => {

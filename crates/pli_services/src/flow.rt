@@ -55,6 +55,7 @@ impl<O: OutputStream> Flow<O> {
         ensures answers { (c : Call) → Answers (λ c. acts.act_served c line mode)
             (with_flow (flow_seen O.output self.old) c) result (with_flow (flow_seen O.output self.new) c) }
         ensures height { length self.new.activations ≡ length self.old.activations }
+        ensures grows { O.grows self.old.shown.output self.new.shown.output }
     {
         match mode {
             0 => self.shown.count()?,
@@ -70,6 +71,7 @@ impl<O: OutputStream> Flow<O> {
         ensures answers { (c : Call) → Answers (λ c. acts.end_served c kind code)
             (with_flow (flow_seen O.output self.old) c) result (with_flow (flow_seen O.output self.new) c) }
         ensures height { length self.new.activations ≡ length self.old.activations }
+        ensures grows { O.grows self.old.shown.output self.new.shown.output }
     {
         let Some(end) = end_of(kind, code, self.line) else {
             return Err(Refusal::Bad);
@@ -83,6 +85,7 @@ impl<O: OutputStream> Flow<O> {
         ensures answers { (c : Call) → Answers (λ c. acts.retry_served c first second)
             (with_flow (flow_seen O.output self.old) c) result (with_flow (flow_seen O.output self.new) c) }
         ensures height { length self.new.activations ≡ length self.old.activations }
+        ensures grows { O.grows self.old.shown.output self.new.shown.output }
     {
         self.shown.count()?;
         Ok(Reply::Done(first, second))
@@ -102,6 +105,7 @@ impl<O: OutputStream> Flow<O> {
         ensures answers { (c : Call) → Answers (λ c. units.on_served c condition at)
             (with_flow (flow_seen O.output self.old) c) result (with_flow (flow_seen O.output self.new) c) }
         ensures height { length self.new.activations ≡ length self.old.activations }
+        ensures grows { O.grows self.old.shown.output self.new.shown.output }
     {
         let Some(found) = condition_of(condition) else {
             return Err(Refusal::Bad);
@@ -121,6 +125,7 @@ impl<O: OutputStream> Flow<O> {
         ensures answers { (c : Call) → Answers (λ c. units.revert_served c condition second)
             (with_flow (flow_seen O.output self.old) c) result (with_flow (flow_seen O.output self.new) c) }
         ensures height { length self.new.activations ≡ length self.old.activations }
+        ensures grows { O.grows self.old.shown.output self.new.shown.output }
     {
         let Some(found) = condition_of(condition) else {
             return Err(Refusal::Bad);
@@ -138,6 +143,7 @@ impl<O: OutputStream> Flow<O> {
         ensures answers { (c : Call) → Answers (λ c. units.raise_served c condition code resume)
             (with_flow (flow_seen O.output self.old) c) result (with_flow (flow_seen O.output self.new) c) }
         ensures height { length self.new.activations ≡ length self.old.activations }
+        ensures grows { O.grows self.old.shown.output self.new.shown.output }
     {
         let (Some(raised), Some(short)) = (condition_of(condition), code_of(code)) else {
             return Err(Refusal::Bad);

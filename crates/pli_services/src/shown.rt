@@ -38,8 +38,9 @@ impl<O: OutputStream> Shown<O> {
 
     /// An act that shows nothing.
     pub fn count(&mut self) -> Result<(), Refusal>
-        ensures { Acts (world_of O.output self.old) (counted (world_of O.output self.old)) result
+        ensures acts { Acts (world_of O.output self.old) (counted (world_of O.output self.old)) result
             (world_of O.output self.new) }
+        ensures grows { O.grows self.old.output self.new.output }
     {
         self.acts = next_act(self.acts)?;
         Ok(())
@@ -47,8 +48,9 @@ impl<O: OutputStream> Shown<O> {
 
     /// The act that raises a condition with its code.
     pub fn raise(&mut self, condition: Condition, code: u16) -> Result<(), Refusal>
-        ensures { Acts (world_of O.output self.old) (raising condition code (world_of O.output self.old)) result
+        ensures acts { Acts (world_of O.output self.old) (raising condition code (world_of O.output self.old)) result
             (world_of O.output self.new) }
+        ensures grows { O.grows self.old.output self.new.output }
     {
         let acts = next_act(self.acts)?;
         self.raised.push((condition, code))?;
@@ -58,8 +60,9 @@ impl<O: OutputStream> Shown<O> {
 
     /// The act that ends the run; an unfinished last line gets its line feed.
     pub fn finish(&mut self, end: End) -> Result<(), Refusal>
-        ensures { Acts (world_of O.output self.old) (ending end (world_of O.output self.old)) result
+        ensures acts { Acts (world_of O.output self.old) (ending end (world_of O.output self.old)) result
             (world_of O.output self.new) }
+        ensures grows { O.grows self.old.output self.new.output }
     {
         let acts = next_act(self.acts)?;
         written(self.output.finish())?;

@@ -56,6 +56,7 @@ fn read_act<I: InputStream, O: OutputStream>(
     ensures input { (all : List ℕ) → I.agrees input.new all → MatchResult result
         (λ _. I.input input.new all ≡ moved_input Getting (control_shown control) (I.input input.old all))
         (λ _. I.has_failed input.new ≡ false → I.input input.new all ≡ I.input input.old all) }
+    ensures grows { O.grows shown.old.output shown.new.output }
 {
     let acts = shown.acts;
     shown.count()?;
@@ -85,6 +86,7 @@ pub fn move_by<I: InputStream, O: OutputStream>(
         (λ _. I.input input.new all ≡ moved_input (direction_shown direction) (control_shown control)
         (I.input input.old all))
         (λ _. I.has_failed input.new ≡ false → I.input input.new all ≡ I.input input.old all) }
+    ensures grows { O.grows shown.old.output shown.new.output }
 {
     match direction {
         Direction::Getting => read_act(control, input, shown),
@@ -107,6 +109,7 @@ fn put_before<O: OutputStream>(
         (on_edit (world_of O.output shown.old) input edit.old below c) result
         (on_edit (world_of O.output shown.new) input edit.new below c) }
     ensures kept { IfErr result (λ _. world_of O.output shown.new ≡ world_of O.output shown.old) }
+    ensures grows { O.grows shown.old.output shown.new.output }
 {
     write_control(shown, control)?;
     edit.advance();
@@ -150,6 +153,7 @@ fn get_before<I: InputStream, O: OutputStream>(
     ensures follows { I.follows input.old input.new }
     ensures kept { MatchResult result (λ _. I.has_failed input.old ≡ false → I.has_failed input.new ≡ false)
         (λ _. world_of O.output shown.new ≡ world_of O.output shown.old) }
+    ensures grows { O.grows shown.old.output shown.new.output }
 {
     let acts = shown.acts;
     shown.count()?;
@@ -184,6 +188,7 @@ fn carry_out_before<I: InputStream, O: OutputStream>(
     ensures unread { edit.old.place.direction ≡ Putting → input.new ≡ input.old }
     ensures kept { MatchResult result (λ _. I.has_failed input.old ≡ false → I.has_failed input.new ≡ false)
         (λ _. world_of O.output shown.new ≡ world_of O.output shown.old) }
+    ensures grows { O.grows shown.old.output shown.new.output }
 {
     match edit.direction() {
         Direction::Getting => get_before(edit, input, shown, control, behind, second),
@@ -209,6 +214,7 @@ fn carry_out<I: InputStream, O: OutputStream>(
     ensures unread { edit.old.place.direction ≡ Putting → input.new ≡ input.old }
     ensures kept { MatchResult result (λ _. I.has_failed input.old ≡ false → I.has_failed input.new ≡ false)
         (λ _. world_of O.output shown.new ≡ world_of O.output shown.old) }
+    ensures grows { O.grows shown.old.output shown.new.output }
 {
     let Ok(found) = edit.beyond() else {
         return Err(Refusal::Memory);
@@ -263,6 +269,7 @@ fn control_next<I: InputStream, O: OutputStream>(
     ensures unread { edit.old.place.direction ≡ Putting → input.new ≡ input.old }
     ensures kept { MatchResult result (λ _. I.has_failed input.old ≡ false → I.has_failed input.new ≡ false)
         (λ _. world_of O.output shown.new ≡ world_of O.output shown.old) }
+    ensures grows { O.grows shown.old.output shown.new.output }
 {
     match control_of(format) {
         Some(control) => carry_out(edit, input, shown, control, second),
@@ -286,6 +293,7 @@ pub fn control<I: InputStream, O: OutputStream>(
     ensures unread { edit.old.place.direction ≡ Putting → input.new ≡ input.old }
     ensures kept { MatchResult result (λ _. I.has_failed input.old ≡ false → I.has_failed input.new ≡ false)
         (λ _. world_of O.output shown.new ≡ world_of O.output shown.old) }
+    ensures grows { O.grows shown.old.output shown.new.output }
 {
     let Ok(found) = edit.reach() else {
         return Err(Refusal::Memory);

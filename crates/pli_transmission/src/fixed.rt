@@ -53,6 +53,7 @@ fn write<O: OutputStream>(
         (on_edit (world_of O.output shown.old) input edit.old below c) result
         (on_edit (world_of O.output shown.new) input edit.new below c) }
     ensures kept { IfErr result (λ _. world_of O.output shown.new ≡ world_of O.output shown.old) }
+    ensures grows { O.grows shown.old.output shown.new.output }
 {
     write_number(shown, number.cast_signed(), width)?;
     edit.advance();
@@ -73,6 +74,7 @@ fn put<O: OutputStream>(
         (on_edit (world_of O.output shown.old) input edit.old below c) result
         (on_edit (world_of O.output shown.new) input edit.new below c) }
     ensures kept { IfErr result (λ _. world_of O.output shown.new ≡ world_of O.output shown.old) }
+    ensures grows { O.grows shown.old.output shown.new.output }
 {
     match mode {
         0 => {
@@ -101,6 +103,7 @@ fn get<I: InputStream, O: OutputStream>(
     ensures follows { I.follows input.old input.new }
     ensures kept { MatchResult result (λ _. I.has_failed input.old ≡ false → I.has_failed input.new ≡ false)
         (λ _. world_of O.output shown.new ≡ world_of O.output shown.old) }
+    ensures grows { O.grows shown.old.output shown.new.output }
 {
     let acts = shown.acts;
     shown.count()?;
@@ -143,6 +146,7 @@ fn fixed_field<I: InputStream, O: OutputStream>(
     ensures unread { edit.old.place.direction ≡ Putting → input.new ≡ input.old }
     ensures kept { MatchResult result (λ _. I.has_failed input.old ≡ false → I.has_failed input.new ≡ false)
         (λ _. world_of O.output shown.new ≡ world_of O.output shown.old) }
+    ensures grows { O.grows shown.old.output shown.new.output }
 {
     match edit.direction() {
         Direction::Putting => put(edit, shown, width, first, second),
@@ -169,6 +173,7 @@ fn fixed_next<I: InputStream, O: OutputStream>(
     ensures unread { edit.old.place.direction ≡ Putting → input.new ≡ input.old }
     ensures kept { MatchResult result (λ _. I.has_failed input.old ≡ false → I.has_failed input.new ≡ false)
         (λ _. world_of O.output shown.new ≡ world_of O.output shown.old) }
+    ensures grows { O.grows shown.old.output shown.new.output }
 {
     match fixed_width(format) {
         Some(width) => fixed_field(edit, input, shown, width, first, second),
@@ -194,6 +199,7 @@ pub fn fixed<I: InputStream, O: OutputStream>(
     ensures unread { edit.old.place.direction ≡ Putting → input.new ≡ input.old }
     ensures kept { MatchResult result (λ _. I.has_failed input.old ≡ false → I.has_failed input.new ≡ false)
         (λ _. world_of O.output shown.new ≡ world_of O.output shown.old) }
+    ensures grows { O.grows shown.old.output shown.new.output }
 {
     let Ok(found) = edit.reach() else {
         return Err(Refusal::Memory);

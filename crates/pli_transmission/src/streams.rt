@@ -176,6 +176,7 @@ impl<I: InputStream> Streams<I> {
         ensures kept { MatchResult result
             (λ _. I.has_failed self.old.input ≡ false → I.has_failed self.new.input ≡ false)
             (λ _. world_of O.output shown.new ≡ world_of O.output shown.old) }
+        ensures grows { O.grows shown.old.output shown.new.output }
     {
         let Some(newest) = self.edits.len().checked_sub(1) else {
             return Err(Refusal::Bad);
@@ -202,6 +203,7 @@ impl<I: InputStream> Streams<I> {
         ensures kept { MatchResult result
             (λ _. I.has_failed self.old.input ≡ false → I.has_failed self.new.input ≡ false)
             (λ _. world_of O.output shown.new ≡ world_of O.output shown.old) }
+        ensures grows { O.grows shown.old.output shown.new.output }
     {
         let Some(newest) = self.edits.len().checked_sub(1) else {
             return Err(Refusal::Bad);
@@ -237,6 +239,7 @@ impl<I: InputStream> Streams<I> {
         ensures kept { MatchResult result
             (λ _. I.has_failed self.old.input ≡ false → I.has_failed self.new.input ≡ false)
             (λ _. world_of O.output shown.new ≡ world_of O.output shown.old) }
+        ensures grows { O.grows shown.old.output shown.new.output }
     {
         let Some(newest) = self.edits.len().checked_sub(1) else {
             return Err(Refusal::Bad);
@@ -284,6 +287,7 @@ impl<I: InputStream> Streams<I> {
         ensures kept { MatchResult result
             (λ _. I.has_failed self.old.input ≡ false → I.has_failed self.new.input ≡ false)
             (λ _. world_of O.output shown.new ≡ world_of O.output shown.old) }
+        ensures grows { O.grows shown.old.output shown.new.output }
     {
         let Some(direction) = direction_of(mode) else {
             return Err(Refusal::Bad);

@@ -30,7 +30,8 @@ fn put_top<O: OutputStream>(
     output: &mut O,
     width: Option<u32>,
 ) -> Result<(), Refusal>
-    ensures { IsTopWritten width entries.old (O.output output.old) result entries.new (O.output output.new) }
+    ensures written { IsTopWritten width entries.old (O.output output.old) result entries.new (O.output output.new) }
+    ensures grows { O.grows output.old output.new }
 {
     let text = take_top(alloc, entries)?;
     written(output.put_a(&text, width))
@@ -52,6 +53,7 @@ fn put<O: OutputStream>(
         (on_entries entries.old (on_edit (world_of O.output shown.old) input edit.old below c)) result
         (on_entries entries.new (on_edit (world_of O.output shown.new) input edit.new below c)) }
     ensures kept { IfErr result (λ _. world_of O.output shown.new ≡ world_of O.output shown.old) }
+    ensures grows { O.grows shown.old.output shown.new.output }
 {
     let acts = shown.acts;
     shown.count()?;
@@ -116,6 +118,7 @@ fn get_field<I: InputStream, O: OutputStream>(
     ensures follows { I.follows input.old input.new }
     ensures kept { MatchResult result (λ _. I.has_failed input.old ≡ false → I.has_failed input.new ≡ false)
         (λ _. world_of O.output shown.new ≡ world_of O.output shown.old) }
+    ensures grows { O.grows shown.old.output shown.new.output }
 {
     let acts = shown.acts;
     shown.count()?;
@@ -151,6 +154,7 @@ fn get<I: InputStream, O: OutputStream>(
     ensures follows { I.follows input.old input.new }
     ensures kept { MatchResult result (λ _. I.has_failed input.old ≡ false → I.has_failed input.new ≡ false)
         (λ _. world_of O.output shown.new ≡ world_of O.output shown.old) }
+    ensures grows { O.grows shown.old.output shown.new.output }
 {
     match width {
         Some(width) => get_field(edit, entries, input, shown, width, first, second),
@@ -180,6 +184,7 @@ fn text_field<I: InputStream, O: OutputStream>(
     ensures unread { edit.old.place.direction ≡ Putting → input.new ≡ input.old }
     ensures kept { MatchResult result (λ _. I.has_failed input.old ≡ false → I.has_failed input.new ≡ false)
         (λ _. world_of O.output shown.new ≡ world_of O.output shown.old) }
+    ensures grows { O.grows shown.old.output shown.new.output }
 {
     match edit.direction() {
         Direction::Putting => put(alloc, edit, entries, shown, width, first, second),
@@ -209,6 +214,7 @@ fn text_next<I: InputStream, O: OutputStream>(
     ensures unread { edit.old.place.direction ≡ Putting → input.new ≡ input.old }
     ensures kept { MatchResult result (λ _. I.has_failed input.old ≡ false → I.has_failed input.new ≡ false)
         (λ _. world_of O.output shown.new ≡ world_of O.output shown.old) }
+    ensures grows { O.grows shown.old.output shown.new.output }
 {
     match text_width(format) {
         Some(width) => text_field(alloc, edit, entries, input, shown, width, first, second),
@@ -237,6 +243,7 @@ pub fn text<I: InputStream, O: OutputStream>(
     ensures unread { edit.old.place.direction ≡ Putting → input.new ≡ input.old }
     ensures kept { MatchResult result (λ _. I.has_failed input.old ≡ false → I.has_failed input.new ≡ false)
         (λ _. world_of O.output shown.new ≡ world_of O.output shown.old) }
+    ensures grows { O.grows shown.old.output shown.new.output }
 {
     let Ok(found) = edit.reach() else {
         return Err(Refusal::Memory);

@@ -18,8 +18,9 @@ use pli_services::shown::{Shown, written};
 
 /// A control item behind the output. `Memory` where there is none, and then nothing changed.
 fn put_control<O: OutputStream>(output: &mut O, control: Control) -> Result<(), EditFault>
-    ensures { IsWrittenOn (control_written (control_shown control) (O.output output.old)) (O.output output.old) result
-        (O.output output.new) }
+    ensures written { IsWrittenOn (control_written (control_shown control) (O.output output.old))
+        (O.output output.old) result (O.output output.new) }
+    ensures grows { O.grows output.old output.new }
 {
     match control {
         Control::Space(count) => output.space(count),
@@ -30,8 +31,9 @@ fn put_control<O: OutputStream>(output: &mut O, control: Control) -> Result<(), 
 
 /// The act of a control item of PUT.
 pub fn write_control<O: OutputStream>(shown: &mut Shown<O>, control: Control) -> Result<(), Refusal>
-    ensures { Acts (world_of O.output shown.old) (world.written (control_written (control_shown control))
+    ensures world { Acts (world_of O.output shown.old) (world.written (control_written (control_shown control))
         (world_of O.output shown.old)) result (world_of O.output shown.new) }
+    ensures grows { O.grows shown.old.output shown.new.output }
 {
     let acts = shown.acts;
     shown.count()?;
@@ -50,8 +52,9 @@ pub fn write_number<O: OutputStream>(
     number: i32,
     width: u32,
 ) -> Result<(), Refusal>
-    ensures { IsNumberWritten (fixed_field width number) (world_of O.output shown.old) result
+    ensures world { IsNumberWritten (fixed_field width number) (world_of O.output shown.old) result
         (world_of O.output shown.new) }
+    ensures grows { O.grows shown.old.output shown.new.output }
 {
     let acts = shown.acts;
     shown.count()?;
@@ -74,8 +77,9 @@ pub fn write_text<O: OutputStream>(
     text: &[u8],
     width: Option<u32>,
 ) -> Result<(), Refusal>
-    ensures { Acts (world_of O.output shown.old) (world.written (with_field (text_field width text.now))
+    ensures world { Acts (world_of O.output shown.old) (world.written (with_field (text_field width text.now))
         (world_of O.output shown.old)) result (world_of O.output shown.new) }
+    ensures grows { O.grows shown.old.output shown.new.output }
 {
     let acts = shown.acts;
     shown.count()?;
