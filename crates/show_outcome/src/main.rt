@@ -28,7 +28,7 @@ fn show(rt: &HostRuntime, image: &Image, input: &[u8], outcome: &Outcome) -> io:
 fn show_run(rt: &HostRuntime, bytes: &[u8], input: &[u8]) -> io::Result<()> {
     let image = match Image::from_bytes(rt.alloc(), bytes) {
         Ok(image) => image,
-        Err(fault) => return println!(rt; "{fault:?}"),
+        Err(_) => return println!(rt; "no image"),
     };
     match run(rt.alloc(), &image, BASE, input, BOUND) {
         Ok(outcome) => show(rt, &image, input, &outcome),
