@@ -83,9 +83,10 @@ pub serves_lent : {I O : Type 0} (s : Streams I O) (r inside r' : Runtime I O) (
     r'.held.layout ≡ inside.held.layout →
     (asks_input (places_of inside.streams.edits.items) (slice_index x 17) (slice_index x 11) ≡ false →
     r'.streams.input ≡ inside.streams.input) → s.follows inside.streams.input r'.streams.input →
+    s.grows inside.flow.shown.output r'.flow.shown.output →
     TellsUnless (fault_in s r') reply x served x' → Serves s r (slice_index x) m served r' (slice_index x') m'
 serves_lent {I = I} {O = O} s r inside r' x x' m lent after m' reply served inside_is lent_is left done kept layout
-    unread follows told =
+    unread follows grows told =
     subst (λ (it : List ℕ). Serves s r (slice_index x) m served r' (slice_index x') it) (sym left)
     (subst (λ (it : List ℕ). Serves s r (slice_index x) it served r' (slice_index x') after) lent_is
     (subst (λ (it : Runtime I O). Serves s it (slice_index x) lent served r' (slice_index x') after) inside_is
@@ -97,6 +98,7 @@ serves_lent {I = I} {O = O} s r inside r' x x' m lent after m' reply served insi
       layout_kept = layout;
       unread = unread;
       follows = follows;
+      grows = grows;
     })))
 
 pub none_some : (fault : Option ℕ) → false ≡ is_some fault → fault ≡ None

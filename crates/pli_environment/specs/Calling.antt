@@ -13,13 +13,16 @@ use Rattle.pli_transmission.specs.Transmitting.{places_of}
 use Rattle.pli_runtime.specs.declared.runtime.Runtime.{Runtime}
 
 -- what is seen of the streams of a run: the lists of bytes that agree with what was read, what is left of one, whether
--- reads make the second input of the first, what was written, and which of the two failed
+-- reads make the second input of the first, what was written, what of it was handed over, whether writes make the
+-- second output of the first, and which of the two failed
 pub record Streams (I O : Type 0) : Type 1 where
   pub agrees : I → List ℕ → Type 0
   pub input : I → List ℕ → Input
   pub follows : I → I → Type 0
   pub read_failed : I → Bool
   pub output : O → List ℕ
+  pub taken : O → List ℕ
+  pub grows : O → O → Type 0
   pub write_failed : O → Bool
 
 -- a run as it is for a whole input
@@ -71,3 +74,4 @@ pub record Serves {I O : Type 0} (s : Streams I O) (r : Runtime I O) (x : ℕ �
   pub layout_kept : r'.held.layout ≡ r.held.layout
   pub unread : asks_input (places_of r.streams.edits.items) (x 17) (x 11) ≡ false → r'.streams.input ≡ r.streams.input
   pub follows : s.follows r.streams.input r'.streams.input
+  pub grows : s.grows r.flow.shown.output r'.flow.shown.output

@@ -177,6 +177,8 @@ impl<I: InputStream, O: OutputStream> Services for Environment<I, O> {
       follows = I.follows;
       read_failed = I.has_failed;
       output = O.output;
+      taken = O.taken;
+      grows = O.grows;
       write_failed = O.has_failed;
     }) };
 

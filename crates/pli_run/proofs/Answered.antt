@@ -1,5 +1,5 @@
 -- What a run of a source's image tells.
-use Rattle.std.proofs.Common.{◌≡◌, ◌≢◌, ℕ, ◌^◌, ◌<◌, List, [], Some, Result, Ok, Err, inl, inr, refl, sym, ap, ◌∙◌}
+use Rattle.std.proofs.Common.{◌≡◌, ◌≢◌, ℕ, ◌+◌, ◌^◌, ◌<◌, List, [], Some, Result, Ok, Err, inl, inr, refl, sym, ap, ◌∙◌}
 use Rattle.std.proofs.Common.{subst, arith}
 use Rattle.rv_meaning.specs.Machine.{IsValidBase}
 use Rattle.rv_meaning.specs.Images as Images
@@ -12,7 +12,8 @@ use Rattle.image_runs.specs.Runs.{Run, run_of, shown_by}
 use Rattle.pli_meaning.specs.declared.outcome.Outcome.{Outcome}
 use Rattle.pli_run.specs.declared.run.RunFault.{RunFault}
 use Rattle.pli_run.specs.declared.run.RunFault.TheVariants as F
-use Rattle.pli_run.specs.Running.{own_output, world_with, IsPicture, IsTabled, Shows, ShowsImage, ShowsWithin}
+use Rattle.pli_run.specs.Running.{own_output, world_with, BreaksOff, IsPicture, IsTabled, Shows, ShowsImage}
+use Rattle.pli_run.specs.Running.{ShowsWithin}
 use Rattle.pli_language.specs.declared.fault.SourceFault.{SourceFault}
 use Rattle.pli_language.specs.declared.fault.SourceKind.TheVariants as SourceKind
 use Rattle.rv_program.specs.Generated.{IsCodeOf}
@@ -59,11 +60,18 @@ part_means program headline base input bound acts output valid fits told =
       output_is = told.shows.output_is;
     }
 
+-- where a write failed, the acts and the output are those of some of the instructions
+broken_within : {run : ℕ → Run} {bound acts : ℕ} {output taken : List ℕ} → BreaksOff run bound acts output taken →
+    ShowsWithin run bound acts output
+broken_within told =
+    let within = told.within in
+    record { done = told.done + 1; within = omega (arith, within); shows = told.shows }
+
 means : (program : Y.Program) → Headline program (picture_of parts program) (table_of program) →
-    (base : ℕ) (input : List ℕ) (bound : ℕ) (output : List ℕ) (r : Result Outcome RunFault)
+    (base : ℕ) (input : List ℕ) (bound : ℕ) (output taken : List ℕ) (r : Result Outcome RunFault)
     → IsValidBase base → bound < 2 ^ 64 → Shows (run_of (picture_of parts program) (table_of program) base input) bound
-    output r → AnswersMeant program input bound output r
-means program headline base input bound output (Ok o) valid fits told =
+    output taken r → AnswersMeant program input bound output r
+means program headline base input bound output taken (Ok o) valid fits told =
     let shown = headline base input bound valid fits in
     let same : Some shown.world ≡ Some (world_with o output) = sym shown.shows ∙ told in
     let is : shown.world ≡ world_with o output = cc (same) in
@@ -71,39 +79,40 @@ means program headline base input bound output (Ok o) valid fits told =
       keeps = subst (λ w. Keeps program (picture_of parts program) input bound w) is shown.keeps;
       anywhere = λ other h. shown.anywhere other h ∙ same;
     }
-means program headline base input bound output (Err (F.Memory acts own)) valid fits told =
+means program headline base input bound output taken (Err (F.Memory acts own)) valid fits told =
     part_means program headline base input bound acts output valid fits told
-means program headline base input bound output (Err (F.Read acts own)) valid fits told =
+means program headline base input bound output taken (Err (F.Read acts own)) valid fits told =
     part_means program headline base input bound acts output valid fits told
-means program headline base input bound output (Err (F.Write acts own)) valid fits told =
-    part_means program headline base input bound acts output valid fits told
-means program headline base input bound output (Err (F.Source fault)) valid fits told = absurd told
-means program headline base input bound output (Err F.BadBase) valid fits told = absurd told
-means program headline base input bound output (Err (F.Machine fault acts own)) valid fits told =
+means program headline base input bound output taken (Err (F.Write acts own)) valid fits told =
+    part_means program headline base input bound acts output valid fits (broken_within told)
+means program headline base input bound output taken (Err (F.Source fault)) valid fits told = absurd told
+means program headline base input bound output taken (Err F.BadBase) valid fits told = absurd told
+means program headline base input bound output taken (Err (F.Machine fault acts own)) valid fits told =
     let shown = headline base input bound valid fits in
     absurd (cc (shown.shows, ap shown_by told.stopped))
 
 -- ---- what is answered
 
 -- what is told is no refusal of a source
-told_answers : {s input : List ℕ} {base bound : ℕ} (run : ℕ → Run) (output : List ℕ) (r : Result Outcome RunFault) →
-    Shows run bound output r → TellsRun s input base bound output r → AnswersWith s input base bound output r
-told_answers run output (Ok o) told tells = inr tells
-told_answers run output (Err (F.Memory acts own)) told tells = inr tells
-told_answers run output (Err F.BadBase) told tells = inr tells
-told_answers run output (Err (F.Read acts own)) told tells = inr tells
-told_answers run output (Err (F.Write acts own)) told tells = inr tells
-told_answers run output (Err (F.Machine fault acts own)) told tells = inr tells
-told_answers run output (Err (F.Source fault)) told tells = absurd told
+told_answers : {s input : List ℕ} {base bound : ℕ} (run : ℕ → Run) (output taken : List ℕ)
+    (r : Result Outcome RunFault) → Shows run bound output taken r → TellsRun s input base bound output taken r →
+    AnswersWith s input base bound output taken r
+told_answers run output taken (Ok o) told tells = inr tells
+told_answers run output taken (Err (F.Memory acts own)) told tells = inr tells
+told_answers run output taken (Err F.BadBase) told tells = inr tells
+told_answers run output taken (Err (F.Read acts own)) told tells = inr tells
+told_answers run output taken (Err (F.Write acts own)) told tells = inr tells
+told_answers run output taken (Err (F.Machine fault acts own)) told tells = inr tells
+told_answers run output taken (Err (F.Source fault)) told tells = absurd told
 
 pub answered_with : {s : List ℕ} {image : Images.Image} → IsImageFor s image → Images.IsLoadable image →
-    (base : ℕ) (input : List ℕ) (bound : ℕ) (output : List ℕ) (r : Result Outcome RunFault) → IsValidBase base →
-    bound < 2 ^ 64 → ShowsImage image base input bound output r → AnswersWith s input base bound output r
-answered_with {image = image} c loadable base input bound output r valid fits told =
+    (base : ℕ) (input : List ℕ) (bound : ℕ) (output taken : List ℕ) (r : Result Outcome RunFault) → IsValidBase base →
+    bound < 2 ^ 64 → ShowsImage image base input bound output taken r → AnswersWith s input base bound output taken r
+answered_with {image = image} c loadable base input bound output taken r valid fits told =
     let p = pictured image loadable in
     let gs = tabled image loadable in
     let tells = told p.0 gs.0 p.1 gs.1 in
-    told_answers (run_of p.0 gs.0 base input) output r tells
+    told_answers (run_of p.0 gs.0 base input) output taken r tells
     (record {
       image = image;
       compiled = c;
@@ -114,16 +123,16 @@ answered_with {image = image} c loadable base input bound output r valid fits to
       told = tells;
       meant =
           λ h.
-          means c.program (c.keeps h) base input bound output r valid fits
+          means c.program (c.keeps h) base input bound output taken r valid fits
           (told (picture_of parts c.program) (table_of c.program) (own_picture c.program image c.coded)
           (own_table c.program image c.coded h));
     })
 
 pub answered : {s : List ℕ} {image : Images.Image} → IsImageFor s image → Images.IsLoadable image →
     (base : ℕ) (input : List ℕ) (bound : ℕ) (r : Result Outcome RunFault) → IsValidBase base → bound < 2 ^ 64 →
-    ShowsImage image base input bound (own_output r) r → Answers s input base bound r
-answered c loadable base input bound r valid fits told = answered_with c loadable base input bound (own_output r) r
-    valid fits told
+    ShowsImage image base input bound (own_output r) (own_output r) r → Answers s input base bound r
+answered c loadable base input bound r valid fits told =
+    answered_with c loadable base input bound (own_output r) (own_output r) r valid fits told
 
 pub refused : {s : List ℕ} (input : List ℕ) (base bound : ℕ) (fault : SourceFault) (r : RunFault) → IsRefused s fault →
     IsUncompiledFor fault r → Answers s input base bound (Err r)
@@ -139,15 +148,15 @@ refused input base bound fault (F.Write acts output) broken told = absurd told
 refused input base bound fault (F.Machine other acts output) broken told = absurd told
 
 -- nothing was written
-pub refused_with : {s : List ℕ} (input : List ℕ) (base bound : ℕ) (fault : SourceFault) (r : RunFault) →
-    IsRefused s fault → IsUncompiledFor fault r → AnswersWith s input base bound [] (Err r)
-refused_with input base bound fault (F.Memory acts output) broken told = inl (told.1.0, refl)
-refused_with {s = s} input base bound fault (F.Source same) broken told = (
+pub refused_with : {s : List ℕ} (input : List ℕ) (base bound : ℕ) (taken : List ℕ) (fault : SourceFault)
+    (r : RunFault) → IsRefused s fault → IsUncompiledFor fault r → AnswersWith s input base bound [] taken (Err r)
+refused_with input base bound taken fault (F.Memory acts output) broken told = inl (told.1.0, refl)
+refused_with {s = s} input base bound taken fault (F.Source same) broken told = (
   subst (λ f. IsRefused s f) (sym told.0) broken,
   subst (λ (f : SourceFault). f.kind ≢ SourceKind.Memory)
       (sym told.0) told.1,
 )
-refused_with input base bound fault F.BadBase broken told = absurd told
-refused_with input base bound fault (F.Read acts output) broken told = absurd told
-refused_with input base bound fault (F.Write acts output) broken told = absurd told
-refused_with input base bound fault (F.Machine other acts output) broken told = absurd told
+refused_with input base bound taken fault F.BadBase broken told = absurd told
+refused_with input base bound taken fault (F.Read acts output) broken told = absurd told
+refused_with input base bound taken fault (F.Write acts output) broken told = absurd told
+refused_with input base bound taken fault (F.Machine other acts output) broken told = absurd told

@@ -104,9 +104,10 @@ image_run s image base input output bound last r stop p gs bytes all h tabled be
     (stop.services_are gs tabled.fit tabled.spelled bytes)) i
 
 -- want of memory before the first instruction
-pub unstarted_shows : (p : Picture) (gs : List TableSignature) (base : ℕ) (input : List ℕ) (bound : ℕ) (output : List ℕ)
-    (f : RunFault) → IsUnstarted f → output ≡ [] → Shows (run_of p gs base input) bound output (Err f)
-unstarted_shows p gs base input bound output (Memory acts own) h none = record {
+pub unstarted_shows : (p : Picture) (gs : List TableSignature) (base : ℕ) (input : List ℕ) (bound : ℕ)
+    (output taken : List ℕ) (f : RunFault) → IsUnstarted f → output ≡ [] →
+    Shows (run_of p gs base input) bound output taken (Err f)
+unstarted_shows p gs base input bound output taken (Memory acts own) h none = record {
   done = 0;
   within = omega arith;
   shows = record {
@@ -117,16 +118,16 @@ unstarted_shows p gs base input bound output (Memory acts own) h none = record {
         none;
   };
 }
-unstarted_shows p gs base input bound output BadBase h none = absurd h
-unstarted_shows p gs base input bound output (Source fault) h none = absurd h
-unstarted_shows p gs base input bound output (Read acts own) h none = absurd h
-unstarted_shows p gs base input bound output (Write acts own) h none = absurd h
-unstarted_shows p gs base input bound output (Fails fault acts own) h none = absurd h
+unstarted_shows p gs base input bound output taken BadBase h none = absurd h
+unstarted_shows p gs base input bound output taken (Source fault) h none = absurd h
+unstarted_shows p gs base input bound output taken (Read acts own) h none = absurd h
+unstarted_shows p gs base input bound output taken (Write acts own) h none = absurd h
+unstarted_shows p gs base input bound output taken (Fails fault acts own) h none = absurd h
 
 pub unstarted_tells : (p : Picture) (gs : List TableSignature) (base : ℕ) (input : List ℕ) (bound : ℕ) (f : RunFault) →
     IsUnstarted f → Tells (run_of p gs base input) bound (Err f)
 unstarted_tells p gs base input bound (Memory acts own) h =
-    unstarted_shows p gs base input bound own.items (Memory acts own) h h.1
+    unstarted_shows p gs base input bound own.items own.items (Memory acts own) h h.1
 unstarted_tells p gs base input bound BadBase h = absurd h
 unstarted_tells p gs base input bound (Source fault) h = absurd h
 unstarted_tells p gs base input bound (Read acts own) h = absurd h

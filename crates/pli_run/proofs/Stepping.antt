@@ -10,6 +10,7 @@ use Rattle.rv_machine.specs.declared.machine.Step.{Step}
 use Rattle.rv_machine.specs.declared.machine.Step.TheVariants.{Ran, Ended, Fault as Faulted, Refused}
 use Rattle.rv_machine.specs.Steps.{Moment, Makes, RanFor, RunsFor, Answers, start, then}
 use Rattle.granule_keeper.specs.Granules.{granules}
+use Rattle.pli_edit.specs.OutputStreams.{IsCut}
 use Rattle.pli_meaning.specs.World.{World}
 use Rattle.pli_serving.specs.Answers.{Answer, Done, Ends, Bad}
 use Rattle.pli_serving.specs.ServiceState.{Services}
@@ -28,11 +29,14 @@ use Rattle.image_runs.specs.Runs.{run_on}
 use Rattle.image_runs.specs.Runs.{shown_by}
 use Rattle.pli_run.specs.Running.{ShowsAfter, ShowsWithin, Meets}
 
--- what streams promise: inputs that agree with what was read agree with less of it
+-- what streams promise: inputs that agree with what was read agree with less of it; and where a write fails, all that
+-- stood in the output before is taken
 pub record StreamLaws {I O : Type 0} (s : Streams I O) : Type 0 where
   pub agreed : (a b : I) (all : List ℕ) → s.follows a b → s.agrees b all → s.agrees a all
   pub stays : (a : I) → s.follows a a
   pub goes_on : (a b c : I) → s.follows a b → s.follows b c → s.follows a c
+  pub cut : (a b : O) → s.grows a b → s.write_failed a ≡ false → s.write_failed b ≡ true →
+      IsCut (s.output a) (s.output b) (s.taken b)
 
 -- a machine and its services, as the definitions see them for a whole input
 abbrev pub whole : {I O : Type 0} → Streams I O → Moment (Runtime I O) → (all : List ℕ) → Whole
@@ -49,6 +53,15 @@ unread_failed : (reads writes : Bool) → fault_of reads writes ≡ None → rea
 unread_failed false writes e = refl
 unread_failed true false e = absurd cc
 unread_failed true true e = absurd cc
+
+unwritten_failed : (reads writes : Bool) → fault_of reads writes ≡ None → writes ≡ false
+unwritten_failed reads false e = refl
+unwritten_failed reads true e = absurd cc
+
+write_failed : (reads writes : Bool) → fault_of reads writes ≡ Some 5 → writes ≡ true
+write_failed reads true e = refl
+write_failed true false e = absurd cc
+write_failed false false e = absurd cc
 
 -- services of the program's code
 abbrev pub OfCode : {I O : Type 0} → Loaded → Moment (Runtime I O) → Type 0
@@ -164,6 +177,20 @@ follows_on {I = I} {O = O} s laws from to step (Goes t) (ran, state, services) =
 follows_on {I = I} {O = O} s laws from to step (Faults f) (faulted, state, services) =
     subst (λ (r : Runtime I O). s.follows from.services.streams.input r.streams.input) (sym services) (laws.stays _)
 follows_on s laws from to step Calls (answer, serve, zero_kept, sized, answers) = serve.follows
+
+-- where a write failed in a step, all that was written before it is taken
+pub cut_on : {I O : Type 0} (s : Streams I O) → StreamLaws s → (from to : Moment (Runtime I O)) (step : Step)
+    (e : Effect) → IsUnfailed s from → fault_in s to.services ≡ Some 5 → Makes (Serves s) e from step to →
+    IsCut (s.output from.services.flow.shown.output) (s.output to.services.flow.shown.output)
+    (s.taken to.services.flow.shown.output)
+cut_on {I = I} {O = O} s laws from to step (Goes t) u broken (ran, state, services) =
+    let same : fault_in s to.services ≡ None = ap (λ (r : Runtime I O). fault_in s r) services ∙ u in
+    absurd (cc (same, broken))
+cut_on {I = I} {O = O} s laws from to step (Faults f) u broken (faulted, state, services) =
+    let same : fault_in s to.services ≡ None = ap (λ (r : Runtime I O). fault_in s r) services ∙ u in
+    absurd (cc (same, broken))
+cut_on s laws from to step Calls u broken (answer, serve, zero_kept, sized, answers) =
+    laws.cut _ _ serve.grows (unwritten_failed _ _ u) (write_failed _ _ broken)
 
 pub unread_on : {I O : Type 0} (s : Streams I O) (from to : Moment (Runtime I O)) (step : Step) (e : Effect) →
     (e ≡ Calls → asks_input (places_of from.services.streams.edits.items) (from.state.registers 17)

@@ -3,7 +3,7 @@ use Rattle.std.proofs.Common.{◌≡◌, ℕ, Bool, true, false, List, [], ◌�
 use Rattle.std.proofs.Common.{Err}
 use Rattle.std.proofs.Common.{refl, ap, subst, sym, ◌∙◌, append-nil}
 use Rattle.rv_meaning.specs.Images.{Image}
-use Rattle.pli_edit.specs.Drained.{IsDrained}
+use Rattle.pli_edit.specs.Drained.{taken_since, IsDrained}
 use Rattle.pli_edit.specs.Feeding.{first_fed, is_broken, Agrees, Fed}
 use Rattle.pli_edit.specs.Handing.{fruitless}
 use Rattle.pli_edit.specs.Histories.{History}
@@ -31,13 +31,17 @@ begins_there h input =
     ap (λ (l : List ℕ). let i : Input = record { marks = marks_of false l; column = 1 } in i) (drop_front h.bytes input)
 
 -- a run that began with a feed and a drain, and gave them back
-pub streamed : {ran : Result Outcome RunFault} {claim : List ℕ → List ℕ → Type 0} (feed drain feed' drain' : History)
-    (first last : Held) (output : List ℕ) (write_failed : Bool) → first ≡ first_held feed → Follows first last →
+pub streamed : {ran : Result Outcome RunFault} {claim : List ℕ → List ℕ → List ℕ → Type 0}
+    (feed drain feed' drain' : History) (first last : Held) (output so_far : List ℕ) (write_failed : Bool) →
+    first ≡ first_held feed → Follows first last →
     feed' ≡ last.marked.fed.history → IsDrained drain output write_failed drain' →
+    so_far ≡ taken_since drain drain' →
     stream_fault_of ran ≡ fault_of (is_broken last.marked.fed.standing) write_failed →
-    ((bytes all : List ℕ) → input_of first all ≡ first_input bytes → Agrees last.marked.fed all → claim bytes output) →
+    ((bytes all : List ℕ) → input_of first all ≡ first_input bytes → Agrees last.marked.fed all →
+    claim bytes output so_far) →
     IsStreamed feed drain ran feed' drain' claim
-streamed feed drain feed' drain' first last output write_failed begins follows given taken faults told =
+streamed {claim = claim} feed drain feed' drain' first last output so_far write_failed begins follows given taken same
+    faults told =
     let from_first : Follows (first_held feed) last = subst (λ (h : Held). Follows h last) begins follows in
     record {
       fed = last.marked.fed;
@@ -49,8 +53,9 @@ streamed feed drain feed' drain' first last output write_failed begins follows g
       taken = taken;
       faults = faults;
       claimed = λ input agrees.
-          told input (feed.bytes ++ input)
-          (ap (λ (h : Held). input_of h (feed.bytes ++ input)) begins ∙ begins_there feed input) agrees;
+          subst (λ (l : List ℕ). claim input output l) same
+          (told input (feed.bytes ++ input)
+          (ap (λ (h : Held). input_of h (feed.bytes ++ input)) begins ∙ begins_there feed input) agrees);
     }
 
 -- an input that nothing was read of agrees with all that begins there
@@ -71,9 +76,9 @@ unread_so feed feed' first last input begins given unread =
     given ∙ ap (λ (h : Held). h.marked.fed.history) (unread all here agreed ∙ begins)
 
 -- nothing was read and nothing written
-pub unstreamed : {claim : List ℕ → List ℕ → Type 0} (feed drain : History) (ran : Result Outcome RunFault)
+pub unstreamed : {claim : List ℕ → List ℕ → List ℕ → Type 0} (feed drain : History) (ran : Result Outcome RunFault)
     (feed' drain' : History) → feed' ≡ feed → drain' ≡ drain → stream_fault_of ran ≡ None →
-    ((input : List ℕ) → claim input []) → IsStreamed feed drain ran feed' drain' claim
+    ((input taken : List ℕ) → claim input [] taken) → IsStreamed feed drain ran feed' drain' claim
 unstreamed feed drain ran feed' drain' here there whole claimed = record {
   fed = first_fed feed;
   readings = [];
@@ -83,11 +88,12 @@ unstreamed feed drain ran feed' drain' here there whole claimed = record {
   write_failed = false;
   taken = (ap (λ (h : History). h.bytes) there ∙ sym (append-nil drain.bytes), ap fruitless there);
   faults = whole;
-  claimed = λ input agrees. claimed input;
+  claimed = λ input agrees. claimed input _;
 }
 
 pub streamed_for : {feed drain : History} {ran : Result Outcome RunFault} {feed' drain' : History}
-    {one other : List ℕ → List ℕ → Type 0} → ((input output : List ℕ) → one input output → other input output) →
+    {one other : List ℕ → List ℕ → List ℕ → Type 0} →
+    ((input output taken : List ℕ) → one input output taken → other input output taken) →
     IsStreamed feed drain ran feed' drain' one → IsStreamed feed drain ran feed' drain' other
 streamed_for then h = record {
   fed = h.fed;
@@ -98,7 +104,7 @@ streamed_for then h = record {
   write_failed = h.write_failed;
   taken = h.taken;
   faults = h.faults;
-  claimed = λ input agrees. then input h.output (h.claimed input agrees);
+  claimed = λ input agrees. then input h.output _ (h.claimed input agrees);
 }
 
 pub uncompiled_whole : (fault : SourceFault) (r : RunFault) → IsUncompiledFor fault r → stream_fault_of (Err r) ≡ None

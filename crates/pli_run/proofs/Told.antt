@@ -47,12 +47,13 @@ pub stop_comes : {I O : Type 0} (s : Streams I O) → StreamLaws s → (image : 
     s.read_failed input ≡ false → s.write_failed output ≡ false → (p : Picture) (gs : List TableSignature)
     (bytes all : List ℕ) →
     IsPicture p image → IsTabled gs image → s.input input all ≡ first_input bytes → s.agrees r.streams.input all →
-    ComesTo (run_of p gs base bytes) bound (fault_in s r) last (services_of s r all)
+    ComesTo (run_of p gs base bytes) bound (s.taken r.flow.shown.output) (fault_in s r) last (services_of s r all)
 stop_comes s laws image base input output bound last r stop reads writes p gs bytes all h tabled begins agreed =
     let code : OfCode (loaded_of stop.machine) (moment stop.first stop.machine) =
     stop.layout ∙ ap image_layout (started_code image base stop.machine stop.started) in
     let unfailed = unfailed_first s stop.first input output stop.input_is stop.output_is reads writes in
-    subst (λ (run : ℕ → Run). ComesTo run bound (fault_in s r) last (services_of s r all))
+    subst
+    (λ (run : ℕ → Run). ComesTo run bound (s.taken r.flow.shown.output) (fault_in s r) last (services_of s r all))
     (sym (image_run s image base input output bound last r stop p gs bytes all h tabled begins))
     (comes s laws (loaded_of stop.machine) bound stop.ran (moment stop.first stop.machine) last
     (record { services = r; state = stop.state }) all code unfailed agreed stop.run)
@@ -127,15 +128,16 @@ broken_never : (o : Outcome) (fault : ℕ) (last : Step) (t : Traced) → Ok t.o
 broken_never o fault last t e = broken_unless (fault == 5) o t e
 
 -- an outcome comes of a run without a fault of a stream that ran or ended
-pub outcome_traces : (run : ℕ → Run) (bound : ℕ) (o : Outcome) (fault : Option ℕ) (last : Step) (v : Services)
-    (ran : Result Traced RunFault) → ComesTo run bound fault last v → outcome_of ran ≡ came_to o fault last →
+pub outcome_traces : (run : ℕ → Run) (bound : ℕ) (taken : List ℕ) (o : Outcome) (fault : Option ℕ) (last : Step)
+    (v : Services) (ran : Result Traced RunFault) → ComesTo run bound taken fault last v →
+    outcome_of ran ≡ came_to o fault last →
     IfOk ran (λ t. t.entered ≡ v.activations) → Traces run bound ran
-outcome_traces run bound o fault last v (Err f) h same entered = tt
-outcome_traces run bound o None Ran v (Ok t) h same entered = entered ∙ h.1
-outcome_traces run bound o None Ended v (Ok t) h same entered = entered ∙ h.1
-outcome_traces run bound o None (Faulted f) v (Ok t) h same entered = absurd (cc same)
-outcome_traces run bound o None Refused v (Ok t) h same entered = absurd (cc same)
-outcome_traces run bound o (Some fault) last v (Ok t) h same entered = absurd (broken_never o fault last t same)
+outcome_traces run bound taken o fault last v (Err f) h same entered = tt
+outcome_traces run bound taken o None Ran v (Ok t) h same entered = entered ∙ h.1
+outcome_traces run bound taken o None Ended v (Ok t) h same entered = entered ∙ h.1
+outcome_traces run bound taken o None (Faulted f) v (Ok t) h same entered = absurd (cc same)
+outcome_traces run bound taken o None Refused v (Ok t) h same entered = absurd (cc same)
+outcome_traces run bound taken o (Some fault) last v (Ok t) h same entered = absurd (broken_never o fault last t same)
 
 -- ---- both
 
@@ -144,10 +146,12 @@ pub told_of : {I O : Type 0} (s : Streams I O) → StreamLaws s → (image : Ima
     s.read_failed input ≡ false → s.write_failed output ≡ false → (o : Outcome) (written : List ℕ)
     (bytes all : List ℕ) →
     world_with o written ≡ (services_of s r all).world → s.input input all ≡ first_input bytes →
-    s.agrees r.streams.input all → ShowsImage image base bytes bound written (came_to o (fault_in s r) last)
+    s.agrees r.streams.input all →
+    ShowsImage image base bytes bound written (s.taken r.flow.shown.output) (came_to o (fault_in s r) last)
 told_of s laws image base input output bound last r stop reads writes o written bytes all e begins agreed =
     λ p gs h tabled.
-    answers (run_of p gs base bytes) bound o written (fault_in s r) last (services_of s r all) e
+    answers (run_of p gs base bytes) bound o written (s.taken r.flow.shown.output) (fault_in s r) last
+    (services_of s r all) e
     (stop_comes s laws image base input output bound last r stop reads writes p gs bytes all h tabled begins agreed)
 
 pub traced_of : {I O : Type 0} (s : Streams I O) → StreamLaws s → (image : Image) (base : ℕ) (input : I) (output : O)
@@ -159,7 +163,8 @@ pub traced_of : {I O : Type 0} (s : Streams I O) → StreamLaws s → (image : I
     IfOk ran (λ t. t.entered ≡ r.flow.activations) → TracesImage image base bytes bound ran
 traced_of s laws image base input output bound last r stop reads writes o bytes all ran begins agreed same entered =
     λ p gs h tabled.
-    outcome_traces (run_of p gs base bytes) bound o (fault_in s r) last (services_of s r all) ran
+    outcome_traces (run_of p gs base bytes) bound (s.taken r.flow.shown.output) o (fault_in s r) last
+    (services_of s r all) ran
     (stop_comes s laws image base input output bound last r stop reads writes p gs bytes all h tabled begins agreed)
     same entered
 
@@ -177,7 +182,8 @@ pub between_told : {I O : Type 0} (s : Streams I O) → StreamLaws s → (image 
     } → input' ≡ r.streams.input → output' ≡ r.flow.shown.output → outcome_of ran ≡ came_to o (fault_in s r) last →
     entered ≡ r.flow.activations → IfOk ran (λ t. t.entered ≡ entered) → s.input input all ≡ first_input bytes →
     s.agrees input' all →
-    ShowsImage image base bytes bound (s.output output') (outcome_of ran) × TracesImage image base bytes bound ran
+    ShowsImage image base bytes bound (s.output output') (s.taken output') (outcome_of ran)
+    × TracesImage image base bytes bound ran
 between_told {I = I} {O = O} s laws image base input output bound last r stop reads writes o input' output' bytes all
     ran entered
     shown input_is output_is same entered_is traced begins agrees =
@@ -187,20 +193,22 @@ between_told {I = I} {O = O} s laws image base input output bound last r stop re
     let told = told_of s laws image base input output bound last r stop reads writes o (s.output r.flow.shown.output)
     bytes all
     world begins agreed in (
-      subst (λ (a : Result Outcome RunFault). ShowsImage image base bytes bound (s.output output') a) (sym same)
-          (subst (λ (it : O). ShowsImage image base bytes bound (s.output it) (came_to o (fault_in s r) last))
+      subst (λ (a : Result Outcome RunFault). ShowsImage image base bytes bound (s.output output') (s.taken output') a)
+          (sym same)
+          (subst
+          (λ (it : O). ShowsImage image base bytes bound (s.output it) (s.taken it) (came_to o (fault_in s r) last))
           (sym output_is) told),
       traced_of s laws image base input output bound last r stop reads writes o bytes all ran begins agreed same
           (subst (λ (it : List Activation). IfOk ran (λ t. t.entered ≡ it)) entered_is traced),
     )
 
 -- what is told of an outcome that has its output itself
-pub by_step_tells : (run : ℕ → Run) (bound : ℕ) (o : Outcome) (last : Step) →
-    Shows run bound o.output.items (by_step o last) → Tells run bound (by_step o last)
-by_step_tells run bound o Ran h = h
-by_step_tells run bound o Ended h = h
-by_step_tells run bound o (Faulted f) h = h
-by_step_tells run bound o Refused h = h
+pub by_step_tells : (run : ℕ → Run) (bound : ℕ) (o : Outcome) (taken : List ℕ) (last : Step) →
+    Shows run bound o.output.items taken (by_step o last) → Tells run bound (by_step o last)
+by_step_tells run bound o taken Ran h = h
+by_step_tells run bound o taken Ended h = h
+by_step_tells run bound o taken (Faulted f) h = h
+by_step_tells run bound o taken Refused h = h
 
 -- ---- its own output
 

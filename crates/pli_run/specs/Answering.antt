@@ -50,17 +50,18 @@ AnswersMeant program input bound output (Err _) = ⊥
 
 -- ---- what is shown is what the code comes to
 
--- What a run of a source's image at a base tells, with this output: what the code of its program comes to, on the
--- machine
--- with all services of the definitions; and where the headline is proved for the program, what the program means.
-pub record TellsRun (s input : List ℕ) (base bound : ℕ) (output : List ℕ) (ran : Result Outcome RunFault) : Type 0 where
+-- What a run of a source's image at a base tells, with this output and what of it was taken: what the code of its
+-- program comes to, on the machine with all services of the definitions; and where the headline is proved for the
+-- program, what the program means.
+pub record TellsRun (s input : List ℕ) (base bound : ℕ) (output taken : List ℕ) (ran : Result Outcome RunFault) :
+    Type 0 where
   pub image : Image
   pub compiled : IsImageFor s image
   pub picture : Picture
   pub pictured : IsPicture picture image
   pub signatures : List TableSignature
   pub tabled : IsTabled signatures image
-  pub told : Shows (run_of picture signatures base input) bound output ran
+  pub told : Shows (run_of picture signatures base input) bound output taken ran
   pub meant : IsProvedSoFar compiled.program → AnswersMeant compiled.program input bound output ran
 
 -- want of memory of the compiler: nothing was done, and nothing shown
@@ -69,12 +70,13 @@ IsUnstarted output (Err (Memory acts own)) = (acts ≡ 0) × (output ≡ [])
 IsUnstarted output _ = ⊥
 
 -- what is answered at a valid base. Want of memory is no refusal of the source
-abbrev pub AnswersWith : (s input : List ℕ) → (base bound : ℕ) → (output : List ℕ) → Result Outcome RunFault → Type 0
-AnswersWith s input base bound output (Err (Source fault)) = IsRefused s fault × (fault.kind ≢ SourceKind.Memory)
-AnswersWith s input base bound output ran = IsUnstarted output ran ⊎ TellsRun s input base bound output ran
+abbrev pub AnswersWith : (s input : List ℕ) → (base bound : ℕ) → (output taken : List ℕ) →
+    Result Outcome RunFault → Type 0
+AnswersWith s input base bound output taken (Err (Source fault)) = IsRefused s fault × (fault.kind ≢ SourceKind.Memory)
+AnswersWith s input base bound output taken ran = IsUnstarted output ran ⊎ TellsRun s input base bound output taken ran
 
 abbrev pub Answers : (s input : List ℕ) → (base bound : ℕ) → Result Outcome RunFault → Type 0
-Answers s input base bound ran = AnswersWith s input base bound (own_output ran) ran
+Answers s input base bound ran = AnswersWith s input base bound (own_output ran) (own_output ran) ran
 
 -- what is answered for a source without an image, by why it has none
 abbrev pub IsUncompiledFor : SourceFault → RunFault → Type 0

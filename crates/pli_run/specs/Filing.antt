@@ -43,8 +43,8 @@ pub record IsRunBetween (bytes : List ℕ) (base bound : ℕ) (feed drain : Hist
   pub bad_base : IsErrOf (outcome_of ran) R.BadBase ↔ ¬ IsValidBase base
   pub untouched : ¬ IsValidBase base → (feed' ≡ feed) × (drain' ≡ drain)
   pub told : IsValidBase base → IsStreamed feed drain (outcome_of ran) feed' drain'
-      (λ input output. ShowsImage image base input bound output (outcome_of ran) × TracesImage image base input bound
-      ran)
+      (λ input output taken. ShowsImage image base input bound output taken (outcome_of ran)
+      × TracesImage image base input bound ran)
   pub unread : IsValidBase base → (input : List ℕ) → IsSilent image base input bound → feed' ≡ feed
   pub empty : own_output (outcome_of ran) ≡ []
 
@@ -57,4 +57,4 @@ abbrev pub IsRunBetweenFor : (bytes : List ℕ) → (base bound : ℕ) → (feed
     (feed' drain' : History) → Type 0
 IsRunBetweenFor bytes base bound feed drain ran feed' drain' =
     (s : List ℕ) → IsCompiledTo s bytes → IsValidBase base → IsStreamed feed drain (outcome_of ran) feed' drain'
-    (λ input output. AnswersWith s input base bound output (outcome_of ran))
+    (λ input output taken. AnswersWith s input base bound output taken (outcome_of ran))

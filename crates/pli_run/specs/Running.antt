@@ -1,5 +1,5 @@
 -- What a run of an image comes to.
-use Rattle.std.specs.Prelude.{◌≡◌, ℕ, ◌+◌, ◌<◌, ◌≤◌, List, [], map, Option, Some, None, Result, Ok, Err}
+use Rattle.std.specs.Prelude.{◌≡◌, ℕ, ◌+◌, ◌<◌, ◌≤◌, List, [], ◌++◌, map, Option, Some, None, Result, Ok, Err}
 use Rattle.pli_meaning.specs.declared.outcome.Outcome.{Outcome}
 use Rattle.rv_meaning.specs.declared.instr.Fault.{Fault}
 use Rattle.rv_meaning.specs.Encoding.{word_of}
@@ -52,16 +52,28 @@ pub record ShowsWithin (run : ℕ → Run) (bound acts : ℕ) (output : List ℕ
   pub within : done ≤ bound
   pub shows : ShowsAfter run done acts output
 
--- what is answered for a run at a valid base, with this output: the world that it shows, the fault that it met, or want
--- of memory or a stream that failed, with the acts and the output up to there
-abbrev pub Shows : (ℕ → Run) → (bound : ℕ) → (output : List ℕ) → Result Outcome RunFault → Type 0
-Shows run bound output (Ok o) = shown_by (run bound) ≡ Some (world_with o output)
-Shows run bound output (Err (Machine fault acts own)) = Meets run bound fault acts output
-Shows run bound output (Err (Memory acts own)) = ShowsWithin run bound acts output
-Shows run bound output (Err (Read acts own)) = ShowsWithin run bound acts output
-Shows run bound output (Err (Write acts own)) = ShowsWithin run bound acts output
-Shows run bound output (Err BadBase) = ⊥
-Shows run bound output (Err (Source fault)) = ⊥
+-- a write failed in the instruction behind those done, and no other followed it: behind that instruction the run shows
+-- these acts and this output, and of what is taken the output that it showed before is the front
+pub record BreaksOff (run : ℕ → Run) (bound acts : ℕ) (output taken : List ℕ) : Type 0 where
+  pub done : ℕ
+  pub within : done < bound
+  pub shows : ShowsAfter run (done + 1) acts output
+  pub acts_before : ℕ
+  pub output_before : List ℕ
+  pub shows_before : ShowsAfter run done acts_before output_before
+  pub more : List ℕ
+  pub whole : taken ≡ output_before ++ more
+
+-- what is answered for a run at a valid base, with this output and what of it was taken: the world that it shows, the
+-- fault that it met, or want of memory or a stream that failed, with the acts and the output up to there
+abbrev pub Shows : (ℕ → Run) → (bound : ℕ) → (output taken : List ℕ) → Result Outcome RunFault → Type 0
+Shows run bound output taken (Ok o) = shown_by (run bound) ≡ Some (world_with o output)
+Shows run bound output taken (Err (Machine fault acts own)) = Meets run bound fault acts output
+Shows run bound output taken (Err (Memory acts own)) = ShowsWithin run bound acts output
+Shows run bound output taken (Err (Read acts own)) = ShowsWithin run bound acts output
+Shows run bound output taken (Err (Write acts own)) = BreaksOff run bound acts output taken
+Shows run bound output taken (Err BadBase) = ⊥
+Shows run bound output taken (Err (Source fault)) = ⊥
 
 -- the output that an answer has itself
 abbrev pub own_output : Result Outcome RunFault → List ℕ
@@ -74,14 +86,14 @@ own_output (Err BadBase) = []
 own_output (Err (Source fault)) = []
 
 abbrev pub Tells : (ℕ → Run) → (bound : ℕ) → Result Outcome RunFault → Type 0
-Tells run bound ran = Shows run bound (own_output ran) ran
+Tells run bound ran = Shows run bound (own_output ran) (own_output ran) ran
 
 -- the same of an image in pictures and signatures
-abbrev pub ShowsImage : Image → (base : ℕ) → (input : List ℕ) → (bound : ℕ) → (output : List ℕ) →
+abbrev pub ShowsImage : Image → (base : ℕ) → (input : List ℕ) → (bound : ℕ) → (output taken : List ℕ) →
     Result Outcome RunFault → Type 0
-ShowsImage image base input bound output ran =
+ShowsImage image base input bound output taken ran =
     (p : Picture) (gs : List TableSignature) → IsPicture p image → IsTabled gs image →
-    Shows (run_of p gs base input) bound output ran
+    Shows (run_of p gs base input) bound output taken ran
 
 -- want of memory before the first instruction
 abbrev pub IsUnstarted : RunFault → Type 0

@@ -132,6 +132,8 @@ pub(crate) fn stopped<I: InputStream, O: OutputStream>(
       follows = I.follows;
       read_failed = I.has_failed;
       output = O.output;
+      taken = O.taken;
+      grows = O.grows;
       write_failed = O.has_failed;
     }) image.now base input output bound stop.last stop.services) }
     ensures back { IfErr result (λ b. (b.0 ≡ input) × (b.1 ≡ output)) }

@@ -80,7 +80,7 @@ pub fn compile_and_stream<F: Feed, D: Drain>(
         × (D.history result.2 ≡ D.history drain) }
     ensures meant { IsValidBase base → IsStreamed (F.history feed) (D.history drain) (outcome_of result.0)
         (F.history result.1) (D.history result.2)
-        (λ input output. AnswersWith source.now input base bound output (outcome_of result.0)
+        (λ input output taken. AnswersWith source.now input base bound output taken (outcome_of result.0)
         × TracesSource source.now input base bound result.0) }
     ensures unread { IsValidBase base → (input : List ℕ) → IsSilentSource source.now base input bound →
         F.history result.1 ≡ F.history feed }

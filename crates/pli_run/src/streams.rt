@@ -69,7 +69,7 @@ fn between<I: InputStream, O: OutputStream>(
     requires unwritten { O.output output ≡ [] }
     requires unfailed { (I.has_failed input ≡ false) × (O.has_failed output ≡ false) }
     ensures told { (bytes all : List ℕ) → I.input input all ≡ first_input bytes → I.agrees result.1 all →
-        ShowsImage image.now base bytes bound (O.output result.2) (outcome_of result.0)
+        ShowsImage image.now base bytes bound (O.output result.2) (O.taken result.2) (outcome_of result.0)
         × TracesImage image.now base bytes bound result.0 }
     ensures follows { I.follows input result.1 }
     ensures unread { (bytes all : List ℕ) → I.input input all ≡ first_input bytes → I.agrees input all →
@@ -106,7 +106,7 @@ fn streamed<F: Feed, D: Drain, B: Before>(
         F.history result.1 ≡ F.history feed }
     ensures told { IsValidBase base → IsStreamed (F.history feed) B.before (outcome_of result.0)
         (F.history result.1) (D.history result.2)
-        (λ input output. ShowsImage image.now base input bound output (outcome_of result.0)
+        (λ input output taken. ShowsImage image.now base input bound output taken (outcome_of result.0)
         × TracesImage image.now base input bound result.0) }
     ensures empty { own_output (outcome_of result.0) ≡ [] }
 {
@@ -123,8 +123,9 @@ fn streamed<F: Feed, D: Drain, B: Before>(
 /// before the next act; the output of what comes back is empty. The blocks that are entered at an outcome come with it.
 ///
 /// It answers `Read` where a read failed, or one more than 2^30 was wanted, and `Write` where a write failed or took
-/// nothing; then the drain took a part of the output from its front. Else it answers what `run` does. A run that asks
-/// for no input makes no read, and none is made behind one that gave nothing or failed.
+/// nothing; then the drain took a part of the output from its front, with all that was written before the last act, and
+/// nothing was done behind that act. Else it answers what `run` does. A run that asks for no input makes no read, and
+/// none is made behind one that gave nothing or failed.
 pub fn run_traced<F: Feed, D: Drain>(
     alloc: Global,
     image: &Image,
@@ -140,7 +141,7 @@ pub fn run_traced<F: Feed, D: Drain>(
         F.history result.1 ≡ F.history feed }
     ensures told { IsValidBase base → IsStreamed (F.history feed) (D.history drain) (outcome_of result.0)
         (F.history result.1) (D.history result.2)
-        (λ input output. ShowsImage image.now base input bound output (outcome_of result.0)
+        (λ input output taken. ShowsImage image.now base input bound output taken (outcome_of result.0)
         × TracesImage image.now base input bound result.0) }
     ensures empty { own_output (outcome_of result.0) ≡ [] }
 {
@@ -173,7 +174,7 @@ pub fn run_stream<F: Feed, D: Drain>(
         F.history result.1 ≡ F.history feed }
     ensures told { IsValidBase base → IsStreamed (F.history feed) (D.history drain) result.0
         (F.history result.1) (D.history result.2)
-        (λ input output. ShowsImage image.now base input bound output result.0) }
+        (λ input output taken. ShowsImage image.now base input bound output taken result.0) }
     ensures empty { own_output result.0 ≡ [] }
 {
     let (ran, feed, drain) = run_traced(alloc, image, base, feed, drain, bound);

@@ -51,6 +51,7 @@ impl<I: InputStream, O: OutputStream> Runtime<I, O> {
             (λ c. services.aggregate_served c asked.at asked.first asked.leaves asked.given 1)
             (run_seen O.output self.old input) memory.old result (run_seen O.output self.new input) memory.new }
         ensures unread { self.new.streams.input ≡ self.old.streams.input }
+        ensures grows { O.grows self.old.flow.shown.output self.new.flow.shown.output }
     {
         let Some(leaves) = self.entries.newest_leaves() else {
             return Err(Refusal::Bad);
@@ -75,6 +76,7 @@ impl<I: InputStream, O: OutputStream> Runtime<I, O> {
             (λ c. services.aggregate_served c asked.at asked.first asked.leaves asked.given mode)
             (run_seen O.output self.old input) memory.old result (run_seen O.output self.new input) memory.new }
         ensures unread { self.new.streams.input ≡ self.old.streams.input }
+        ensures grows { O.grows self.old.flow.shown.output self.new.flow.shown.output }
     {
         match mode {
             0 => take_aggregate::<K>(self.alloc, &self.held, &mut self.entries, memory, asked),
@@ -96,6 +98,7 @@ impl<I: InputStream, O: OutputStream> Runtime<I, O> {
             (slice_index registers.now 12) (slice_index registers.now 13) (slice_index registers.now 14))
             (run_seen O.output self.old input) memory.old result (run_seen O.output self.new input) memory.new }
         ensures unread { self.new.streams.input ≡ self.old.streams.input }
+        ensures grows { O.grows self.old.flow.shown.output self.new.flow.shown.output }
     {
         self.part_by_mode::<K>(memory, part_of(registers), registers[14])
     }
@@ -113,6 +116,7 @@ impl<I: InputStream, O: OutputStream> Runtime<I, O> {
         ensures carried { (input : LineInput) → IsCarriedOut K.keeper (λ c. services.scalar_served c at leaf value)
             (run_seen O.output self.old input) memory.old result (run_seen O.output self.new input) memory.new }
         ensures unread { self.new.streams.input ≡ self.old.streams.input }
+        ensures grows { O.grows self.old.flow.shown.output self.new.flow.shown.output }
     {
         scalar::<K>(
             self.alloc,

@@ -39,6 +39,7 @@ impl<I: InputStream, O: OutputStream> Runtime<I, O> {
             (slice_index registers.now 12) (slice_index registers.now 13) (slice_index registers.now 14))
             (run_seen O.output self.old input) memory.old result (run_seen O.output self.new input) memory.new }
         ensures unread { self.new.streams.input ≡ self.old.streams.input }
+        ensures grows { O.grows self.old.flow.shown.output self.new.flow.shown.output }
     {
         allocate::<K>(&mut self.held, self.alloc, memory, allocation_of(registers))
     }

@@ -53,6 +53,7 @@ impl<I: InputStream, O: OutputStream> Runtime<I, O> {
             IsCarriedOut k (λ c. services.enter_served c kind frame line texts) (run_seen O.output self.old input) m
             result (run_seen O.output self.new input) m }
         ensures unread { self.new.streams.input ≡ self.old.streams.input }
+        ensures grows { O.grows self.old.flow.shown.output self.new.flow.shown.output }
     {
         let standing = Standing {
             are_texts: self.entries.are_texts(texts as usize),
@@ -74,6 +75,7 @@ impl<I: InputStream, O: OutputStream> Runtime<I, O> {
             (λ c. found_served c (slice_index registers.now) (slice_index registers.now 14))
             (run_seen O.output self.old input) memory.old result (run_seen O.output self.new input) memory.new }
         ensures unread { self.new.streams.input ≡ self.old.streams.input }
+        ensures grows { O.grows self.old.flow.shown.output self.new.flow.shown.output }
     {
         let (first, second) = (registers[10], registers[11]);
         let (third, fourth) = (registers[12], registers[13]);
@@ -104,6 +106,7 @@ impl<I: InputStream, O: OutputStream> Runtime<I, O> {
             (slice_index registers.now 12) (slice_index registers.now 13) (slice_index registers.now 14))
             (run_seen O.output self.old input) memory.old result (run_seen O.output self.new input) memory.new }
         ensures unread { self.new.streams.input ≡ self.old.streams.input }
+        ensures grows { O.grows self.old.flow.shown.output self.new.flow.shown.output }
     {
         make::<K, O>(
             &mut self.flow,

@@ -25,6 +25,7 @@ impl<I: InputStream, O: OutputStream> Runtime<I, O> {
         ensures carried { (input : LineInput) → IsCarriedOut K.keeper (λ c. services.edit_begin_served c at mode)
             (run_seen O.output self.old input) memory.now result (run_seen O.output self.new input) memory.now }
         ensures unread { self.new.streams.input ≡ self.old.streams.input }
+        ensures grows { O.grows self.old.flow.shown.output self.new.flow.shown.output }
     {
         let source = Source::new(self.held.layout, memory);
         self.streams.begin(&source, at, mode)

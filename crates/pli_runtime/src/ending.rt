@@ -50,6 +50,7 @@ impl<I: InputStream, O: OutputStream> Runtime<I, O> {
             IsBack left keep (run_seen O.output self.old input) (run_seen O.output self.new input) }
         ensures unread { self.new.streams.input ≡ self.old.streams.input }
         ensures reply { result ≡ left.reply }
+        ensures grows { O.grows self.old.flow.shown.output self.new.flow.shown.output }
     {
         self.end_entries(left.texts, keep);
         let height = self.streams.height();
@@ -65,6 +66,7 @@ impl<I: InputStream, O: OutputStream> Runtime<I, O> {
             IsCarriedOut k (λ c. services.leave_served c keep second) (run_seen O.output self.old input) m
             result (run_seen O.output self.new input) m }
         ensures unread { self.new.streams.input ≡ self.old.streams.input }
+        ensures grows { O.grows self.old.flow.shown.output self.new.flow.shown.output }
     {
         blocks_are_left();
         let top = self.top();
@@ -81,6 +83,7 @@ impl<I: InputStream, O: OutputStream> Runtime<I, O> {
             IsCarriedOut k (λ c. services.unwind_served c frame keep) (run_seen O.output self.old input) m
             result (run_seen O.output self.new input) m }
         ensures unread { self.new.streams.input ≡ self.old.streams.input }
+        ensures grows { O.grows self.old.flow.shown.output self.new.flow.shown.output }
     {
         blocks_are_left();
         let top = self.top();
@@ -98,6 +101,7 @@ impl<I: InputStream, O: OutputStream> Runtime<I, O> {
             IsCarriedOut k services.return_served (run_seen O.output self.old input) m
             result (run_seen O.output self.new input) m }
         ensures unread { self.new.streams.input ≡ self.old.streams.input }
+        ensures grows { O.grows self.old.flow.shown.output self.new.flow.shown.output }
     {
         blocks_are_left();
         match return_from(&mut self.flow, &mut self.held) {

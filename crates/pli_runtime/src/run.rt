@@ -37,6 +37,7 @@ impl<I: InputStream, O: OutputStream> Runtime<I, O> {
             (λ c. signature_served c number places lower upper) (run_seen O.output self.old input) memory.now
             result (run_seen O.output self.new input) memory.now }
         ensures unread { self.new.streams.input ≡ self.old.streams.input }
+        ensures grows { O.grows self.old.flow.shown.output self.new.flow.shown.output }
     {
         signatures_are_added();
         self.held
@@ -57,6 +58,7 @@ impl<I: InputStream, O: OutputStream> Runtime<I, O> {
         ensures carried { (input : LineInput) → IsCarriedOut K.keeper (λ c. served number c (slice_index registers.now))
             (run_seen O.output self.old input) memory.old result (run_seen O.output self.new input) memory.new }
         ensures unread { self.new.streams.input ≡ self.old.streams.input }
+        ensures grows { O.grows self.old.flow.shown.output self.new.flow.shown.output }
     {
         let (first, second) = (registers[10], registers[11]);
         let (third, fourth) = (registers[12], registers[13]);
@@ -126,6 +128,7 @@ impl<I: InputStream, O: OutputStream> Runtime<I, O> {
             (λ _. I.has_failed self.old.streams.input ≡ false → I.has_failed self.new.streams.input ≡ false)
             (λ _. (world_of O.output self.new.flow.shown ≡ world_of O.output self.old.flow.shown)
             × (memory.new ≡ memory.old)) }
+        ensures grows { O.grows self.old.flow.shown.output self.new.flow.shown.output }
     {
         let (first, second) = (registers[10], registers[11]);
         match number {
@@ -170,6 +173,7 @@ impl<I: InputStream, O: OutputStream> Runtime<I, O> {
             (λ _. I.has_failed self.old.streams.input ≡ false → I.has_failed self.new.streams.input ≡ false)
             (λ _. (world_of O.output self.new.flow.shown ≡ world_of O.output self.old.flow.shown)
             × (memory.new ≡ memory.old)) }
+        ensures grows { O.grows self.old.flow.shown.output self.new.flow.shown.output }
     {
         self.act_or::<K>(memory, registers[17], registers)
     }
@@ -197,6 +201,7 @@ impl<I: InputStream, O: OutputStream> Runtime<I, O> {
             (λ _. I.has_failed self.old.streams.input ≡ false → I.has_failed self.new.streams.input ≡ false)
             (λ _. (world_of O.output self.new.flow.shown ≡ world_of O.output self.old.flow.shown)
             × (memory.new ≡ memory.old)) }
+        ensures grows { O.grows self.old.flow.shown.output self.new.flow.shown.output }
     {
         if number == ACT {
             return self.flow.act(registers[10], registers[11]);

@@ -70,6 +70,7 @@ impl<I: InputStream, O: OutputStream> Runtime<I, O> {
         ensures carried { (input : LineInput) → IsCarriedOut K.keeper (λ c. services.push_served c at most mode)
             (run_seen O.output self.old input) memory.now result (run_seen O.output self.new input) memory.now }
         ensures unread { self.new.streams.input ≡ self.old.streams.input }
+        ensures grows { O.grows self.old.flow.shown.output self.new.flow.shown.output }
     {
         let source = Source::new(self.held.layout, memory);
         match self.entries.push_from(&source, at as usize, most, mode) {
@@ -85,6 +86,7 @@ impl<I: InputStream, O: OutputStream> Runtime<I, O> {
             IsCarriedOut k (λ c. services.push_number_served c number precision) (run_seen O.output self.old input) m
             result (run_seen O.output self.new input) m }
         ensures unread { self.new.streams.input ≡ self.old.streams.input }
+        ensures grows { O.grows self.old.flow.shown.output self.new.flow.shown.output }
     {
         match self.entries.push_number(number, precision) {
             Ok(()) => Ok(Reply::Done(number, precision)),
@@ -99,6 +101,7 @@ impl<I: InputStream, O: OutputStream> Runtime<I, O> {
             IsCarriedOut k (λ c. services.join_served c first) (run_seen O.output self.old input) m
             result (run_seen O.output self.new input) m }
         ensures unread { self.new.streams.input ≡ self.old.streams.input }
+        ensures grows { O.grows self.old.flow.shown.output self.new.flow.shown.output }
     {
         match self.entries.join() {
             Ok(()) => Ok(Reply::Done(first, 0)),
@@ -113,6 +116,7 @@ impl<I: InputStream, O: OutputStream> Runtime<I, O> {
             IsCarriedOut k (λ c. services.cut_served c start count mode) (run_seen O.output self.old input) m
             result (run_seen O.output self.new input) m }
         ensures unread { self.new.streams.input ≡ self.old.streams.input }
+        ensures grows { O.grows self.old.flow.shown.output self.new.flow.shown.output }
     {
         match self.entries.cut(start, count, mode) {
             Ok(()) => Ok(Reply::Done(start, 0)),
@@ -127,6 +131,7 @@ impl<I: InputStream, O: OutputStream> Runtime<I, O> {
             IsCarriedOut k (λ c. services.compare_served c second) (run_seen O.output self.old input) m
             result (run_seen O.output self.new input) m }
         ensures unread { self.new.streams.input ≡ self.old.streams.input }
+        ensures grows { O.grows self.old.flow.shown.output self.new.flow.shown.output }
     {
         match self.entries.compare() {
             Ok(order) => Ok(Reply::Done(order_word(order), second)),
@@ -141,6 +146,7 @@ impl<I: InputStream, O: OutputStream> Runtime<I, O> {
             IsCarriedOut k (λ c. services.find_served c mode second) (run_seen O.output self.old input) m
             result (run_seen O.output self.new input) m }
         ensures unread { self.new.streams.input ≡ self.old.streams.input }
+        ensures grows { O.grows self.old.flow.shown.output self.new.flow.shown.output }
     {
         match self.entries.find(mode) {
             Ok(place) => Ok(Reply::Done(place, second)),
@@ -155,6 +161,7 @@ impl<I: InputStream, O: OutputStream> Runtime<I, O> {
             IsCarriedOut k (λ c. services.to_number_served c mode) (run_seen O.output self.old input) m
             result (run_seen O.output self.new input) m }
         ensures unread { self.new.streams.input ≡ self.old.streams.input }
+        ensures grows { O.grows self.old.flow.shown.output self.new.flow.shown.output }
     {
         match self.entries.to_number(mode) {
             Ok(number) => Ok(Reply::Done(number, 0)),
@@ -175,6 +182,7 @@ impl<I: InputStream, O: OutputStream> Runtime<I, O> {
         ensures carried { (input : LineInput) → IsCarriedOut K.keeper (λ c. services.store_served c at most mode)
             (run_seen O.output self.old input) memory.old result (run_seen O.output self.new input) memory.new }
         ensures unread { self.new.streams.input ≡ self.old.streams.input }
+        ensures grows { O.grows self.old.flow.shown.output self.new.flow.shown.output }
     {
         let stored = self
             .entries

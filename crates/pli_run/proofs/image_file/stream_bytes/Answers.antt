@@ -13,7 +13,7 @@ returns-in-Ok-clause-meant g c = λ s made valid.
     ∙ image_back c.in-Ok.image b c.in-Ok.ensures in
     let compiled : IsImageFor s c.in-Ok.image = subst (λ (i : Image). IsImageFor s i) same made.compiled in
     streamed_for
-    (λ input output h.
-    answered_with compiled c.in-Ok.ensures.loadable c.args.base input c.args.bound output _ valid c.ranges.bound.fits
-    h.0)
+    (λ input output taken h.
+    answered_with compiled c.in-Ok.ensures.loadable c.args.base input c.args.bound output taken _ valid
+    c.ranges.bound.fits h.0)
     (c.run_traced-ran.ensures.told valid)

@@ -1,4 +1,5 @@
 use Rattle.std.proofs.Common.{[], refl, subst, sym}
+use Rattle.pli_edit.specs.Cutting.{never_cut}
 use Rattle.pli_run.proofs.Pictures.{unstarted_tells}
 use Rattle.pli_run.proofs.Told.{by_step_tells, told_of}
 use Rattle.pli_run.specs.Running.{Tells}
@@ -8,10 +9,14 @@ use Rattle.pli_run.proofs.run.run.Goals as goal
 pub returns-clause-told : goal.returns-clause-told
 returns-clause-told c = λ valid p gs h tabled.
     subst (λ r. Tells (run_of p gs c.args.base c.args.input.now) c.args.bound r) (sym c.by_step.ensures)
-    (by_step_tells (run_of p gs c.args.base c.args.input.now) c.args.bound c.in-Ok-into_outcome.outcome
+    (by_step_tells (run_of p gs c.args.base c.args.input.now) c.args.bound c.in-Ok-into_outcome.outcome _
     c.in-Ok-stopped.field-0.last
-    (told_of _ (record { agreed = λ _ _ _ _ _. tt; stays = λ _. tt; goes_on = λ _ _ _ _ _. tt }) c.args.image.now
-    c.args.base
+    (told_of _ (record {
+      agreed = λ _ _ _ _ _. tt;
+      stays = λ _. tt;
+      goes_on = λ _ _ _ _ _. tt;
+      cut = λ a b _ _ e. never_cut a b b e;
+    }) c.args.image.now c.args.base
     _ _ c.args.bound c.in-Ok-stopped.field-0.last c.in-Ok-stopped.field-0.services c.in-Ok-stopped.ensures.stopped refl
     refl
     c.in-Ok-into_outcome.outcome c.in-Ok-into_outcome.outcome.output.items c.args.input.now []

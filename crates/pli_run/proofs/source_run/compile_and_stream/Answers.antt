@@ -9,8 +9,9 @@ pub returns-in-Ok-clause-meant : goal.returns-in-Ok-clause-meant
 returns-in-Ok-clause-meant g c = λ valid.
     let loadable : IsLoadable c.in-Ok.image = subst (λ i. IsLoadable i) c.image.view_is c.image.invariant in
     streamed_for
-    (λ input output h. (
-      answered_with c.in-Ok.ensures loadable c.args.base input c.args.bound output _ valid c.ranges.bound.fits h.0,
+    (λ input output taken h. (
+      answered_with c.in-Ok.ensures loadable c.args.base input c.args.bound output taken _ valid c.ranges.bound.fits
+          h.0,
       traces_source c.in-Ok.ensures c.args.base input c.args.bound _ h.1,
     ))
     (c.run_traced.ensures.told valid)
@@ -18,8 +19,8 @@ returns-in-Ok-clause-meant g c = λ valid.
 pub returns-in-Err-clause-meant : goal.returns-in-Err-clause-meant
 returns-in-Err-clause-meant g c = λ valid.
     unstreamed _ _ _ _ _ refl refl (uncompiled_whole _ c.uncompiled.result c.uncompiled.ensures)
-    (λ input. (
-      refused_with input c.args.base c.args.bound _ c.uncompiled.result c.in-Err.ensures c.uncompiled.ensures,
+    (λ input taken. (
+      refused_with input c.args.base c.args.bound taken _ c.uncompiled.result c.in-Err.ensures c.uncompiled.ensures,
       tt,
     ))
 

@@ -12,6 +12,7 @@ returns-in-Ok-clause-told g c = λ bytes all begins agreed.
       agreed = g.met.I.InputStream.agreed;
       stays = g.met.I.InputStream.stays;
       goes_on = g.met.I.InputStream.goes_on;
+      cut = g.met.O.OutputStream.cut;
     }) c.args.image.now c.args.base c.args.input c.args.output c.args.bound c.in-Ok.field-0.last
     c.in-Ok.field-0.services c.in-Ok.ensures.stopped
     c.requires.unfailed.0 c.requires.unfailed.1 c.into_parts-outcome.result.0 c.into_parts-outcome.result.2
@@ -29,13 +30,14 @@ returns-in-Ok-clause-follows g c =
       agreed = g.met.I.InputStream.agreed;
       stays = g.met.I.InputStream.stays;
       goes_on = g.met.I.InputStream.goes_on;
+      cut = g.met.O.OutputStream.cut;
     }) c.args.image.now c.args.base c.args.input c.args.output c.args.bound c.in-Ok.field-0.last
     c.in-Ok.field-0.services c.in-Ok.ensures.stopped)
 
 pub returns-in-Err-clause-told : goal.returns-in-Err-clause-told
 returns-in-Err-clause-told g c = λ bytes all begins agreed. (
   λ p gs h tabled.
-      unstarted_shows p gs c.args.base bytes c.args.bound _ c.unstarted.result c.unstarted.ensures
+      unstarted_shows p gs c.args.base bytes c.args.bound _ _ c.unstarted.result c.unstarted.ensures
       (ap g.O.OutputStream.output c.in-Err.ensures.back.1 ∙ c.requires.unwritten),
   λ p gs h tabled. tt,
 )
@@ -47,6 +49,7 @@ returns-in-Ok-clause-unread g c = λ bytes all begins agreed silent.
       agreed = g.met.I.InputStream.agreed;
       stays = g.met.I.InputStream.stays;
       goes_on = g.met.I.InputStream.goes_on;
+      cut = g.met.O.OutputStream.cut;
     }) c.args.image.now c.args.base c.args.input c.args.output c.args.bound c.in-Ok.field-0.last
     c.in-Ok.field-0.services
     c.in-Ok.ensures.stopped c.requires.unfailed.0 c.requires.unfailed.1 bytes all begins agreed silent

@@ -9,5 +9,5 @@ returns-clause-meaning g c =
     (refilled c.args.storage.now.bytes c.serve-reply.new.memory (c.serve-reply.auto.memory
     ∙ ap length c.as_mut_slice-memory.ensures.value))
     c.serve-reply.ensures.served c.serve-reply.ensures.kept c.serve-reply.ensures.layout
-    c.serve-reply.ensures.unread c.serve-reply.ensures.follows
+    c.serve-reply.ensures.unread c.serve-reply.ensures.follows c.serve-reply.ensures.grows
     (told_whole _ _ _ _ _ (sym c.stream_fault.ensures ∙ none_some _ c.if-is_some.ensures) c.told.ensures.told)
