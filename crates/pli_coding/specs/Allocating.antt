@@ -83,7 +83,7 @@ placing_tried placing None = JumpTo RaiseError ∷ []
 placing_tried placing (Some area) =
     raised C.Area area_code
     ++ (service 32
-        ++ JumpBack (size_of placing + (1 + (size_of (raised C.Area area_code) + size_of (service 32)))) ∷ [])
+    ++ JumpBack (size_of placing + (1 + (size_of (raised C.Area area_code) + size_of (service 32)))) ∷ [])
 
 abbrev pub placing_code : (placing : Code) → Option Y.Variable → Code
 placing_code placing area = placing ++ skip_where Test.Equal a1 zero_register (placing_tried placing area)
@@ -107,7 +107,7 @@ controlled_code e t line v =
     amounts_code e t line v
     ++ (number a0 (controlled_number e v)
     ++ (load_word a1 frame_register (allocated_number t)
-        ++ (initial_code a2 (declaration_of e v) ++ tested_service 16)))
+    ++ (initial_code a2 (declaration_of e v) ++ tested_service 16)))
 
 abbrev pub allocation_code : Environment → Taken → (line : ℕ) → Y.Allocation → Code
 allocation_code e t line (Y.AllocateBased v area target) = based_code e t line v area target

@@ -72,7 +72,7 @@ frame_begun words level parameters saved =
 abbrev pub frame_ended : (words : ℕ) → Code
 frame_ended words =
     plus stack_register frame_register (neg_ℤ (pos (temporary_bytes words)))
-        ++ load_word frame_register frame_register frame_below
+    ++ load_word frame_register frame_register frame_below
 
 -- 0 a procedure, 1 a begin block, 2 an on-unit; argument texts are counted in a3
 abbrev pub block_entered : (kind line : ℕ) → Code
@@ -221,7 +221,7 @@ constant_made e place d =
     ++ (initial_code a2 d
     ++ (own_place e a3 (pos (place + name_bytes))
     ++ (small a4 0
-        ∷ (service 7 ++ plus stack_register frame_register (pos (min last_place (place + frame_bytes e.parts d))))))))
+    ∷ (service 7 ++ plus stack_register frame_register (pos (min last_place (place + frame_bytes e.parts d))))))))
 
 abbrev pub extents_act : (line : ℕ) → List Y.Evaluation → Code
 extents_act line [] = []

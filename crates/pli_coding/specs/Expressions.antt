@@ -104,7 +104,7 @@ elements_code t b n =
     upper_code b n
     ++ (bound_loaded u1 b.lower (buffer_lower n)
     ++ (subtract a0 a0 u1 ∷ immediate Imm.Add a0 a0 (pos 1)
-        ∷ (if are_few b.lower b.upper then [] else count_checked t)))
+    ∷ (if are_few b.lower b.upper then [] else count_checked t)))
 
 abbrev pub bound_code : Taken → BoundAsked → Y.Bounds → (dimension : ℕ) → Code
 bound_code t asked b zero = []
@@ -116,12 +116,12 @@ abbrev pub bounds_found : Environment → Taken → Y.Variable → Y.Part → Y.
 bounds_found e t v part b =
     if is_direct e v then []
     else class_found e t v v.class
-        ++ leaf_found e (located e t v) part.first (not (are_constant b)) (is_referred e v part)
+    ++ leaf_found e (located e t v) part.first (not (are_constant b)) (is_referred e v part)
 
 abbrev pub dimension_code : Environment → Taken → Y.Variable → Y.Part → BoundAsked → (dimension : ℕ) → Code
 dimension_code e t v part asked dimension =
     bounds_found e t v part (bounds_at e v part dimension)
-        ++ bound_code t asked (bounds_at e v part dimension) dimension
+    ++ bound_code t asked (bounds_at e v part dimension) dimension
 
 -- ---- names
 
@@ -136,13 +136,13 @@ abbrev pub words_differ : (left right : ℤ) → (n : ℕ) → Code
 words_differ left right n =
     load_word u1 frame_register (left +ℤ pos (4 * n))
     ++ (load_word u2 frame_register (right +ℤ pos (4 * n))
-        ++ (registers Op.Xor u1 u1 u2 ∷ registers Op.Or u0 u0 u1 ∷ []))
+    ++ (registers Op.Xor u1 u1 u2 ∷ registers Op.Or u0 u0 u1 ∷ []))
 
 abbrev pub names_differ : (left right : ℤ) → Code
 names_differ left right =
     small u0 0
     ∷ (words_differ left right 0
-        ++ (words_differ left right 1 ++ (words_differ left right 2 ++ words_differ left right 3)))
+    ++ (words_differ left right 1 ++ (words_differ left right 2 ++ words_differ left right 3)))
 
 abbrev pub names_compared : (equal : Bool) → (left right : ℤ) → Code
 names_compared equal left right = names_differ left right ++ (move u1 zero_register ∷ move a0 u0 ∷ equal_code equal)
@@ -271,7 +271,7 @@ abbrev mutual
   number_code e t (Y.Signed sign x) = number_code e t x ++ signed_code t sign
   number_code e t (Y.Calculated operator left right) =
       number_code e t left
-          ++ (save a0 t ++ (number_code e (with_number t) right ++ (fetch u1 t ++ calculated_code t operator)))
+      ++ (save a0 t ++ (number_code e (with_number t) right ++ (fetch u1 t ++ calculated_code t operator)))
   number_code e t (Y.Absolute x) = number_code e t x ++ absolute_code t
   number_code e t (Y.SignOf x) = number_code e t x ++ sign_code
   number_code e t (Y.Extreme extremum first more) = number_code e t first ++ extremes_code e t extremum more
@@ -279,7 +279,7 @@ abbrev mutual
       number_code e t dividend ++ (save a0 t ++ (number_code e (with_number t) divisor ++ (fetch u1 t ++ modulo_code)))
   number_code e t (Y.Divided precision dividend divisor) =
       number_code e t dividend
-          ++ (save a0 t ++ (number_code e (with_number t) divisor ++ (fetch u1 t ++ divided_code t precision)))
+      ++ (save a0 t ++ (number_code e (with_number t) divisor ++ (fetch u1 t ++ divided_code t precision)))
   number_code e t (Y.LengthOf x) = text_code e t x ++ (small a2 3 ∷ service 27)
   number_code e t (Y.IndexOf searched sought) =
       text_code e t searched ++ (text_code e t sought ++ (small a0 0 ∷ service 25))
@@ -297,7 +297,7 @@ abbrev mutual
   extremes_code e t extremum (Y.NumberThen first rest) =
       save a0 t
       ++ (number_code e (with_number t) first
-          ++ (fetch u1 t ++ (extreme_code extremum ++ extremes_code e t extremum rest)))
+      ++ (fetch u1 t ++ (extreme_code extremum ++ extremes_code e t extremum rest)))
 
   pub text_code : Environment → Taken → Y.Text → Code
   text_code e t (Y.TextConstant bytes) = constant_pushed bytes
@@ -323,13 +323,13 @@ abbrev mutual
   bit_code e t (Y.Negated x) = bit_code e t x ++ negated_code ∷ []
   bit_code e t (Y.Combined operator left right) =
       bit_code e t left
-          ++ (save a0 t ++ (bit_code e (with_number t) right ++ (fetch u1 t ++ combined_code operator ∷ [])))
+      ++ (save a0 t ++ (bit_code e (with_number t) right ++ (fetch u1 t ++ combined_code operator ∷ [])))
   bit_code e t (Y.NumbersCompared comparison left right) =
       number_code e t left
-          ++ (save a0 t ++ (number_code e (with_number t) right ++ (fetch u1 t ++ compared_code comparison)))
+      ++ (save a0 t ++ (number_code e (with_number t) right ++ (fetch u1 t ++ compared_code comparison)))
   bit_code e t (Y.TextsCompared comparison left right) =
       text_code e t left
-          ++ (text_code e t right ++ (service 24 ++ (move u1 a0 ∷ small a0 0 ∷ compared_code comparison)))
+      ++ (text_code e t right ++ (service 24 ++ (move u1 a0 ∷ small a0 0 ∷ compared_code comparison)))
   bit_code e t (Y.BitsCompared comparison left right) =
       bit_code e t left ++ (save a0 t ++ (bit_code e (with_number t) right ++ (fetch u1 t ++ compared_code comparison)))
   bit_code e t (Y.PointersCompared equal left right) =

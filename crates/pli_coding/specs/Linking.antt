@@ -92,4 +92,4 @@ links_of code = record { marks = marks_from 0 code; data' = placed_from (data_st
 abbrev pub data_bytes : Code → List ℕ
 data_bytes code =
     bytes_from (placed_from (data_start code) (static_data code)) (data_start code)
-        (placed_from (data_start code) (static_data code))
+    (placed_from (data_start code) (static_data code))

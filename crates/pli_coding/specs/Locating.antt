@@ -135,7 +135,7 @@ abbrev pub located_by_class : Environment → Taken → Y.Variable → Y.Declare
 located_by_class e t v d Y.AutomaticClass =
     record {
       name = FrameName v.level (pos (automatic_place e.parts e.program v.block v.level v.index));
-      number = known_or_own e d
+      number = known_or_own e d;
     }
 located_by_class e t v d Y.ParameterClass =
     record {
@@ -365,7 +365,7 @@ range_loaded b dimension = range_between b.lower b.upper
     range_between (Y.ConstantExtent l) (Y.ConstantExtent u) = constant u2 (u -ℤ l)
     range_between l u =
         bound_loaded u2 u (buffer_upper dimension)
-            ++ (bound_loaded u0 l (buffer_lower dimension) ++ subtract u2 u2 u0 ∷ [])
+        ++ (bound_loaded u0 l (buffer_lower dimension) ++ subtract u2 u2 u0 ∷ [])
 
 -- the place among the elements of the dimensions so far makes room in u1 for the next subscript
 abbrev pub place_kept : (dimension : ℕ) → Code

@@ -66,7 +66,7 @@ procedure_begun e head words held parameters =
     ++ (move u5 a1
     ∷ (list_kept head.level parameters
     ++ (move a3 a2 ∷ (block_entered 0 head.line
-        ++ (arguments_copied e parameters ++ (variables_code e head.line ++ act_code head.line))))))
+    ++ (arguments_copied e parameters ++ (variables_code e head.line ++ act_code head.line))))))
 
 abbrev pub procedure_ended : Environment → Y.BlockHead → (words held : ℕ) → Option Y.LeafType → Code
 procedure_ended e head words held type =

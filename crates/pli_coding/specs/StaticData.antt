@@ -49,7 +49,7 @@ abbrev pub ordered : List Datum → List Datum
 ordered named =
     filter is_initial named
     ++ (once [] (filter is_constant named ++ flat_map values_of named)
-        ++ (filter is_word named ++ filter is_storage named))
+    ++ (filter is_word named ++ filter is_storage named))
 
 abbrev pub static_data : Code → List Datum
 static_data code = ordered (once [] (data_named code))

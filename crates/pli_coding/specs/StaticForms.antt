@@ -80,7 +80,7 @@ abbrev pub bounds_places : (leaf dimension : ℕ) → Y.Bounds → List Y.Bounds
 bounds_places leaf dimension b [] = []
 bounds_places leaf dimension b (c ∷ cs) =
     place_if (same_extent b.lower c.lower && same_extent b.upper c.upper) leaf dimension
-        ++ bounds_places leaf (suc dimension) b cs
+    ++ bounds_places leaf (suc dimension) b cs
 
 abbrev pub bounds_from : (leaf : ℕ) → Y.Bounds → List Y.Leaf → List ℕ
 bounds_from leaf b [] = []

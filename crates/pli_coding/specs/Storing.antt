@@ -35,7 +35,7 @@ word_stored e t target =
     if is_near e target then reference_code e t target ++ stored (type_in e target) a0 (address_in e target)
     else
     save a0 t ++ (reference_code e (with_number t) target
-        ++ (fetch a0 t ++ stored (type_in e target) a0 (address_in e target)))
+    ++ (fetch a0 t ++ stored (type_in e target) a0 (address_in e target)))
 
 -- the top text
 abbrev pub top_stored : Environment → Taken → Y.Reference → Code
@@ -167,7 +167,7 @@ elements_code e t target source =
     ++ (value_saved t source
     ++ (record_code e (behind_value source t) target
     ++ (record_given e (behind_value source t)
-        ++ (number a1 (first_leaf target) ++ (value_given e t source ++ service 41)))))
+    ++ (number a1 (first_leaf target) ++ (value_given e t source ++ service 41)))))
 
 -- a part is taken onto the text stack with mode 0, and put with mode 1
 abbrev pub aggregate_given : Environment → Taken → Y.Reference → (mode : ℕ) → Code

@@ -160,7 +160,7 @@ next_counted l =
     ∷ (store_word frame_register u1 (next_place l 0)
     ++ (immediate Imm.SetLessUnsigned u1 u1 (pos 1)
     ∷ (load_word u2 frame_register (next_place l 1)
-        ++ (add u2 u2 u1 ∷ store_word frame_register u2 (next_place l 1))))))
+    ++ (add u2 u2 u1 ∷ store_word frame_register u2 (next_place l 1))))))
 
 -- the offset of the next one in a0, and in u1 what is told where there is none
 abbrev pub next_asked : Environment → Elements → Y.Reference → Code
@@ -408,7 +408,7 @@ abbrev pub element_field_taken : Environment → Taken → T.Formats → Y.Refer
 element_field_taken e t formats r =
     if has_kind e r K.Fixed then
     (if has_kind e r K.Bit || has_texts e r then mixed_field_taken e t formats r
-      else number_got formats ++ number_fitted t)
+    else number_got formats ++ number_fitted t)
     else (if has_kind e r K.Bit then
     (if has_texts e r then mixed_field_taken e t formats r else bit_got ++ save a0 t)
     else text_got formats)

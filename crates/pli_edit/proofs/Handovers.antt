@@ -1,10 +1,12 @@
 -- Bytes that are handed over piece by piece.
 use Rattle.std.proofs.Common.{◌≡◌, ℕ, zero, suc, ◌+◌, ◌-◌, ◌<◌, ◌≤◌, List, [], ◌∷◌, ◌++◌, length, take, drop, replicate}
-use Rattle.std.proofs.Common.{refl, subst, sym, ap, ◌∙◌, append_assoc, append-nil, length-append, arith, Ok, Err}
+use Rattle.std.proofs.Common.{refl, subst, sym, ap, ◌∙◌, append_assoc, append-nil, length-append, arith}
+use Rattle.std.proofs.Common.{Result, Ok, Err}
 use Rattle.std.proofs.Math.Seq.{take-append-add}
 use Rattle.std.proofs.lemmas.List.{take-append-le, take-append-drop, length-replicate, take-replicate, drop-replicate}
 use Rattle.std.proofs.lemmas.Slice.{take-put_mid, drop-put_mid}
 use borrow.Rule.Slice.PartMut.{put_mid}
+use Rattle.pli_edit.specs.Drained.{Grows}
 use Rattle.pli_edit.specs.Histories.{History, after_call}
 use Rattle.pli_edit.specs.Handing.{IsHandedOver, zeros, fruitless}
 use Rattle.pli_edit.specs.declared.fault.Failed.{Failed}
@@ -36,6 +38,13 @@ pub failed :
     (bytes : List ℕ) (old new : History) (e : Failed) → new ≡ after_call (Err e) bytes old →
     (new.bytes ≡ old.bytes) × (fruitless new ≡ fruitless old + 1)
 failed bytes old new e h = (ap (λ (w : History). w.bytes) h, ap fruitless h ∙ omega arith)
+
+-- a drain only takes more
+pub handed_grows :
+    (bytes : List ℕ) (old new : History) (result : Result (Unit {0}) ℕ) → IsHandedOver bytes old result new →
+    Grows old new
+handed_grows bytes old new (Ok done) h = (bytes, h.0)
+handed_grows bytes old new (Err count) h = (take count bytes, h.1)
 
 -- ---- one text behind another
 

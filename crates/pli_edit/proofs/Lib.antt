@@ -1,3 +1,4 @@
+pub mod Begun
 pub mod Columns
 pub mod Ends
 pub mod FeedCalls

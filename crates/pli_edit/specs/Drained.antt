@@ -1,5 +1,5 @@
 -- The output that goes to a drain.
-use Rattle.std.specs.Prelude.{◌-◌, ℕ, Bool, true, false, List, ◌++◌, length, drop, Ok, Err}
+use Rattle.std.specs.Prelude.{◌≡◌, ◌-◌, ℕ, Bool, true, false, List, ◌++◌, length, drop, Ok, Err}
 use Rattle.std.specs.Prelude.{if◌then◌else◌}
 use Rattle.pli_meaning.specs.Stream.{column_of}
 use Rattle.pli_edit.specs.Histories.{History}
@@ -8,6 +8,10 @@ use Rattle.pli_edit.specs.Handing.{IsHandedOver}
 -- what a drain took since
 abbrev pub taken_since : (before now : History) → List ℕ
 taken_since before now = drop (length before.bytes) now.bytes
+
+-- it took more, and keeps what it has
+abbrev pub Grows : (before now : History) → Type 0
+Grows before now = (more : List ℕ) × (now.bytes ≡ before.bytes ++ more)
 
 -- what was handed over, and what is left
 abbrev pub output_of : (before now : History) → (left : List ℕ) → List ℕ

@@ -1,10 +1,12 @@
 -- Format lists whose repetitions aren't written out, and what is left of them at a place.
-use Rattle.std.specs.Prelude.{◌≡◌, ℕ, zero, suc, ◌+◌, ◌-◌, ◌*◌, ◌<◌, List, [], ◌∷◌, ◌++◌, length, drop, Option, Some, None}
+use Rattle.std.specs.Prelude.{◌≡◌, ℕ, zero, suc, ◌+◌, ◌-◌, ◌*◌, ◌<◌, true, List, [], ◌∷◌, ◌++◌, length, drop, Option}
+use Rattle.std.specs.Prelude.{Some, None, if◌then◌else◌}
 use Rattle.pli_meaning.specs.Streaming.{FormatItem, DataFormat, ControlFormat, FixedItem, TextItem, SpaceItem, SkipItem, ColumnItem, repeated}
 use Rattle.pli_edit.specs.declared.format.Format.{Format}
 use Rattle.pli_edit.specs.declared.format.Format.TheVariants as F
 use Rattle.pli_edit.specs.declared.format.Node.{Node}
 use Rattle.pli_edit.specs.declared.format.Node.TheVariants as N
+use Rattle.pli_edit.specs.declared.format.Passed.{Passed}
 use Rattle.pli_edit.specs.declared.format.Piece.{Piece}
 use Rattle.pli_edit.specs.declared.format.Piece.TheVariants as P
 use Rattle.pli_edit.specs.declared.format.Split.{Split}
@@ -90,10 +92,19 @@ abbrev pub coming : (whole rest : List FormatItem) → List FormatItem
 coming whole [] = whole
 coming whole (f ∷ rest) = f ∷ rest
 
--- the next item, and the place behind it; there is none in an empty list
-abbrev pub IsNext : Option Format → (old new : FormatsLeft) → Type 0
-IsNext None old new = (coming old.whole old.rest ≡ []) × (new ≡ old)
-IsNext (Some f) old new = (coming old.whole old.rest ≡ item_of f ∷ new.rest) × (new.whole ≡ old.whole)
+-- what was left before an item was passed, of what is left behind it: nothing where the list was begun again for it
+abbrev pub left_before_passed : Passed → (rest : List FormatItem) → List FormatItem
+left_before_passed p rest = if p.is_again then [] else item_of p.format ∷ rest
+
+-- where the list was begun again, the item is its first
+abbrev pub IsFirstAgain : Passed → FormatsLeft → Type 0
+IsFirstAgain p new = p.is_again ≡ true → new.whole ≡ item_of p.format ∷ new.rest
+
+-- the item that was next, and the place behind it; there is none in an empty list
+abbrev pub IsPassed : Option Passed → (old new : FormatsLeft) → Type 0
+IsPassed None old new = (coming old.whole old.rest ≡ []) × (new ≡ old)
+IsPassed (Some p) old new =
+    (old.rest ≡ left_before_passed p new.rest) × (new.whole ≡ old.whole) × IsFirstAgain p new
 
 -- the next item, which stays
 abbrev pub IsComing : Option Format → FormatsLeft → Type 0

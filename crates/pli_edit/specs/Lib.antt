@@ -1,3 +1,4 @@
+pub mod Cutting
 pub mod Drained
 pub mod Faults
 pub mod Feeding

@@ -1,6 +1,6 @@
 -- What a call does to a stream of marks, and to each input that agrees with what was read.
-use Rattle.std.specs.Prelude.{◌≡◌, ◌≤◌, ◌<◌, ℕ, suc, ◌+◌, ◌-◌, Bool, true, false, List, [], ◌∷◌, ◌++◌, length, drop}
-use Rattle.std.specs.Prelude.{Option, Some, None, Result, Ok, Err}
+use Rattle.std.specs.Prelude.{◌≡◌, ◌≤◌, ◌<◌, ℕ, zero, suc, ◌+◌, ◌-◌, Bool, true, false, List, [], ◌∷◌, ◌++◌, length, drop}
+use Rattle.std.specs.Prelude.{nat_lt, Option, Some, None, Result, Ok, Err, if◌then◌else◌}
 use Rattle.pli_meaning.specs.InputLines.{Input, Mark, CharacterMark, marks_of, next_line}
 use Rattle.pli_edit.specs.Feeding.{Reading, Reads, gained, first_fed, Agrees, to_come, is_broken}
 use Rattle.pli_edit.specs.Histories.{History}
@@ -104,6 +104,10 @@ behind_mark m size a = record { fed = a.fed; lines = a.lines; is_begun = begins_
 abbrev pub over_line : (size : ℕ) → Marked → Marked
 over_line size a = record { fed = a.fed; lines = a.lines + 1; is_begun = false; pending = drop size a.pending }
 
+-- the ends of lines that were looked over are taken
+abbrev pub without_lines : Marked → Marked
+without_lines a = record { fed = a.fed; lines = 0; is_begun = a.is_begun; pending = a.pending }
+
 -- ---- an input whose marks come from a feed
 
 pub record Held : Type 0 where
@@ -117,6 +121,12 @@ first_held h = record { marked = record { fed = first_fed h; lines = 0; is_begun
 -- what is left of an input, and the column that is reached
 abbrev pub input_of : Held → (all : List ℕ) → Input
 input_of h all = record { marks = marks_left h.marked all; column = h.column }
+
+-- before a field, which passes them, the ends of lines that were looked over are taken
+abbrev pub begun : (width : ℕ) → Held → Held
+begun zero h = h
+begun (suc n) h =
+    record { marked = without_lines h.marked; column = if nat_lt 0 h.marked.lines then 1 else h.column }
 
 abbrev pub has_failed : Held → Bool
 has_failed h = is_broken h.marked.fed.standing

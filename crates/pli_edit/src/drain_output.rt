@@ -2,7 +2,7 @@
 
 ghost use Rattle.std.specs.Prelude.{◌≡◌, ◌||◌, ◌+◌, ◌^◌, ◌<◌, ◌++◌, [], true, false, length, min, replicate};
 ghost use Rattle.pli_meaning.specs.Stream.{blanks};
-ghost use Rattle.pli_edit.specs.Drained.{taken_since, output_of, one_if, IsDrained, last_line, most_line};
+ghost use Rattle.pli_edit.specs.Drained.{taken_since, output_of, one_if, last_line, most_line, Grows, IsDrained};
 ghost use Rattle.pli_edit.specs.Faults.{is_fault, is_write};
 ghost use Rattle.pli_edit.specs.Handing.{fruitless};
 ghost use Rattle.pli_edit.specs.OutputStreams.{IsWrittenOn};
@@ -56,8 +56,9 @@ impl<D: Drain, B: Before> DrainOutput<D, B> {
 
     /// The drain back.
     pub fn into_inner(self) -> D
-        ensures { IsDrained B.before (output_of B.before (D.history self.drain) self.left.numbers) self.has_failed
-            (D.history result) }
+        ensures drained { IsDrained B.before (output_of B.before (D.history self.drain) self.left.numbers)
+            self.has_failed (D.history result) }
+        ensures taken { taken_since B.before (D.history self.drain) ≡ taken_since B.before (D.history result) }
     {
         self.drain
     }
@@ -78,6 +79,7 @@ impl<D: Drain, B: Before> DrainOutput<D, B> {
             ++ (replicate before fill ++ (text.now ++ replicate behind fill)))
             (output_of B.before (D.history self.old.drain) self.old.left.numbers) result
             (output_of B.before (D.history self.new.drain) self.new.left.numbers) }
+        ensures grows { Grows (D.history self.old.drain) (D.history self.new.drain) }
         ensures failed { self.new.has_failed ≡ (self.old.has_failed || is_fault is_write result) }
         ensures again { self.old.has_failed ≡ true → result ≡ Err EditFault.Write }
     {
@@ -100,6 +102,7 @@ impl<D: Drain, B: Before> DrainOutput<D, B> {
             ++ (blanks before ++ (text.now ++ blanks behind)))
             (output_of B.before (D.history self.old.drain) self.old.left.numbers) result
             (output_of B.before (D.history self.new.drain) self.new.left.numbers) }
+        ensures grows { Grows (D.history self.old.drain) (D.history self.new.drain) }
         ensures failed { self.new.has_failed ≡ (self.old.has_failed || is_fault is_write result) }
         ensures again { self.old.has_failed ≡ true → result ≡ Err EditFault.Write }
     {
@@ -110,9 +113,15 @@ impl<D: Drain, B: Before> DrainOutput<D, B> {
 }
 
 impl<D: Drain, B: Before> OutputStream for DrainOutput<D, B> {
+    ghost use Rattle.pli_edit.specs.Cutting.{cut_drain, grows_none, grows_then};
+
     ghost output = { λ o. output_of B.before (D.history o.drain) o.left.numbers };
 
+    ghost taken = { λ o. taken_since B.before (D.history o.drain) };
+
     ghost has_failed = { λ o. o.has_failed };
+
+    ghost grows = { λ a b. Grows (D.history a.drain) (D.history b.drain) };
 
     fn has_failed(&self) -> bool {
         self.has_failed
@@ -161,4 +170,11 @@ impl<D: Drain, B: Before> OutputStream for DrainOutput<D, B> {
         }
         self.put(0, b"\n", 0)
     }
+
+    ghost stays = { λ a. grows_none (D.history a.drain) };
+
+    ghost goes_on = { λ a b c h k. grows_then (D.history a.drain) (D.history b.drain) (D.history c.drain) h k };
+
+    ghost cut = { λ a b h e f. cut_drain B.before (D.history a.drain) (D.history b.drain) a.left.numbers b.left.numbers
+        a.grown (a.none_left e) h (b.some_left f) };
 }

@@ -1,12 +1,13 @@
 // The input of GET as it comes from a feed.
 
-ghost use Rattle.std.specs.Prelude.{◌≡◌, ◌-◌, ℕ, List, MatchOption, MatchResult, false, true, ⊤};
+ghost use Rattle.std.specs.Prelude.{◌≡◌, ◌≤◌, ◌-◌, ℕ, List, [], MatchOption, MatchResult, Ok, false, true, vec_capacity};
+ghost use Rattle.std.specs.Prelude.{vec_len, ⊤};
 ghost use Rattle.pli_meaning.specs.InputLines as lines;
 ghost use Rattle.pli_edit.specs.Feeding.{first_fed, is_broken, Agrees};
 ghost use Rattle.pli_edit.specs.Fields.{IsLineField, TakesNumber, TakesText};
 ghost use Rattle.pli_edit.specs.KnownMarks.{marks_left, wants_characters, wants_column, wants_lines, wants_next_line};
 ghost use Rattle.pli_edit.specs.Marks.{IsInLine};
-ghost use Rattle.pli_edit.specs.Streams.{first_held, has_failed, input_of, wants_field, Fails, Reaches, Tells};
+ghost use Rattle.pli_edit.specs.Streams.{begun, first_held, has_failed, input_of, wants_field, Fails, Reaches, Tells};
 
 use crate::fault::EditFault;
 use crate::feed::Feed;
@@ -108,20 +109,47 @@ impl<F: Feed> FeedInput<F> {
         self.column += u64::from(width);
     }
 
-    // The next `width` characters, padded with blanks, where one is left.
-    fn take_field(&mut self, width: u32) -> Result<Vec<u8>, EditFault>
-        requires { has_failed self.old ≡ false }
-        ensures { Tells (wants_characters width) (λ i j. TakesText width i true result j) result self.old self.new }
+    // The ends of lines that were looked over are taken before a field, which passes them.
+    fn begin_line(&mut self, width: u32)
+        ensures { self.new ≡ begun width self.old }
     {
-        let mut field = Vec::with_capacity(self.alloc, width as usize)?;
+        if width > 0 && self.marks.take_lines() {
+            self.column = 1;
+        }
+    }
+
+    // The next `width` characters, padded with blanks, where one is left; a field that stands in one line as it stands.
+    fn fill(&mut self, width: u32, empty: Vec<u8>) -> Result<Vec<u8>, EditFault>
+        requires whole { has_failed self.old ≡ false }
+        requires empty { (empty.items ≡ []) × (vec_len empty ≡ 0) }
+        requires capacity { width ≤ vec_capacity empty }
+        ensures { MatchResult result
+            (λ field. Reaches (wants_characters width) (λ i j. TakesText width i true (Ok field) j) self.old self.new)
+            (λ e. (e ≡ EditFault.Read) × Fails (wants_characters width) self.old self.new) }
+    {
+        let mut field = empty;
+        if let Some(line) = self.line_field(width) {
+            field.extend_from_slice(line).unwrap();
+            self.pass_line_field(width);
+            return Ok(field);
+        }
         self.column = take_characters(&mut self.marks, self.column, width, &mut field)?;
         field.resize(width as usize, b' ').unwrap();
         Ok(field)
     }
 
+    // The same with room of its own, behind ends of lines that were looked over.
+    fn take_field(&mut self, width: u32) -> Result<Vec<u8>, EditFault>
+        requires { has_failed self.old ≡ false }
+        ensures { Tells (wants_characters width) (λ i j. TakesText width i true result j) result self.old self.new }
+    {
+        let empty = Vec::with_capacity(self.alloc, width as usize)?;
+        self.begin_line(width);
+        self.fill(width, empty)
+    }
+
     /// The next `width` characters, padded with blanks where the input ends inside. `AtEnd` where none is left, and
-    /// `Memory`: then
-    /// nothing is taken.
+    /// `Memory`: then nothing is taken.
     pub fn get_a(&mut self, width: u32) -> Result<Vec<u8>, EditFault>
         ensures { Tells (wants_field width) (λ i j. TakesText width i (lines.has_character i.marks) result j) result
             self.old self.new }
@@ -134,8 +162,7 @@ impl<F: Feed> FeedInput<F> {
     }
 
     /// The number that the next field of `width` characters stands for. `NotNumber` where it stands for none: it is
-    /// taken all the
-    /// same. `AtEnd` where no character is left, and `Memory`: then nothing is taken.
+    /// taken all the same. `AtEnd` where no character is left, and `Memory`: then nothing is taken.
     pub fn get_f(&mut self, width: u32) -> Result<i32, EditFault>
         ensures { Tells (wants_field width) (λ i j. TakesNumber width i (lines.has_character i.marks) result j) result
             self.old self.new }

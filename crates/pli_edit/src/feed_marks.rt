@@ -1,12 +1,13 @@
 // What stands from a place of an input on that comes from a feed: characters, and the ends of lines.
 
-ghost use Rattle.std.specs.Prelude.{◌≡◌, ◌+◌, ◌≤◌, ℕ, List, [], false, length, true, MatchOption, MatchResult, ⊤};
+ghost use Rattle.std.specs.Prelude.{◌≡◌, ◌+◌, ◌≤◌, ℕ, List, [], false, get_or, length, nat_lt, true, MatchOption};
+ghost use Rattle.std.specs.Prelude.{MatchResult, Some, ⊤};
 ghost use Rattle.pli_meaning.specs.InputLines as lines;
 ghost use Rattle.pli_edit.specs.Feeding.{Agrees, first_fed, is_broken};
 ghost use Rattle.pli_edit.specs.KnownMarks.{marks_left, most_left, wants_mark, wants_characters};
 ghost use Rattle.pli_edit.specs.Marks.{IsInLine};
-ghost use Rattle.pli_edit.specs.Streams.{behind_mark, over_line, Breaks, IsKnownMark, LooksAt, LooksInVain, Moves};
-ghost use Rattle.pli_edit.specs.Streams.{Takes, TakesInLine};
+ghost use Rattle.pli_edit.specs.Streams.{behind_mark, over_line, without_lines, Breaks, IsKnownMark, LooksAt, LooksInVain};
+ghost use Rattle.pli_edit.specs.Streams.{Moves, Takes, TakesInLine};
 
 use crate::fault::EditFault;
 use crate::feed::Feed;
@@ -104,6 +105,16 @@ impl<F: Feed> FeedMarks<F> {
         self.lines += 1;
     }
 
+    /// The ends of lines that were looked over are taken; whether there were any.
+    pub fn take_lines(&mut self) -> bool
+        ensures taken { self.new ≡ without_lines self.old }
+        ensures some { result ≡ nat_lt 0 self.old.lines }
+    {
+        let lines = self.lines;
+        self.lines = 0;
+        lines > 0
+    }
+
     /// The first mark is taken.
     pub fn take(&mut self) -> Result<Option<Mark>, EditFault>
         requires { is_broken self.old.fed.standing ≡ false }
@@ -152,6 +163,9 @@ impl<F: Feed> FeedMarks<F> {
             × ((all : List ℕ) → Agrees self.new.fed all → lines.has_character (marks_left self.new all) ≡ is_left))
             (λ e. (e ≡ EditFault.Read) × Breaks (wants_characters 1) self.old self.new) }
     {
+        if begins_with_character(self.bytes.pending()) {
+            return Ok(true);
+        }
         while let Some((mark, size)) = self.first()? {
             match mark {
                 Mark::Character(_) => return Ok(true),
@@ -189,6 +203,14 @@ impl<F: Feed> FeedMarks<F> {
         self.bytes.pass(count as usize);
         self.is_begun = true;
     }
+}
+
+// Whether the first byte is a character, whatever comes behind it.
+#[tactic(auto, using(crate::proofs::Known::known_character))]
+fn begins_with_character(bytes: &[u8]) -> bool
+    ensures { result ≡ true → IsKnownMark bytes.now (Some (Mark.Character (get_or bytes.now 0 0), 1)) }
+{
+    !bytes.is_empty() && bytes[0] != b'\n' && bytes[0] != b'\r'
 }
 
 // The first mark of bytes that go on, and how many it takes; none where more bytes are wanted.

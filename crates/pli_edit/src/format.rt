@@ -10,6 +10,13 @@ pub enum Format {
     Column(u32),
 }
 
+/// An item that was passed, and whether its list was begun again for it.
+#[derive(Clone, Copy, PartialEq, Eq, Debug)]
+pub struct Passed {
+    pub format: Format,
+    pub is_again: bool,
+}
+
 /// An item that is repeated so many times, or a list of so many of the nodes that follow.
 #[derive(Clone, Copy, PartialEq, Eq, Debug)]
 pub enum Node {

@@ -1,10 +1,10 @@
 // A place in a format list, which is used again from its start while items remain.
 
 ghost use Rattle.std.specs.Prelude.{◌≡◌, ◌<◌, ◌^◌, length, MatchResult, IfErr, IfOk};
-ghost use Rattle.pli_edit.specs.FormatPlaces.{items_of, IsNext, IsComing};
+ghost use Rattle.pli_edit.specs.FormatPlaces.{items_of, IsPassed, IsComing};
 
 use crate::fault::EditFault;
-use crate::format::{Format, Node, Piece};
+use crate::format::{Format, Node, Passed, Piece};
 use crate::pieces::{peek, take};
 use std::alloc::Global;
 use std::marker::Model;
@@ -57,20 +57,25 @@ impl FormatPlace {
     }
 
     /// The next item is passed. `Memory` where there is none, and then nothing changed.
-    pub fn pass(&mut self) -> Result<Option<Format>, EditFault>
-        ensures item { MatchResult result (λ found. IsNext found self.old self.new) (λ e. e ≡ EditFault.Memory) }
+    pub fn pass(&mut self) -> Result<Option<Passed>, EditFault>
+        ensures item { MatchResult result (λ found. IsPassed found self.old self.new) (λ e. e ≡ EditFault.Memory) }
         ensures kept { IfErr result (λ _. self.new ≡ self.old) }
     {
-        let found = take(&self.nodes, &mut self.pieces)?;
-        if found.is_some() {
-            return Ok(found);
+        if let Some(format) = take(&self.nodes, &mut self.pieces)? {
+            return Ok(Some(Passed {
+                format,
+                is_again: false,
+            }));
         }
         self.begin()?;
         let first = take(&self.nodes, &mut self.pieces);
         if first.is_err() {
             self.pieces.clear();
         }
-        Ok(first?)
+        Ok(first?.map(|format| Passed {
+            format,
+            is_again: true,
+        }))
     }
 
     // The whole list is left again. Without memory nothing changed.

@@ -1,7 +1,7 @@
 // Each call once; with a refused allocation the answer is Memory, and nothing is taken or written.
 
 use crate::fault::EditFault;
-use crate::format::{Format, Node};
+use crate::format::{Format, Node, Passed};
 use crate::input::Input;
 use crate::output::Output;
 use crate::place::FormatPlace;
@@ -95,10 +95,9 @@ fn walk(alloc: Global) -> Result<Vec<Format>, EditFault> {
     let mut items = Vec::new(alloc);
     for _ in 0..8 {
         let coming = place.coming()?;
-        let passed = place.pass()?;
-        if let Some(format) = passed {
-            if coming == passed {
-                items.push(format)?;
+        if let Some(passed) = place.pass()? {
+            if coming == Some(passed.format) && passed.is_again == (items.len() == 6) {
+                items.push(passed.format)?;
             }
         }
     }
@@ -142,5 +141,9 @@ fn repetitions_are_not_written_out(rt: HostRuntime) {
         return;
     };
     let passed = place.pass();
-    assert!(rt; passed == Ok(Some(Format::Column(7))) || passed == Err(EditFault::Memory));
+    let first = Passed {
+        format: Format::Column(7),
+        is_again: false,
+    };
+    assert!(rt; passed == Ok(Some(first)) || passed == Err(EditFault::Memory));
 }

@@ -1,10 +1,10 @@
-// What a run of a source comes to beyond what `pli run` shows of it: how many acts it made, how it ended, the conditions that it
-// raised, and the services that it called; behind them its output. The words are the source's file and that of the input; without the second one there is no input.
+// What a run of an image comes to beyond what `pli exec` shows of it: how many acts it made, how it ended, the conditions
+// that it raised, and the services that it called; behind them its output. The words are the image's file and that of the
+// input; without the second one there is no input.
 #![tactic(auto)]
 
 mod services;
 
-use pli_compile::compile::compile;
 use pli_meaning::outcome::Outcome;
 use pli_run::run::run;
 use rv_image::image::Image;
@@ -25,10 +25,10 @@ fn show(rt: &HostRuntime, image: &Image, input: &[u8], outcome: &Outcome) -> io:
     rt.write_all(&outcome.output)
 }
 
-fn show_run(rt: &HostRuntime, source: &[u8], input: &[u8]) -> io::Result<()> {
-    let image = match compile(rt.alloc(), source) {
+fn show_run(rt: &HostRuntime, bytes: &[u8], input: &[u8]) -> io::Result<()> {
+    let image = match Image::from_bytes(rt.alloc(), bytes) {
         Ok(image) => image,
-        Err(fault) => return println!(rt; "{fault}"),
+        Err(fault) => return println!(rt; "{fault:?}"),
     };
     match run(rt.alloc(), &image, BASE, input, BOUND) {
         Ok(outcome) => show(rt, &image, input, &outcome),
@@ -38,7 +38,7 @@ fn show_run(rt: &HostRuntime, source: &[u8], input: &[u8]) -> io::Result<()> {
 
 fn main(rt: HostRuntime) -> io::Result<()> {
     let words: Vec<String> = env::args(&rt)?.collect(rt.alloc())?;
-    let source = match words.get(1) {
+    let image = match words.get(1) {
         Some(name) => fs::read(&rt, name)?,
         None => Vec::new(rt.alloc()),
     };
@@ -46,5 +46,5 @@ fn main(rt: HostRuntime) -> io::Result<()> {
         Some(name) => fs::read(&rt, name)?,
         None => Vec::new(rt.alloc()),
     };
-    show_run(&rt, &source, &input)
+    show_run(&rt, &image, &input)
 }

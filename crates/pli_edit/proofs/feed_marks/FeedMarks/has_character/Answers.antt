@@ -1,10 +1,25 @@
-use Rattle.std.proofs.Common.{[], Some, sym, subst, ap, ◌∙◌, true, false}
+use Rattle.std.proofs.Common.{◌≡◌, [], Some, refl, sym, subst, ap, ◌∙◌, get_or, true, false}
 use Rattle.std.proofs.lemmas.Result.{err_from_is_err_and}
 use Rattle.pli_edit.specs.KnownMarks.{Marked, wants_characters}
-use Rattle.pli_edit.specs.Streams.{LooksAt, Moves}
-use Rattle.pli_edit.proofs.Looking.{left_behind, left_none, left_over, left_some, left_vain, vain_behind}
+use Rattle.pli_edit.specs.Feeding.{is_broken}
+use Rattle.pli_edit.specs.Streams.{IsKnownMark, LooksAt, Moves}
+use Rattle.pli_edit.specs.declared.mark.Mark.TheVariants as M
+use Rattle.pli_edit.proofs.Looking.{IsLeft, front_known, left_behind, left_none, left_over, left_some, left_vain}
+use Rattle.pli_edit.proofs.Looking.{vain_behind, waits_none}
 use Rattle.pli_edit.proofs.Moving.{moves_then}
 use Rattle.pli_edit.proofs.feed_marks.FeedMarks.has_character.Goals as goal
+
+pub returns-then-begins_with_character : goal.returns-then-begins_with_character
+returns-then-begins_with_character g c =
+    let s = c.self.inside in
+    let p = c.pending.result.now in
+    let a : Marked = record { fed = s.bytes.fed; lines = s.lines; is_begun = s.is_begun; pending = s.bytes.pending } in
+    let plain = c.begins_with_character.ensures c.if-begins_with_character.true in
+    let there = subst (λ q. IsKnownMark q (Some (M.Character (get_or p 0 0), 1))) c.pending.ensures plain in
+    let whole = subst (λ (m : Marked). is_broken m.fed.standing ≡ false) (sym c.self.view_is) c.requires in
+    subst (λ (m : Marked). IsLeft true m m) c.self.view_is
+    (left_some (get_or p 0 0) 1 a a
+    (waits_none a, front_known (Some (M.Character (get_or p 0 0), 1)) a refl there, whole))
 
 pub returns-in_err-mark : goal.returns-in_err-mark
 returns-in_err-mark g c =
