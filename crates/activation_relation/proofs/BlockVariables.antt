@@ -148,7 +148,6 @@ variable_stands w p x φ φs h fits =
           },
           old.1,
         )
-
       where
         inside :
             IsLaid w.parts φ φs → (n v : ℕ) →
