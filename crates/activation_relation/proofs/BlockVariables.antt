@@ -1,17 +1,18 @@
 -- A variable that is made in the newest block.
-use Rattle.std.proofs.Common.{◌≡◌, ◌≢◌, inl, inr, ℕ, suc, ◌+◌, ◌≤◌, List, [], ◌∷◌, length, Some, Bool}
+use Rattle.std.proofs.Common.{◌≡◌, ◌≢◌, ◌⊎◌, inl, inr, ℕ, suc, ◌+◌, ◌≤◌, List, [], ◌∷◌, length, Some, Bool}
 use Rattle.std.proofs.Common.{true, false, refl, sym, ap, ◌∙◌, subst, arith}
 use Rattle.std.proofs.lemmas.Bool.{eqb-true, eqb-false}
 use Rattle.std.specs.Prelude.{cond, ◌==◌}
 use Rattle.pli_meaning.specs.Making.{with_binding, living_at}
 use Rattle.pli_meaning.specs.StorageState.{Activation, Binding, Living, living_of, heap_serial, newest_height}
 use Rattle.storage_relation.specs.Standing.{Holder, held, bytes_of, holder_of}
-use Rattle.storage_relation.specs.Stored.{Places, IsBeside, with_place, AreLow, Lives}
+use Rattle.storage_relation.specs.Stored.{Places, Beside, IsBeside, with_place, AreLow, Lives}
 use Rattle.storage_relation.proofs.Holders.{eqb-refl, eqb-other}
 use Rattle.storage_relation.proofs.Living.{lives_added}
+use Rattle.pli_coding.specs.Frames.{fixed_size}
 use Rattle.activation_relation.specs.Layers.{Layer, Point}
 use Rattle.activation_relation.specs.Chains.{UnitPlaces, AreActive}
-use Rattle.activation_relation.specs.Frames.{FramesStand, AreLaid, AreBeside}
+use Rattle.activation_relation.specs.Frames.{FramesStand, IsLaid, AreLaid, AreBeside, BesideTold}
 use Rattle.activation_relation.specs.Owned.{IsOwnPlace, owns_by, IsPlaceOf}
 use Rattle.activation_relation.specs.Points.{Surroundings, Stands, AreOver}
 use Rattle.activation_relation.specs.Variables.{Made, grown, newest_grown, with_made, FitsBlock}
@@ -63,12 +64,26 @@ bound_length b (a ∷ as') = refl
 
 -- what others own stays theirs while the newest block's ends move apart no more
 grown_place :
-    (w : Surroundings) (x : Made) (φ : Layer) (φs : List Layer) (owner at count : ℕ) → φ.top ≤ x.top →
-    x.lower ≤ φ.lower → IsPlaceOf w.parts (φ ∷ φs) owner at count → IsPlaceOf w.parts (grown x φ ∷ φs) owner at count
-grown_place w x φ φs owner at count up down place = by (owner == suc (length φs)) place
+    (w : Surroundings) (p : Point) (x : Made) (φ : Layer) (φs : List Layer) (owner at count : ℕ) →
+    FitsBlock w p x φ φs → IsPlaceOf w.parts (φ ∷ φs) owner at count →
+    IsPlaceOf w.parts (grown x φ ∷ φs) owner at count
+grown_place w p x φ φs owner at count fits place = by (owner == suc (length φs)) place
   where
+    up : φ.top ≤ x.top
+    up = fits.upper
+
+    down : x.lower ≤ φ.lower
+    down = fits.falls
+
+    beside : at + count ≤ φ.top → BesideTold at count φ → BesideTold at count (grown x φ)
+    beside high old n v e = one (fits.told n v e)
+      where
+        one : (φ.told n ≡ Some v) ⊎ ((φ.top ≤ φ.at + n) × (φ.at + n + 4 ≤ x.top)) → Beside at count (φ.at + n) 4
+        one (inl was) = old n v was
+        one (inr new) = let above = new.0 in inl (omega (arith, high, above))
+
     own : IsOwnPlace w.parts φ φs at count → IsOwnPlace w.parts (grown x φ) φs at count
-    own (inl h) = let low = h.0 in let high = h.1 in inl (low, omega (arith, high, up))
+    own (inl h) = let low = h.0 in let high = h.1 in inl (low, omega (arith, high, up), beside high h.2)
     own (inr h) = let low = h.0 in let high = h.1 in inr (omega (arith, low, down), high)
 
     by :
@@ -129,9 +144,24 @@ variable_stands w p x φ φs h fits =
             falls = omega (arith, falls, down);
             free = fits.free;
             saved = old.0.saved;
+            told = λ n v e. inside old.0 n v (fits.told n v e);
           },
           old.1,
         )
+      where
+        inside :
+            IsLaid w.parts φ φs → (n v : ℕ) →
+            (φ.told n ≡ Some v) ⊎ ((φ.top ≤ φ.at + n) × (φ.at + n + 4 ≤ x.top)) →
+            (fixed_size φ.level φ.parameters ≤ n) × (φ.at + n + 4 ≤ x.top)
+        inside o n v (inl was) =
+            let t = o.told n v was in
+            let last = t.1 in
+            let up = fits.upper in
+            (t.0, omega (arith, last, up))
+        inside o n v (inr t) =
+            let first = t.0 in
+            let fixed = o.fixed in
+            (omega (arith, first, fixed), t.1)
 
     new : Places
     new = with_place serial x.place x.number p.places
@@ -178,7 +208,7 @@ variable_stands w p x φ φs h fits =
             let old = subst (λ ls. IsPlaceOf w.parts ls y.owner (p.places.at i) (bytes_of p.keeper (holder_of y)))
             fits.newest (h.owned.living i y e) in
             subst (λ a. IsPlaceOf w.parts (grown x φ ∷ φs) y.owner a (bytes_of p.keeper (holder_of y))) (sym at)
-            (grown_place w x φ φs y.owner (p.places.at i) (bytes_of p.keeper (holder_of y)) fits.upper fits.falls old)
+            (grown_place w p x φ φs y.owner (p.places.at i) (bytes_of p.keeper (holder_of y)) fits old)
 
         by :
             (q : Bool) → (l.serial == i) ≡ q → cond q (Some l) (living_of p.state.living i) ≡ Some y →

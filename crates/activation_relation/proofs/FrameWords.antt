@@ -11,7 +11,7 @@ use Rattle.pli_coding.specs.Images.{first_frame_bytes}
 use Rattle.storage_relation.specs.Stored.{Beside, IsBeside}
 use Rattle.activation_relation.specs.Layers.{Layer}
 use Rattle.activation_relation.specs.Chains.{frame_at}
-use Rattle.activation_relation.specs.Frames.{FrameStands, FramesStand, GoesBack, IsLaid, AreLaid, AreBeside}
+use Rattle.activation_relation.specs.Frames.{FrameStands, FramesStand, GoesBack, IsLaid, AreLaid, AreBeside, BesideTold}
 use Rattle.activation_relation.specs.Frames.{frame_start, frame_bytes, frame_under, upper_top, word_place}
 use Rattle.activation_relation.specs.Frames.{place_from, ancestor_frame, return_stores, stored, frame_stores}
 use Rattle.activation_relation.specs.Frames.{words_from, Stores}
@@ -46,7 +46,7 @@ back_same (S.OnUnitBlock code resume) base back at m new same h = tt
 pub frame_kept :
     (parts : MemoryParts) (base at count : ℕ) (m new : List ℕ) (a : Activation) (as' : List Activation) (φ : Layer)
     (φs : List Layer) → FrameStands parts base m a as' φ φs → IsLaid parts φ φs →
-    Beside at count (frame_start φ) (frame_bytes φ) → IsBeside at count m new →
+    Beside at count (frame_start φ) (frame_bytes φ) × BesideTold at count φ → IsBeside at count m new →
     FrameStands parts base new a as' φ φs
 frame_kept parts base at count m new a as' φ φs h laid beside is =
     record {
@@ -60,6 +60,7 @@ frame_kept parts base at count m new a as' φ φs h laid beside is =
           λ n few. word (φ.at + (144 + 4 * n)) (omega arith) (omega (arith, levels, few)) ∙ h.display_words n few;
       waits = λ n v few e. word (word_place φ n) (omega (arith, few, words, over)) (omega (arith, few, words, over))
           ∙ h.waits n v few e;
+      told = λ n v e. same_word at count (φ.at + n) m new is (beside.1 n v e) ∙ h.told n v e;
       list = λ p e.
           let l = h.list p e in
           let some = l.0 in (
@@ -88,7 +89,7 @@ frame_kept parts base at count m new a as' φ φs h laid beside is =
         p + 4 ≤ φ.at + fixed_size φ.level φ.parameters → load 4 new p ≡ load 4 m p
     word p low high =
         same_word at count p m new is
-        (beside_word at count (frame_start φ) (frame_bytes φ) p beside low (omega (arith, low, high, over)))
+        (beside_word at count (frame_start φ) (frame_bytes φ) p beside.0 low (omega (arith, low, high, over)))
 
 pub frames_kept :
     (parts : MemoryParts) (base at count : ℕ) (m new : List ℕ) (as' : List Activation) (φs : List Layer) →
@@ -112,6 +113,14 @@ frames_kept parts base at count m new (a ∷ as') (φ ∷ φs) h laid beside is 
 
 -- ---- where frames lie
 
+pub told_over :
+    {parts : MemoryParts} {φ : Layer} {φs : List Layer} (at count : ℕ) → IsLaid parts φ φs → φ.top ≤ at →
+    BesideTold at count φ
+told_over at count laid over n v e = let high = (laid.told n v e).1 in inr (omega (arith, high, over))
+
+pub told_under : (φ : Layer) (at count : ℕ) → at + count ≤ φ.at → BesideTold at count φ
+told_under φ at count under n v e = inl (omega (arith, under))
+
 pub beside_above :
     (parts : MemoryParts) (at count : ℕ) (φs : List Layer) → AreLaid parts φs → upper_top parts φs ≤ at →
     AreBeside parts at count φs
@@ -119,7 +128,7 @@ beside_above parts at count [] laid over = inr over
 beside_above parts at count (φ ∷ φs) laid over =
     let above = laid.0.above in
     let fixed = laid.0.fixed in (
-      inr (omega (arith, above, fixed, over)),
+      (inr (omega (arith, above, fixed, over)), told_over at count laid.0 over),
       beside_above parts at count φs laid.1 (omega (arith, above, fixed, over)),
     )
 
@@ -307,9 +316,10 @@ module _ (parts : MemoryParts) (base parent : ℕ) (as' : List Activation) (φ :
 pub frame_made :
     (parts : MemoryParts) (base : ℕ) (m : List ℕ) (a : Activation) (as' : List Activation) (φ : Layer)
     (φs : List Layer) → AreLaid parts (φ ∷ φs) → AreWords base φ → φ.lower ≤ length m → φ.list ≡ None →
+    ((n : ℕ) → φ.told n ≡ None) →
     ((n v : ℕ) → n < φ.words → φ.waits n ≡ Some v → load 4 m (word_place φ n) ≡ v) →
     FrameStands parts base (stored (frame_stores parts base a.parent as' φ φs) m) a as' φ φs
-frame_made parts base m a as' φ φs laid words room none waits =
+frame_made parts base m a as' φ φs laid words room none untold waits =
     record {
       back = goes_back parts base a.parent as' φ φs words.back few m (omega (arith, levels, inside));
       below =
@@ -333,6 +343,7 @@ frame_made parts base m a as' φ φs laid words room none waits =
           (made_beside parts base a.parent as' φ φs laid.0 m)
           (inr (let c = words_covered φ.words in omega (arith, less, c, above)))
           ∙ waits n v less e;
+      told = λ n v e. let no : None ≡ Some v = sym (untold n) ∙ e in absurd (cc no);
       list = λ p e. let no : None ≡ Some p = sym none ∙ e in absurd (cc no);
     }
   where
@@ -360,13 +371,13 @@ frame_made parts base m a as' φ φs laid words room none waits =
 pub frames_begun :
     (parts : MemoryParts) (base : ℕ) (m : List ℕ) (a : Activation) (as' : List Activation) (φ : Layer)
     (φs : List Layer) → FramesStand parts base m as' φs → AreLaid parts (φ ∷ φs) → AreWords base φ →
-    φ.lower ≤ length m → φ.list ≡ None →
+    φ.lower ≤ length m → φ.list ≡ None → ((n : ℕ) → φ.told n ≡ None) →
     ((n v : ℕ) → n < φ.words → φ.waits n ≡ Some v → load 4 m (word_place φ n) ≡ v) →
     FramesStand parts base (stored (frame_stores parts base a.parent as' φ φs) m) (a ∷ as') (φ ∷ φs)
-frames_begun parts base m a as' φ φs h laid words room none waits =
+frames_begun parts base m a as' φ φs h laid words room none untold waits =
     let n = fixed_size φ.level φ.parameters in
     let over = laid.0.above in (
-      frame_made parts base m a as' φ φs laid words room none waits,
+      frame_made parts base m a as' φ φs laid words room none untold waits,
       frames_kept parts base φ.at n m (stored (frame_stores parts base a.parent as' φ φs) m) as' φs h laid.1
           (beside_above parts φ.at n φs laid.1 (omega (arith, over)))
           (made_beside parts base a.parent as' φ φs laid.0 m),

@@ -187,7 +187,13 @@ lands_listed w J own acts labels c a as' φ φs lands goes = (
   where
     listed : Layer → Changed
     listed ψ =
-        record { units = ψ.units; waits = ψ.waits; top = ψ.top; carried = (with_list labels c ψ).carried }
+        record {
+          units = ψ.units;
+          waits = ψ.waits;
+          told = ψ.told;
+          top = ψ.top;
+          carried = (with_list labels c ψ).carried;
+        }
 
     -- at one of its own labels, or at another
     goal : Label → Coming → Bool → Type 0

@@ -11,7 +11,7 @@ use Rattle.activation_relation.specs.Frames.{FrameStands, FramesStand, AreLaid, 
 use Rattle.activation_relation.specs.Frames.{word_place}
 use Rattle.activation_relation.specs.FrameLaws.{listed, with_waits}
 use Rattle.activation_relation.proofs.FrameWords.{back_same, beside_above, frames_kept, list_covered}
-use Rattle.activation_relation.proofs.FrameWords.{frame_kept, words_covered}
+use Rattle.activation_relation.proofs.FrameWords.{frame_kept, told_under, words_covered}
 use Rattle.activation_relation.proofs.StoredWords.{same_word, stored_beside}
 
 -- ---- bytes of words for temporaries
@@ -31,6 +31,7 @@ rewritten_frame parts base at count m new a as' φ φs waits h is told =
       lower = word (φ.at + 40) (omega arith) ∙ h.lower;
       display_words = λ i few. word (φ.at + (144 + 4 * i)) (omega arith) ∙ h.display_words i few;
       waits = told;
+      told = λ n v e. word (φ.at + n) (omega arith) ∙ h.told n v e;
       list = λ p e.
           let l = h.list p e in
           (l.0, word (φ.at + 44) (omega arith) ∙ l.1, word (φ.at + list_place φ.level) (omega arith) ∙ l.2);
@@ -67,7 +68,7 @@ words_rewritten_below parts base at count m new b a as' ψ φ φs waits h is tol
     let fixed = is.0.1.0.fixed in
     let low = is.2 in
     let kept = frame_kept parts base at count m new b (a ∷ as') ψ (φ ∷ φs) h.0 is.0.0
-    (inl (omega (arith, above, fixed, low))) is.3 in (
+    (inl (omega (arith, above, fixed, low)), told_under ψ at count (omega (arith, above, fixed, low))) is.3 in (
       record {
         back = kept.back;
         below = kept.below;
@@ -76,6 +77,7 @@ words_rewritten_below parts base at count m new b a as' ψ φ φs waits h is tol
         lower = kept.lower;
         display_words = kept.display_words;
         waits = kept.waits;
+        told = kept.told;
         list = kept.list;
       },
       words_rewritten parts base at count m new a as' φ φs waits h.1 (is.0.1, is.1, is.2, is.3) told,
@@ -104,6 +106,10 @@ list_stored parts base at m a as' φ φs h is = (
     waits = λ i v few e.
         word (word_place φ i) (inl (omega (arith, few, covered, above))) (inl (omega (arith, few, covered, above)))
         ∙ h.0.waits i v few e;
+    told = λ n v e.
+        let low = (is.0.0.told n v e).0 in
+        let c = list_covered φ.level φ.parameters is.2 in
+        word (φ.at + n) (inr (omega (arith, low, c))) (inr (omega (arith, low, c))) ∙ h.0.told n v e;
     list = λ p e.
         let same : at ≡ p = cc e in (
           is.2,

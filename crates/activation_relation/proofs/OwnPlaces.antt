@@ -20,8 +20,9 @@ use Rattle.storage_relation.proofs.Holders.{eqb-other, held-living}
 use Rattle.storage_relation.proofs.Values.{store_is}
 use Rattle.activation_relation.specs.Layers.{Layer}
 use Rattle.activation_relation.specs.Frames.{AreLaid, AreBeside, upper_top, lower_end, Stores, stored, frame_start}
-use Rattle.activation_relation.specs.Frames.{frame_bytes}
+use Rattle.activation_relation.specs.Frames.{BesideTold, frame_bytes}
 use Rattle.activation_relation.specs.Owned.{IsOwnPlace, owns_by, IsPlaceOf, AreOwned, AreOwnersLow, AreWithin}
+use Rattle.activation_relation.proofs.FrameWords.{told_over, told_under}
 
 -- ---- places
 
@@ -81,7 +82,7 @@ beside_behind parts (φ ∷ φs) at count laid h =
     let free = laid.0.free in
     let high = lower_high parts φs laid.1 in
     let first = high.0 in (
-      inr (omega (arith, above, fixed, free, h)),
+      (inr (omega (arith, above, fixed, free, h)), told_over at count laid.0 (omega (arith, free, h))),
       beside_over φs laid.1 (omega (arith, above, fixed, free, h)),
     )
   where
@@ -91,7 +92,7 @@ beside_behind parts (φ ∷ φs) at count laid h =
     beside_over (ψ ∷ ψs) l o =
         let above = l.0.above in
         let fixed = l.0.fixed in (
-          inr (omega (arith, above, fixed, o)),
+          (inr (omega (arith, above, fixed, o)), told_over at count l.0 o),
           beside_over ψs l.1 (omega (arith, above, fixed, o)),
         )
 
@@ -122,26 +123,29 @@ beside_place parts (φ ∷ φs) owner at count place laid =
     over_all (ψ ∷ ψs) l o =
         let a = l.0.above in
         let f = l.0.fixed in (
-          inr (omega (arith, a, f, o)),
+          (inr (omega (arith, a, f, o)), told_over at count l.0 o),
           over_all ψs l.1 (omega (arith, a, f, o)),
         )
 
     own : IsOwnPlace parts φ φs at count → AreBeside parts at count (φ ∷ φs)
     own (inl h) =
         let low = h.0 in (
-          over low,
+          (over low, h.2),
           over_all φs laid.1 (omega (arith, low, above)),
         )
     own (inr h) =
         let low = h.0 in (
-          over (omega (arith, low, free, fixed)),
+          (over (omega (arith, low, free, fixed)), told_over at count laid.0 (omega (arith, low, free))),
           over_all φs laid.1 (omega (arith, low, free, fixed, above)),
         )
 
     newest : (at + count ≤ upper_top parts φs) ⊎ (lower_end parts φs ≤ at) →
-        Beside at count (frame_start φ) (frame_bytes φ)
-    newest (inl h) = inl (omega (arith, h, above))
-    newest (inr h) = over (omega (arith, h, falls, free, fixed))
+        Beside at count (frame_start φ) (frame_bytes φ) × BesideTold at count φ
+    newest (inl h) = (inl (omega (arith, h, above)), told_under φ at count (omega (arith, h, above)))
+    newest (inr h) = (
+      over (omega (arith, h, falls, free, fixed)),
+      told_over at count laid.0 (omega (arith, h, falls, free)),
+    )
 
     by :
         (q : Bool) → owns_by q (IsOwnPlace parts φ φs at count) (IsPlaceOf parts φs owner at count) →
@@ -183,7 +187,7 @@ storage_beside k π s parts φs n h owned laid e =
 pub frame_clear :
     (k : Keeper) (π : Places) (s : State) (parts : MemoryParts) (φ : Layer) (φs : List Layer) →
     AreOwned k π s parts (φ ∷ φs) → AreLaid parts (φ ∷ φs) → IsClear k π s (frame_start φ) (frame_bytes φ)
-frame_clear k π s parts φ φs owned laid n h e = (storage_beside k π s parts (φ ∷ φs) n h owned laid e).0
+frame_clear k π s parts φ φs owned laid n h e = (storage_beside k π s parts (φ ∷ φs) n h owned laid e).0.0
 
 pub free_clear :
     (k : Keeper) (π : Places) (s : State) (parts : MemoryParts) (φs : List Layer) → AreOwned k π s parts φs →

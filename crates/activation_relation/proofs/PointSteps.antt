@@ -285,6 +285,7 @@ behind_stands w p count c h layers over =
           saved = 0;
           held = λ n. 0;
           waits = λ n. None;
+          told = λ n. None;
           list = None;
           top = 0;
           lower = 0;
@@ -352,6 +353,7 @@ changed_layers w p as' xs h many active =
         falls = l.0.falls;
         free = l.0.free;
         saved = l.0.saved;
+        told = l.0.told;
       },
       l.1,
     )
@@ -424,7 +426,7 @@ pub entered_memory :
     (line : ℕ) → Stands w p × Holds (now p m)
     × FramesStand w.parts base m p.state.activations p.control.layers →
     IsLaid w.parts φ p.control.layers × AreWords base φ × (φ.lower ≤ length m)
-    × ((n : ℕ) → φ.waits n ≡ None) × (φ.list ≡ None) →
+    × ((n : ℕ) → φ.waits n ≡ None) × (φ.list ≡ None) × ((n : ℕ) → φ.told n ≡ None) →
     Holds (now (pushed head entry φ line p)
     (stored (frame_stores w.parts base entry.parent p.state.activations φ p.control.layers) m))
     × FramesStand w.parts base (stored (frame_stores w.parts base entry.parent p.state.activations φ
@@ -433,7 +435,7 @@ entered_memory w p base m head entry φ line h is = (
   holds_with (with_memory new (now p m)) (stores_hold (now p m) φ.at size words h.1 clear room within)
       q.state.activations (services_of q),
   frames_begun w.parts base m (activation q.state.activations) as' φ φs h.2 (is.0, h.0.laid) is.1 is.2
-      is.4 (λ n v few e. let no : None ≡ Some v = sym (is.3 n) ∙ e in absurd (cc no)),
+      is.4 is.5 (λ n v few e. let no : None ≡ Some v = sym (is.3 n) ∙ e in absurd (cc no)),
 )
   where
     as' : List Activation

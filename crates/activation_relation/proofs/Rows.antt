@@ -76,6 +76,7 @@ row_laid = (
     falls = omega arith;
     free = omega arith;
     saved = omega arith;
+    told = λ n v e. absurd (cc e);
   },
   (
     record {
@@ -84,6 +85,7 @@ row_laid = (
       falls = omega arith;
       free = omega arith;
       saved = omega arith;
+      told = λ n v e. absurd (cc e);
     },
     (
       record {
@@ -92,6 +94,7 @@ row_laid = (
         falls = omega arith;
         free = omega arith;
         saved = omega arith;
+        told = λ n v e. absurd (cc e);
       },
       omega arith,
     ),

@@ -38,6 +38,7 @@ word_stored parts base n v m a as' φ φs h is =
       lower = word (φ.at + 40) (omega arith) ∙ h.lower;
       display_words = λ i few. word (φ.at + (144 + 4 * i)) (omega arith) ∙ h.display_words i few;
       waits = λ i w few e. own_word i w few e (cases_eq i n);
+      told = λ i w e. word (φ.at + i) (omega arith) ∙ h.told i w e;
       list = λ at e.
           let l = h.list at e in
           (l.0, word (φ.at + 44) (omega arith) ∙ l.1, word (φ.at + list_place φ.level) (omega arith) ∙ l.2);
@@ -118,6 +119,10 @@ lower_stored parts base lower m a as' φ φs h is = (
     display_words = λ i few. word (φ.at + (144 + 4 * i)) (inr (omega arith)) ∙ h.0.display_words i few;
     waits = λ i v few e.
         word (word_place φ i) (inl (omega (arith, few, covered, above))) ∙ h.0.waits i v few e;
+    told = λ i v e.
+        let low = (is.0.0.told i v e).0 in
+        let c = levels_covered φ.level φ.parameters in
+        word (φ.at + i) (inr (omega (arith, low, c))) ∙ h.0.told i v e;
     list = λ at e.
         let l = h.0.list at e in (
           l.0,
@@ -170,6 +175,10 @@ result_stored parts base v m a as' φ φs h is = (
     display_words = λ i few. word (φ.at + (144 + 4 * i)) (inr (omega arith)) ∙ h.0.display_words i few;
     waits = λ i v' few e.
         word (word_place φ i) (inl (omega (arith, few, covered, above))) ∙ h.0.waits i v' few e;
+    told = λ i v' e.
+        let low = (is.0.0.told i v' e).0 in
+        let c = levels_covered φ.level φ.parameters in
+        word (φ.at + i) (inr (omega (arith, low, c))) ∙ h.0.told i v' e;
     list = λ at e.
         let l = h.0.list at e in (
           l.0,
@@ -210,6 +219,7 @@ frame_changed parts base m a as' φ φs x h = (
     lower = h.0.lower;
     display_words = h.0.display_words;
     waits = h.0.waits;
+    told = h.0.told;
     list = h.0.list;
   },
   h.1,

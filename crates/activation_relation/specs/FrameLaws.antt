@@ -62,7 +62,7 @@ pub record FramesBegin : Type 0 where
   pub begun :
       (parts : MemoryParts) (base : ℕ) (m : List ℕ) (a : Activation) (as' : List Activation) (φ : Layer)
       (φs : List Layer) → FramesStand parts base m as' φs → AreLaid parts (φ ∷ φs) → AreWords base φ →
-      φ.lower ≤ length m → φ.list ≡ None →
+      φ.lower ≤ length m → φ.list ≡ None → ((n : ℕ) → φ.told n ≡ None) →
       ((n v : ℕ) → n < φ.words → φ.waits n ≡ Some v → load 4 m (word_place φ n) ≡ v) →
       FramesStand parts base (stored (frame_stores parts base a.parent as' φ φs) m) (a ∷ as') (φ ∷ φs)
   -- and nothing changes but the frame's own bytes

@@ -65,6 +65,7 @@ pub record FrameStands (parts : MemoryParts) (base : ℕ) (m : List ℕ) (a : Ac
   pub display_words :
       (n : ℕ) → n < φ.level → load 4 m (place_from φ.at (display n)) ≡ base + ancestor_frame as' φs a.parent n
   pub waits : (n v : ℕ) → n < φ.words → φ.waits n ≡ Some v → load 4 m (word_place φ n) ≡ v
+  pub told : (n v : ℕ) → φ.told n ≡ Some v → load 4 m (φ.at + n) ≡ v
   -- the list of its arguments, by its offset and by its address
   pub list :
       (at : ℕ) → φ.list ≡ Some at →
@@ -91,15 +92,22 @@ pub record IsLaid (parts : MemoryParts) (φ : Layer) (φs : List Layer) : Type 0
   pub falls : φ.lower ≤ lower_end parts φs
   pub free : φ.top ≤ φ.lower
   pub saved : φ.saved ≤ held_registers
+  -- what is told of words behind its fixed part is told of its own part of the upper stack
+  pub told : (n v : ℕ) → φ.told n ≡ Some v → (fixed_size φ.level φ.parameters ≤ n) × (φ.at + n + 4 ≤ φ.top)
 
 abbrev pub AreLaid : MemoryParts → List Layer → Type 0
 AreLaid parts [] = parts.stack_start + first_frame_bytes ≤ parts.stack_end
 AreLaid parts (φ ∷ φs) = IsLaid parts φ φs × AreLaid parts φs
 
+-- bytes of which nothing is told
+abbrev pub BesideTold : (at count : ℕ) → Layer → Type 0
+BesideTold at count φ = (n v : ℕ) → φ.told n ≡ Some v → Beside at count (φ.at + n) 4
+
 -- bytes that no frame has
 abbrev pub AreBeside : MemoryParts → (at count : ℕ) → List Layer → Type 0
 AreBeside parts at count [] = Beside at count parts.stack_start first_frame_bytes
-AreBeside parts at count (φ ∷ φs) = Beside at count (frame_start φ) (frame_bytes φ) × AreBeside parts at count φs
+AreBeside parts at count (φ ∷ φs) =
+    (Beside at count (frame_start φ) (frame_bytes φ) × BesideTold at count φ) × AreBeside parts at count φs
 
 -- ---- the stores of a block's beginning
 

@@ -36,6 +36,8 @@ pub record Layer : Type 0 where
   pub held : ℕ → ℕ
   -- what its words for temporaries hold, where that is known
   pub waits : ℕ → Option ℕ
+  -- and its words behind its fixed part, by their distance from its address: those of its variables' names
+  pub told : ℕ → Option ℕ
   -- where the list of its arguments stands, once its code has kept that
   pub list : Option ℕ
   -- the first free byte of the upper stack, and the top of the lower one

@@ -9,15 +9,15 @@ use Rattle.storage_relation.specs.Served.{Now, Holds}
 use Rattle.storage_relation.specs.Standing.{Holder, held, holder_of, bytes_of}
 use Rattle.storage_relation.specs.Stored.{Places, IsClear}
 use Rattle.activation_relation.specs.Layers.{Layer}
-use Rattle.activation_relation.specs.Frames.{AreLaid, AreBeside, upper_top, lower_end, Stores, stored, frame_start}
-use Rattle.activation_relation.specs.Frames.{frame_bytes}
+use Rattle.activation_relation.specs.Frames.{AreLaid, AreBeside, BesideTold, upper_top, lower_end, Stores, stored}
+use Rattle.activation_relation.specs.Frames.{frame_bytes, frame_start}
 
 -- ---- what an activation owns
 
--- above its frame's fixed part, or on the lower stack
+-- above its frame's fixed part, beside what is told of words there, or on the lower stack
 abbrev pub IsOwnPlace : MemoryParts → Layer → List Layer → (at count : ℕ) → Type 0
 IsOwnPlace parts φ φs at count =
-    ((φ.at + fixed_size φ.level φ.parameters ≤ at) × (at + count ≤ φ.top))
+    ((φ.at + fixed_size φ.level φ.parameters ≤ at) × (at + count ≤ φ.top) × BesideTold at count φ)
     ⊎ ((φ.lower ≤ at) × (at + count ≤ lower_end parts φs))
 
 abbrev pub owns_by : Bool → Type 0 → Type 0 → Type 0

@@ -76,7 +76,7 @@ pub record MemoriesGo : Type 0 where
       (line : ℕ) → Stands w p × Holds (now p m)
       × FramesStand w.parts base m p.state.activations p.control.layers →
       IsLaid w.parts φ p.control.layers × AreWords base φ × (φ.lower ≤ length m)
-      × ((n : ℕ) → φ.waits n ≡ None) × (φ.list ≡ None) →
+      × ((n : ℕ) → φ.waits n ≡ None) × (φ.list ≡ None) × ((n : ℕ) → φ.told n ≡ None) →
       Holds (now (pushed head entry φ line p)
       (stored (frame_stores w.parts base entry.parent p.state.activations φ p.control.layers) m))
       × FramesStand w.parts base (stored (frame_stores w.parts base entry.parent p.state.activations φ

@@ -69,6 +69,7 @@ row_layer block level kind at words saved top =
       saved = saved;
       held = λ n. 40 + n;
       waits = λ n. None;
+      told = λ n. None;
       list = None;
       top = top;
       lower = 4096;

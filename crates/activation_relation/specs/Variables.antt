@@ -1,6 +1,6 @@
 -- Variables of the newest block: one that is made takes bytes of the block's own, and all that holds at the point
 -- holds then.
-use Rattle.std.specs.Prelude.{ℕ, ◌+◌, ◌≤◌, ◌≡◌, List, [], ◌∷◌, length, pos, Some}
+use Rattle.std.specs.Prelude.{ℕ, ◌+◌, ◌≤◌, ◌≡◌, ◌⊎◌, List, [], ◌∷◌, length, pos, Option, Some}
 use Rattle.pli_meaning.specs.Contents.{Generation}
 use Rattle.pli_meaning.specs.Making.{with_variable, living_at}
 use Rattle.pli_serving.specs.Templates.{shape_at}
@@ -13,8 +13,8 @@ use Rattle.activation_relation.specs.Points.{Surroundings, Stands}
 
 -- ---- one more variable
 
--- where it is made: its place among its block's variables, its data and its signature's number, and the two stacks'
--- ends then
+-- where it is made: its place among its block's variables, its data and its signature's number, the two stacks' ends
+-- then, and what is told then of words in the block's frame
 pub record Made : Type 0 where
   pub variable : ℕ
   pub generation : Generation
@@ -22,9 +22,10 @@ pub record Made : Type 0 where
   pub number : ℕ
   pub top : ℕ
   pub lower : ℕ
+  pub told : ℕ → Option ℕ
 
 abbrev pub grown : Made → Layer → Layer
-grown x φ = record φ { top = x.top; lower = x.lower }
+grown x φ = record φ { told = x.told; top = x.top; lower = x.lower }
 
 abbrev pub newest_grown : Made → List Layer → List Layer
 newest_grown x [] = []
@@ -44,6 +45,8 @@ pub record FitsBlock (w : Surroundings) (p : Point) (x : Made) (φ : Layer) (φs
   pub upper : φ.top ≤ x.top
   pub falls : x.lower ≤ φ.lower
   pub free : x.top ≤ x.lower
+  -- what is told of words now was told before, or lies in the new part of the upper stack
+  pub told : (n v : ℕ) → x.told n ≡ Some v → (φ.told n ≡ Some v) ⊎ ((φ.top ≤ φ.at + n) × (φ.at + n + 4 ≤ x.top))
   pub own :
       IsOwnPlace w.parts (grown x φ) φs x.place
       (bytes_of p.keeper (holder_of (living_at (p.state.serials + 1) (length p.control.layers) x.generation)))

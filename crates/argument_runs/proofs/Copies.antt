@@ -154,7 +154,7 @@ asked_stands {w} {p = p} {ψ = ψ} {φ = φ} {φs = φs} {x = x} b m k bytes sta
     let covered = levels_covered ψ.level ψ.parameters in
     let h1 = stores_hold (now p m) (list_under φ.at + 16) 4 ((list_under φ.at + 16, x.number) ∷ []) stands.storage
     (λ n h e. clear_part (frame_start φ) (frame_bytes φ) _ _ (list_under φ.at + 16) 4
-    (storage_beside p.keeper p.places p.state w.parts (layers_of ψ φ φs x) n h (owned_here k) laid e).1.0
+    (storage_beside p.keeper p.places p.state w.parts (layers_of ψ φ φs x) n h (owned_here k) laid e).1.0.0
     (omega (arith, words)) (omega (arith, words, low)))
     (omega (arith, room, bytes)) ((omega arith, omega arith), tt) in
     let h2 = stores_hold (with_memory first (now p m)) (ψ.at + 40) 4 ((ψ.at + 40, ψ.lower - 16) ∷ []) h1
@@ -214,6 +214,7 @@ asked_stands {w} {p = p} {ψ = ψ} {φ = φ} {φs = φs} {x = x} b m k bytes sta
               falls = laid.0.falls;
               free = laid.0.free;
               saved = laid.0.saved;
+              told = laid.0.told;
             },
             (
               record {
@@ -222,6 +223,7 @@ asked_stands {w} {p = p} {ψ = ψ} {φ = φ} {φs = φs} {x = x} b m k bytes sta
                 falls = laid.1.0.falls;
                 free = laid.1.0.free;
                 saved = laid.1.0.saved;
+                told = laid.1.0.told;
               },
               laid.1.1,
             ),
@@ -245,6 +247,7 @@ laid_asked {w} k =
         falls = omega (arith, falls);
         free = omega (arith, fits);
         saved = laid.0.saved;
+        told = laid.0.told;
       },
       (
         record {
@@ -253,6 +256,7 @@ laid_asked {w} k =
           falls = laid.1.0.falls;
           free = laid.1.0.free;
           saved = laid.1.0.saved;
+          told = laid.1.0.told;
         },
         laid.1.1,
       ),
@@ -341,6 +345,7 @@ copied_frames {w} {p = p} {ψ = ψ} {φ = φ} {φs = φs} {x = x} base m k bytes
             lower = changed.0.lower;
             display_words = changed.0.display_words;
             waits = changed.0.waits;
+            told = changed.0.told;
             list = changed.0.list;
           },
           changed.1,

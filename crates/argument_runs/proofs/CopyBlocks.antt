@@ -129,6 +129,7 @@ begins {g} {y} h =
           falls = omega arith;
           free = omega (arith, room);
           saved = h.coded.saved;
+          told = λ n v e. absurd (cc e);
         };
         entries = ([], refl);
         edits = refl;
@@ -152,6 +153,7 @@ begins {g} {y} h =
       held = refl;
       words = λ n less. h.words n;
       waits = λ n. refl;
+      told = λ n. refl;
       list = refl;
       top = refl;
       lower = refl;
@@ -300,7 +302,7 @@ first_begun {g} {y} h stands =
       resumes = record {
         stands = stands;
         idle = refl;
-        changed = record { units = φ.units; waits = φ.waits; top = φ.top; carried = φ.carried };
+        changed = record { units = φ.units; waits = φ.waits; told = φ.told; top = φ.top; carried = φ.carried };
         layers = refl;
         own = [];
         activations = refl;

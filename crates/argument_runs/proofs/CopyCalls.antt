@@ -236,6 +236,7 @@ frames_forgotten parts base m (a ∷ as') φ φs h = (
     lower = h.0.lower;
     display_words = h.0.display_words;
     waits = λ n v less e. absurd (cc e);
+    told = h.0.told;
     list = h.0.list;
   },
   h.1,

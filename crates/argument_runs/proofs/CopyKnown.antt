@@ -30,7 +30,7 @@ use Rattle.argument_runs.specs.Copies.{copy_generation, copy_made_of}
 use Rattle.argument_runs.specs.CopyCalls.{CopyCall, Copying, HasRoomFor, IsCopyCall, IsFurther, IsOwnParameter}
 use Rattle.argument_runs.specs.CopyCalls.{beginning_of, call_at, copy_block, copy_in, listed_layer}
 use Rattle.argument_runs.specs.CopyFunctions.{IsCopyFunctionCall, block_with, called_by}
-use Rattle.argument_runs.specs.Lists.{named_waits}
+use Rattle.argument_runs.specs.Lists.{list_under, named_waits}
 use Rattle.argument_runs.specs.Parameters.{IsParameter, parameter_shape}
 use Rattle.argument_runs.proofs.CopyBlocks.{room_here}
 use Rattle.argument_runs.proofs.CopyCalls.{room_among}
@@ -84,7 +84,9 @@ copy_parameter {g} {y} h x own b =
     record {
       begun = b;
       declared = own.declared;
-      first = own.first;
+      place = 0;
+      numbered_so = own.first;
+      near = omega arith;
       own = eq-eqb x.level y.callee.environment.level (own.level ∙ sym own.own);
       serial = serial;
       binding =
@@ -95,11 +97,15 @@ copy_parameter {g} {y} h x own b =
       lives = ap (λ t. cond t (Some (living_in y)) (living_of p.state.living serial)) (eq-eqb serial serial refl);
       shape = refl;
       layer = grown (copy_made_of (listed_layer y) (copy_in y)) (listed_layer y);
-      caller = y.layer;
+      caller = with_waits (named_waits serial y.callee.number) y.layer;
       others = y.others;
       signature = y.callee.number;
       layers = refl;
+      at = list_under y.layer.at;
       list = refl;
+      last = 0;
+      under = omega (arith, low, high, same');
+      name = record { kind = refl; second = refl; low = refl; high = refl; number = refl };
       level = sym own.level;
       few = omega (arith, level, head);
       words = h.room.words;

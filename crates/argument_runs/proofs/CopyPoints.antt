@@ -1,7 +1,7 @@
 -- The point where the copy of an argument has been made: all that holds there, and what service 7 answers.
 use Rattle.std.proofs.Common.{◌≡◌, ℕ, zero, suc, ◌+◌, ◌-◌, ◌*◌, ◌^◌, ◌<◌, ◌≤◌, List, [], ◌∷◌, length, map, Bool}
 use Rattle.std.proofs.Common.{true, false}
-use Rattle.std.proofs.Common.{Option, Some, None, inr, refl, sym, ap, ◌∙◌, subst, arith}
+use Rattle.std.proofs.Common.{Option, Some, None, inl, inr, refl, sym, ap, ◌∙◌, subst, arith}
 use Rattle.std.proofs.lemmas.Bool.{le-leb, lt-ltb}
 use Rattle.std.proofs.lemmas.Bool.Decides.{nat_tests}
 use Rattle.std.specs.Prelude.{cond, pos, ◌&&◌, ◌==◌, nat_le, nat_lt}
@@ -152,6 +152,7 @@ below_stands {w} {p = p} {ψ = ψ} {φ = φ} {φs = φs} {x = x} waits k =
           falls = laid.0.falls;
           free = laid.0.free;
           saved = laid.0.saved;
+          told = laid.0.told;
         },
         laid_with w.parts (given_layer φ x) φs waits laid.1,
       );
@@ -185,6 +186,7 @@ fits_block {w} {p = p} {ψ = ψ} {φ = φ} {φs = φs} {x = x} waits k =
       upper = omega arith;
       falls = omega arith;
       free = omega (arith, fits);
+      told = λ n v e. inl e;
       own = inr (omega arith, omega (arith, fits, falls));
       extent = refl;
       shape = k.is.shape;
@@ -271,7 +273,7 @@ is_making {w} {p = p} {ψ = ψ} {φ = φ} {φs = φs} {x = x} m k bytes =
           (omega (arith, fits));
       name_room = omega (arith, list, bytes);
       name_clear = λ n h e. clear_part (frame_start φ) (frame_bytes φ) _ _ (list_under φ.at) 16
-          (storage_beside p.keeper p.places p.state w.parts (layers_of ψ φ φs x) n h (owned_here k) laid e).1.0 words
+          (storage_beside p.keeper p.places p.state w.parts (layers_of ψ φ φs x) n h (owned_here k) laid e).1.0.0 words
           (omega (arith, words));
       beside = inr (omega (arith, fits, above));
     }

@@ -63,6 +63,7 @@ laid_with parts φ φs waits h = (
     falls = h.0.falls;
     free = h.0.free;
     saved = h.0.saved;
+    told = h.0.told;
   },
   h.1,
 )

@@ -419,6 +419,7 @@ listed_stands {w} {code} {p} {x = x} {list = list} k =
             falls = laid.0.falls;
             free = laid.0.free;
             saved = laid.0.saved;
+            told = laid.0.told;
           },
           laid.1,
         );

@@ -1,8 +1,9 @@
--- A parameter that stands for a copy is read: service 8 finds its data by the name in the caller's list.
+-- A parameter is found and read: service 8 finds its data by the name in the caller's list.
 use Rattle.std.proofs.Common.{◌≡◌, ℕ, suc, ◌+◌, ◌-◌, ◌*◌, ◌/◌, ◌%◌, ◌^◌, ◌<◌, ◌≤◌, List, [], ◌∷◌, ◌++◌}
 use Rattle.std.proofs.Common.{Some, None, true, false, refl, sym, ap, ◌∙◌, subst, arith}
 use Rattle.std.proofs.lemmas.Bool.{le-leb}
 use Rattle.std.proofs.lemmas.Bool.Decides.{nat_tests}
+use Rattle.std.proofs.lemmas.Int.{ints}
 use Rattle.std.specs.Prelude.{ℤ, cond, pos, ◌&&◌, ◌==◌, nat_le}
 use Rattle.rv_meaning.specs.declared.instr.BranchTest.TheVariants as Test
 use Rattle.rv_meaning.specs.declared.instr.Instr.{Instr}
@@ -41,7 +42,6 @@ use Rattle.storage_relation.proofs.CallArguments.{asked_named}
 use Rattle.storage_relation.proofs.Changes.{element_held}
 use Rattle.storage_relation.proofs.Placing.{none_above}
 use Rattle.storage_relation.proofs.Values.{word_loaded}
-use Rattle.activation_relation.specs.FrameLaws.{with_waits}
 use Rattle.activation_relation.specs.Frames.{AreLaid, FramesStand, frame_under, word_place}
 use Rattle.activation_relation.specs.Layers.{Layer, Point, now, services_of}
 use Rattle.activation_relation.specs.Remaining.{LivesOn}
@@ -71,27 +71,29 @@ use Rattle.expression_runs.specs.Values.{Setting, behind, in_registers, number_a
 use Rattle.expression_runs.specs.Variables.{Spot}
 use Rattle.expression_runs.proofs.VariablePoints.{first_base}
 use Rattle.expression_runs.proofs.Words.{frame_of, valued, word_here}
-use Rattle.argument_runs.specs.Lists.{list_under, named_waits}
 use Rattle.argument_runs.specs.Parameters.{IsParameter, parameter, parameter_shape}
 use Rattle.argument_runs.proofs.ParameterCode as P
-use Rattle.argument_runs.proofs.ParameterCode.{list_loaded, name_loaded, parameter_is, parameter_named, read_code}
-use Rattle.argument_runs.proofs.ParameterCode.{read_coded}
-use Rattle.argument_runs.proofs.ParameterCode.{reading_code, resolving_code}
+use Rattle.argument_runs.proofs.ParameterCode.{addressing_code, found_code, list_loaded, name_loaded, parameter_is}
+use Rattle.argument_runs.proofs.ParameterCode.{parameter_named, read_code, read_coded, resolving_code, value_loaded}
 
 -- ---- the words that it is found by
 
 abbrev layers_of : {k : Block} {x : Spot} → IsParameter k x → List Layer
-layers_of is = is.layer ∷ with_waits (named_waits is.serial is.signature) is.caller ∷ is.others
+layers_of is = is.layer ∷ is.caller ∷ is.others
+
+-- its own part of the list
+abbrev pub part_of : {k : Block} {x : Spot} → IsParameter k x → ℕ
+part_of is = is.at + 24 * is.place
 
 -- its name, its signature's number, and where its procedure keeps the list
 record HasList {k : Block} {x : Spot} (is : IsParameter k x) (base : ℕ) (m : List ℕ) : Type 0 where
-  offset : load 4 m (is.layer.at + 44) ≡ list_under is.caller.at
-  address : load 4 m (is.layer.at + list_place is.layer.level) ≡ base + list_under is.caller.at
-  kind : load 4 m (word_place is.caller 5) ≡ 1
-  second : load 4 m (word_place is.caller 4) ≡ 0
-  low : load 4 m (word_place is.caller 3) ≡ is.serial % 2 ^ 32
-  high : load 4 m (word_place is.caller 2) ≡ is.serial / 2 ^ 32
-  number : load 4 m (word_place is.caller 1) ≡ is.signature
+  offset : load 4 m (is.layer.at + 44) ≡ is.at
+  address : load 4 m (is.layer.at + list_place is.layer.level) ≡ base + is.at
+  kind : load 4 m (word_place is.caller (is.last + 5)) ≡ 1
+  second : load 4 m (word_place is.caller (is.last + 4)) ≡ 0
+  low : load 4 m (word_place is.caller (is.last + 3)) ≡ is.serial % 2 ^ 32
+  high : load 4 m (word_place is.caller (is.last + 2)) ≡ is.serial / 2 ^ 32
+  number : load 4 m (word_place is.caller (is.last + 1)) ≡ is.signature
 
 list_found :
     {k : Block} {x : Spot} (is : IsParameter k x) (base : ℕ) (m : List ℕ) (as' : List Activation) →
@@ -99,22 +101,22 @@ list_found :
 list_found is base m [] h = absurd h
 list_found is base m (b ∷ []) h = absurd h.1
 list_found is base m (b ∷ a ∷ as') h =
-    let l = h.0.list (list_under is.caller.at) is.list in
+    let l = h.0.list is.at is.list in
     let w = h.1.0.waits in
     let few = is.words in
     record {
       offset = l.1;
       address = l.2;
-      kind = w 5 1 (omega (arith, few)) refl;
-      second = w 4 0 (omega (arith, few)) refl;
-      low = w 3 (is.serial % 2 ^ 32) (omega (arith, few)) refl;
-      high = w 2 (is.serial / 2 ^ 32) (omega (arith, few)) refl;
-      number = w 1 is.signature (omega (arith, few)) refl;
+      kind = w (is.last + 5) 1 (omega (arith, few)) is.name.kind;
+      second = w (is.last + 4) 0 (omega (arith, few)) is.name.second;
+      low = w (is.last + 3) (is.serial % 2 ^ 32) (omega (arith, few)) is.name.low;
+      high = w (is.last + 2) (is.serial / 2 ^ 32) (omega (arith, few)) is.name.high;
+      number = w (is.last + 1) is.signature (omega (arith, few)) is.name.number;
     }
 
 -- where the list lies
 record Lying {k : Block} {x : Spot} (is : IsParameter k x) : Type 0 where
-  list : IsFrame (list_under is.caller.at)
+  list : IsFrame is.at
   frame : IsFrame is.layer.at
 
 lying :
@@ -126,10 +128,11 @@ lying {k} is o =
     let even = subst (AreEven parts) same o.image.even in
     let b = bounds parts (layers_of is) laid in
     let b' = bounds parts is.others laid.1.1 in
-    let below = with_waits (named_waits is.serial is.signature) is.caller ∷ is.others in
+    let below = is.caller ∷ is.others in
     let whole = even_frame parts below laid.1 even.1 in
     let whole' = even_frame parts (layers_of is) laid even in
     let words = is.words in
+    let under = is.under in
     let covered = words_covered is.caller.words in
     let above = laid.1.0.above in
     let above' = laid.0.above in
@@ -144,9 +147,9 @@ lying {k} is o =
     let between' = b'.above in
     record {
       list = record {
-        whole = omega (arith, whole, words, covered, above, start);
-        high = omega (arith, words, covered, above, start, between', first);
-        room = omega (arith, above', fixed', between, free, high, last);
+        whole = omega (arith, whole, words, covered, above, start, under);
+        high = omega (arith, words, covered, above, start, between', first, under);
+        room = omega (arith, above', fixed', between, free, high, last, under);
       };
       frame = record {
         whole = omega (arith, whole');
@@ -163,7 +166,7 @@ eight_bytes m at =
     let f = ap (load 4 m) e in
     omega (arith, f)
 
-name_there :
+pub name_there :
     (serial at : ℕ) (m : List ℕ) → load 4 m at ≡ 1 → load 4 m (at + 8) ≡ serial % 2 ^ 32 →
     load 4 m (at + 12) ≡ serial / 2 ^ 32 → name_at at m ≡ Some (VariableName serial)
 name_there serial at m kind low high =
@@ -182,25 +185,25 @@ number_of (BasicBit b) is = absurd is
 number_of (BasicPointer n) is = absurd is
 number_of (BasicOffset o) is = absurd is
 
-generation_is : (g : Generation) → g.shape ≡ parameter_shape → g.extent ≡ pos 0 →
+pub generation_is : (g : Generation) → g.shape ≡ parameter_shape → g.extent ≡ pos 0 →
     g ≡ record { shape = parameter_shape; extent = pos 0; values = g.values }
 generation_is g e f =
     ap (λ s. record { shape = s; extent = g.extent; values = g.values }) e
     ∙ ap (λ z. record { shape = parameter_shape; extent = z; values = g.values }) f
 
 -- a number of 31 bits, in the data where service 8 finds them
-record CopyAt (k : Block) (x : Spot) (is : IsParameter k x) (p : Point) : Type 0 where
-  holds : P.Holds p.state x
-  same : holds.serial ≡ is.serial
-  here : p.places.at holds.serial ≡ k.first.places.at is.serial
-  z : ℤ
-  value : holds.values 0 [] ≡ BasicNumber z
-  wide : is_of_precision 31 z ≡ true
-  tells :
+pub record CopyAt (k : Block) (x : Spot) (is : IsParameter k x) (p : Point) : Type 0 where
+  pub holds : P.Holds p.state x
+  pub same : holds.serial ≡ is.serial
+  pub here : p.places.at holds.serial ≡ k.first.places.at is.serial
+  pub z : ℤ
+  pub value : holds.values 0 [] ≡ BasicNumber z
+  pub wide : is_of_precision 31 z ≡ true
+  pub tells :
       (m : List ℕ) → H.Holds (now p m) →
       (load 4 m (k.first.places.at is.serial) ≡ word z) × (k.first.places.at is.serial % 4 ≡ 0)
 
-copy_at :
+pub copy_at :
     {k : Block} {numbers : ℕ → ℕ} {p : Point} {index : ℕ} (x : Spot) (is : IsParameter k x) → IsAmong k numbers p →
     (f : Family) → AreIn k.call.surroundings p numbers index f → CopyAt k x is p
 copy_at {k} {p = p} x is o f there =
@@ -270,21 +273,23 @@ resolved_answer :
     {k : Block} {numbers : ℕ → ℕ} {p : Point} (x : Spot) (is : IsParameter k x) → IsAmong k numbers p →
     (c : CopyAt k x is p) (base : ℕ) (m : List ℕ) → H.Holds (now p m) → HasList is base m →
     (p.layout.code_bytes ≤ 2 ^ 22) × (p.layout.end ≡ memory_size) →
-    resolve_served (call (now p m)) (list_under is.caller.at) is.signature 0 0
+    resolve_served (call (now p m)) (part_of is) is.signature 0 0
     ≡ Done (services_of p) m (k.first.places.at is.serial + 0) 0
 resolved_answer {k} {p = p} x is o c base m stored list layout =
     let v = call (now p m) in
-    let at = list_under is.caller.at in
+    let at = part_of is in
     let y = lying is o in
     let high = y.list.high in
     let room = y.list.room in
+    let near = is.near in
+    let under = is.under in
     let start = layout.0 in
     let end = layout.1 in
-    let place5 : word_place is.caller 5 ≡ at = omega (arith, high) in
-    let place3 : word_place is.caller 3 ≡ at + 8 = omega (arith, high) in
-    let place2 : word_place is.caller 2 ≡ at + 12 = omega (arith, high) in
+    let place5 : word_place is.caller (is.last + 5) ≡ at = omega (arith, high, under) in
+    let place3 : word_place is.caller (is.last + 3) ≡ at + 8 = omega (arith, high, under) in
+    let place2 : word_place is.caller (is.last + 2) ≡ at + 12 = omega (arith, high, under) in
     let t1 : nat_le p.layout.code_bytes at ≡ true = le-leb _ _ (omega (arith, start, high)) in
-    let t2 : nat_le (at + 16) p.layout.end ≡ true = le-leb _ _ (omega (arith, end, room)) in
+    let t2 : nat_le (at + 16) p.layout.end ≡ true = le-leb _ _ (omega (arith, end, room, near)) in
     let named' : name_in v at ≡ Some (VariableName is.serial) =
     ap (λ q. cond (q && nat_le (at + 16) p.layout.end) (name_at at m) None) t1
     ∙ ap (λ q. cond q (name_at at m) None) t2
@@ -330,10 +335,10 @@ resolve_called code y v x0 x1 e r =
 -- ---- the code
 
 abbrev named_regs : {k : Block} {x : Spot} → IsParameter k x → Base → List (ℕ × ℕ)
-named_regs is b = (10, list_under is.caller.at) ∷ []
+named_regs is b = (10, part_of is) ∷ []
 
 abbrev listed_regs : {k : Block} {x : Spot} → IsParameter k x → Base → List (ℕ × ℕ)
-listed_regs is b = (11, b.at + list_under is.caller.at) ∷ named_regs is b
+listed_regs is b = (11, b.at + is.at) ∷ named_regs is b
 
 abbrev asking_regs : {k : Block} {x : Spot} → IsParameter k x → Base → List (ℕ × ℕ)
 asking_regs is b = (17, 8) ∷ (14, 0) ∷ (13, 0) ∷ (12, 0) ∷ (11, is.signature) ∷ named_regs is b
@@ -341,15 +346,20 @@ asking_regs is b = (17, 8) ∷ (14, 0) ∷ (13, 0) ∷ (12, 0) ∷ (11, is.signa
 abbrev answered_regs : {k : Block} {x : Spot} → IsParameter k x → Base → List (ℕ × ℕ)
 answered_regs {k} is b = (11, 0) ∷ (10, k.first.places.at is.serial + 0) ∷ []
 
-same_word : (x n : ℕ) → x ≡ n → n < 2 ^ 32 → sum x (word (pos 0)) ≡ n
-same_word x n e few = omega (arith, e, few)
+abbrev pub found_regs : {k : Block} {x : Spot} → IsParameter k x → Base → List (ℕ × ℕ)
+found_regs {k} is b = (28, b.at + k.first.places.at is.serial) ∷ []
 
-abbrev word_there : (b : Base) (n o : ℕ) → n ≡ b.at + o → o % 4 ≡ 0 → o + 4 ≤ memory_size → WordAt b n
+more_word : (x n d : ℕ) → x ≡ n → n + d < 2 ^ 24 → sum x (word (pos d)) ≡ n + d
+more_word x n d e few = omega (arith, ints, e, few)
+
+abbrev pub word_there : (b : Base) (n o : ℕ) → n ≡ b.at + o → o % 4 ≡ 0 → o + 4 ≤ memory_size → WordAt b n
 word_there b n o e even inside = record { offset = o; is = e; aligned = even; inside = inside }
 
-found_at : (b : Base) (x n : ℕ) → x ≡ n + 0 → n + 4 ≤ 15 * 2 ^ 20 →
-    sum (sum (sum x (word (pos 0))) b.at) (word (pos 0)) ≡ b.at + n
+found_at : (b : Base) (x n : ℕ) → x ≡ n + 0 → n + 4 ≤ 15 * 2 ^ 20 → sum (sum x (word (pos 0))) b.at ≡ b.at + n
 found_at b x n e inside = let v = b.valid.1 in omega (arith, e, inside, v)
+
+pub there_at : (b : Base) (x n : ℕ) → x ≡ b.at + n → n + 4 ≤ 15 * 2 ^ 20 → sum x (word (pos 0)) ≡ b.at + n
+there_at b x n e inside = let v = b.valid.1 in omega (arith, e, inside, v)
 
 words_at :
     {k : Block} {x : Spot} {numbers : ℕ → ℕ} {p : Point} (is : IsParameter k x) → IsAmong k numbers p → (b : Base)
@@ -366,7 +376,7 @@ frame_same {k} is o = ap (λ ls. frame_under k.call.surroundings.parts ls) (o.la
 
 name_comes :
     {k : Block} {x : Spot} {numbers : ℕ → ℕ} {p : Point} {i : ℕ} (is : IsParameter k x) (o : IsAmong k numbers p)
-    (h : frame_of k p) (c : ℕ) (f : Family) → Linked k.call.surroundings.links k.call.code i name_loaded →
+    (h : frame_of k p) (c : ℕ) (f : Family) → Linked k.call.surroundings.links k.call.code i (name_loaded is.place) →
     AreIn k.call.surroundings p numbers i f →
     Reach k.call.code c f (services_of p) (c + 2) (services_of p)
     (λ b y. At b (i + 2) (Known (point_ground k.call.surroundings p h) (services_of p) numbers (λ j. 0)
@@ -375,6 +385,7 @@ name_comes {k} {x} {numbers} {p} is o h c f l there =
     let v = services_of p in
     let y = lying is o in
     let room = y.list.room in
+    let near = is.near in
     straight c f v v (λ b z. Known (point_ground k.call.surroundings p h) v numbers (λ i'. 0) (named_regs is) b z)
     l (omega arith) (λ b. (there b).at.pc)
     (λ b.
@@ -391,12 +402,16 @@ name_comes {k} {x} {numbers} {p} is o h c f l there =
           memory = o'.body.memory;
         };
         regs = (
-          same_word _ (list_under is.caller.at)
-              (words_at is o b (f b).machine.memory o'.body.memory.frames).offset (omega (arith, room)),
+          more_word _ is.at (24 * is.place + 4 * 0)
+              (words_at is o b (f b).machine.memory o'.body.memory.frames).offset (omega (arith, room, near))
+              ∙ part_same is.at is.place,
           tt,
         );
       },
     ))
+  where
+    part_same : (at place : ℕ) → at + (24 * place + 4 * 0) ≡ at + 24 * place
+    part_same at place = omega arith
 
 list_comes :
     {k : Block} {x : Spot} {numbers : ℕ → ℕ} {p : Point} {i : ℕ} (is : IsParameter k x) (o : IsAmong k numbers p)
@@ -410,7 +425,7 @@ list_comes {k} {x} {numbers} {p} is o h c f l there =
     let w = k.call.surroundings in
     let few = is.few in
     load_piece {t = λ i'. 0} {rs = named_regs is} c f a1 (pos (list_place x.level))
-    (frame_under w.parts p.control.layers + list_place x.level) (λ b. b.at + list_under is.caller.at)
+    (frame_under w.parts p.control.layers + list_place x.level) (λ b. b.at + is.at)
     (word_in (frame_under w.parts p.control.layers) (list_place x.level) h (omega arith) (omega (arith, few)))
     (λ b m stands.
     ap (λ i'. load 4 m (i' + list_place x.level)) (frame_same is o)
@@ -422,25 +437,28 @@ list_comes {k} {x} {numbers} {p} is o h c f l there =
 
 asking_comes :
     {k : Block} {x : Spot} {numbers : ℕ → ℕ} {p : Point} {i : ℕ} (is : IsParameter k x) (o : IsAmong k numbers p)
-    (h : frame_of k p) (c : ℕ) (f : Family) → Linked k.call.surroundings.links k.call.code i resolving_code →
+    (h : frame_of k p) (c : ℕ) (f : Family) → Linked k.call.surroundings.links k.call.code i (resolving_code is.place) →
     ((b : Base) → At b i (Known (point_ground k.call.surroundings p h) (services_of p) numbers (λ j. 0)
     (listed_regs is) b) (f b)) →
-    Reach k.call.code c f (services_of p) (c + size_of resolving_code) (services_of p)
-    (λ b y. At b (i + size_of resolving_code) (Known (point_ground k.call.surroundings p h) (services_of p)
+    Reach k.call.code c f (services_of p) (c + size_of (resolving_code is.place)) (services_of p)
+    (λ b y. At b (i + size_of (resolving_code is.place)) (Known (point_ground k.call.surroundings p h) (services_of p)
     numbers (λ j. 0) (asking_regs is) b) y)
 asking_comes {k} {x} {numbers} {p} is o h c f l there =
     let v = services_of p in
     let y = lying is o in
     let high = y.list.high in
-    let at = list_under is.caller.at in
-    let place1 : word_place is.caller 1 ≡ at + 16 = omega (arith, high) in
+    let near = is.near in
+    let under = is.under in
+    let at = is.at in
+    let n = 24 * is.place + 4 * 4 in
+    let place1 : word_place is.caller (is.last + 1) ≡ at + n = omega (arith, high, under) in
     straight c f v v (λ b z. Known (point_ground k.call.surroundings p h) v numbers (λ i'. 0) (asking_regs is) b z)
     l (omega arith) (λ b. (there b).pc)
     (λ b.
     let o' = (there b).holds in
     let z = (f b).machine.registers in (
-      at_place b (word_in at 16 y.list refl (omega arith)) (sum (z 11) (word (pos 16)))
-          (ap (λ u. sum u (word (pos 16))) o'.regs.0),
+      at_place b (word_in at n y.list (omega arith) (omega (arith, near))) (sum (z 11) (word (pos n)))
+          (ap (λ u. sum u (word (pos n))) o'.regs.0),
       record {
         body = record {
           services = o'.body.services;
@@ -482,7 +500,7 @@ resolved_comes {k} {x} {numbers} {p} {i} is o n h c f l there =
     let code = k.call.code in
     let v = services_of p in
     let small' = l.small' in
-    let at = list_under is.caller.at in
+    let at = part_of is in
     let place = k.first.places.at is.serial in
     let e1 = ap (λ u. u.code_bytes) o.image.layout in
     let layout : (p.layout.code_bytes ≤ 2 ^ 22) × (p.layout.end ≡ memory_size) =
@@ -532,13 +550,75 @@ tested_comes is h c f l there =
     (λ b. let o' = (there b).holds in
     ap (λ u. u == (f b).machine.registers 0) o'.regs.0 ∙ ap (λ u. 0 == u) (zero_is o'.body))
 
-value_comes :
-    {k : Block} {x : Spot} {numbers : ℕ → ℕ} {p : Point} {i : ℕ} (is : IsParameter k x) (n : CopyAt k x is p)
-    (h : frame_of k p) (c : ℕ) (f : Family) → Linked k.call.surroundings.links k.call.code i reading_code →
+addressed_comes :
+    {k : Block} {x : Spot} {numbers : ℕ → ℕ} {p : Point} {i : ℕ} (is : IsParameter k x) (h : frame_of k p) (c : ℕ)
+    (f : Family) → Linked k.call.surroundings.links k.call.code i addressing_code →
     ((b : Base) → At b i (Known (point_ground k.call.surroundings p h) (services_of p) numbers (λ j. 0)
     (answered_regs is) b) (f b)) →
-    Reach k.call.code c f (services_of p) (c + size_of reading_code) (services_of p)
-    (λ b y. At b (i + size_of reading_code) (Known (point_ground k.call.surroundings p h) (services_of p) numbers
+    Reach k.call.code c f (services_of p) (c + size_of addressing_code) (services_of p)
+    (λ b y. At b (i + size_of addressing_code) (Known (point_ground k.call.surroundings p h) (services_of p) numbers
+    (λ j. 0) (found_regs is) b) y)
+addressed_comes {k} {x} {numbers} {p} is h c f l there =
+    let v = services_of p in
+    let inside = is.inside in
+    let place = k.first.places.at is.serial in
+    straight c f v v (λ b z. Known (point_ground k.call.surroundings p h) v numbers (λ j. 0) (found_regs is) b z)
+    l (omega arith) (λ b. (there b).pc)
+    (λ b.
+    let o' = (there b).holds in (
+      refl,
+      record {
+        body = record {
+          services = o'.body.services;
+          registers = o'.body.registers;
+          bytes = o'.body.bytes;
+          memory = o'.body.memory;
+        };
+        regs = (found_at b ((f b).machine.registers 10) place o'.regs.1.0 inside, tt);
+      },
+    ))
+
+-- its data are found
+pub found_comes :
+    {k : Block} {x : Spot} {numbers : ℕ → ℕ} {p : Point} {i : ℕ} (is : IsParameter k x) (o : IsAmong k numbers p)
+    (n : CopyAt k x is p) (h : frame_of k p) (c : ℕ) (f : Family) →
+    Linked k.call.surroundings.links k.call.code i (found_code x.level is.place) →
+    AreIn k.call.surroundings p numbers i f →
+    Reach k.call.code c f (services_of p) (c + size_of (found_code x.level is.place)) (services_of p)
+    (λ b y. At b (i + size_of (found_code x.level is.place)) (Known (point_ground k.call.surroundings p h)
+    (services_of p) numbers (λ j. 0) (found_regs is) b) y)
+found_comes {k} {x} {numbers} {p} {i} is o n h c f l there =
+    let name = name_loaded is.place in
+    let lists = list_loaded x.level in
+    let asks = resolving_code is.place in
+    let last = status_tested ++ addressing_code in
+    let tail = asks ++ (Plain I.Ecall ∷ last) in
+    let l1 = back_of name (lists ++ tail) l in
+    let l2 = back_of lists tail l1 in
+    let l3 = back_of asks (Plain I.Ecall ∷ last) l2 in
+    let l4 = rest_of (Plain I.Ecall) last l3 in
+    let n1 = size_append lists tail in
+    let r1 = name_comes is o h c f (front_of name (lists ++ tail) l) there in
+    let r2 = list_comes is o h (c + 2) (reached r1) (front_of lists tail l1) (reached_holds r1) in
+    let r3 = asking_comes is o h (c + 2 + size_of lists) (reached r2)
+    (front_of asks (Plain I.Ecall ∷ last) l2) (reached_holds r2) in
+    let r4 = resolved_comes is o n h (c + 2 + size_of lists + size_of asks) (reached r3)
+    (first_of (Plain I.Ecall) last l3) (reached_holds r3) in
+    let r5 = tested_comes is h (c + 2 + size_of lists + size_of asks + 1) (reached r4)
+    (front_of status_tested addressing_code l4) (reached_holds r4) in
+    let r6 = addressed_comes is h (c + 2 + size_of lists + size_of asks + 1 + 3) (reached r5)
+    (back_of status_tested addressing_code l4) (reached_holds r5) in
+    reach_moved (omega (arith, n1)) (omega (arith, n1))
+    (reach_then r1 (reach_then r2 (reach_then r3 (reach_then r4 (reach_then r5 r6)))))
+
+-- and read
+value_comes :
+    {k : Block} {x : Spot} {numbers : ℕ → ℕ} {p : Point} {i : ℕ} (is : IsParameter k x) (n : CopyAt k x is p)
+    (h : frame_of k p) (c : ℕ) (f : Family) → Linked k.call.surroundings.links k.call.code i value_loaded →
+    ((b : Base) → At b i (Known (point_ground k.call.surroundings p h) (services_of p) numbers (λ j. 0)
+    (found_regs is) b) (f b)) →
+    Reach k.call.code c f (services_of p) (c + size_of value_loaded) (services_of p)
+    (λ b y. At b (i + size_of value_loaded) (Known (point_ground k.call.surroundings p h) (services_of p) numbers
     (λ j. 0) (valued (word n.z)) b) y)
 value_comes {k} {x} {numbers} {p} is n h c f l there =
     let v = services_of p in
@@ -550,51 +630,33 @@ value_comes {k} {x} {numbers} {p} is n h c f l there =
     let o' = (there b).holds in
     let z = (f b).machine.registers in
     let t' = n.tells (f b).machine.memory o'.body.memory.storage in (
-      refl,
-      (
-        word_there b (sum (sum (sum (z 10) (word (pos 0))) b.at) (word (pos 0))) place
-            (found_at b (z 10) place o'.regs.1.0 inside) t'.1 (omega (arith, inside)),
-        record {
-          body = record {
-            services = o'.body.services;
-            registers = o'.body.registers;
-            bytes = o'.body.bytes;
-            memory = o'.body.memory;
-          };
-          regs = (t'.0, tt);
-        },
-      ),
+      word_there b (sum (z 28) (word (pos 0))) place (there_at b (z 28) place o'.regs.0 inside) t'.1
+          (omega (arith, inside)),
+      record {
+        body = record {
+          services = o'.body.services;
+          registers = o'.body.registers;
+          bytes = o'.body.bytes;
+          memory = o'.body.memory;
+        };
+        regs = (t'.0, tt);
+      },
     ))
 
--- all of it
 read_comes :
     {k : Block} {x : Spot} {numbers : ℕ → ℕ} {p : Point} {i : ℕ} (is : IsParameter k x) (o : IsAmong k numbers p)
     (n : CopyAt k x is p) (h : frame_of k p) (c : ℕ) (f : Family) →
-    Linked k.call.surroundings.links k.call.code i (read_code x.level) → AreIn k.call.surroundings p numbers i f →
-    Reach k.call.code c f (services_of p) (c + size_of (read_code x.level)) (services_of p)
-    (λ b y. At b (i + size_of (read_code x.level)) (Known (point_ground k.call.surroundings p h) (services_of p) numbers
-    (λ j. 0) (valued (word n.z)) b) y)
-read_comes {k} {x} {numbers} {p} {i} is o n h c f l there =
-    let lists = list_loaded x.level in
-    let last = status_tested ++ reading_code in
-    let tail = resolving_code ++ (Plain I.Ecall ∷ last) in
-    let l1 = back_of name_loaded (lists ++ tail) l in
-    let l2 = back_of lists tail l1 in
-    let l3 = back_of resolving_code (Plain I.Ecall ∷ last) l2 in
-    let l4 = rest_of (Plain I.Ecall) last l3 in
-    let n1 = size_append lists tail in
-    let r1 = name_comes is o h c f (front_of name_loaded (lists ++ tail) l) there in
-    let r2 = list_comes is o h (c + 2) (reached r1) (front_of lists tail l1) (reached_holds r1) in
-    let r3 = asking_comes is o h (c + 2 + size_of lists) (reached r2)
-    (front_of resolving_code (Plain I.Ecall ∷ last) l2) (reached_holds r2) in
-    let r4 = resolved_comes is o n h (c + 2 + size_of lists + size_of resolving_code) (reached r3)
-    (first_of (Plain I.Ecall) last l3) (reached_holds r3) in
-    let r5 = tested_comes is h (c + 2 + size_of lists + size_of resolving_code + 1) (reached r4)
-    (front_of status_tested reading_code l4) (reached_holds r4) in
-    let r6 = value_comes is n h (c + 2 + size_of lists + size_of resolving_code + 1 + 3) (reached r5)
-    (back_of status_tested reading_code l4) (reached_holds r5) in
-    reach_moved (omega (arith, n1)) (omega (arith, n1))
-    (reach_then r1 (reach_then r2 (reach_then r3 (reach_then r4 (reach_then r5 r6)))))
+    Linked k.call.surroundings.links k.call.code i (read_code x.level is.place) →
+    AreIn k.call.surroundings p numbers i f →
+    Reach k.call.code c f (services_of p) (c + size_of (read_code x.level is.place)) (services_of p)
+    (λ b y. At b (i + size_of (read_code x.level is.place)) (Known (point_ground k.call.surroundings p h)
+    (services_of p) numbers (λ j. 0) (valued (word n.z)) b) y)
+read_comes {k} {x} is o n h c f l there =
+    let finds = found_code x.level is.place in
+    let m = size_append finds value_loaded in
+    let r1 = found_comes is o n h c f (front_of finds value_loaded l) there in
+    let r2 = value_comes is n h (c + size_of finds) (reached r1) (back_of finds value_loaded l) (reached_holds r1) in
+    reach_moved (omega (arith, m)) (omega (arith, m)) (reach_then r1 r2)
 
 pub parameter_does : (k : Setting) (x : Spot) → IsParameter k.block x → E.Does k 0 (Y.NumberIn (parameter x))
 parameter_does k x is p numbers taken c index f o line registers l paid there =
@@ -604,7 +666,7 @@ parameter_does k x is p numbers taken c index f o line registers l paid there =
     let t = in_registers k.words taken in
     let n = copy_at x is o f there in
     let h = point_frame o.stands o.image in
-    let coded = read_coded e t x is.declared is.first is.own in
+    let coded = read_coded e t x is.place is.declared is.numbered_so is.near is.own in
     let size = ap (λ u. size_of u) coded in
     let l0 = subst (Linked w.links code index) coded l in
     let part = number_code e t (Y.NumberIn (parameter x)) in

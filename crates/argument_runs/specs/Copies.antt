@@ -46,6 +46,7 @@ copy_made_of ψ x =
       number = x.number;
       top = ψ.top;
       lower = ψ.lower - 16;
+      told = ψ.told;
     }
 
 -- the procedure's layer and the caller's, and those below

@@ -1,5 +1,5 @@
--- A FIXED BINARY(31) parameter that stands for a copy: what its procedure's code finds by way of the list.
-use Rattle.std.specs.Prelude.{ℕ, ◌+◌, ◌*◌, ◌^◌, ◌<◌, ◌≤◌, ◌≡◌, ◌==◌, List, [], ◌∷◌, None, Some, true}
+-- A FIXED BINARY(31) parameter: what its procedure's code finds by way of the list.
+use Rattle.std.specs.Prelude.{ℕ, ◌+◌, ◌*◌, ◌/◌, ◌%◌, ◌^◌, ◌<◌, ◌≤◌, ◌≡◌, ◌==◌, List, [], ◌∷◌, Option, None, Some, true}
 use Rattle.pli_typing.specs.Signatures.{Fixed}
 use Rattle.pli_typing.specs.TypedTree as Y
 use Rattle.pli_meaning.specs.BasicValues.{VariableName}
@@ -10,13 +10,11 @@ use Rattle.pli_meaning.specs.StorageState.{Binding, Living, ancestor_at, binding
 use Rattle.pli_serving.specs.Templates.{shape_at}
 use Rattle.pli_coding.specs.Locating.{number_of_parameter}
 use Rattle.activation_relation.specs.CodeStores.{most_levels}
-use Rattle.activation_relation.specs.FrameLaws.{with_waits}
 use Rattle.activation_relation.specs.Layers.{Layer}
 use Rattle.program_runs.specs.Statements.{Block, IsBegun}
 use Rattle.expression_runs.specs.Laws as L
 use Rattle.expression_runs.specs.Values.{Setting}
 use Rattle.expression_runs.specs.Variables.{Spot, whole_part}
-use Rattle.argument_runs.specs.Lists.{list_under, named_waits}
 
 abbrev pub parameter_of : Spot → Y.Variable
 parameter_of x = record { class = Y.ParameterClass; block = x.block; level = x.level; index = x.index }
@@ -41,12 +39,27 @@ parameter_shape = plain (Fixed 31)
 abbrev pub parameter_binding : Spot → (serial : ℕ) → Binding
 parameter_binding x serial = record { variable = x.index; name = VariableName serial; shape = parameter_shape }
 
--- where the block's first statement begins it stands for its copy, which lives, and the list below the procedure's
+-- what words of the caller's frame hold from the argument's last one on: a name, and its signature's number before that
+pub record HasName (waits : ℕ → Option ℕ) (last serial signature : ℕ) : Type 0 where
+  pub kind : waits (last + 5) ≡ Some 1
+  pub second : waits (last + 4) ≡ Some 0
+  pub low : waits (last + 3) ≡ Some (serial % 2 ^ 32)
+  pub high : waits (last + 2) ≡ Some (serial / 2 ^ 32)
+  pub number : waits (last + 1) ≡ Some signature
+
+-- the code of lists is known up to so many
+abbrev pub most_parameters : ℕ
+most_parameters = 64
+
+-- where the block's first statement begins it stands for a generation that lives, and the list below the procedure's
 -- frame has the name of that and its signature's number
 pub record IsParameter (k : Block) (x : Spot) : Type 0 where
   pub begun : IsBegun k
   pub declared : declared_variable k.environment.program (parameter_of x) ≡ Some parameter_declared
-  pub first : number_of_parameter k.environment (parameter_of x) ≡ 0
+  -- its place among the parameters
+  pub place : ℕ
+  pub numbered_so : number_of_parameter k.environment (parameter_of x) ≡ place
+  pub near : place < most_parameters
   pub own : (x.level == k.environment.level) ≡ true
   pub serial : ℕ
   pub binding : binding_in (ancestor_at k.first.state x.level) x.index ≡ Some (parameter_binding x serial)
@@ -57,11 +70,16 @@ pub record IsParameter (k : Block) (x : Spot) : Type 0 where
   pub caller : Layer
   pub others : List Layer
   pub signature : ℕ
-  pub layers : k.first.control.layers ≡ layer ∷ with_waits (named_waits serial signature) caller ∷ others
-  pub list : layer.list ≡ Some (list_under caller.at)
+  pub layers : k.first.control.layers ≡ layer ∷ caller ∷ others
+  -- where the list stands, and the last word of its own part of that
+  pub at : ℕ
+  pub list : layer.list ≡ Some at
+  pub last : ℕ
+  pub under : at + 24 * place + 4 * (last + 6) ≡ caller.at
+  pub name : HasName caller.waits last serial signature
   pub level : layer.level ≡ x.level
   pub few : x.level < most_levels
-  pub words : 6 ≤ caller.words
+  pub words : last + 6 + 6 * place ≤ caller.words
   pub small : serial < 2 ^ 64
   pub number : signature < 2 ^ 31
   pub numbered : shape_at k.first.places.signatures signature ≡ Some parameter_shape

@@ -210,6 +210,7 @@ layer_begins z h =
           free = subst (λ ls. upper_top w.parts ls + temporary_bytes x.words + fixed_size x.head.level 0
               ≤ lower_end w.parts ls) (sym h.among.later.layers) h.begin.room;
           saved = omega arith;
+          told = λ n v e. absurd (cc e);
         };
         entries = ([], refl);
         edits = refl;
@@ -234,6 +235,7 @@ layer_begins z h =
       held = refl;
       saved = refl;
       waits = λ j. refl;
+      told = λ j. refl;
       list = refl;
       top = refl;
       lower = refl;

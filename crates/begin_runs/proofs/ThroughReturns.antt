@@ -67,7 +67,7 @@ raised_places :
 raised_places parts top φ φs owner at count up is = by (owner == suc (length φs)) is
   where
     wider : IsOwnPlace parts φ φs at count → IsOwnPlace parts (raised top φ) φs at count
-    wider (inl o) = let low = o.0 in let high = o.1 in inl (omega (arith, low), omega (arith, high, up))
+    wider (inl o) = let low = o.0 in let high = o.1 in inl (omega (arith, low), omega (arith, high, up), o.2)
     wider (inr o) = inr o
 
     by :
@@ -110,6 +110,7 @@ raised_stands w q top φ φs newest h up free =
           falls = laid.0.falls;
           free = free;
           saved = laid.0.saved;
+          told = λ n v e. let t = laid.0.told n v e in let inside = t.1 in (t.0, omega (arith, inside, up));
         },
         laid.1,
       );
@@ -137,6 +138,7 @@ raised_frames parts base top m (a ∷ as') φ φs h = (
     lower = h.0.lower;
     display_words = h.0.display_words;
     waits = h.0.waits;
+    told = h.0.told;
     list = h.0.list;
   },
   h.1,
@@ -281,6 +283,7 @@ at_procedure k x left' c f v {numbers} {p} h o reach =
         changed = record {
           units = r.changed.units;
           waits = r.changed.waits;
+          told = r.changed.told;
           top = upper_top w.parts p.control.layers;
           carried = r.changed.carried;
         };

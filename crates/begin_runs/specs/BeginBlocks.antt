@@ -58,6 +58,7 @@ inner_layer w p numbers x =
       saved = 0;
       held = numbers;
       waits = λ n. None;
+      told = λ n. None;
       list = None;
       top = upper_top w.parts p.control.layers + temporary_bytes x.words + fixed_size x.head.level 0;
       lower = lower_end w.parts p.control.layers;

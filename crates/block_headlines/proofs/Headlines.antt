@@ -23,6 +23,7 @@ use Rattle.program_runs.specs.VariableRows.{number_declared, number_entry, numbe
 use Rattle.program_runs.specs.VariableRows.{number_program}
 use Rattle.program_runs.specs.Programs.{IsWhole}
 use Rattle.program_runs.specs.Starts.{first_family, start_point}
+use Rattle.program_runs.specs.Names.{newest_named}
 use Rattle.program_runs.specs.Variables.{newest_made}
 use Rattle.program_runs.proofs.Programs.{program_runs}
 use Rattle.program_runs.proofs.Rows.{main_each, row_is}
@@ -39,6 +40,11 @@ use Rattle.argument_runs.proofs.CopyRows.{given_each, given_finish, given_is}
 use Rattle.argument_runs.specs.FunctionRows.{applied_entry, applied_environment, applied_main, applied_procedure}
 use Rattle.argument_runs.specs.FunctionRows.{applied_program}
 use Rattle.argument_runs.proofs.FunctionRows.{applied_each, applied_finish, applied_is}
+use Rattle.reference_runs.specs.LocalRows.{kept_entry, kept_environment, kept_main, kept_procedure, kept_program}
+use Rattle.reference_runs.proofs.LocalRows.{kept_each, kept_finish, kept_is}
+use Rattle.reference_runs.specs.ReferenceRows.{passed_entry, passed_environment, passed_main, passed_procedure}
+use Rattle.reference_runs.specs.ReferenceRows.{passed_program}
+use Rattle.reference_runs.proofs.ReferenceRows.{passed_each, passed_finish, passed_is}
 use Rattle.begin_runs.specs.LeaveRows.{leave_entry, leave_environment, leave_main, leave_program}
 use Rattle.begin_runs.specs.Rows.{nest_entry, nest_environment, nest_main, nest_program}
 use Rattle.begin_runs.proofs.LeaveRows.{leave_each, leave_finish, leave_is}
@@ -257,6 +263,56 @@ given_program_runs =
           given_is input (first_bytes (picture_of parts given_program)) acts few
           (first_length (picture_of parts given_program) given_fits);
       each = λ input acts few b. given_each input acts few b;
+    }
+
+passed_fits : FitsMemory (picture_of parts passed_program)
+passed_fits = small_fits passed_program (omega arith) (omega arith)
+
+abbrev passed_layout : Layout
+passed_layout =
+    record {
+      main = passed_main;
+      others = passed_procedure ∷ [];
+      environment = passed_environment;
+      entry = passed_entry;
+      end = passed_finish;
+      units = [];
+      serials = 1;
+      made = newest_named parts number_declared;
+    }
+
+passed_program_runs : Runs passed_program passed_layout
+passed_program_runs =
+    record {
+      whole = λ input acts few.
+          passed_is input (first_bytes (picture_of parts passed_program)) acts few
+          (first_length (picture_of parts passed_program) passed_fits);
+      each = λ input acts few b. passed_each input acts few b;
+    }
+
+kept_fits : FitsMemory (picture_of parts kept_program)
+kept_fits = small_fits kept_program (omega arith) (omega arith)
+
+abbrev kept_layout : Layout
+kept_layout =
+    record {
+      main = kept_main;
+      others = kept_procedure ∷ [];
+      environment = kept_environment;
+      entry = kept_entry;
+      end = kept_finish;
+      units = [];
+      serials = 1;
+      made = newest_named parts number_declared;
+    }
+
+kept_program_runs : Runs kept_program kept_layout
+kept_program_runs =
+    record {
+      whole = λ input acts few.
+          kept_is input (first_bytes (picture_of parts kept_program)) acts few
+          (first_length (picture_of parts kept_program) kept_fits);
+      each = λ input acts few b. kept_each input acts few b;
     }
 
 applied_fits : FitsMemory (picture_of parts applied_program)
@@ -511,6 +567,8 @@ rows_kept laws keeps =
       calling_local = kept laws keeps local_program local_layout local_program_runs;
       giving = kept laws keeps given_program given_layout given_program_runs;
       applying = kept laws keeps applied_program applied_layout applied_program_runs;
+      passing = kept laws keeps passed_program passed_layout passed_program_runs;
+      keeping = kept laws keeps kept_program kept_layout kept_program_runs;
       fetching = kept laws keeps fetch_program fetch_layout fetch_program_runs;
       nesting = kept laws keeps nest_program nest_layout nest_program_runs;
       leaving = kept laws keeps leave_program leave_layout leave_program_runs;

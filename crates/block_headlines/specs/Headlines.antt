@@ -20,6 +20,8 @@ use Rattle.function_runs.specs.LocalRows.{local_program}
 use Rattle.function_runs.specs.Rows.{fetch_program}
 use Rattle.argument_runs.specs.CopyRows.{given_program}
 use Rattle.argument_runs.specs.FunctionRows.{applied_program}
+use Rattle.reference_runs.specs.LocalRows.{kept_program}
+use Rattle.reference_runs.specs.ReferenceRows.{passed_program}
 use Rattle.begin_runs.specs.LeaveRows.{leave_program}
 use Rattle.begin_runs.specs.Rows.{nest_program}
 use Rattle.program_runs.specs.Starts.{no_numbers, start_point, surroundings_of}
@@ -116,6 +118,8 @@ pub record HeadlinesOfRows : Type 0 where
   pub calling_local : Headline local_program (picture_of parts local_program) (table_of local_program)
   pub giving : Headline given_program (picture_of parts given_program) (table_of given_program)
   pub applying : Headline applied_program (picture_of parts applied_program) (table_of applied_program)
+  pub passing : Headline passed_program (picture_of parts passed_program) (table_of passed_program)
+  pub keeping : Headline kept_program (picture_of parts kept_program) (table_of kept_program)
   pub fetching : Headline fetch_program (picture_of parts fetch_program) (table_of fetch_program)
   pub nesting : Headline nest_program (picture_of parts nest_program) (table_of nest_program)
   pub leaving : Headline leave_program (picture_of parts leave_program) (table_of leave_program)

@@ -25,11 +25,11 @@ pub fn unit_headlines_kept()
 }
 
 /// A main procedure that calls a procedure inside it keeps the headline, and so do one with a variable, one that
-/// doubles it in a loop by GOTO until it overflows, one that calls a function, one with begin blocks, of which one
-/// assigns its variable and another jumps back out, one that returns out of two begin blocks, and six with a unit
-/// for FIXEDOVERFLOW, which returns into the expression, or jumps out of it, or out of a loop in which its ON stands,
-/// or is raised in a procedure that the main procedure calls, or is gone behind the begin block that has its ON, or has
-/// a unit of its own.
+/// doubles it in a loop by GOTO until it overflows, one that passes it to a procedure that does, one that calls a
+/// function, one with begin blocks, of which one assigns its variable and another jumps back out, one that returns out
+/// of two begin blocks, and six with a unit for FIXEDOVERFLOW, which returns into the expression, or jumps out of it,
+/// or out of a loop in which its ON stands, or is raised in a procedure that the main procedure calls, or is gone behind
+/// the begin block that has its ON, or has a unit of its own.
 pub fn headlines_of_rows()
     ensures { HeadlinesOfRows }
 {

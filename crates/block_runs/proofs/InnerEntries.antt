@@ -127,7 +127,7 @@ memory_new {w} {p = p} {x = x} f q b m o =
     let lower = q.is.lower in
     let bytes = o.bytes in
     let r = entered_memory w p b.at o.first x.head x.entry x.layer x.head.line (q.stands, o.storage, o.frames)
-    (q.is.next.laid, are_words q b, omega (arith, high, last, lower, bytes), q.is.waits, q.is.list) in
+    (q.is.next.laid, are_words q b, omega (arith, high, last, lower, bytes), q.is.waits, q.is.list, q.is.told) in
     subst (StandsIn w (begun_point x p) b) (sym e) (record { storage = r.0; frames = r.1 })
 
 -- ---- the frame is made

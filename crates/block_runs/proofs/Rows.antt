@@ -23,6 +23,7 @@ row_begins π =
           falls = omega arith;
           free = omega arith;
           saved = omega arith;
+          told = λ n v e. absurd (cc e);
         };
         entries = ([], refl);
         edits = refl;
@@ -46,6 +47,7 @@ row_begins π =
       held = refl;
       words = λ n less. omega (arith, less);
       waits = λ n. refl;
+      told = λ n. refl;
       list = refl;
       top = refl;
       lower = refl;

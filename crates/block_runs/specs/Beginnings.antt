@@ -47,6 +47,7 @@ pub record IsBeginning (w : Surroundings) (p : Point) (numbers : ℕ → ℕ) (x
   pub words : (n : ℕ) → n < x.layer.saved → numbers n < 2 ^ 32
   -- nothing waits in its own words, and its part of the stacks is its frame
   pub waits : (n : ℕ) → x.layer.waits n ≡ None
+  pub told : (n : ℕ) → x.layer.told n ≡ None
   pub list : x.layer.list ≡ None
   pub top : x.layer.top ≡ x.layer.at + fixed_size x.layer.level x.layer.parameters
   pub lower : x.layer.lower ≡ lower_end w.parts p.control.layers

@@ -38,6 +38,7 @@ pub record IsInner (w : Surroundings) (p : Point) (numbers : ℕ → ℕ) (x : B
   pub saved : x.layer.saved ≡ 0
   -- nothing waits in its own words, and its part of the stacks is its frame
   pub waits : (n : ℕ) → x.layer.waits n ≡ None
+  pub told : (n : ℕ) → x.layer.told n ≡ None
   pub list : x.layer.list ≡ None
   pub top : x.layer.top ≡ x.layer.at + fixed_size x.layer.level x.layer.parameters
   pub lower : x.layer.lower ≡ lower_end w.parts p.control.layers

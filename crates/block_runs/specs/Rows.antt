@@ -35,6 +35,7 @@ row_layer block level at words saved top held =
       saved = saved;
       held = held;
       waits = λ n. None;
+      told = λ n. None;
       list = None;
       top = top;
       lower = row_parts.stack_end;

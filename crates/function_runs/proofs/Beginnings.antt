@@ -30,6 +30,7 @@ function_begins w code p numbers c known fits near words =
           falls = omega arith;
           free = fits.1.room;
           saved = fits.0.saved;
+          told = λ n v e. absurd (cc e);
         };
         entries = ([], refl);
         edits = refl;
@@ -53,6 +54,7 @@ function_begins w code p numbers c known fits near words =
       held = refl;
       words = λ n less. words n;
       waits = λ n. refl;
+      told = λ n. refl;
       list = refl;
       top = refl;
       lower = refl;

@@ -13,5 +13,6 @@ pub mod VariableMemory
 pub mod Variables
 pub mod VariableProcedures
 pub mod VariablesAmong
+pub mod Names
 pub mod Rows
 pub mod VariableRows

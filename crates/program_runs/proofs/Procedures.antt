@@ -33,6 +33,7 @@ layer_begins w code p numbers x y known fits words =
           falls = omega arith;
           free = fits.1.room;
           saved = fits.0.saved;
+          told = λ n v e. absurd (cc e);
         };
         entries = ([], refl);
         edits = refl;
@@ -56,6 +57,7 @@ layer_begins w code p numbers x y known fits words =
       held = refl;
       words = λ n less. words n;
       waits = λ n. refl;
+      told = λ n. refl;
       list = refl;
       top = refl;
       lower = refl;

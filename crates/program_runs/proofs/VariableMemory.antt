@@ -6,6 +6,7 @@ use Rattle.std.proofs.lemmas.Bool.{le-leb, lt-ltb}
 use Rattle.std.proofs.lemmas.Bool.Decides.{nat_tests}
 use Rattle.rv_meaning.specs.declared.instr.Instr.{Instr}
 use Rattle.rv_meaning.specs.Machine.{memory_size}
+use Rattle.rv_meaning.specs.Memory.{load}
 use Rattle.pli_typing.specs.Signatures.{data_size}
 use Rattle.pli_meaning.specs.BasicValues.{VariableName}
 use Rattle.pli_meaning.specs.Contents.{fresh}
@@ -40,7 +41,7 @@ use Rattle.activation_relation.specs.Points.{Surroundings, Stands}
 use Rattle.activation_relation.specs.Variables.{Made, FitsBlock, grown, newest_grown, with_made}
 use Rattle.activation_relation.proofs.Blocks.{newest_of, same_length}
 use Rattle.activation_relation.proofs.BlockVariables.{variable_stands}
-use Rattle.activation_relation.proofs.FrameWords.{frames_kept, beside_above}
+use Rattle.activation_relation.proofs.FrameWords.{frames_kept, beside_above, told_over}
 use Rattle.activation_relation.proofs.OwnPlaces.{free_clear, clear_part}
 use Rattle.run_steps.specs.Engine.{call_at}
 use Rattle.run_steps.specs.Unlimited as U
@@ -56,7 +57,7 @@ pub record Around (w : Surroundings) (code : List Instr) (p : Point) (x : Declar
   pub image : IsImage w code p
   pub is : IsDeclared w p x φ φs
 
-laid_here :
+pub laid_here :
     {w : Surroundings} {code : List Instr} {p : Point} {x : Declared} {φ : Layer} {φs : List Layer} →
     Around w code p x φ φs → AreLaid w.parts (φ ∷ φs)
 laid_here {w} k = subst (AreLaid w.parts) k.is.newest k.stands.laid
@@ -110,7 +111,12 @@ fits_block {w} {p = p} {x = x} {φ = φ} k =
       upper = omega (arith, here, holds);
       falls = omega arith;
       free = k.is.fits;
-      own = inl (omega (arith, here, fixed), omega (arith, holds, long));
+      told = λ n v e. inl e;
+      own = inl (
+        omega (arith, here, fixed),
+        omega (arith, holds, long),
+        told_over _ _ (laid_here k).0 (omega (arith, here)),
+      );
       extent = refl;
       shape = k.is.shape;
     }
@@ -204,9 +210,10 @@ made_holding {w} {p = p} {x = x} {φ = φ} m k bytes h =
 
 -- ---- frames
 
-frames_grown :
+pub frames_grown :
     (parts : MemoryParts) (base : ℕ) (m : List ℕ) (b : Binding) (y : Made) (as' : List Activation) (φ : Layer)
-    (φs : List Layer) → y.lower ≡ φ.lower → FramesStand parts base m as' (φ ∷ φs) →
+    (φs : List Layer) → (y.lower ≡ φ.lower) × ((n v : ℕ) → y.told n ≡ Some v → load 4 m (φ.at + n) ≡ v) →
+    FramesStand parts base m as' (φ ∷ φs) →
     FramesStand parts base m (with_binding b as') (grown y φ ∷ φs)
 frames_grown parts base m b y [] φ φs same h = absurd h
 frames_grown parts base m b y (a ∷ as') φ φs same h = (
@@ -215,9 +222,10 @@ frames_grown parts base m b y (a ∷ as') φ φs same h = (
     below = h.0.below;
     saved = h.0.saved;
     own = h.0.own;
-    lower = h.0.lower ∙ sym same;
+    lower = h.0.lower ∙ sym same.0;
     display_words = h.0.display_words;
     waits = h.0.waits;
+    told = same.1;
     list = h.0.list;
   },
   h.1,
@@ -247,13 +255,13 @@ made_beside {w} {p = p} {x = x} {φ = φ} m k bytes =
     (beside_written named at n 0 m' (omega arith) (omega (arith, holds, fits, high, last, bytes, long))) in
     beside_both at n m m' (made_memory p φ x m) first second
 
-pub made_frames :
+-- the frames that were there stand
+pub frames_stay :
     {w : Surroundings} {code : List Instr} {p : Point} {x : Declared} {φ : Layer} {φs : List Layer} (base : ℕ)
     (m : List ℕ) → Around w code p x φ φs → length m ≡ memory_size →
     FramesStand w.parts base m p.state.activations p.control.layers →
-    FramesStand w.parts base (made_memory p φ x m) (with_made (made_of w.parts φ x) p).state.activations
-    (with_made (made_of w.parts φ x) p).control.layers
-made_frames {w} {p = p} {x = x} {φ = φ} {φs = φs} base m k bytes frames =
+    FramesStand w.parts base (made_memory p φ x m) p.state.activations (φ ∷ φs)
+frames_stay {w} {p = p} {x = x} {φ = φ} {φs = φs} base m k bytes frames =
     let o = bounded k in
     let top = o.top in
     let here = k.is.here in
@@ -262,10 +270,27 @@ made_frames {w} {p = p} {x = x} {φ = φ} {φs = φs} base m k bytes frames =
     let n = name_bytes + length (generation_bytes (generation_for x)) in
     let kept = frames_kept w.parts base at n m new p.state.activations p.control.layers frames k.stands.laid
     (beside_above w.parts at n p.control.layers k.stands.laid (omega (arith, top, here))) (made_beside m k bytes) in
+    subst (FramesStand w.parts base new p.state.activations) k.is.newest kept
+
+pub told_there :
+    (parts : MemoryParts) (base : ℕ) (m : List ℕ) (as' : List Activation) (φ : Layer) (φs : List Layer) →
+    FramesStand parts base m as' (φ ∷ φs) → (n v : ℕ) → φ.told n ≡ Some v → load 4 m (φ.at + n) ≡ v
+told_there parts base m [] φ φs h n v e = absurd h
+told_there parts base m (a ∷ as') φ φs h n v e = h.0.told n v e
+
+pub made_frames :
+    {w : Surroundings} {code : List Instr} {p : Point} {x : Declared} {φ : Layer} {φs : List Layer} (base : ℕ)
+    (m : List ℕ) → Around w code p x φ φs → length m ≡ memory_size →
+    FramesStand w.parts base m p.state.activations p.control.layers →
+    FramesStand w.parts base (made_memory p φ x m) (with_made (made_of w.parts φ x) p).state.activations
+    (with_made (made_of w.parts φ x) p).control.layers
+made_frames {w} {p = p} {x = x} {φ = φ} {φs = φs} base m k bytes frames =
+    let new = made_memory p φ x m in
+    let kept = frames_stay base m k bytes frames in
     subst (λ ls. FramesStand w.parts base new (with_made (made_of w.parts φ x) p).state.activations
     (newest_grown (made_of w.parts φ x) ls)) (sym k.is.newest)
-    (frames_grown w.parts base new _ (made_of w.parts φ x) p.state.activations φ φs refl
-    (subst (FramesStand w.parts base new p.state.activations) k.is.newest kept))
+    (frames_grown w.parts base new _ (made_of w.parts φ x) p.state.activations φ φs
+    (refl, told_there w.parts base new p.state.activations φ φs kept) kept)
 
 pub made_length :
     {w : Surroundings} {code : List Instr} {p : Point} {x : Declared} {φ : Layer} {φs : List Layer} (m : List ℕ) →

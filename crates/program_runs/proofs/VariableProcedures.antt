@@ -1,5 +1,5 @@
 -- A procedure with one variable makes it where its block begins.
-use Rattle.std.proofs.Common.{◌≡◌, ℕ, ◌+◌, ◌≤◌, List, [], ◌∷◌, length, refl, sym, ap, ◌∙◌, subst, arith}
+use Rattle.std.proofs.Common.{◌≡◌, ℕ, ◌+◌, ◌≤◌, List, [], ◌∷◌, length, Option, refl, sym, ap, ◌∙◌, subst, arith}
 use Rattle.std.specs.Prelude.{pos}
 use Rattle.rv_meaning.specs.declared.instr.Instr.{Instr}
 use Rattle.pli_typing.specs.TypedTree as Y
@@ -23,8 +23,7 @@ use Rattle.block_runs.specs.Machines.{IsImage, IsIn}
 use Rattle.program_runs.specs.Calls.{AreMade, Callee, act_index, begun_at, variables_index}
 use Rattle.program_runs.specs.Procedures.{beginning_for, layer_for}
 use Rattle.program_runs.specs.Variables.{Declared, IsOnly, generation_for, made_of}
-use Rattle.program_runs.proofs.VariableMemory.{made_stands}
-use Rattle.program_runs.proofs.Variables.{variable_comes, variable_means}
+use Rattle.program_runs.proofs.Variables.{Becomes, becomes_comes, made_becomes, variable_means}
 
 -- what is meant by a block's variables, where it has this one
 pub variables_mean :
@@ -47,16 +46,24 @@ unfolding M.block_variables_made
 block_means around head kind d k s s' e only made =
     ap (λ x. M.block_variables_made around head x k s) e ∙ ap (λ ds. K.variables_made around 0 ds k s) only ∙ made
 
-pub one_made :
-    (w : Surroundings) (code : List Instr) (c : Callee) (p : Point) (numbers : ℕ → ℕ) (x : Declared) →
-    IsOnly w c p numbers x → AreMade w code c p numbers
-one_made w code c p numbers x h =
+-- whatever is told then of words in its frame
+pub one_by :
+    (w : Surroundings) (code : List Instr) (c : Callee) (made'' : Point → Point) (p : Point) (numbers : ℕ → ℕ)
+    (x : Declared) (told : ℕ → Option ℕ) → IsOnly w c p numbers x →
+    made'' (begun_at w c p numbers)
+    ≡ with_made (record (made_of w.parts (layer_for w p numbers c.procedure c.calling) x) { told = told })
+    (begun_at w c p numbers) →
+    (Stands w (begun_at w c p numbers) × IsImage w code (begun_at w c p numbers) →
+    Becomes w code (begun_at w c p numbers) x (layer_for w p numbers c.procedure c.calling)
+    (with_made (record (made_of w.parts (layer_for w p numbers c.procedure c.calling) x) { told = told })
+    (begun_at w c p numbers))) →
+    AreMade w code (record c { made = made'' }) p numbers
+one_by w code c made'' p numbers x told h here becomes =
     let start = begun_at w c p numbers in
     let y = beginning_for w p numbers c.procedure c.calling in
     let φ = layer_for w p numbers c.procedure c.calling in
-    let made' = made_of w.parts φ x in
+    let made' = record (made_of w.parts φ x) { told = told } in
     let q = with_made made' start in
-    let here : c.made start ≡ q = ap (λ (made : Point → Point). made start) h.made in
     let each = h.few in
     let size = ap (λ u. size_of u) h.code in
     let around' = at_line c.around c.procedure.head.line in
@@ -65,14 +72,15 @@ one_made w code c p numbers x h =
     ∙ variable_means w start x φ p.control.layers w.acts h.declared in
     record {
       stands = λ known. subst (λ u. Stands w u × IsImage w code u) (sym here)
-          (made_stands (record { stands = known.0; image = known.1; is = h.declared }));
+          (becomes known).stands;
       comes = λ credits f known l there.
           subst (λ u. Reach code credits f (services_of start) (credits + size_of c.procedure.variables) (services_of u)
           (λ b z. IsIn w u numbers (act_index c) b z)) (sym here)
           (subst (λ xs. Reach code credits f (services_of start) (credits + size_of xs) (services_of q)
           (λ b z. IsIn w q numbers (variables_index c + size_of xs) b z)) (sym h.code)
-          (variable_comes w code c.environment start numbers x φ p.control.layers credits (variables_index c) f known
-          h.declared (h.table, h.parts) (subst (Linked w.links code (variables_index c)) h.code l) there));
+          (becomes_comes w code c.environment start q numbers x φ p.control.layers credits (variables_index c) f known
+          h.declared (becomes known) (h.table, h.parts) (subst (Linked w.links code (variables_index c)) h.code l)
+          there));
       means = block_means around' c.procedure.head c.procedure.head.kind x.declared w.acts start.state q.state h.kind
           h.variables
           (variables_mean around' x.declared w.acts start.state q.state h.class h.evaluations made)
@@ -85,7 +93,7 @@ one_made w code c p numbers x h =
         } ∷ [];
       };
       parent = refl;
-      changed = record { units = φ.units; waits = φ.waits; top = made'.top; carried = φ.carried };
+      changed = record { units = φ.units; waits = φ.waits; told = told; top = made'.top; carried = φ.carried };
       layers = ap (λ (u : Point). u.control.layers) here;
       own = [];
       activations = ap (λ (u : Point). u.state.activations) here;
@@ -95,3 +103,12 @@ one_made w code c p numbers x h =
           (remains_made p start made' (remains_entered p y.head y.entry φ y.head.line) begun'.lives (omega arith));
       few = subst (λ (u : Point). u.state.serials ≤ p.state.serials + w.serials) (sym here) (omega (arith, each));
     }
+
+pub one_made :
+    (w : Surroundings) (code : List Instr) (c : Callee) (p : Point) (numbers : ℕ → ℕ) (x : Declared) →
+    IsOnly w c p numbers x → AreMade w code c p numbers
+one_made w code c p numbers x h =
+    let start = begun_at w c p numbers in
+    let φ = layer_for w p numbers c.procedure c.calling in
+    one_by w code c c.made p numbers x φ.told h (ap (λ (made : Point → Point). made start) h.made)
+    (λ known. made_becomes (record { stands = known.0; image = known.1; is = h.declared }))

@@ -1,5 +1,5 @@
 -- The code that makes a variable in the newest block.
-use Rattle.std.proofs.Common.{◌≡◌, ℕ, ◌+◌, ◌^◌, ◌<◌, List, [], ◌∷◌, ◌++◌, refl, sym, ap}
+use Rattle.std.proofs.Common.{◌≡◌, ℕ, ◌+◌, ◌^◌, ◌<◌, List, [], ◌∷◌, ◌++◌, length, refl, sym, ap}
 use Rattle.std.proofs.Common.{◌∙◌, subst, arith}
 use Rattle.std.proofs.lemmas.Bool.{eq-eqb}
 use Rattle.std.proofs.lemmas.List.{append_assoc}
@@ -9,6 +9,7 @@ use Rattle.rv_meaning.specs.declared.instr.Instr.{Instr}
 use Rattle.rv_meaning.specs.declared.instr.Instr.TheVariants as I
 use Rattle.rv_meaning.specs.declared.instr.ImmediateOp.TheVariants as Imm
 use Rattle.rv_meaning.specs.declared.instr.Register.{Register}
+use Rattle.rv_meaning.specs.Machine.{memory_size}
 use Rattle.rv_meaning.specs.Memory.{load}
 use Rattle.rv_meaning.specs.Words.{word, sum}
 use Rattle.pli_meaning.specs.declared.outcome.End.TheVariants as E
@@ -17,7 +18,8 @@ use Rattle.pli_meaning.specs.Control.{Normal, choose, finish, looked, stored, �
 use Rattle.pli_meaning.specs.Making as K
 use Rattle.pli_meaning.specs.Making.{with_variable}
 use Rattle.pli_meaning.specs.StorageState.{Activation}
-use Rattle.pli_serving.specs.Answers.{Done}
+use Rattle.pli_serving.specs.Answers.{Answer, Done}
+use Rattle.pli_serving.specs.ServiceState.{Services}
 use Rattle.pli_coding.specs.Assembly.{Code, Plain, size_of}
 use Rattle.pli_coding.specs.Entries.{constant_made}
 use Rattle.pli_coding.specs.Environments.{Environment}
@@ -66,10 +68,10 @@ frame_own parts base m [] (φ ∷ φs) h = absurd h
 frame_own parts base m (a ∷ as') [] h = absurd h
 frame_own parts base m (a ∷ as') (φ ∷ φs) h = h.0.own
 
-abbrev own_code : Register → (place : ℕ) → Code
+abbrev pub own_code : Register → (place : ℕ) → Code
 own_code r place = load_word r frame_register own_offset ++ plus r r (pos place)
 
-own_coded : (e : Environment) (r : Register) (place : ℕ) → own_place e r (pos place) ≡ own_code r place
+pub own_coded : (e : Environment) (r : Register) (place : ℕ) → own_place e r (pos place) ≡ own_code r place
 own_coded e r place =
     ap (λ q. cond q [] (load_word r frame_register (display e.level))
     ++ (load_word r (cond q frame_register r) own_offset ++ plus r r (pos place))) (eq-eqb e.level e.level refl)
@@ -77,7 +79,7 @@ own_coded e r place =
 offset_sum : (at n : ℕ) → at + n < 2 ^ 24 → sum at (word (pos n)) ≡ at + n
 offset_sum at n few = omega (arith, ints, few)
 
-own_comes :
+pub own_comes :
     {w : Surroundings} {p : Point} {links : Links} {code : List Instr} {i : ℕ} {numbers : ℕ → ℕ}
     {rs : Base → List (ℕ × ℕ)} (h : IsFrame (frame_under w.parts p.control.layers)) (c : ℕ) (f : Family) (r : Register)
     (place : ℕ) → frame_under w.parts p.control.layers + place < 2 ^ 24 → IsNear r.index → Free rs r.index →
@@ -267,49 +269,42 @@ calling_made {w} {code} {p} {x} {φ} {φs} k h f same l there =
           ∙ made_answer m k o.body.bytes o.body.memory.storage (omega (arith, small'));
     }
 
--- the frame stays where it is
-same_frame :
-    {w : Surroundings} {code : List Instr} {p : Point} {x : Declared} {φ : Layer} {φs : List Layer} →
-    Around w code p x φ φs →
-    (frame_under w.parts p.control.layers ≡ φ.at)
-    × (frame_under w.parts (with_made (made_of w.parts φ x) p).control.layers ≡ φ.at)
-    × (upper_top w.parts (with_made (made_of w.parts φ x) p).control.layers ≡ φ.at + place_behind w.parts x)
-same_frame {w} {x = x} {φ = φ} k = (
-  ap (λ ls. frame_under w.parts ls) k.is.newest,
-  ap (λ ls. frame_under w.parts (newest_grown (made_of w.parts φ x) ls)) k.is.newest,
-  ap (λ ls. upper_top w.parts (newest_grown (made_of w.parts φ x) ls)) k.is.newest,
-)
+-- a point that has the variable, whatever is told of its name
+pub record Becomes (w : Surroundings) (code : List Instr) (p : Point) (x : Declared) (φ : Layer) (q : Point) :
+    Type 0 where
+  pub stands : Stands w q × IsImage w code q
+  pub services : services_of (with_made (made_of w.parts φ x) p) ≡ services_of q
+  pub frame : frame_under w.parts q.control.layers ≡ φ.at
+  pub top : upper_top w.parts q.control.layers ≡ φ.at + place_behind w.parts x
+  pub memory :
+      (b : Base) (m : List ℕ) → length m ≡ memory_size → StandsIn w p b m → StandsIn w q b (made_memory p φ x m)
 
 -- memory has the variable, and the stack is as it was
 abbrev between_ground :
-    (w : Surroundings) (p : Point) (x : Declared) (φ : Layer) → IsFrame (frame_under w.parts p.control.layers) → Ground
-between_ground w p x φ h =
+    (w : Surroundings) (p q : Point) → IsFrame (frame_under w.parts p.control.layers) → Ground
+between_ground w p q h =
     ground_at (frame_under w.parts p.control.layers) (upper_top w.parts p.control.layers) h
-    (λ b m. StandsIn w (with_made (made_of w.parts φ x) p) b m)
+    (λ b m. StandsIn w q b m)
 
 stack_taken :
-    {w : Surroundings} {code : List Instr} {p : Point} {x : Declared} {φ : Layer} {φs : List Layer} {i : ℕ}
-    {numbers : ℕ → ℕ} (k : Around w code p x φ φs) (h : IsFrame (frame_under w.parts p.control.layers))
-    (h' : IsFrame (frame_under w.parts (with_made (made_of w.parts φ x) p).control.layers)) (c : ℕ) (f : Family) →
-    φ.at + place_behind w.parts x < 2 ^ 24 → Linked w.links code i (stack_code w.parts x) →
-    ((b : Base) → At b i (Known (between_ground w p x φ h) (services_of (with_made (made_of w.parts φ x) p)) numbers
-    (λ n. 0) nothing b) (f b)) →
-    Reach code c f (services_of (with_made (made_of w.parts φ x) p)) (c + size_of (stack_code w.parts x))
-    (services_of (with_made (made_of w.parts φ x) p))
-    (λ b y. At b (i + size_of (stack_code w.parts x)) (Known (point_ground w (with_made (made_of w.parts φ x) p) h')
-    (services_of (with_made (made_of w.parts φ x) p)) numbers (λ n. 0) nothing b) y)
-stack_taken {w} {p = p} {x = x} {φ = φ} {numbers = numbers} k h h' c f few l there =
+    {w : Surroundings} {code : List Instr} {p q : Point} {x : Declared} {φ : Layer} {φs : List Layer} {i : ℕ}
+    {numbers : ℕ → ℕ} (k : Around w code p x φ φs) (becomes : Becomes w code p x φ q)
+    (h : IsFrame (frame_under w.parts p.control.layers)) (h' : IsFrame (frame_under w.parts q.control.layers))
+    (c : ℕ) (f : Family) → φ.at + place_behind w.parts x < 2 ^ 24 → Linked w.links code i (stack_code w.parts x) →
+    ((b : Base) → At b i (Known (between_ground w p q h) (services_of q) numbers (λ n. 0) nothing b) (f b)) →
+    Reach code c f (services_of q) (c + size_of (stack_code w.parts x)) (services_of q)
+    (λ b y. At b (i + size_of (stack_code w.parts x)) (Known (point_ground w q h') (services_of q) numbers (λ n. 0)
+    nothing b) y)
+stack_taken {w} {p = p} {q = q} {x = x} {φ = φ} {numbers = numbers} k becomes h h' c f few l there =
     let at = frame_under w.parts p.control.layers in
     let n = place_behind w.parts x in
     let z = pos n in
-    let q = with_made (made_of w.parts φ x) p in
     let v = services_of q in
-    let g = between_ground w p x φ h in
+    let g = between_ground w p q h in
     let g' = point_ground w q h' in
-    let same = same_frame k in
-    let here = same.0 in
-    let there' = same.1 in
-    let top = same.2 in
+    let here = ap (λ ls. frame_under w.parts ls) k.is.newest in
+    let there' = becomes.frame in
+    let top = becomes.top in
     displaced_by (is_immediate z) c f (λ s d. I.Immediate Imm.Add stack_register s d) frame_register z (λ b. b.at + at)
     (Known g v numbers (λ m. 0) nothing) (Known g' v numbers (λ m. 0) nothing) (above_small n (omega (arith, few)))
     (λ b. let base = b.valid.1 in omega (arith, few, here, base)) (λ y u. refl)
@@ -334,25 +329,22 @@ stack_taken {w} {p = p} {x = x} {φ = φ} {numbers = numbers} k h h' c f few l t
 
 -- ---- the whole
 
-pub variable_comes :
-    (w : Surroundings) (code : List Instr) (e : Environment) (p : Point) (numbers : ℕ → ℕ) (x : Declared) (φ : Layer)
+pub becomes_comes :
+    (w : Surroundings) (code : List Instr) (e : Environment) (p q : Point) (numbers : ℕ → ℕ) (x : Declared) (φ : Layer)
     (φs : List Layer) (c index : ℕ) (f : Family) → Stands w p × IsImage w code p → IsDeclared w p x φ φs →
-    (table_number e x.declared ≡ x.number) × (e.parts ≡ w.parts) →
+    Becomes w code p x φ q → (table_number e x.declared ≡ x.number) × (e.parts ≡ w.parts) →
     Linked w.links code index (constant_made e x.place x.declared) → AreIn w p numbers index f →
-    Reach code c f (services_of p) (c + size_of (constant_made e x.place x.declared))
-    (services_of (with_made (made_of w.parts φ x) p))
-    (λ b y. IsIn w (with_made (made_of w.parts φ x) p) numbers
-    (index + size_of (constant_made e x.place x.declared)) b y)
-variable_comes w code e p numbers x φ φs c index f known is same l there =
+    Reach code c f (services_of p) (c + size_of (constant_made e x.place x.declared)) (services_of q)
+    (λ b y. IsIn w q numbers (index + size_of (constant_made e x.place x.declared)) b y)
+becomes_comes w code e p q numbers x φ φs c index f known is becomes same l there =
     let k : Around w code p x φ φs = record { stands = known.0; image = known.1; is = is } in
-    let q = with_made (made_of w.parts φ x) p in
-    let new = made_stands k in
+    let new = becomes.stands in
     let h = point_frame known.0 known.1 in
     let h' = point_frame new.0 new.1 in
     let v = services_of p in
     let v' = services_of q in
-    let frames = same_frame k in
-    let here = frames.0 in
+    let here = ap (λ ls. frame_under w.parts ls) is.newest in
+    let acts = ap (λ (u : Services). u.world.acts) becomes.services in
     let few = place_small k in
     let holds = is.holds in
     let coded = made_coded w e p x φ φs is same in
@@ -380,24 +372,25 @@ variable_comes w code e p numbers x φ φs c index f known is same l there =
     let r2 = all_asked x h (c + size_of front) (reached r1) (omega (arith, few, here, holds))
     (front_of (data' ++ two) (Plain I.Ecall ∷ stack) l3) (reached_holds r1) in
     let g = reached r2 in
-    let calling = calling_made k h g here (first_of (Plain I.Ecall) stack l4) (reached_holds r2) in
+    let answer : Services → Base → Answer =
+    λ u b. Done u (made_memory p φ x (g b).machine.memory) (φ.at + x.place) x.number in
+    let calling : Calling w.links code (index + size_of front + size_of (data' ++ two)) g (answer v') =
+    subst (λ u. Calling w.links code (index + size_of front + size_of (data' ++ two)) g (answer u)) becomes.services
+    (calling_made k h g here (first_of (Plain I.Ecall) stack l4) (reached_holds r2)) in
     let r3 = call_done (c + size_of front + size_of (data' ++ two)) g v v' (λ b. made_memory p φ x (g b).machine.memory)
     (λ b. φ.at + x.place) (λ b. x.number)
-    (λ b y. Known (between_ground w p x φ h) v' numbers (λ n. 0) nothing b y) (omega arith) calling
+    (λ b y. Known (between_ground w p q h) v' numbers (λ n. 0) nothing b y) (omega (arith, acts)) calling
     (λ b. let o = (reached_holds r2 b).holds in record {
       body = record {
         services = refl;
         registers = o.body.registers;
         bytes = made_length (g b).machine.memory k o.body.bytes;
-        memory = record {
-          storage = made_holding (g b).machine.memory k o.body.bytes o.body.memory.storage;
-          frames = made_frames b.at (g b).machine.memory k o.body.bytes o.body.memory.frames;
-        };
+        memory = becomes.memory b (g b).machine.memory o.body.bytes o.body.memory;
       };
       regs = tt;
     }) in
-    let r4 = stack_taken k h h' (c + size_of front + size_of (data' ++ two) + 1) (reached r3) (omega (arith, few))
-    (rest_of (Plain I.Ecall) stack l4) (reached_holds r3) in
+    let r4 = stack_taken k becomes h h' (c + size_of front + size_of (data' ++ two) + 1) (reached r3)
+    (omega (arith, few)) (rest_of (Plain I.Ecall) stack l4) (reached_holds r3) in
     let all = reach_moved (omega (arith, size, n0, n1, n2, n3, n4, n5)) (omega (arith, size, n0, n1, n2, n3, n4, n5))
     (reach_then r1 (reach_then r2 (reach_then r3 r4))) in
     reach_map _ all (λ b y o. in_known h' new.1.parts o)
@@ -411,6 +404,36 @@ variable_comes w code e p numbers x φ φs c index f known is same l there =
 
     split_data : (data' two rest : Code) → data' ++ (two ++ rest) ≡ (data' ++ two) ++ rest
     split_data data' two rest = sym (append_assoc data' two rest)
+
+-- nothing is told of its name
+pub made_becomes :
+    {w : Surroundings} {code : List Instr} {p : Point} {x : Declared} {φ : Layer} {φs : List Layer} →
+    Around w code p x φ φs → Becomes w code p x φ (with_made (made_of w.parts φ x) p)
+made_becomes {w} {x = x} {φ = φ} k =
+    record {
+      stands = made_stands k;
+      services = refl;
+      frame = ap (λ ls. frame_under w.parts (newest_grown (made_of w.parts φ x) ls)) k.is.newest;
+      top = ap (λ ls. upper_top w.parts (newest_grown (made_of w.parts φ x) ls)) k.is.newest;
+      memory = λ b m bytes stands.
+          record {
+            storage = made_holding m k bytes stands.storage;
+            frames = made_frames b.at m k bytes stands.frames;
+          };
+    }
+
+pub variable_comes :
+    (w : Surroundings) (code : List Instr) (e : Environment) (p : Point) (numbers : ℕ → ℕ) (x : Declared) (φ : Layer)
+    (φs : List Layer) (c index : ℕ) (f : Family) → Stands w p × IsImage w code p → IsDeclared w p x φ φs →
+    (table_number e x.declared ≡ x.number) × (e.parts ≡ w.parts) →
+    Linked w.links code index (constant_made e x.place x.declared) → AreIn w p numbers index f →
+    Reach code c f (services_of p) (c + size_of (constant_made e x.place x.declared))
+    (services_of (with_made (made_of w.parts φ x) p))
+    (λ b y. IsIn w (with_made (made_of w.parts φ x) p) numbers
+    (index + size_of (constant_made e x.place x.declared)) b y)
+variable_comes w code e p numbers x φ φs c index f known is same l there =
+    becomes_comes w code e p (with_made (made_of w.parts φ x) p) numbers x φ φs c index f known is
+    (made_becomes (record { stands = known.0; image = known.1; is = is })) same l there
 
 -- ---- what it means
 

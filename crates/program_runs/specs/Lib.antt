@@ -4,5 +4,6 @@ pub mod Statements
 pub mod Calls
 pub mod Programs
 pub mod Variables
+pub mod Names
 pub mod Rows
 pub mod VariableRows

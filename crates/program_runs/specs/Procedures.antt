@@ -77,6 +77,7 @@ layer_for w p numbers x y =
       saved = x.saved;
       held = numbers;
       waits = λ n. None;
+      told = λ n. None;
       list = None;
       top = frame_for w.parts p.control.layers x + fixed_size x.head.level 0;
       lower = lower_end w.parts p.control.layers;

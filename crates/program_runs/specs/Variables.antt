@@ -56,6 +56,7 @@ made_of parts φ x =
       number = x.number;
       top = φ.at + place_behind parts x;
       lower = φ.lower;
+      told = φ.told;
     }
 
 -- its name stands at the end of the frame, its data behind that, and the frame still fits between the stacks

@@ -1,6 +1,7 @@
 // Laws of the definitions: each function's contract is one law, and calling it does nothing.
 
 ghost use Rattle.program_runs.specs.Calls.{CallsDo, NoneMade, ProceduresRun};
+ghost use Rattle.program_runs.specs.Names.{NamesTold, OneNamed};
 ghost use Rattle.program_runs.specs.Procedures.{ProceduresBegin};
 ghost use Rattle.program_runs.specs.Programs.{ProgramsRun};
 ghost use Rattle.program_runs.specs.Rows.{ProgramRan};
@@ -70,6 +71,16 @@ pub fn variables_made()
 /// A procedure with one variable makes it where its block begins.
 pub fn one_made()
     ensures { OneMade }
+{}
+
+/// The name of a variable that is made is told of its block's frame.
+pub fn names_told()
+    ensures { NamesTold }
+{}
+
+/// A procedure with one variable makes it where its block begins, and its name is told.
+pub fn one_named()
+    ensures { OneNamed }
 {}
 
 /// If it can make it where the first statement of the block that calls it begins, it can wherever that calls it.

@@ -158,6 +158,7 @@ frames_same k base m c u xs (a ∷ as') (φ ∷ φs) h = (
     lower = h.0.lower;
     display_words = h.0.display_words;
     waits = h.0.waits;
+    told = h.0.told;
     list = h.0.list;
   },
   h.1,

@@ -91,6 +91,7 @@ unit_begins z h =
           free = subst (λ ls. upper_top w.parts ls + temporary_bytes x.words + fixed_size x.unit.head.level 0
               ≤ lower_end w.parts ls) (sym o.later.layers) r.room;
           saved = r.saved;
+          told = λ n v e. absurd (cc e);
         };
         entries = ([], refl);
         edits = refl;
@@ -114,6 +115,7 @@ unit_begins z h =
       held = refl;
       words = λ n less. o.words n;
       waits = λ n. refl;
+      told = λ n. refl;
       list = refl;
       top = refl;
       lower = refl;

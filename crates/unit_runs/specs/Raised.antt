@@ -81,6 +81,7 @@ unit_layer w x r =
       saved = x.saved;
       held = r.numbers;
       waits = λ n. None;
+      told = λ n. None;
       list = None;
       top = upper_top w.parts r.point.control.layers + temporary_bytes x.words + fixed_size x.unit.head.level 0;
       lower = lower_end w.parts r.point.control.layers;

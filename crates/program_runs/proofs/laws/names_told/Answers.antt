@@ -1,0 +1,5 @@
+use Rattle.program_runs.proofs.Names as P
+use Rattle.program_runs.proofs.laws.names_told.Goals as goal
+
+pub returns : goal.returns
+returns c = record { comes = P.name_comes; stands = P.name_stands }

@@ -1,0 +1,11 @@
+pub mod ReferenceMemory
+pub mod GivenReferences
+pub mod Receivers
+pub mod MadeNothing
+pub mod ReferenceCode
+pub mod ReferenceCalls
+pub mod ReferencesKnown
+pub mod ParameterAssignments
+pub mod LocalVariables
+pub mod ReferenceRows
+pub mod LocalRows

@@ -1,0 +1,5 @@
+use Rattle.reference_runs.proofs.LocalRows.{kept_ends, kept_runs}
+use Rattle.reference_runs.proofs.laws.local_ran.Goals as goal
+
+pub returns : goal.returns
+returns c = record { runs = kept_runs c.granules_keep.ensures; ends = kept_ends }

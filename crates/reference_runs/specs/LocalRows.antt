@@ -1,0 +1,167 @@
+-- A worked row: a main procedure that passes its variable to another in a loop, which has a variable of its own.
+use Rattle.std.specs.Prelude.{ℕ, suc, ◌+◌, ◌^◌, ◌<◌, ◌≡◌, List, [], ◌∷◌, length, map, None, Some}
+use Rattle.rv_meaning.specs.Machine.{memory_size}
+use Rattle.pli_language.specs.declared.condition.Condition.TheVariants as C
+use Rattle.pli_typing.specs.TypedTree as Y
+use Rattle.pli_meaning.specs.declared.outcome.End.TheVariants as E
+use Rattle.pli_meaning.specs.Control.{Label}
+use Rattle.pli_meaning.specs.Executing.{meaning, run}
+use Rattle.pli_meaning.specs.StorageState.{first_state}
+use Rattle.pli_serving.specs.Templates.{template_of}
+use Rattle.pli_coding.specs.Assembly.{Code, Mark, ProcedureEntry, size_of}
+use Rattle.pli_coding.specs.Entries.{variables_code}
+use Rattle.pli_coding.specs.Environments.{Environment}
+use Rattle.pli_coding.specs.Images.{code_of, environment_of, linked_code, raise_code}
+use Rattle.pli_coding.specs.Linking.{links_of}
+use Rattle.pli_coding.specs.Procedures.{procedure_environment}
+use Rattle.pli_coding.specs.SignatureTable.{table_of}
+use Rattle.pli_coding.specs.Statements.{block_held, block_words}
+use Rattle.activation_relation.specs.Layers.{services_of}
+use Rattle.run_steps.specs.Reach.{Comes, never}
+use Rattle.program_runs.specs.Procedures.{Procedure, procedure_code}
+use Rattle.program_runs.specs.Rows.{row_head}
+use Rattle.program_runs.specs.Starts.{Image, first_family, image_parts, start_of, start_point}
+use Rattle.program_runs.specs.Variables.{Declared}
+use Rattle.expression_runs.specs.Assignments.{assignment}
+use Rattle.expression_runs.specs.Variables.{Spot, number_declared, whole}
+use Rattle.argument_runs.specs.Parameters.{parameter, parameter_declared}
+use Rattle.reference_runs.specs.ParameterAssignments as N
+use Rattle.reference_runs.specs.Receivers.{receiving_code}
+
+-- ---- the program: DECLARE X FIXED BINARY(31); P: PROCEDURE (N); DECLARE (N, Y) FIXED BINARY(31); Y = N + N; N = Y;
+-- END P; X = 536870912; L: CALL P(X); GOTO L;
+
+abbrev pub outer_spot : Spot
+outer_spot = record { block = 0; level = 0; index = 0 }
+
+abbrev pub kept_spot : Spot
+kept_spot = record { block = 1; level = 1; index = 0 }
+
+abbrev pub local_spot : Spot
+local_spot = record { block = 1; level = 1; index = 1 }
+
+abbrev pub kept_label : Label
+kept_label = 76 ∷ []
+
+abbrev pub kept_first : Y.Stmt
+kept_first = assignment outer_spot (Y.NumberConstant 536870912) 6
+
+abbrev pub kept_call : Y.Stmt
+kept_call =
+    Y.CallProcedure (Y.Calling 1 0 (Y.ArgumentThen (Y.ByReference (whole outer_spot)) Y.NoArgument)) 7
+
+abbrev pub kept_back : Y.Stmt
+kept_back = Y.Goto 0 kept_label 8
+
+abbrev pub kept_end : Y.Stmts
+kept_end = Y.StmtThen [] kept_back (Y.EndOfList [])
+
+abbrev pub kept_rest : Y.Stmts
+kept_rest = Y.StmtThen (kept_label ∷ []) kept_call kept_end
+
+abbrev pub kept_body : Y.Stmts
+kept_body = Y.StmtThen [] kept_first kept_rest
+
+abbrev pub twice : Y.Number
+twice = Y.Calculated Y.Sum (Y.NumberIn (parameter kept_spot)) (Y.NumberIn (parameter kept_spot))
+
+abbrev pub inner_first : Y.Stmt
+inner_first = assignment local_spot twice 4
+
+abbrev pub inner_second : Y.Stmt
+inner_second = N.assignment kept_spot (Y.NumberIn (whole local_spot)) 5
+
+abbrev pub inner_rest : Y.Stmts
+inner_rest = Y.StmtThen [] inner_second (Y.EndOfList [])
+
+abbrev pub inner_body : Y.Stmts
+inner_body = Y.StmtThen [] inner_first inner_rest
+
+abbrev pub kept_procedure : Y.Procedure
+kept_procedure = record { block = Y.BlockOf (row_head 1 1 2) inner_body; parameters = 0 ∷ []; result = None }
+
+abbrev pub kept_program : Y.Program
+kept_program =
+    record {
+      variables = (number_declared [] ∷ []) ∷ (parameter_declared ∷ number_declared [] ∷ []) ∷ [];
+      procedures =
+          record { block = Y.BlockOf (row_head 0 0 1) kept_body; parameters = []; result = None }
+          ∷ kept_procedure ∷ [];
+    }
+
+-- ---- its image
+
+abbrev pub kept_environment : Environment
+kept_environment = procedure_environment (row_head 0 0 1) (environment_of image_parts kept_program)
+
+abbrev pub inner_environment : Environment
+inner_environment = procedure_environment (row_head 1 1 2) (environment_of image_parts kept_program)
+
+abbrev pub kept_main : Procedure
+kept_main =
+    record {
+      head = row_head 0 0 1;
+      body = kept_body;
+      words = block_words kept_environment 0 kept_body;
+      saved = block_held kept_environment 0 kept_body;
+      variables = variables_code kept_environment 1;
+    }
+
+abbrev pub kept_inner : Procedure
+kept_inner =
+    record {
+      head = row_head 1 1 2;
+      body = inner_body;
+      words = block_words inner_environment 1 inner_body;
+      saved = block_held inner_environment 1 inner_body;
+      variables = variables_code inner_environment 2;
+    }
+
+-- its name stands behind the fixed part of the frame
+abbrev pub local_declared : Declared
+local_declared = record { index = 1; declared = number_declared []; number = 0; place = 160 }
+
+abbrev pub kept_code : Code
+kept_code = code_of image_parts kept_program
+
+abbrev pub main_coded : Code
+main_coded = Mark (ProcedureEntry 0) ∷ procedure_code kept_environment kept_main
+
+abbrev pub inner_coded : Code
+inner_coded = Mark (ProcedureEntry 1) ∷ receiving_code inner_environment kept_inner
+
+abbrev pub kept_entry : ℕ
+kept_entry = size_of (start_of 0) + size_of raise_code
+
+abbrev pub inner_entry : ℕ
+inner_entry = kept_entry + size_of main_coded
+
+abbrev pub kept_image : (input : List ℕ) → (acts : ℕ) → Image
+kept_image input acts =
+    record {
+      code = linked_code kept_code;
+      links = links_of kept_code;
+      units = [];
+      signatures = map template_of (table_of kept_program);
+      input = input;
+      acts = acts;
+      serials = 1;
+    }
+
+pub record LocalRan : Type 0 where
+  -- whatever memory, input and number of acts that are allowed, the run does what the program does
+  pub runs :
+      (input first : List ℕ) (acts : ℕ) → acts + 1 < 2 ^ 64 → length first ≡ memory_size →
+      Comes (linked_code kept_code) 0 (first_family first (services_of (start_point (kept_image input acts))))
+      (services_of (start_point (kept_image input acts))) never
+      (run kept_program (suc acts) acts (first_state input))
+  -- that ends in the second call, since 2 ^ 31 has more than 31 bits
+  pub ends :
+      (input : List ℕ) →
+      meaning kept_program input 13
+      ≡ Some (record {
+        acts = 13;
+        output = [];
+        raised = (C.FixedOverflow, 20) ∷ (C.Error, 20) ∷ [];
+        end = E.Error 20 4;
+      })
