@@ -365,7 +365,7 @@ behind_copy y =
     act_code x.head.line
     ++ (stmts_code y.callee.environment none_taken x.body ++ (Mark (ReturnPlace x.head.number) ∷ end_of x))
 
-body_goes :
+pub body_goes :
     (y : CopyCall) (callee : IsCopying y.surroundings y.code y.callee) (f : Family) → IsBegun (copy_block None y) →
     IsAmong (copy_block None y) y.numbers (copy_block None y).first →
     EachDoes (copy_block None y) (labels_in y.callee.procedure.body ++ []) y.callee.procedure.body (body_index y.callee)
@@ -398,21 +398,27 @@ body_goes y callee f b o each few there =
     (list_does k [] x.body (body_index c) left_over k.first y.numbers 0 left_over f b few each callee.labels o l2
     (omega arith, omega (arith, inside)) there))
 
+-- what is asked of its body: from its first statement it comes to the block's end
+abbrev pub BodyComes : CopyCall → Type 0
+BodyComes y =
+    IsBegun (copy_block None y) → IsAmong (copy_block None y) y.numbers (copy_block None y).first → (f : Family) →
+    AreIn y.surroundings (copy_block None y).first y.numbers (body_index y.callee) f →
+    Comes y.code 0 f (services_of (copy_block None y).first) (body_aims (called_of None y) left_over)
+    (M.list (at_line y.callee.around y.callee.procedure.head.line) y.callee.procedure.body y.surroundings.acts
+    (copy_block None y).first.state)
+
 -- ---- the whole
 
 pub copy_runs :
     {y : CopyCall} (credits wanted : ℕ) (f : Family) → Here None y → IsCopying y.surroundings y.code y.callee →
-    (IsBegun (copy_block None y) →
-    EachDoes (copy_block None y) (labels_in y.callee.procedure.body ++ []) y.callee.procedure.body (body_index y.callee)
-    left_over) →
-    y.surroundings.acts < y.callee.around.turns + (y.point.state.world.acts + 1) →
+    BodyComes y →
     credits + 4 + size_of (copying_code y.callee.environment y.callee.procedure) ≤ cost y.code →
     AreIn y.surroundings (given_point y) y.numbers y.callee.calling.call f →
     ((b : Base) → IsListing (given_point y) (beginning_of None y) (list_under y.layer.at) b (f b)) →
     Comes y.code credits f (services_of (given_point y)) (behind_aims (called_of None y) wanted)
     (M.block_run y.callee.around (block_of y.callee.procedure) (entry_of None y) y.surroundings.acts y.point.state)
 unfolding ◌>>◌
-copy_runs {y} credits wanted f h callee each few paid there gives =
+copy_runs {y} credits wanted f h callee body_comes paid there gives =
     let w = y.surroundings in
     let c = y.callee in
     let k = called_of None y in
@@ -448,5 +454,4 @@ copy_runs {y} credits wanted f h callee each few paid there gives =
     (h.coded.line, callee.acts, omega (arith, n0, n1, n2, n3, paid)) (front_of one (body ++ tail) l1) at'
     (λ g'' less at''.
     let o = first_among h less in
-    let b = first_begun h o.stands in
-    body_goes y callee g'' b o (each b) (omega (arith, few)) at''))))) there gives)
+    body_comes (first_begun h o.stands) o g'' at''))))) there gives)

@@ -71,7 +71,7 @@ use Rattle.argument_runs.specs.CopyCalls.{given_point, setting_for}
 use Rattle.argument_runs.specs.Laws.{HasList}
 use Rattle.argument_runs.specs.ListBeginnings.{IsListing}
 use Rattle.argument_runs.specs.Lists.{given_waits, layered, list_given, list_under, named_waits, value_given, with_list}
-use Rattle.argument_runs.proofs.CopyBlocks.{Here, behind_copy, copy_runs}
+use Rattle.argument_runs.proofs.CopyBlocks.{BodyComes, Here, behind_copy, body_goes, copy_runs}
 use Rattle.argument_runs.proofs.GivenLists.{arguments_comes, with_list_stands}
 
 -- ---- at each of the block's points
@@ -369,9 +369,7 @@ given_goes :
     {k : Block} {c : Copying} {source : Y.Number} {φ : Layer} {φs : List Layer} {line index need most more : ℕ}
     (labels : List Label) (left' acts wanted c' : ℕ) (f' : Family) (v' : Services) (z : ℤ) (s : State) (y : Stretch) →
     IsCopyCall k c source φ φs line index need most more →
-    ((p : Point) (numbers : ℕ → ℕ) → IsAmong k numbers p → IsBegun (copy_block None (call_at k c φ φs p numbers z)) →
-    EachDoes (copy_block None (call_at k c φ φs p numbers z)) (labels_in c.procedure.body ++ []) c.procedure.body
-    (body_index c) left_over) →
+    ((p : Point) (numbers : ℕ → ℕ) → IsAmong k numbers p → BodyComes (call_at k c φ φs p numbers z)) →
     acts ≤ y.acts → is_of_precision 31 z ≡ true → HasWord k y (word z) c' f' v' s →
     Linked k.call.surroundings.links k.call.code y.index ((value_given ++ list_given) ++ calling c) →
     c.calling.call ≡ y.index + size_of (value_given ++ list_given) → y.wanted ≤ y.index →
@@ -395,9 +393,6 @@ given_goes {k} {c} {source} {φ} {φs} {line} {index} labels left' acts wanted c
     (statement_closed k labels acts (index + size_in k (call_with k c source line)) wanted left') in
     let flow = M.block_run c.around (block_of c.procedure) (entry_of None x) w.acts p.state in
     let more = q.since in
-    let later = o.later.acts in
-    let enough = h.enough in
-    let turns = ap (λ (a : Around). a.turns) h.around in
     let inside = l.inside in
     let proc = h.callee.stands.inside in
     let n = size_append (value_given ++ list_given) (calling c) in
@@ -417,23 +412,22 @@ given_goes {k} {c} {source} {φ} {φs} {line} {index} labels left' acts wanted c
     (λ c1 f1 v1 height label t e. absurd e)
     (λ c1 f1 v1 r t e. absurd e)
     (copy_runs (y.wanted + size_of (value_given ++ list_given)) wanted g' (here_among z wide h o)
-    h.callee (each p q.numbers o) (omega (arith, enough, turns, later)) (omega (arith, few, n, inside, proc))
+    h.callee (each p q.numbers o) (omega (arith, few, n, inside, proc))
     (λ b. subst (λ j. IsIn w (given_point x) q.numbers j b (g' b)) (sym at) (there' b).0)
     (λ b. is_listing z h o (there' b).1))))))
 
 -- ---- the statement
 
-pub copy_call_does :
+-- if the procedure's body comes to its end
+pub copy_call_comes :
     (k : Block) (c : Copying) (labels : List Label) (source : Y.Number) (φ : Layer) (φs : List Layer)
     (line index left' need most more : ℕ) → IsCopyCall k c source φ φs line index need most more →
     L.Does (setting_for k labels line most) need source →
     ((p : Point) (numbers : ℕ → ℕ) (z : ℤ) → IsAmong k numbers p → is_of_precision 31 z ≡ true →
-    IsBegun (copy_block None (call_at k c φ φs p numbers z)) →
-    EachDoes (copy_block None (call_at k c φ φs p numbers z)) (labels_in c.procedure.body ++ []) c.procedure.body
-    (body_index c) left_over) →
+    BodyComes (call_at k c φ φs p numbers z)) →
     Does k labels (call_with k c source line) index left'
 unfolding M.statement V.called V.arguments V.argument V.stored_value V.all_passed_last V.passed_last give ◌>>=◌ ◌>>◌
-copy_call_does k c labels source φ φs line index left' need most more h ev each p numbers credits wanted f o paid
+copy_call_comes k c labels source φ φs line index left' need most more h ev each p numbers credits wanted f o paid
     there =
     let w = k.call.surroundings in
     let code = k.call.code in
@@ -490,7 +484,7 @@ copy_call_does k c labels source φ φs line index left' need most more h ev eac
         to = record {
           to =
               given_goes labels left' acts wanted c' f' v' z s y h
-              (λ p1 numbers1 o1 b. each p1 numbers1 z o1 q.0 b) (omega arith) q.0 q.1
+              (λ p1 numbers1 o1. each p1 numbers1 z o1 q.0) (omega arith) q.0 q.1
               (back_of v (given' ++ calling c) l1) (omega (arith, at_call, size, n0, n1, n2)) (omega arith);
         };
       };
@@ -499,3 +493,21 @@ copy_call_does k c labels source φ φs line index left' need most more h ev eac
     (λ c' f' v' r s q. absurd q)
     (ev p' numbers 0 0 (index + size_of one) g o' refl (let room = h.registers in omega (arith, room), h.held)
     (front_of v (given' ++ calling c) l1) (omega (arith, all, n0, n1, size)) at))))))))
+
+pub copy_call_does :
+    (k : Block) (c : Copying) (labels : List Label) (source : Y.Number) (φ : Layer) (φs : List Layer)
+    (line index left' need most more : ℕ) → IsCopyCall k c source φ φs line index need most more →
+    L.Does (setting_for k labels line most) need source →
+    ((p : Point) (numbers : ℕ → ℕ) (z : ℤ) → IsAmong k numbers p → is_of_precision 31 z ≡ true →
+    IsBegun (copy_block None (call_at k c φ φs p numbers z)) →
+    EachDoes (copy_block None (call_at k c φ φs p numbers z)) (labels_in c.procedure.body ++ []) c.procedure.body
+    (body_index c) left_over) →
+    Does k labels (call_with k c source line) index left'
+copy_call_does k c labels source φ φs line index left' need most more h ev each =
+    let enough = h.enough in
+    let turns = ap (λ (a : Around). a.turns) h.around in
+    copy_call_comes k c labels source φ φs line index left' need most more h ev
+    (λ p numbers z o wide b o' f at.
+    let later = o.later.acts in
+    body_goes (call_at k c φ φs p numbers z) h.callee f b o' (each p numbers z o wide b)
+    (omega (arith, enough, turns, later)) at)

@@ -149,14 +149,21 @@ function_goes y h f b o each only few there =
     (list_does k [] x.body (body_index c) left_over k.first y.numbers 0 left_over f b few each h.labels o l2
     (omega arith, omega (arith, inside)) there))
 
+-- what is asked of its body: from its first statement it comes to the block's end
+abbrev pub FunctionComes : CopyCall → Type 0
+FunctionComes y =
+    IsBegun (copy_block (Some number_function) y) →
+    IsAmong (copy_block (Some number_function) y) y.numbers (copy_block (Some number_function) y).first →
+    (f : Family) →
+    AreIn y.surroundings (copy_block (Some number_function) y).first y.numbers (body_index y.callee) f →
+    Comes y.code 0 f (services_of (copy_block (Some number_function) y).first)
+    (body_aims (called_of (Some number_function) y) left_over)
+    (behind_list (at_line y.callee.around y.callee.procedure.head.line) y.callee.procedure.body true
+    y.surroundings.acts (copy_block (Some number_function) y).first.state)
+
 copy_function_runs :
     {y : CopyCall} (credits wanted : ℕ) (f : Family) → Here (Some number_function) y →
-    IsCopyFunction y.surroundings y.code y.callee →
-    (IsBegun (copy_block (Some number_function) y) →
-    EachDoes (copy_block (Some number_function) y) (labels_in y.callee.procedure.body ++ []) y.callee.procedure.body
-    (body_index y.callee) left_over) →
-    IsSystem (force (copy_block (Some number_function) y).first.state.activations C.Error) →
-    y.surroundings.acts < y.callee.around.turns + (y.point.state.world.acts + 1) →
+    IsCopyFunction y.surroundings y.code y.callee → FunctionComes y →
     credits + 4 + size_of (function_copying y.callee.environment y.callee.procedure) ≤ cost y.code →
     AreIn y.surroundings (given_point y) y.numbers y.callee.calling.call f →
     ((b : Base) →
@@ -164,7 +171,7 @@ copy_function_runs :
     Comes y.code credits f (services_of (given_point y)) (behind_aims (called_of (Some number_function) y) wanted)
     (M.block_run y.callee.around (block_of y.callee.procedure) (entry_of (Some number_function) y)
     y.surroundings.acts y.point.state)
-copy_function_runs {y} credits wanted f h callee each only few paid there gives =
+copy_function_runs {y} credits wanted f h callee body_comes paid there gives =
     let g0 = Some number_function in
     let w = y.surroundings in
     let c = y.callee in
@@ -204,8 +211,7 @@ copy_function_runs {y} credits wanted f h callee each only few paid there gives 
     (h.coded.line, callee.acts, omega (arith, n0, n1, n2, n3, n4, paid)) (front_of one (body ++ tail) l1) at'
     (λ g'' less at''.
     let o = first_among h less in
-    let b = first_begun h o.stands in
-    function_goes y callee g'' b o (each b) only (omega (arith, few)) at''))))) there gives)
+    body_comes (first_begun h o.stands) o g'' at''))))) there gives)
 
 -- ---- at each of the block's points
 
@@ -234,7 +240,7 @@ room_among {k} {c} {p = p} call h o =
           (sym (in_use_later w k.block.first p h.begun.resumes.stands o.stands o.later)) r.limit;
     }
 
-function_by :
+pub function_by :
     (k : Setting) {c : Copying} (call : ℕ) → IsCopyFunction k.block.call.surroundings k.block.call.code c →
     IsCopyFunction k.block.call.surroundings k.block.call.code (called_by c call)
 function_by k {c} call h =
@@ -484,10 +490,7 @@ given_goes :
     {k : Setting} {c : Copying} {φ : Layer} {φs : List Layer} {more : ℕ} (call c' : ℕ) (f' : Family) (v' : Services)
     (z : ℤ) (s : State) (x y : Stretch) → IsCopyFunctionCall k c φ φs more →
     ((p : Point) (numbers : ℕ → ℕ) → IsAmong k.block numbers p →
-    IsSystem (force (block_with k c φ φs call p numbers z).first.state.activations C.Error)) →
-    ((p : Point) (numbers : ℕ → ℕ) → IsAmong k.block numbers p → IsBegun (block_with k c φ φs call p numbers z) →
-    EachDoes (block_with k c φ φs call p numbers z) (labels_in c.procedure.body ++ []) c.procedure.body (body_index c)
-    left_over) →
+    FunctionComes (call_at k.block (called_by c call) φ φs p numbers z)) →
     is_of_precision 31 z ≡ true → HasWord k.block y (word z) c' f' v' s →
     (x.acts ≤ y.acts) × (y.line ≡ x.line) × ((n : ℕ) → n < x.taken → n < y.taken)
     × ((n : ℕ) → n < x.taken → y.numbers n ≡ x.numbers n) →
@@ -498,7 +501,7 @@ given_goes :
     (before k.block.call.code (number_aims k.block k.labels x) k.block.call.surroundings.acts as_number)
     (V.procedure_entered k.around (procedure_numbered c.procedure.head.number k.around.program.procedures)
     k.block.environment.level (PassedValue (Fixed 31) (BasicNumber z) ∷ []) k.block.call.surroundings.acts s)
-given_goes {k} {c} {φ} {φs} call c' f' v' z s x y h only each wide q same l at paid =
+given_goes {k} {c} {φ} {φs} call c' f' v' z s x y h each wide q same l at paid =
     let w = k.block.call.surroundings in
     let code = k.block.call.code in
     let p = q.point in
@@ -510,9 +513,6 @@ given_goes {k} {c} {φ} {φs} call c' f' v' z s x y h only each wide q same l at
     let flow = M.block_run c.around (block_of c.procedure) (entry_of (Some number_function) u) w.acts p.state in
     let since = same.0 in
     let more = q.since in
-    let later = o.later.acts in
-    let enough = h.enough in
-    let turns = ap (λ (a : Around). a.turns) h.around in
     let most = h.most in
     let calls = back_of (value_given ++ list_given) (calling c) l in
     let calls' = subst (λ j. Linked w.links code j (calling c)) (sym at.0) calls in
@@ -533,25 +533,21 @@ given_goes {k} {c} {φ} {φs} call c' f' v' z s x y h only each wide q same l at
     (λ c1 f1 v1 height label t e. absurd e)
     (λ c1 f1 v1 r t e. absurd e)
     (copy_function_runs (y.wanted + size_of (value_given ++ list_given)) x.wanted g'
-    (here_with call z wide h o calls') (function_by k call h.function) (each p q.numbers o) (only p q.numbers o)
-    (omega (arith, enough, turns, later)) (omega (arith, paid, most))
+    (here_with call z wide h o calls') (function_by k call h.function) (each p q.numbers o) (omega (arith, paid, most))
     (λ b. subst (λ j. IsIn w (given_point u) q.numbers j b (g' b)) (sym at.0) (there' b).0)
     (λ b. is_listing call z h o (there' b).1))))))
 
 -- ---- the call
 
-pub copy_function_does :
+-- if the function's body comes to its end
+pub copy_function_comes :
     (k : Setting) (c : Copying) (source : Y.Number) (φ : Layer) (φs : List Layer) (need more : ℕ) →
     IsCopyFunctionCall k c φ φs more → L.Does (setting_in k) need source →
-    ((call : ℕ) (p : Point) (numbers : ℕ → ℕ) (z : ℤ) → IsAmong k.block numbers p →
-    IsSystem (force (block_with k c φ φs call p numbers z).first.state.activations C.Error)) →
     ((call : ℕ) (p : Point) (numbers : ℕ → ℕ) (z : ℤ) → IsAmong k.block numbers p → is_of_precision 31 z ≡ true →
-    IsBegun (block_with k c φ φs call p numbers z) →
-    EachDoes (block_with k c φ φs call p numbers z) (labels_in c.procedure.body ++ []) c.procedure.body (body_index c)
-    left_over) →
+    FunctionComes (call_at k.block (called_by c call) φ φs p numbers z)) →
     L.Does k need (function_with k c source)
 unfolding V.number V.called V.arguments V.argument V.stored_value V.all_passed_last V.passed_last give ◌>>=◌
-copy_function_does k c source φ φs need more h ev only each p numbers taken credits index f o line registers l paid
+copy_function_comes k c source φ φs need more h ev each p numbers taken credits index f o line registers l paid
     there =
     let w = k.block.call.surroundings in
     let code = k.block.call.code in
@@ -595,8 +591,7 @@ copy_function_does k c source φ φs need more h ev only each p numbers taken cr
       to = record {
         to = record {
           to =
-              given_goes call c' f' v' z s x y h (λ p1 numbers1 o1. only call p1 numbers1 z o1)
-              (λ p1 numbers1 o1 b. each call p1 numbers1 z o1 q.0 b) q.0 q.1
+              given_goes call c' f' v' z s x y h (λ p1 numbers1 o1. each call p1 numbers1 z o1 q.0) q.0 q.1
               (omega arith, refl, (λ n less. less), (λ n less. refl)) (back_of v (given' ++ calling c) l')
               (refl, omega (arith, size, n1, n2)) (omega (arith, paid, size, n1, n2));
         };
@@ -606,3 +601,22 @@ copy_function_does k c source φ φs need more h ev only each p numbers taken cr
     (λ c' f' v' r s q. absurd q)
     (ev p numbers taken credits index f o line registers (front_of v (given' ++ calling c) l')
     (omega (arith, paid, n1, size)) there))))))
+
+pub copy_function_does :
+    (k : Setting) (c : Copying) (source : Y.Number) (φ : Layer) (φs : List Layer) (need more : ℕ) →
+    IsCopyFunctionCall k c φ φs more → L.Does (setting_in k) need source →
+    ((call : ℕ) (p : Point) (numbers : ℕ → ℕ) (z : ℤ) → IsAmong k.block numbers p →
+    IsSystem (force (block_with k c φ φs call p numbers z).first.state.activations C.Error)) →
+    ((call : ℕ) (p : Point) (numbers : ℕ → ℕ) (z : ℤ) → IsAmong k.block numbers p → is_of_precision 31 z ≡ true →
+    IsBegun (block_with k c φ φs call p numbers z) →
+    EachDoes (block_with k c φ φs call p numbers z) (labels_in c.procedure.body ++ []) c.procedure.body (body_index c)
+    left_over) →
+    L.Does k need (function_with k c source)
+copy_function_does k c source φ φs need more h ev only each =
+    let enough = h.enough in
+    let turns = ap (λ (a : Around). a.turns) h.around in
+    copy_function_comes k c source φ φs need more h ev
+    (λ call p numbers z o wide b o' f at.
+    let later = o.later.acts in
+    function_goes (call_at k.block (called_by c call) φ φs p numbers z) (function_by k call h.function) f b o'
+    (each call p numbers z o wide b) (only call p numbers z o) (omega (arith, enough, turns, later)) at)

@@ -37,7 +37,7 @@ use Rattle.program_runs.proofs.NewestBlocks.{newest_at, newest_own}
 use Rattle.program_runs.proofs.Statements.{at_end, statement_closed}
 use Rattle.begin_runs.specs.BehindLists.{GoesBehind, from_point, list_aims}
 use Rattle.begin_runs.proofs.Begins.{out_of_all}
-use Rattle.unit_runs.specs.Changing.{AllDo, IsPast, Past, StandsIn, StepDoes, after}
+use Rattle.unit_runs.specs.Changing.{AllDo, GoesPast, IsPast, Past, StandsIn, StepDoes, after, past_aims, past_point}
 use Rattle.unit_runs.specs.Establishing.{IsOn, OnUnit, on_of}
 use Rattle.unit_runs.proofs.Establishing.{unit_begun, unit_does}
 use Rattle.unit_runs.specs.Bodies.{BodyDoes, IsBody}
@@ -132,12 +132,23 @@ behind_later {k} {acts} {index} {wanted} {s = s} r o =
       goes = (statement_closed (from_point k o.first) [] acts index wanted 0).done r tt s o.goes;
     }
 
+past_later :
+    {k : Block} {body : Y.Stmts} {start acts index wanted i i' : ℕ} {f : Family} {v v' : Services}
+    {Q : Base → Whole → Type 0} {s : State} (r : Reach k.call.code i f v i' v' Q) →
+    GoesPast k body start acts index wanted i' (reached r) v' s → GoesPast k body start acts index wanted i f v s
+past_later {k} {acts = acts} {index = index} {wanted = wanted} {s = s} r o =
+    record {
+      past = o.past;
+      known = o.known;
+      goes = (statement_closed (after k o.past) [] acts index wanted 0).done r tt s o.goes;
+    }
+
 -- ---- what is aimed at by its statements: what is behind the list, a label of it, or out of the block
 
 abbrev inside_aims : Block → Y.Stmts → (index acts end wanted left' : ℕ) → Aims (Unit {0})
 inside_aims k body index acts end wanted left' =
     record {
-      done = λ c f v r s. GoesBehind k acts end wanted c f v s;
+      done = λ c f v r s. GoesPast k body index acts end wanted c f v s;
       jumped = λ c f v height label s. JumpsIn k body index acts c f v height label s;
       returned = λ c f v r s. ReturnsTo k left' c f v r s;
     }
@@ -147,7 +158,7 @@ inside_closed :
     Closed k.call.code (inside_aims k body index acts end wanted left')
 inside_closed k body index acts end wanted left' =
     record {
-      done = λ r x s o. behind_later r o;
+      done = λ r x s o. past_later r o;
       jumped = λ r height label s o. jumps_in_later r o;
       returned = λ r x s o. returns_later r o;
     }
@@ -156,6 +167,16 @@ pub list_closed : (k : Block) (acts end wanted left' : ℕ) → Closed k.call.co
 list_closed k acts end wanted left' =
     record {
       done = λ r x s o. behind_later r o;
+      jumped = λ r height label s o. outs_later k acts height label s r o;
+      returned = λ r x s o. returns_later r o;
+    }
+
+past_closed :
+    (k : Block) (body : Y.Stmts) (start acts end wanted left' : ℕ) →
+    Closed k.call.code (past_aims k body start acts end wanted left')
+past_closed k body start acts end wanted left' =
+    record {
+      done = λ r x s o. past_later r o;
       jumped = λ r height label s o. outs_later k acts height label s r o;
       returned = λ r x s o. returns_later r o;
     }
@@ -184,6 +205,19 @@ pub list_since :
 list_since {k} {acts} {more} {end} {wanted} {left'} {flow = flow} few o =
     comes_map (list_aims k more end wanted left') (list_aims k acts end wanted left') flow
     (λ c f v r s q. record { first = q.first; begun = q.begun; goes = goes_since few q.goes })
+    (λ c f v height label s q.
+    outs_since k.call.surroundings k.call.code k.outers acts more c f v height label (closed s) few q)
+    (λ c f v r s q. q)
+    o
+
+past_since :
+    {k : Block} {body : Y.Stmts} {start acts more end wanted left' c : ℕ} {f : Family} {v : Services}
+    {flow : Flow (Unit {0})} → acts ≤ more →
+    Comes k.call.code c f v (past_aims k body start more end wanted left') flow →
+    Comes k.call.code c f v (past_aims k body start acts end wanted left') flow
+past_since {k} {body} {start} {acts} {more} {end} {wanted} {left'} {flow = flow} few o =
+    comes_map (past_aims k body start more end wanted left') (past_aims k body start acts end wanted left') flow
+    (λ c f v r s q. record { past = q.past; known = q.known; goes = goes_since few q.goes })
     (λ c f v height label s q.
     outs_since k.call.surroundings k.call.code k.outers acts more c f v height label (closed s) few q)
     (λ c f v r s q. q)
@@ -281,11 +315,11 @@ ends_here :
     {k : Block} {body : Y.Stmts} {index end wanted left' : ℕ} (z : Listing k body index end wanted left')
     (acts c : ℕ) (past : Past) → IsPast k body index past → (p : Point) (numbers : ℕ → ℕ) (f : Family) →
     acts ≤ p.state.world.acts → IsAmong (after k past) numbers p → c ≤ wanted →
-    AreIn k.call.surroundings p numbers end f → GoesBehind k acts end wanted c f (services_of p) p.state
+    AreIn k.call.surroundings p numbers end f → GoesPast k body index acts end wanted c f (services_of p) p.state
 ends_here {k} {body} {index} {end} {wanted} z acts c past known p numbers f since o few there =
     record {
-      first = (after k past).first;
-      begun = begun_after k body index past z.begun known;
+      past = past;
+      known = known;
       goes = record {
         point = p;
         numbers = numbers;
@@ -435,9 +469,10 @@ comes_caught :
     (next' : Label → Meaning (Unit {0})) → height ≡ own_height k →
     ((label : Label) (c' : ℕ) (f' : Family) (v' : Services) (s : State) →
     LandsIn k body index acts c' f' v' height label s →
-    Comes k.call.code c' f' v' (list_aims k acts end wanted left') (next' label k.call.surroundings.acts s)) →
+    Comes k.call.code c' f' v' (past_aims k body index acts end wanted left')
+    (next' label k.call.surroundings.acts s)) →
     Comes k.call.code c f v (inside_aims k body index acts end wanted left') flow →
-    Comes k.call.code c f v (list_aims k acts end wanted left')
+    Comes k.call.code c f v (past_aims k body index acts end wanted left')
     (caught k.call.surroundings.acts height (M.labels_in body) flow next')
 comes_caught z height (Normal r s) next' same goes o = record { to = o.to }
 comes_caught {k} {body} {index} {end} {wanted} {left'} {acts} {c} {f} {v} z height (Jump h label s) next' same goes o =
@@ -450,7 +485,7 @@ comes_caught {k} {body} {index} {end} {wanted} {left'} {acts} {c} {f} {v} z heig
     w = k.call.surroundings
 
     goal : Flow (Unit {0}) → Type 0
-    goal flow = Comes k.call.code c f v (list_aims k acts end wanted left') flow
+    goal flow = Comes k.call.code c f v (past_aims k body index acts end wanted left') flow
 
     by :
         LandsIn k body index acts c f v h label s
@@ -485,18 +520,19 @@ jumped_on :
     (k.call.surroundings.acts < n + q.lands.point.state.world.acts → (g : Family) →
     AreIn k.call.surroundings q.lands.point q.lands.numbers q.lands.index g →
     Comes k.call.code 0 g (services_of q.lands.point)
-    (list_aims k q.lands.point.state.world.acts end wanted left')
+    (past_aims k body index q.lands.point.state.world.acts end wanted left')
     (list_from n height (M.labels_in body) (M.statements k.around body) (Some label) k.call.surroundings.acts
     q.lands.point.state)) →
-    Comes k.call.code c f v (list_aims k acts end wanted left')
+    Comes k.call.code c f v (past_aims k body index acts end wanted left')
     (list_from n height (M.labels_in body) (M.statements k.around body) (Some label) k.call.surroundings.acts s)
 jumped_on n {k} {body} {index} {end} {wanted} {left'} {acts} {c} {f} {v} height label few q rest =
     let more = q.lands.more in
-    subst (λ u. Comes k.call.code c f v (list_aims k acts end wanted left')
+    subst (λ u. Comes k.call.code c f v (past_aims k body index acts end wanted left')
     (list_from n height (M.labels_in body) (M.statements k.around body) (Some label) k.call.surroundings.acts u))
     (sym q.lands.state)
-    (onward (list_closed k acts end wanted left') q.lands.reach
-    (λ g at'. list_since {k = k} (omega (arith, more)) (rest (omega (arith, few, more)) g at')))
+    (onward (past_closed k body index acts end wanted left') q.lands.reach
+    (λ g at'.
+    past_since {k = k} {body = body} {start = index} (omega (arith, more)) (rest (omega (arith, few, more)) g at')))
 
 turns_come :
     (turns : ℕ) {k : Block} {body : Y.Stmts} {index end wanted left' : ℕ} (z : Listing k body index end wanted left')
@@ -506,7 +542,7 @@ turns_come :
     is_among label (M.labels_in body) ≡ true →
     place_of k.call.surroundings.links (LabelPlace k.environment.block label) ≡ 4 * at →
     AreIn k.call.surroundings p numbers at f →
-    Comes k.call.code 0 f (services_of p) (list_aims k p.state.world.acts end wanted left')
+    Comes k.call.code 0 f (services_of p) (past_aims k body index p.state.world.acts end wanted left')
     (list_from turns height (M.labels_in body) (M.statements k.around body) (Some label) k.call.surroundings.acts
     p.state)
 unfolding list_from
@@ -528,7 +564,7 @@ starts_come :
     k.call.surroundings.acts < turns + p.state.world.acts → IsAmong k numbers p →
     (c ≤ wanted) × (c + size_of (stmts_code k.environment none_taken body) ≤ cost k.call.code) →
     AreIn k.call.surroundings p numbers index f →
-    Comes k.call.code c f (services_of p) (list_aims k p.state.world.acts end wanted left')
+    Comes k.call.code c f (services_of p) (past_aims k body index p.state.world.acts end wanted left')
     (list_from turns height (M.labels_in body) (M.statements k.around body) None k.call.surroundings.acts p.state)
 unfolding list_from
 starts_come zero z height p numbers c f same few o fits there =
@@ -543,6 +579,24 @@ starts_come (suc n) {k} {body} {index} z height p numbers c f same few o fits th
     (statements_come z body index p.state.world.acts c [] tt (whole_suffix z) p numbers f (omega arith) o fits there)
 
 -- from any point of the block
+pub changing_past :
+    (k : Block) (body : Y.Stmts) (index wanted left' c : ℕ) (p : Point) (numbers : ℕ → ℕ) (f : Family) → IsBegun k →
+    k.call.surroundings.acts < k.around.turns + p.state.world.acts →
+    AreMarked k.call.surroundings.links k.environment body index → AllDo k body index body index left' →
+    IsAmong k numbers p →
+    Linked k.call.surroundings.links k.call.code index (stmts_code k.environment none_taken body) →
+    (c ≤ wanted) × (c + size_of (stmts_code k.environment none_taken body) ≤ cost k.call.code) →
+    AreIn k.call.surroundings p numbers index f →
+    Comes k.call.code c f (services_of p)
+    (past_aims k body index p.state.world.acts (index + size_of (stmts_code k.environment none_taken body)) wanted
+    left')
+    (M.list k.around body k.call.surroundings.acts p.state)
+unfolding M.list M.list_with looked ◌>>=◌
+changing_past k body index wanted left' c p numbers f begun few marks all o l fits there =
+    starts_come k.around.turns (record { begun = begun; marks = marks; all = all; linked = l; ends = refl })
+    (newest_height p.state.activations) p numbers c f (newest_own (newest_at begun o)) few o fits there
+
+-- whatever units it has by then
 pub changing_goes :
     (k : Block) (body : Y.Stmts) (index wanted left' c : ℕ) (p : Point) (numbers : ℕ → ℕ) (f : Family) → IsBegun k →
     k.call.surroundings.acts < k.around.turns + p.state.world.acts →
@@ -554,10 +608,19 @@ pub changing_goes :
     Comes k.call.code c f (services_of p)
     (list_aims k p.state.world.acts (index + size_of (stmts_code k.environment none_taken body)) wanted left')
     (M.list k.around body k.call.surroundings.acts p.state)
-unfolding M.list M.list_with looked ◌>>=◌
 changing_goes k body index wanted left' c p numbers f begun few marks all o l fits there =
-    starts_come k.around.turns (record { begun = begun; marks = marks; all = all; linked = l; ends = refl })
-    (newest_height p.state.activations) p numbers c f (newest_own (newest_at begun o)) few o fits there
+    let acts = p.state.world.acts in
+    let end = index + size_of (stmts_code k.environment none_taken body) in
+    comes_map (past_aims k body index acts end wanted left') (list_aims k acts end wanted left')
+    (M.list k.around body k.call.surroundings.acts p.state)
+    (λ c' f' v' r s q. record {
+      first = past_point q.past k.first;
+      begun = begun_after k body index q.past begun q.known;
+      goes = q.goes;
+    })
+    (λ c' f' v' height label s q. q)
+    (λ c' f' v' r s q. q)
+    (changing_past k body index wanted left' c p numbers f begun few marks all o l fits there)
 
 -- ---- the laws
 

@@ -3,18 +3,24 @@
 use Rattle.std.specs.Prelude.{ℕ, suc, ◌+◌, ◌*◌, ◌^◌, ◌<◌, ◌≤◌, ◌≡◌, ◌⊎◌, ⊤, List, [], ◌∷◌, length, nat_lt, true}
 use Rattle.pli_typing.specs.TypedTree as Y
 use Rattle.pli_meaning.specs.Control.{Label}
-use Rattle.pli_meaning.specs.Executing.{entered, labels_in}
-use Rattle.pli_meaning.specs.StorageState.{ancestor_at, height_of, most_activations}
+use Rattle.pli_meaning.specs.Executing.{entered, labels_in, list}
+use Rattle.pli_meaning.specs.StorageState.{State, ancestor_at, height_of, most_activations}
+use Rattle.pli_serving.specs.ServiceState.{Services}
 use Rattle.pli_coding.specs.Assembly.{size_of}
+use Rattle.pli_coding.specs.Environments.{none_taken}
 use Rattle.pli_coding.specs.Frames.{fixed_size, temporary_bytes}
 use Rattle.pli_coding.specs.Registers.{held_registers}
-use Rattle.pli_coding.specs.Statements.{marked}
+use Rattle.pli_coding.specs.Statements.{marked, stmts_code}
 use Rattle.activation_relation.specs.Chains.{StandsAt}
 use Rattle.activation_relation.specs.CodeStores.{most_levels}
 use Rattle.activation_relation.specs.Frames.{frame_under, lower_end, upper_top}
-use Rattle.activation_relation.specs.Layers.{Point}
+use Rattle.activation_relation.specs.Landing.{closed}
+use Rattle.activation_relation.specs.Layers.{Point, services_of}
 use Rattle.run_steps.specs.Items.{Linked}
-use Rattle.program_runs.specs.Statements.{AreMarked, Block, Does, IsBegun, own_height, size_in}
+use Rattle.run_steps.specs.Reach.{Aims, Comes, Family, cost}
+use Rattle.block_runs.specs.Machines.{AreIn}
+use Rattle.program_runs.specs.Statements.{AreMarked, Block, Does, GoesOn, IsAmong, IsBegun, JumpsOut, ReturnsTo}
+use Rattle.program_runs.specs.Statements.{own_height, size_in}
 use Rattle.expression_runs.specs.Assignments.{setting_of}
 use Rattle.expression_runs.specs.Raises.{Routines}
 use Rattle.expression_runs.specs.Variables.{IsNumber, Spot}
@@ -58,6 +64,23 @@ AllDo k body start (Y.StmtThen own first rest) index left' =
     StepDoes k body start first (index + size_of (marked k.environment.block own)) left'
     × AllDo k body start rest (index + size_of (marked k.environment.block own) + size_in k first) left'
 
+-- behind the list the block has the units that it has by then
+pub record GoesPast (k : Block) (body : Y.Stmts) (start acts index wanted credits : ℕ) (f : Family) (v : Services)
+    (s : State) : Type 0
+  where
+    pub past : Past
+    pub known : IsPast k body start past
+    pub goes : GoesOn (after k past) acts index wanted credits f v s
+
+abbrev pub past_aims : Block → Y.Stmts → (start acts index wanted left' : ℕ) → Aims (Unit {0})
+past_aims k body start acts index wanted left' =
+    record {
+      done = λ c f v r s. GoesPast k body start acts index wanted c f v s;
+      jumped = λ c f v height label s.
+          JumpsOut k.call.surroundings k.call.code k.outers acts c f v height label (closed s);
+      returned = λ c f v r s. ReturnsTo k left' c f v r s;
+    }
+
 -- what is asked of a unit beside where its ON stands: what is said of the points of the block is said of the first one
 pub record IsOwnRaise (k : Block) (x : Standing) (most more : ℕ) : Type 0 where
   pub routines : Routines k.call.surroundings.links k.call.code
@@ -97,7 +120,20 @@ pub record IsLike (k : Block) (p : Point) : Type 0 where
       (level : ℕ) → height_of (ancestor_at p.state level) ≡ height_of (ancestor_at k.first.state level)
 
 pub record ListsChange : Type 0 where
-  -- such a list comes to the block's end, as it means
+  -- from any point of a block such a list goes on behind it, with units of its own ONs alone, or leaves the block
+  pub past :
+      (k : Block) (body : Y.Stmts) (index wanted left' credits : ℕ) (p : Point) (numbers : ℕ → ℕ) (f : Family) →
+      IsBegun k → k.call.surroundings.acts < k.around.turns + p.state.world.acts →
+      AreMarked k.call.surroundings.links k.environment body index → AllDo k body index body index left' →
+      IsAmong k numbers p →
+      Linked k.call.surroundings.links k.call.code index (stmts_code k.environment none_taken body) →
+      (credits ≤ wanted) × (credits + size_of (stmts_code k.environment none_taken body) ≤ cost k.call.code) →
+      AreIn k.call.surroundings p numbers index f →
+      Comes k.call.code credits f (services_of p)
+      (past_aims k body index p.state.world.acts (index + size_of (stmts_code k.environment none_taken body)) wanted
+      left')
+      (list k.around body k.call.surroundings.acts p.state)
+  -- so a procedure's own comes to the block's end, as it means
   pub ends :
       (k : Block) (body : Y.Stmts) (index left' : ℕ) → IsBody k body index →
       AreMarked k.call.surroundings.links k.environment body index → AllDo k body index body index left' →

@@ -1,0 +1,4 @@
+// ON in procedures and functions with a parameter.
+#![tactic(auto)]
+
+pub mod laws;

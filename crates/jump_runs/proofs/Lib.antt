@@ -1,0 +1,9 @@
+pub mod Exits
+pub mod Numbers
+pub mod Calls
+pub mod Rows
+pub mod Errors
+pub mod FunctionLists
+pub mod Functions
+pub mod FunctionRows
+pub mod UnitRows

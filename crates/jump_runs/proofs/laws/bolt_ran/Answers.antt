@@ -1,0 +1,5 @@
+use Rattle.jump_runs.proofs.Rows.{bolt_ends, bolt_runs}
+use Rattle.jump_runs.proofs.laws.bolt_ran.Goals as goal
+
+pub returns : goal.returns
+returns c = record { runs = bolt_runs c.granules_keep.ensures; ends = bolt_ends }

@@ -1,0 +1,6 @@
+pub mod Exits
+pub mod Calls
+pub mod Rows
+pub mod Functions
+pub mod FunctionRows
+pub mod UnitRows
