@@ -1,1 +1,2 @@
+pub mod JumpRuns
 pub mod Headlines

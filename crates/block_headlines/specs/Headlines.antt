@@ -24,6 +24,10 @@ use Rattle.reference_runs.specs.LocalRows.{kept_program}
 use Rattle.reference_runs.specs.ReferenceRows.{passed_program}
 use Rattle.begin_runs.specs.LeaveRows.{leave_program}
 use Rattle.begin_runs.specs.Rows.{nest_program}
+use Rattle.jump_runs.specs.FunctionRows.{shed_program}
+use Rattle.jump_runs.specs.Rows.{bolt_program}
+use Rattle.jump_runs.specs.UnitRows.{flee_program}
+use Rattle.copy_units.specs.Rows.{mute_program}
 use Rattle.program_runs.specs.Starts.{no_numbers, start_point, surroundings_of}
 use Rattle.program_runs.specs.Statements.{EachDoes, IsBegun}
 use Rattle.unit_runs.specs.BeginRows.{host_program}
@@ -129,3 +133,7 @@ pub record HeadlinesOfRows : Type 0 where
   pub lending : Headline lend_program (picture_of parts lend_program) (table_of lend_program)
   pub hosting : Headline host_program (picture_of parts host_program) (table_of host_program)
   pub deepening : Headline deep_program (picture_of parts deep_program) (table_of deep_program)
+  pub bolting : Headline bolt_program (picture_of parts bolt_program) (table_of bolt_program)
+  pub shedding : Headline shed_program (picture_of parts shed_program) (table_of shed_program)
+  pub fleeing : Headline flee_program (picture_of parts flee_program) (table_of flee_program)
+  pub muting : Headline mute_program (picture_of parts mute_program) (table_of mute_program)
