@@ -80,3 +80,11 @@ fn a_small_area_is_filled_freed_copied_and_emptied(rt: HostRuntime) {
         Err(AreaFault::NoGeneration)
     );
 }
+
+#[test]
+fn faults_have_their_numbers(rt: HostRuntime) {
+    assert_eq!(rt; AreaFault::NoGap as u8, 1);
+    assert_eq!(rt; AreaFault::NoGeneration as u8, 2);
+    assert_eq!(rt; AreaFault::TooSmall as u8, 3);
+    assert_eq!(rt; AreaFault::Damaged as u8, 4);
+}

@@ -99,3 +99,12 @@ fn generations_are_pushed_and_popped(rt: HostRuntime) -> Result<(), GenFault> {
     let mut controlled = Controlled::new(rt.alloc(), 2)?;
     push_and_pop(&rt, &mut controlled, &mut heap)
 }
+
+#[test]
+fn faults_have_their_numbers(rt: HostRuntime) {
+    assert_eq!(rt; GenFault::Dead as u8, 1);
+    assert_eq!(rt; GenFault::NoGeneration as u8, 2);
+    assert_eq!(rt; GenFault::HeapFull as u8, 3);
+    assert_eq!(rt; GenFault::NoSerial as u8, 4);
+    assert_eq!(rt; GenFault::Memory as u8, 9);
+}

@@ -10,11 +10,11 @@ use crate::bytes;
 use std::alloc::{AllocError, Global};
 use std::marker::Model;
 
-/// Why no storage was made.
+/// Why no storage was made, by its number.
 #[derive(Clone, Copy, Debug, PartialEq, Eq, Drop, thiserror::Error)]
 pub enum StorageFault {
     #[error("out of memory")]
-    Memory,
+    Memory = 1,
 }
 
 impl From<AllocError> for StorageFault {

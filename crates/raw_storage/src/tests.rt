@@ -65,3 +65,8 @@ fn three_parts_are_read_and_written(rt: HostRuntime) {
         Err(fault) => assert_eq!(rt; fault, StorageFault::Memory),
     }
 }
+
+#[test]
+fn the_fault_has_its_number(rt: HostRuntime) {
+    assert_eq!(rt; StorageFault::Memory as u8, 1);
+}
