@@ -1,16 +1,26 @@
 // Why a call is refused.
 
-/// Why a call is refused, by its number; a refused call changes nothing.
-#[derive(Clone, Copy, Debug, PartialEq, Eq, Drop, thiserror::Error)]
+use std::fmt;
+use thiserror::Error;
+
+/// Why a call is refused, by its number; a refused call changes nothing. It prints as `1 Dead`.
+#[derive(Clone, Copy, Debug, PartialEq, Eq, Drop, Error)]
 pub enum GenFault {
-    #[error("no variable of this signature lives by this serial")]
+    /// No variable of this signature lives by this serial.
     Dead = 1,
-    #[error("the variable has no generation")]
+    /// The variable has no generation.
     NoGeneration = 2,
-    #[error("no gap in the heap is large enough")]
+    /// No gap in the heap is large enough.
     HeapFull = 3,
-    #[error("all serials were given")]
+    /// All serials were given.
     NoSerial = 4,
-    #[error("out of memory")]
+    /// Out of memory.
     Memory = 9,
+}
+
+impl fmt::Display for GenFault {
+    fn fmt<W: fmt::Write>(&self, f: &mut fmt::Formatter<W>) -> fmt::Result {
+        let number = *self as u8;
+        write!(f, "{number} {self:?}")
+    }
 }

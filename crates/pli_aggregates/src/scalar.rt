@@ -30,14 +30,12 @@ use pli_entries::entries::Entries;
 use pli_signatures::element::ElementKind;
 use pli_storage::finding::Found;
 use pli_storage::held::Held;
-use pli_transmission::top::take_top;
 use pli_values::element::Value;
 use pli_values::name::offset_of;
 use std::alloc::Global;
 
 /// Stores the newest text in elements, and drops it.
 fn set_text<K: AreaKeeper>(
-    alloc: Global,
     held: &Held,
     entries: &mut Entries,
     memory: &mut [u8],
@@ -49,13 +47,12 @@ fn set_text<K: AreaKeeper>(
     requires { IsWritable (kind_of kind) (length memory.old) run }
     ensures { (n : ℕ) → CountsAs (kind_of kind) run n → (c : Call) → Answers (λ c. text_into c first second (standing run.at run.step n) (kind_of kind)) (with_all K.keeper held.now memory.old entries.old c) result (with_all K.keeper held.now memory.new entries.new c) }
 {
-    match take_top(alloc, entries) {
-        Ok(text) => {
-            store_all(memory, run, kind, Value::Text(&text));
-            Ok(Reply::Done(first, second))
-        }
-        Err(refusal) => Err(refusal),
-    }
+    let Some(text) = entries.newest_text() else {
+        return Err(Refusal::Bad);
+    };
+    store_all(memory, run, kind, Value::Text(text));
+    entries.drop_text();
+    Ok(Reply::Done(first, second))
 }
 
 /// Stores the name at an address in elements.
@@ -83,7 +80,6 @@ fn set_name<K: AreaKeeper>(
 
 /// Stores a scalar in elements of a kind: a number, bit or OFFSET value itself, a name by where it stands, and the newest text.
 fn set<K: AreaKeeper>(
-    alloc: Global,
     held: &Held,
     entries: &mut Entries,
     memory: &mut [u8],
@@ -103,10 +99,10 @@ fn set<K: AreaKeeper>(
             Ok(Reply::Done(first, second))
         }
         ElementKind::Character { .. } => set_text::<K>(
-            alloc, held, entries, memory, run, kind, first, second,
+            held, entries, memory, run, kind, first, second,
         ),
         ElementKind::Varying { .. } => set_text::<K>(
-            alloc, held, entries, memory, run, kind, first, second,
+            held, entries, memory, run, kind, first, second,
         ),
         ElementKind::Bit => {
             store_all(memory, run, kind, Value::Bit(value == 1));
@@ -123,7 +119,6 @@ fn set<K: AreaKeeper>(
 
 /// Stores a scalar in elements that were found, if they were.
 fn scalar_elements<K: AreaKeeper>(
-    alloc: Global,
     held: &Held,
     entries: &mut Entries,
     memory: &mut [u8],
@@ -138,14 +133,13 @@ fn scalar_elements<K: AreaKeeper>(
     ensures { (n : ℕ) → MatchOption found ⊤ (λ run. CountsAs (kind_of kind) run n) → (c : Call) → Answers (λ c. or_bad (option_map (λ run. standing run.at run.step n) found) (λ addresses. scalar_into c first leaf value addresses (kind_of kind))) (with_all K.keeper held.now memory.old entries.old c) result (with_all K.keeper held.now memory.new entries.new c) }
 {
     match found {
-        Some(run) => set::<K>(alloc, held, entries, memory, run, kind, value, first, leaf),
+        Some(run) => set::<K>(held, entries, memory, run, kind, value, first, leaf),
         None => Err(Refusal::Bad),
     }
 }
 
 /// Stores a scalar in all elements of a leaf that was placed.
 fn scalar_placed<K: AreaKeeper>(
-    alloc: Global,
     held: &Held,
     entries: &mut Entries,
     memory: &mut [u8],
@@ -163,9 +157,7 @@ fn scalar_placed<K: AreaKeeper>(
     match placed.run(&[]) {
         Ok(found) => {
             let kind = placed.in_force.kind;
-            scalar_elements::<K>(
-                alloc, held, entries, memory, kind, found, first, leaf, value,
-            )
+            scalar_elements::<K>(held, entries, memory, kind, found, first, leaf, value)
         }
         Err(_) => Err(Refusal::Memory),
     }
@@ -173,7 +165,6 @@ fn scalar_placed<K: AreaKeeper>(
 
 /// Stores a scalar in all elements of a leaf of a generation, if there is such a leaf.
 fn scalar_leaf<K: AreaKeeper>(
-    alloc: Global,
     held: &Held,
     entries: &mut Entries,
     memory: &mut [u8],
@@ -190,9 +181,7 @@ fn scalar_leaf<K: AreaKeeper>(
         Answers (λ c. or_bad (aggregate_shown held.now.signatures aggregate) (scalar_of c first leaf value)) (with_all K.keeper held.now memory.old entries.old c) result (with_all K.keeper held.now memory.new entries.new c) }
 {
     match placed {
-        Some(placed) => scalar_placed::<K>(
-            alloc, held, entries, memory, &placed, first, leaf, value,
-        ),
+        Some(placed) => scalar_placed::<K>(held, entries, memory, &placed, first, leaf, value),
         None => Err(Refusal::Bad),
     }
 }
@@ -217,7 +206,7 @@ fn scalar_found<K: AreaKeeper>(
     match found {
         Some(found) => match placed_leaf(alloc, held, aggregate, found, leaf) {
             Ok(placed) => scalar_leaf::<K>(
-                alloc, held, entries, memory, aggregate, found, placed, first, leaf, value,
+                held, entries, memory, aggregate, found, placed, first, leaf, value,
             ),
             Err(_) => Err(Refusal::Memory),
         },

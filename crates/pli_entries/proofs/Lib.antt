@@ -1,3 +1,4 @@
+pub mod Newest
 pub mod Served
 pub mod Stacks
 pub mod Tops

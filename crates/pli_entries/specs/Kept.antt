@@ -46,3 +46,8 @@ placed_below height (a ∷ held) = if nat_lt a.place height then a ∷ held else
 abbrev pub leaves_on_top : List Entry → Option (List S.TakenLeaf)
 leaves_on_top (AggregateEntry leaves ∷ below) = Some leaves
 leaves_on_top _ = None
+
+-- and where that is a text
+abbrev pub text_on_top : List Entry → Option (List ℕ)
+text_on_top (TextEntry t ∷ below) = Some t
+text_on_top _ = None

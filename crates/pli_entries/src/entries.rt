@@ -1,10 +1,12 @@
 // The stack of entries.
 
-ghost use Rattle.std.specs.Prelude.{◌≡◌, ◌<◌, ◌≤◌, ◌-◌, [], ◌∷◌, length, drop, map, option_map, true, MatchResult, Some};
+ghost use Rattle.std.specs.Prelude.{◌≡◌, ◌<◌, ◌≤◌, ◌-◌, [], ◌∷◌, length, drop, map, option_map, true, IsSome, MatchResult, Some};
+ghost use Rattle.pli_meaning.specs.Stream.{blanks};
+ghost use Rattle.pli_meaning.specs.Texts.{fitted};
 ghost use Rattle.pli_serving.specs.Blocks.{are_texts, top_kept};
 ghost use Rattle.pli_serving.specs.ServiceState.{AggregateEntry, TextEntry};
 ghost use Rattle.pli_entries.specs.declared.fault.EntryFault.TheVariants as F;
-ghost use Rattle.pli_entries.specs.Kept.{leaf_of, leaves_on_top};
+ghost use Rattle.pli_entries.specs.Kept.{leaf_of, leaves_on_top, text_on_top};
 
 use crate::fault::EntryFault;
 use crate::kept::{Aggregate, keep_below};
@@ -102,6 +104,42 @@ impl Entries {
     {
         self.texts.push(text)?;
         Ok(())
+    }
+
+    /// A text of so many blanks comes on top. `Memory` where there is none, and then nothing changed.
+    pub fn push_blanks(&mut self, count: u32) -> Result<(), EntryFault>
+        ensures { MatchResult result (λ _. self.new ≡ TextEntry (blanks count) ∷ self.old) (λ e. (e ≡ F.Memory) × (self.new ≡ self.old)) }
+    {
+        self.texts.push_blanks(count)?;
+        Ok(())
+    }
+
+    /// The newest entry, where that is a text.
+    pub fn newest_text(&self) -> Option<&[u8]>
+        ensures { option_map (λ text. text.now) result ≡ text_on_top self.now }
+    {
+        if !self.are_texts(1) {
+            return None;
+        }
+        Some(self.texts.top())
+    }
+
+    /// The newest entry, a text, becomes another text, of the length that it has: padded with blanks, or cut on the
+    /// right.
+    pub fn overwrite_text(&mut self, text: &[u8])
+        requires text { IsSome (text_on_top self.old) }
+        ensures { option_map (λ t. TextEntry (fitted (length t) text.now) ∷ drop 1 self.old) (text_on_top self.old)
+            ≡ Some self.new }
+    {
+        self.texts.overwrite(text);
+    }
+
+    /// The newest entry, a text, is dropped.
+    pub fn drop_text(&mut self)
+        requires text { IsSome (text_on_top self.old) }
+        ensures { self.new ≡ drop 1 self.old }
+    {
+        self.texts.pop();
     }
 
     /// An aggregate comes on top. `Memory` where there is none, and then nothing changed.

@@ -37,6 +37,7 @@ fn texts_are_made_or_memory_is_refused(rt: HostRuntime) {
         return;
     }
     assert!(rt; entries.height() == 2 && entries.are_texts(2) && !entries.are_texts(3));
+    assert!(rt; entries.newest_text() == Some(b"12".as_slice()));
     assert!(rt; entries.to_number(0) == Ok(12));
     let mut stored = [0; 16];
     assert!(rt; entries.store(&LAYOUT, &mut stored, 8, 0, 2) == Ok(4));
@@ -53,8 +54,12 @@ fn tell(entries: &mut Entries) -> Result<(Ordering, u32, u32), EntryFault> {
     entries.push_text(b"ABCB")?;
     entries.push_text(b"CB")?;
     let place = entries.find(0)?;
-    entries.push_text(b"1")?;
-    Ok((order, place, entries.to_number(1)?))
+    entries.push_blanks(2)?;
+    entries.overwrite_text(b"1");
+    let word = entries.to_number(1)?;
+    entries.push_text(b"gone")?;
+    entries.drop_text();
+    Ok((order, place, word))
 }
 
 #[test]
@@ -68,7 +73,7 @@ fn texts_are_read_above_an_aggregate(rt: HostRuntime) {
         Ok(told) => assert!(rt; told == (Ordering::Equal, 3, 1)),
         Err(fault) => assert!(rt; fault == EntryFault::Memory),
     }
-    assert!(rt; !entries.are_texts(entries.height()));
+    assert!(rt; !entries.are_texts(entries.height()) && entries.newest_text().is_none());
     entries.truncate(0);
     assert!(rt; entries.height() == 0);
 }

@@ -7,6 +7,7 @@ use Rattle.std.specs.List.{refill}
 use Rattle.std.specs.Option.{is_some}
 use Rattle.std.proofs.lemmas.Grind.{common_steps}
 use Rattle.rv_machine.specs.declared.services.Served.{Served}
+use Rattle.pli_answering.specs.Answering.{Replies}
 use Rattle.pli_answering.specs.declared.reply.Reply.{Reply}
 use Rattle.pli_answering.specs.declared.reply.Reply.TheVariants as R
 use Rattle.pli_answering.specs.declared.reply.Refusal.{Refusal}
@@ -30,7 +31,7 @@ refilled xs ys e = grind (arith, common_steps, e)
 answered_as :
     (answer : Answer) (v v' : Services) (m m' : List ℕ) (reply : Result Reply Refusal) (x x' : List ℕ)
     (served : Served) →
-    runtime.Serves answer v m reply v' m' → Tells reply x served x' →
+    Replies answer v m reply v' m' → Tells reply x served x' →
     IsAnswered answer v (slice_index x) m served v' (slice_index x') m'
 answered_as answer v v' m m' (Ok (R.Done a b)) x x' served s t =
     subst (λ (it : Served). IsAnswered answer v (slice_index x) m it v' (slice_index x') m') (sym t.0) (a, b, s, t.1)
@@ -46,16 +47,16 @@ answered_as answer v v' m m' (Err F.Memory) x x' served s t =
 
 -- a call that was served shows what it showed before, or what its answer shows
 cut_off : (answer : Answer) (v v' : Services) (m m' : List ℕ) (reply : Result Reply Refusal) →
-    runtime.Serves answer v m reply v' m' → (v'.world ≡ v.world) ⊎ (world_behind answer ≡ Some v'.world)
+    Replies answer v m reply v' m' → (v'.world ≡ v.world) ⊎ (world_behind answer ≡ Some v'.world)
 cut_off answer v v' m m' (Ok (R.Done a b)) s = inr (ap world_behind s)
 cut_off answer v v' m m' (Ok R.Ended) s = inr (ap world_behind s.0)
 cut_off answer v v' m m' (Err F.Bad) s = inl (ap (λ (it : Services). it.world) s.1)
-cut_off answer v v' m m' (Err F.Memory) s = inl s.0
+cut_off answer v v' m m' (Err F.Memory) s = inl (ap (λ (it : Services). it.world) s.0)
 
 pub answered_unless :
     (reads writes : Bool) (answer : Answer) (v v' : Services) (m m' : List ℕ) (reply : Result Reply Refusal)
     (x x' : List ℕ) (served : Served) →
-    (reads ≡ false → runtime.Serves answer v m reply v' m') → (reads ≡ true → v'.world ≡ v.world) →
+    (reads ≡ false → Replies answer v m reply v' m') → (reads ≡ true → v'.world ≡ v.world) →
     TellsUnless (fault_of reads writes) reply x served x' →
     IsAnsweredUnless (fault_of reads writes) answer v (slice_index x) m served v' (slice_index x') m'
 answered_unless false false answer v v' m m' reply x x' served s kept t =

@@ -37,14 +37,14 @@ abbrev pub fault_in : {I O : Type 0} → Streams I O → Runtime I O → Option 
 fault_in s r = fault_of (s.read_failed r.streams.input) (s.write_failed r.flow.shown.output)
 
 -- how a call came out, with services, registers and bytes after it, is this answer; a bad call changes nothing, and
--- without memory what is shown, the registers and the bytes stay, and the run ends
+-- nothing is changed without memory, where the run ends
 abbrev pub IsAnswered : Answer → (v : Services) → (x : ℕ → ℕ) → (m : List ℕ) → Served → (v' : Services) →
     (x' : ℕ → ℕ) → (m' : List ℕ) → Type 0
 IsAnswered answer v x m Served.Done v' x' m' =
     (a0 a1 : ℕ) × (answer ≡ Done v' m' a0 a1) × (x' ≡ written (written x 10 a0) 11 a1)
 IsAnswered answer v x m Served.Ended v' x' m' = (answer ≡ Ends v') × (x' ≡ x) × (m' ≡ m)
 IsAnswered answer v x m Served.Bad v' x' m' = (answer ≡ Bad) × (v' ≡ v) × (x' ≡ x) × (m' ≡ m)
-IsAnswered answer v x m Served.Memory v' x' m' = (v'.world ≡ v.world) × (x' ≡ x) × (m' ≡ m)
+IsAnswered answer v x m Served.Memory v' x' m' = (v' ≡ v) × (x' ≡ x) × (m' ≡ m)
 
 -- what is shown behind an answer
 abbrev pub world_behind : Answer → Option World

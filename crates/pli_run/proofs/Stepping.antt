@@ -121,7 +121,7 @@ called_refused : (from to : State) (v v' : Services) (answer : Served) (a : Answ
 called_refused from to v v' Served.Done a h (ran, pc) = absurd (cc)
 called_refused from to v v' Served.Ended a h (ran, pc) = absurd (cc)
 called_refused from to v v' Served.Bad a h (ran, pc) = absurd (cc)
-called_refused from to v v' Served.Memory a (same, r, m) (ran, pc) = same
+called_refused from to v v' Served.Memory a (same, r, m) (ran, pc) = ap (λ (it : Services). it.world) same
 
 -- what is shown by what an answer makes of a run
 shown_behind : (from : State) (a : Answer) → shown_by (answered from a) ≡ world_behind a

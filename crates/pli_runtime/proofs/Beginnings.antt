@@ -29,7 +29,6 @@ use Rattle.pli_serving.specs.SignatureService.{bounds_given, filled, numbered, n
 use Rattle.pli_storage.specs.Held.{with_held, IsLaid}
 use Rattle.pli_storage.specs.declared.held.Held.{Held}
 use Rattle.pli_types.specs.Templates.{Template}
-use Rattle.pli_runtime.proofs.Carried.{serves_replied}
 use Rattle.pli_runtime.proofs.Ends.{refused_alike, NeverEnds}
 use Rattle.pli_runtime.specs.Seen.{RunSeen, call_of, running, IsCarriedOut, IsStanding}
 
@@ -62,7 +61,7 @@ pub by_signatures :
     Answers service (call_of k r m) result (with_held k h m (call_of k r m)) →
     IsCarriedOut k service r m result (record r { held = h }) m
 by_signatures k r m service result h never counted s kept answers = record {
-  served = serves_replied _ _ m result _ m answers;
+  served = answers;
   standing = record {
     laid = subst (λ (it : Held). IsLaid k it.layout m) (sym kept) s.laid;
     known = ap (λ (it : Held). length it.controlled) kept ∙ s.known;

@@ -18,27 +18,10 @@ use Rattle.pli_making.specs.Making.{with_both}
 use Rattle.pli_services.specs.Flowing.{FlowSeen, with_flow}
 use Rattle.pli_storage.specs.Held.{with_held, IsLaid}
 use Rattle.pli_storage.specs.declared.held.Held.{Held}
-use Rattle.pli_transmission.specs.Transmitting.{on_entries, with_streams, AnswersTaking, IsTaking}
+use Rattle.pli_transmission.specs.Transmitting.{on_entries, with_streams}
 use Rattle.pli_transmission.specs.Edits.{EditKept}
 use Rattle.pli_values.specs.declared.layout.Layout.{Layout}
-use Rattle.pli_runtime.specs.Seen.{RunSeen, call_of, running, IsCarriedOut, IsStanding, Serves}
-
--- a reply that answers serves
-pub serves_replied :
-    (answer : Answer) (v : Services) (m : List ℕ) (result : Result Reply Refusal) (v' : Services) (m' : List ℕ) →
-    Replies answer v m result v' m' → Serves answer v m result v' m'
-serves_replied answer v m (Ok (R.Done x y)) v' m' h = h
-serves_replied answer v m (Ok R.Ended) v' m' h = h
-serves_replied answer v m (Err F.Bad) v' m' h = h
-serves_replied answer v m (Err F.Memory) v' m' h = (ap (λ (s : Services). s.world) h.0, h.1)
-
-serves_taking :
-    (answer : Answer) (v : Services) (m : List ℕ) (result : Result Reply Refusal) (v' : Services) (m' : List ℕ) →
-    IsTaking answer v m result v' m' → Serves answer v m result v' m'
-serves_taking answer v m (Ok (R.Done x y)) v' m' h = h
-serves_taking answer v m (Ok R.Ended) v' m' h = h
-serves_taking answer v m (Err F.Bad) v' m' h = h
-serves_taking answer v m (Err F.Memory) v' m' h = (ap (λ (s : Services). s.world) h.0, h.1)
+use Rattle.pli_runtime.specs.Seen.{RunSeen, call_of, running, IsCarriedOut, IsStanding}
 
 -- the parts of memory lie in other bytes, as many
 pub laid_in : (k : Keeper) (l : Layout) (m m' : List ℕ) → length m' ≡ length m → IsLaid k l m → IsLaid k l m'
@@ -55,7 +38,7 @@ pub by_same :
     (m' : List ℕ) →
     s' (call_of k r m) ≡ s (call_of k r m) → IsCarriedOut k s r m result r' m' → IsCarriedOut k s' r m result r' m'
 by_same k r m s s' result r' m' e done = record {
-  served = subst (λ (answer : Answer). Serves answer (running r) m result (running r') m') (sym e) done.served;
+  served = subst (λ (answer : Answer). Replies answer (running r) m result (running r') m') (sym e) done.served;
   standing = done.standing;
   layout = done.layout;
 }
@@ -73,7 +56,7 @@ pub by_flow :
     length r.flow.activations ≤ length f.activations →
     IsCarriedOut k service r m result (record r { flow = f }) m
 by_flow k r m service result f s answers higher = record {
-  served = serves_replied _ _ _ result _ _ (answers (call_of k r m));
+  served = answers (call_of k r m);
   standing = record { laid = s.laid; known = s.known; counted = s.counted; high = omega (arith, s.high, higher) };
   layout = refl;
 }
@@ -84,7 +67,7 @@ pub by_flow_there :
     length r.flow.activations ≤ length f.activations →
     IsCarriedOut k service r m result (record r { flow = f }) m
 by_flow_there k r m service result f s answers higher = record {
-  served = serves_replied _ _ _ result _ _ answers;
+  served = answers;
   standing = record { laid = s.laid; known = s.known; counted = s.counted; high = omega (arith, s.high, higher) };
   layout = refl;
 }
@@ -105,7 +88,7 @@ pub by_held :
     h ≡ record r.held { heap_made = h.heap_made; controlled = h.controlled } → length h.controlled ≡ length r.held.controlled →
     IsCarriedOut k service r m result (record r { held = h }) m'
 by_held k r m m' service result h s answers as_many kept as_known = record {
-  served = serves_replied _ _ _ result _ _ (answers (call_of k r m));
+  served = answers (call_of k r m);
   standing = record {
     laid = subst (λ (it : Held). IsLaid k it.layout m') (sym kept) (laid_in k r.held.layout m m' as_many s.laid);
     known = as_known ∙ s.known;
@@ -144,7 +127,7 @@ pub by_memory :
     length m' ≡ length m →
     IsCarriedOut k service r m result r m'
 by_memory k r m m' service result s answers as_many = record {
-  served = serves_replied _ _ _ result _ _ (answers (call_of k r m));
+  served = answers (call_of k r m);
   standing = record { laid = laid_in k r.held.layout m m' as_many s.laid; known = s.known; counted = s.counted; high = s.high };
   layout = refl;
 }
@@ -158,7 +141,7 @@ pub by_both :
     IsCounted h.signatures (livings h.variables.roots) u → length u ≤ length f.activations →
     IsCarriedOut k service r m result (record r { flow = f; held = h; in_use = u }) m'
 by_both k r m m' service result f h u s answers as_many kept counted high = record {
-  served = serves_replied _ _ _ result _ _ (answers (call_of k r m));
+  served = answers (call_of k r m);
   standing = record {
     laid = subst (λ (it : Held). IsLaid k it.layout m') (sym kept) (laid_in k r.held.layout m m' as_many s.laid);
     known = ap (λ (it : Held). length it.controlled) kept ∙ s.known;
@@ -178,7 +161,7 @@ pub by_streams_there :
     (with_streams w i places (call_of k r m)) →
     IsCarriedOut k service r m result (record r { flow = record r.flow { world = w }; input = i; edits = places }) m
 by_streams_there k r m service result w i places s answers = record {
-  served = serves_replied _ _ _ result _ _ answers;
+  served = answers;
   standing = s;
   layout = refl;
 }
@@ -193,18 +176,18 @@ pub by_streams :
 by_streams k r m service result w i places s answers =
     by_streams_there k r m service result w i places s (answers (call_of k r m))
 
--- the same with the entries, of which one may be lost
+-- the same with the entries
 pub by_taking :
     (k : Keeper) (r : RunSeen) (m : List ℕ) (service : Call → Answer) (result : Result Reply Refusal) (w : World)
     (i : Input)
     (places : List EditKept) (es : List Entry) →
     IsStanding k r m →
-    ((c : Call) → AnswersTaking service (on_entries r.entries (with_streams r.flow.world r.input r.edits c)) result
+    ((c : Call) → Answers service (on_entries r.entries (with_streams r.flow.world r.input r.edits c)) result
     (on_entries es (with_streams w i places c))) →
     IsCarriedOut k service r m result
     (record r { flow = record r.flow { world = w }; input = i; edits = places; entries = es }) m
 by_taking k r m service result w i places es s answers = record {
-  served = serves_taking _ _ _ result _ _ (answers (call_of k r m));
+  served = answers (call_of k r m);
   standing = s;
   layout = refl;
 }
@@ -215,4 +198,4 @@ pub refused_shown :
     (k : Keeper) (service : Call → Answer) (r r' : RunSeen) (m m' : List ℕ) (refusal : Refusal) →
     IsCarriedOut k service r m (Err refusal) r' m' → (r'.flow.world ≡ r.flow.world) × (m' ≡ m)
 refused_shown k service r r' m m' F.Bad done = (ap (λ (v : Services). v.world) done.served.1, done.served.2)
-refused_shown k service r r' m m' F.Memory done = done.served
+refused_shown k service r r' m m' F.Memory done = (ap (λ (v : Services). v.world) done.served.0, done.served.1)

@@ -25,7 +25,6 @@ use Rattle.pli_storage.specs.Held.{IsLaid}
 use Rattle.pli_storage.specs.declared.held.Held.{Held}
 use Rattle.pli_values.specs.declared.layout.Layout.{Layout}
 use Rattle.pli_services.specs.Flowing.{FlowSeen}
-use Rattle.pli_runtime.proofs.Carried.{serves_replied}
 use Rattle.pli_runtime.specs.Ending.{IsBack, IsKept}
 use Rattle.pli_runtime.specs.Seen.{RunSeen, call_of, running, IsCarriedOut, IsStanding}
 
@@ -208,7 +207,7 @@ pub by_kept :
 by_kept k r m service keep f h refusal s kept answers =
     let alike : running (record r { flow = f; held = h }) ≡ running r = refused_alike _ _ _ m m refusal answers in
     record {
-      served = serves_replied _ _ m (Err refusal) _ m answers;
+      served = answers;
       standing = record {
         laid = subst (λ (held : Held). IsLaid k held.layout m) (sym kept) s.laid;
         known = ap (λ (held : Held). length held.controlled) kept ∙ s.known;

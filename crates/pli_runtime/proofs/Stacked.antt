@@ -3,7 +3,7 @@ use Rattle.std.proofs.Common.{◌≡◌, ℕ, ◌-◌, ◌<◌, List, [], ◌∷
 use Rattle.std.proofs.Common.{ap, arith}
 use Rattle.area_keeper.specs.Keeper.{Keeper}
 use Rattle.pli_aggregates.specs.Scalars.{with_all}
-use Rattle.pli_answering.specs.Answering.{Answers}
+use Rattle.pli_answering.specs.Answering.{Answers, Replies}
 use Rattle.pli_answering.specs.declared.reply.Reply.{Reply}
 use Rattle.pli_answering.specs.declared.reply.Reply.TheVariants as R
 use Rattle.pli_answering.specs.declared.reply.Refusal.{Refusal}
@@ -16,8 +16,8 @@ use Rattle.pli_serving.specs.Answers.{Answer, Done}
 use Rattle.pli_serving.specs.Finding.{Call}
 use Rattle.pli_serving.specs.Outcomes.{with_entries}
 use Rattle.pli_serving.specs.ServiceState.{AggregateEntry, Entry, TakenLeaf, TextEntry}
-use Rattle.pli_runtime.proofs.Carried.{laid_in, serves_replied}
-use Rattle.pli_runtime.specs.Seen.{RunSeen, call_of, running, IsCarriedOut, IsStanding, Serves}
+use Rattle.pli_runtime.proofs.Carried.{laid_in}
+use Rattle.pli_runtime.specs.Seen.{RunSeen, call_of, running, IsCarriedOut, IsStanding}
 
 -- a service of texts is done
 pub by_done :
@@ -35,7 +35,7 @@ pub by_refused :
     (k : Keeper) (r : RunSeen) (m m' : List ℕ) (service : Call → Answer) (x : ℕ) (fault : EntryFault)
     (result : Result Reply Refusal) (es : List Entry) →
     IsStanding k r m → m' ≡ m → IsRefusal (call_of k r m) x (service (call_of k r m)) fault → es ≡ r.entries →
-    ((c : Call) → (answer : Answer) → IsRefusal c x answer fault → Serves answer c.services c.memory result c.services c.memory) →
+    ((c : Call) → (answer : Answer) → IsRefusal c x answer fault → Replies answer c.services c.memory result c.services c.memory) →
     IsCarriedOut k service r m result (record r { entries = es }) m'
 by_refused k r m m' service x fault result es s same refused kept told =
     subst (λ (m'' : List ℕ). IsCarriedOut k service r m result (record r { entries = es }) m'') (sym same)
@@ -50,7 +50,7 @@ pub by_entries :
     length m' ≡ length m →
     IsCarriedOut k service r m result (record r { entries = es }) m'
 by_entries k r m m' service result es s answers as_many = record {
-  served = serves_replied _ _ _ result _ _ (answers (call_of k r m));
+  served = answers (call_of k r m);
   standing = record { laid = laid_in k r.held.layout m m' as_many s.laid; known = s.known; counted = s.counted; high = s.high };
   layout = refl;
 }

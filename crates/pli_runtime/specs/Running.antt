@@ -10,7 +10,7 @@ use Rattle.pli_serving.specs.ServiceState.{Services}
 use Rattle.pli_runtime.specs.declared.runtime.Runtime.{Runtime}
 use Rattle.pli_runtime.specs.Seen as seen
 use Rattle.pli_runtime.specs.Seen.{run_seen, CanServe, RunSeen}
-pub use Rattle.pli_runtime.specs.Seen.{world_told, Serves}
+pub use Rattle.pli_runtime.specs.Seen.{world_told}
 
 -- its output is the list of its bytes
 abbrev pub KeptRuntime : Type 0

@@ -1,20 +1,19 @@
 -- What a run's services hold between calls, as the definitions see it, and how they serve a call, wherever its streams
 -- come from and go.
 use Rattle.std.specs.Prelude.{◌≡◌, ◌≤◌, ◌^◌, ◌==◌, ◌||◌, ◌&&◌, ℕ, Bool, true, false, List, length, option_map}
-use Rattle.std.specs.Prelude.{Option, Some, None, Result, Ok, Err}
+use Rattle.std.specs.Prelude.{Option, Some, None, Result}
 use Rattle.area_keeper.specs.Keeper.{Keeper}
 use Rattle.controlled_gens.specs.Rooted.{livings}
 use Rattle.controlled_gens.specs.Stacks.{controlled_of}
 use Rattle.pli_meaning.specs.InputLines.{Input}
 use Rattle.pli_meaning.specs.World.{World}
 use Rattle.pli_meaning.specs.declared.outcome.Outcome.{Outcome}
-use Rattle.pli_serving.specs.Answers.{Answer, Done, Ends, Bad}
+use Rattle.pli_serving.specs.Answers.{Answer}
 use Rattle.pli_serving.specs.Finding.{Call}
 use Rattle.pli_serving.specs.ServiceState.{EditPlace, Entry, Services}
+use Rattle.pli_answering.specs.Answering.{Replies}
 use Rattle.pli_answering.specs.declared.reply.Reply.{Reply}
-use Rattle.pli_answering.specs.declared.reply.Reply.TheVariants as R
 use Rattle.pli_answering.specs.declared.reply.Refusal.{Refusal}
-use Rattle.pli_answering.specs.declared.reply.Refusal.TheVariants as F
 use Rattle.pli_making.specs.InUse.{IsCounted}
 use Rattle.pli_services.specs.Flowing.{flow_seen, waiting_of, FlowSeen}
 use Rattle.pli_storage.specs.Held.{IsLaid}
@@ -69,19 +68,10 @@ world_told o = record { acts = o.acts; output = o.output.items; raised = o.raise
 abbrev pub call_of : Keeper → RunSeen → (memory : List ℕ) → Call
 call_of k r m = record { keeper = k; layout = layout_of r.held.layout; services = running r; memory = m }
 
--- the reply, with the services and the memory after it, is this answer; a bad call changes nothing, and without memory
--- what is shown and the memory stay, and the run ends
-abbrev pub Serves : Answer → (old : Services) → (memory : List ℕ) → Result Reply Refusal → (new : Services) →
-    (after : List ℕ) → Type 0
-Serves answer v m (Ok (R.Done x y)) v' m' = answer ≡ Done v' m' x y
-Serves answer v m (Ok R.Ended) v' m' = (answer ≡ Ends v') × (m' ≡ m)
-Serves answer v m (Err F.Bad) v' m' = (answer ≡ Bad) × (v' ≡ v) × (m' ≡ m)
-Serves answer v m (Err F.Memory) v' m' = (v'.world ≡ v.world) × (m' ≡ m)
-
--- the same by a service of calls
+-- a reply is the answer of a service of calls
 abbrev pub IsServed : Keeper → (Call → Answer) → (old : RunSeen) → (memory : List ℕ) → Result Reply Refusal →
     (new : RunSeen) → (after : List ℕ) → Type 0
-IsServed k service r m result r' m' = Serves (service (call_of k r m)) (running r) m result (running r') m'
+IsServed k service r m result r' m' = Replies (service (call_of k r m)) (running r) m result (running r') m'
 
 -- what holds between calls: the parts of memory lie in it, there are as many CONTROLLED variables as have numbers, and
 -- what is in use is counted, for no more heights than there are blocks

@@ -150,8 +150,8 @@ impl<I: InputStream, O: OutputStream> Runtime<I, O> {
     ///
     /// # Errors
     ///
-    /// `Bad` where there is no such service or its arguments are wrong, and then nothing has changed; `Memory` without
-    /// memory for its work, or where a read failed, and then nothing is shown, and the bytes are as they were.
+    /// `Bad` where there is no such service or its arguments are wrong, and `Memory` without memory for its work: then
+    /// nothing has changed. `Memory` where a read failed, too: then nothing is shown, and the bytes are as they were.
     pub fn serve<K: AreaKeeper>(
         &mut self,
         memory: &mut [u8],

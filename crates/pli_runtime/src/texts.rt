@@ -3,12 +3,13 @@
 ghost use Rattle.std.specs.Prelude.{◌≡◌, ℕ, List};
 ghost use Rattle.area_keeper.specs.Keeper.{Keeper};
 ghost use Rattle.rv_meaning.specs.Words.{word};
+ghost use Rattle.pli_answering.specs.Answering.{Replies};
 ghost use Rattle.pli_entries.specs.Served.{IsRefusal};
 ghost use Rattle.pli_serving.specs.Answers.{Answer};
 ghost use Rattle.pli_serving.specs.Finding.{Call};
 ghost use Rattle.pli_serving.specs.TextServices as services;
 ghost use Rattle.pli_meaning.specs.InputLines.{Input as LineInput};
-ghost use Rattle.pli_runtime.specs.Seen.{run_seen, CanServe, IsCarriedOut, Serves};
+ghost use Rattle.pli_runtime.specs.Seen.{run_seen, CanServe, IsCarriedOut};
 
 use crate::runtime::Runtime;
 use area_heap::keeper::AreaKeeper;
@@ -33,7 +34,7 @@ const SHAPE: u32 = 109;
 
 /// The reply of a service that isn't done with the entries: a status beside what it was given, or a refusal.
 fn refused(first: u32, fault: EntryFault) -> Result<Reply, Refusal>
-    ensures { (c : Call) → (answer : Answer) → IsRefusal c first answer fault → Serves answer c.services c.memory result c.services c.memory }
+    ensures { (c : Call) → (answer : Answer) → IsRefusal c first answer fault → Replies answer c.services c.memory result c.services c.memory }
 {
     match fault {
         EntryFault::TooLong => Ok(Reply::Done(first, TOO_LONG)),

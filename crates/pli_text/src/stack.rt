@@ -1,6 +1,7 @@
 // The stack of texts.
 
 ghost use Rattle.std.specs.Prelude.{◌≡◌, ◌<◌, ◌≤◌, ◌-◌, ◌^◌, [], ◌∷◌, length, take, drop, slice_range};
+ghost use Rattle.pli_meaning.specs.Stream.{blanks};
 ghost use Rattle.pli_meaning.specs.Texts as texts;
 ghost use Rattle.pli_text.specs.Operands.{top_of, left_of, right_of, IsOrStays, Becomes, Gives};
 ghost use Rattle.pli_text.specs.Pieces.{IsPart};
@@ -268,11 +269,25 @@ impl TextStack {
     {
         let text = self.top();
         let length = text.len();
-        let kept = length.min(element.len());
-        element.fill(b' ');
-        element[..kept].copy_from_slice(&text[..kept]);
+        write_over(element, text);
         self.pop();
         length
+    }
+
+    /// So many blanks come on top. `Memory` where there is none, and then nothing changed.
+    pub fn push_blanks(&mut self, count: u32) -> Result<(), TextFault>
+        ensures { IsOrStays (blanks count ∷ self.old) self.old result self.new }
+    {
+        self.push_behind_blanks(count as usize, b"")
+    }
+
+    /// The newest text becomes another, of the length that it has: padded with blanks, or cut on the right.
+    pub fn overwrite(&mut self, text: &[u8])
+        requires { 0 < length self.old }
+        ensures { self.new ≡ texts.fitted (length (top_of self.old)) text.now ∷ drop 1 self.old }
+    {
+        let start = self.starts[self.starts.len() - 1];
+        write_over(&mut self.bytes[start..], text);
     }
 
     // The two newest texts, the right one above.
@@ -317,6 +332,15 @@ impl TextStack {
         self.starts.push(start).unwrap();
         Ok(())
     }
+}
+
+// A text over these bytes: padded with blanks, or cut on the right.
+fn write_over(bytes: &mut [u8], text: &[u8])
+    ensures { bytes.new ≡ texts.fitted (length bytes.old) text.now }
+{
+    let kept = text.len().min(bytes.len());
+    bytes.fill(b' ');
+    bytes[..kept].copy_from_slice(&text[..kept]);
 }
 
 // The bytes from a place on, which may be the one behind the last byte.

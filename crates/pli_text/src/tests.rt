@@ -19,7 +19,9 @@ fn make(texts: &mut TextStack) -> Result<(), TextFault>
     texts.cut_from(2)?;
     texts.fit(6)?;
     texts.shorten(5);
-    Ok(())
+    texts.push_blanks(3)?;
+    texts.overwrite(b"ab");
+    texts.join()
 }
 
 // What is read of texts: a number, an order, two places, a bit.
@@ -51,9 +53,9 @@ fn texts_are_made_or_memory_is_refused(rt: HostRuntime) {
     }
     assert!(rt; texts.height() == 1);
     if texts.height() == 1 {
-        assert!(rt; texts.top() == b"-121 ".as_slice());
+        assert!(rt; texts.top() == b"-121 ab ".as_slice());
         let mut element = *b"......";
-        assert!(rt; texts.store(&mut element) == 5 && element == *b"-121  ");
+        assert!(rt; texts.store(&mut element) == 8 && element == *b"-121 a");
     }
     texts.truncate(0);
 }

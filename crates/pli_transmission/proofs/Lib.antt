@@ -2,4 +2,3 @@ pub mod Beginning
 pub mod Controls
 pub mod Newest
 pub mod Replying
-pub mod Tops

@@ -12,7 +12,7 @@ use Rattle.pli_answering.specs.declared.reply.Reply.{Reply}
 use Rattle.pli_answering.specs.declared.reply.Refusal.{Refusal}
 use Rattle.pli_transmission.specs.Edits.{EditKept}
 use Rattle.pli_transmission.specs.Transmitting.{is_get, is_getting, on_edit}
-use Rattle.pli_transmission.specs.Transmitting.{on_entries, places_of, with_edits, AnswersTaking}
+use Rattle.pli_transmission.specs.Transmitting.{on_entries, places_of, with_edits}
 
 places_append : (xs ys : List EditKept) → places_of (xs ++ ys) ≡ places_of ys ++ places_of xs
 places_append xs ys = rw (map-append, reverse-append) refl
@@ -69,13 +69,13 @@ newest_answers f s s' i i' xs n d e c r h v a =
     (subst (λ (l : List EditPlace). Answers f (on_edit s i d (places_of (take n xs)) c) r (with_edits s' i' l c))
     (sym (places_set xs n e h)) a)
 
-pub newest_taking : (f : Call → Answer) (s s' : World) (i i' : Input) (es es' : List Entry) (xs : List EditKept)
+pub newest_with_entries : (f : Call → Answer) (s s' : World) (i i' : Input) (es es' : List Entry) (xs : List EditKept)
     (n : ℕ) (d e : EditKept) (c : Call) (r : Result Reply Refusal) → n + 1 ≡ length xs → d ≡ get_or xs n d
-    → AnswersTaking f (on_entries es (on_edit s i d (places_of (take n xs)) c)) r (on_entries es' (on_edit s' i' e (places_of (take n xs)) c))
-    → AnswersTaking f (on_entries es (with_edits s i (places_of xs) c)) r
+    → Answers f (on_entries es (on_edit s i d (places_of (take n xs)) c)) r (on_entries es' (on_edit s' i' e (places_of (take n xs)) c))
+    → Answers f (on_entries es (with_edits s i (places_of xs) c)) r
     (on_entries es' (with_edits s' i' (places_of (set xs n e)) c))
-newest_taking f s s' i i' es es' xs n d e c r h v a =
-    subst (λ (l : List EditPlace). AnswersTaking f (on_entries es (with_edits s i l c)) r
+newest_with_entries f s s' i i' es es' xs n d e c r h v a =
+    subst (λ (l : List EditPlace). Answers f (on_entries es (with_edits s i l c)) r
     (on_entries es' (with_edits s' i' (places_of (set xs n e)) c))) (sym (places_split xs n d h v))
-    (subst (λ (l : List EditPlace). AnswersTaking f (on_entries es (on_edit s i d (places_of (take n xs)) c)) r
+    (subst (λ (l : List EditPlace). Answers f (on_entries es (on_edit s i d (places_of (take n xs)) c)) r
     (on_entries es' (with_edits s' i' l c))) (sym (places_set xs n e h)) a)

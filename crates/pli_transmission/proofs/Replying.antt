@@ -9,13 +9,10 @@ use Rattle.pli_answering.specs.Answering.{Answers, Replies}
 use Rattle.pli_answering.specs.declared.reply.Reply.{Reply}
 use Rattle.pli_answering.specs.declared.reply.Refusal.{Refusal}
 use Rattle.pli_transmission.specs.Items.{fixed_width, text_width}
-use Rattle.pli_transmission.specs.Transmitting.{fixed_of, text_of, AnswersTaking, IsTaking}
+use Rattle.pli_transmission.specs.Transmitting.{fixed_of, text_of}
 
 pub answers_as : (f g : Call → Answer) (c c' : Call) (r : Result Reply Refusal) → f c ≡ g c → Answers g c r c' → Answers f c r c'
 answers_as f g c c' r e h = subst (λ (t : Answer). Replies t c.services c.memory r c'.services c'.memory) (sym e) h
-
-pub taking_as : (f g : Call → Answer) (c c' : Call) (r : Result Reply Refusal) → f c ≡ g c → AnswersTaking g c r c' → AnswersTaking f c r c'
-taking_as f g c c' r e h = subst (λ (t : Answer). IsTaking t c.services c.memory r c'.services c'.memory) (sym e) h
 
 fixed_some : (c : Call) (x y width : ℕ) (d : Direction) (i : FormatItem) (places : List EditPlace) → Some width ≡ fixed_width i → fixed_by c x y d i places ≡ fixed_of c x y d width places
 fixed_some c x y width Getting (DataFormat (FixedItem w)) places e = let same : w ≡ width = cc in ap (λ n. fixed_of c x y Getting n places) same

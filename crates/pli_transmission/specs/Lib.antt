@@ -1,4 +1,3 @@
 pub mod Edits
 pub mod Items
-pub mod Tops
 pub mod Transmitting

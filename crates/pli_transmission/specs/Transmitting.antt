@@ -1,22 +1,19 @@
 -- A call of a service whose services hold what a run shows, its input, and its places in format lists.
-use Rattle.std.specs.Prelude.{◌≡◌, ℕ, Bool, true, false, List, [], ◌∷◌, drop, length, map, reverse, option_map}
-use Rattle.std.specs.Prelude.{Option, Some, None, Result, Ok, Err, Vec}
-use Rattle.std.specs.declared.alloc.Global.{Global}
+use Rattle.std.specs.Prelude.{◌≡◌, ℕ, Bool, true, false, List, [], ◌∷◌, drop, map, reverse, option_map}
+use Rattle.std.specs.Prelude.{Option, Some, None, Result, Ok, Err}
 use Rattle.rv_meaning.specs.Words.{signed}
 use Rattle.pli_meaning.specs.Stream.{fixed_field, with_field}
 use Rattle.pli_meaning.specs.World.{World, written}
 use Rattle.pli_meaning.specs.InputLines.{Input, has_character, field_of, behind_field}
-use Rattle.pli_serving.specs.ServiceState.{Services, Entry, TextEntry, AggregateEntry, EditPlace, Direction, Getting, Putting}
-use Rattle.pli_serving.specs.Answers.{Answer, Done, Ends, Bad}
+use Rattle.pli_serving.specs.ServiceState.{Services, Entry, TextEntry, EditPlace, Direction, Getting, Putting}
+use Rattle.pli_serving.specs.Answers.{Answer}
 use Rattle.pli_serving.specs.Edits.{number_got, number_put, text_field, text_got, text_put}
 use Rattle.pli_serving.specs.Finding.{Call}
-use Rattle.pli_answering.specs.declared.reply.Reply.{Reply}
-use Rattle.pli_answering.specs.declared.reply.Reply.TheVariants as R
 use Rattle.pli_answering.specs.declared.reply.Refusal.{Refusal}
 use Rattle.pli_answering.specs.declared.reply.Refusal.TheVariants as F
 use Rattle.pli_services.specs.Shown.{Acts}
+use Rattle.pli_entries.specs.Kept.{text_on_top}
 use Rattle.pli_transmission.specs.Edits.{EditKept}
-use Rattle.pli_transmission.specs.Tops.{top_text}
 
 abbrev pub transmitting : World → Input → List EditPlace → Services → Services
 transmitting world input edits v = record v { world = world; input = input; edits = edits }
@@ -60,18 +57,18 @@ abbrev pub text_of : Call → (x y : ℕ) → Direction → (width : Option ℕ)
 text_of c x y Getting width places = text_got c x y width places
 text_of c x y Putting width places = text_put c x y width places
 
--- the newest text is taken, and written; without memory it may be gone, and nothing is written
+-- the newest text is taken, and written; without memory it stays, and nothing is written
 abbrev pub IsTopWritten : (width : Option ℕ) → (old : List Entry) → (output : List ℕ) → Result (Unit {0}) Refusal → (new : List Entry) → (after : List ℕ) → Type 0
-IsTopWritten width old output (Ok done) new after = (option_map (λ t. with_field (text_field width t) output) (top_text old) ≡ Some after) × (new ≡ drop 1 old)
-IsTopWritten width old output (Err F.Bad) new after = (top_text old ≡ None) × (new ≡ old) × (after ≡ output)
-IsTopWritten width old output (Err F.Memory) new after = after ≡ output
+IsTopWritten width old output (Ok done) new after = (option_map (λ t. with_field (text_field width t) output) (text_on_top old) ≡ Some after) × (new ≡ drop 1 old)
+IsTopWritten width old output (Err F.Bad) new after = (text_on_top old ≡ None) × (new ≡ old) × (after ≡ output)
+IsTopWritten width old output (Err F.Memory) new after = (new ≡ old) × (after ≡ output)
 
--- a field is taken, and becomes the newest text; without memory it may be gone
+-- a field is taken, and becomes the newest text; without memory nothing is taken
 abbrev pub IsTopGot : (width : ℕ) → (old : List Entry) → (input : Input) → Result (Unit {0}) Refusal → (new : List Entry) → (after : Input) → Type 0
 IsTopGot width old input (Ok done) new after =
     (has_character input.marks ≡ true) × (new ≡ TextEntry (field_of width input) ∷ old) × (after ≡ behind_field width input)
 IsTopGot width old input (Err F.Bad) new after = (has_character input.marks ≡ false) × (new ≡ old) × (after ≡ input)
-IsTopGot width old input (Err F.Memory) new after = Unit {0}
+IsTopGot width old input (Err F.Memory) new after = (new ≡ old) × (after ≡ input)
 
 -- ---- acts
 
@@ -80,17 +77,3 @@ abbrev pub IsNumberWritten : Option (List ℕ) → (old : World) → Result (Uni
 IsNumberWritten None old (Ok done) new = ⊥
 IsNumberWritten None old (Err refusal) new = new ≡ old
 IsNumberWritten (Some field) old result new = Acts old (written (with_field field) old) result new
-
--- how a service that takes from the input, or from the entries, answers its call: as other services do, but that without memory what
--- it took may be gone; what is shown stays, and the run ends
-abbrev pub Loses : (old : Services) → (new : Services) → Type 0
-Loses v v' = v' ≡ record v { input = v'.input; entries = v'.entries }
-
-abbrev pub IsTaking : Answer → (old : Services) → (memory : List ℕ) → Result Reply Refusal → (new : Services) → (after : List ℕ) → Type 0
-IsTaking answer v m (Ok (R.Done x y)) v' m' = answer ≡ Done v' m' x y
-IsTaking answer v m (Ok R.Ended) v' m' = (answer ≡ Ends v') × (m' ≡ m)
-IsTaking answer v m (Err F.Bad) v' m' = (answer ≡ Bad) × (v' ≡ v) × (m' ≡ m)
-IsTaking answer v m (Err F.Memory) v' m' = Loses v v' × (m' ≡ m)
-
-abbrev pub AnswersTaking : (Call → Answer) → (old : Call) → Result Reply Refusal → (new : Call) → Type 0
-AnswersTaking service c result c' = IsTaking (service c) c.services c.memory result c'.services c'.memory

@@ -12,5 +12,4 @@ pub mod streams;
 #[cfg(test)]
 mod tests;
 pub mod text;
-pub mod top;
 mod writing;

@@ -12,7 +12,7 @@ ghost use Rattle.pli_serving.specs.FormatLists.{formats_at};
 ghost use Rattle.pli_serving.specs.Outcomes.{or_bad};
 ghost use Rattle.pli_services.specs.Shown.{world_of};
 ghost use Rattle.pli_transmission.specs.Edits.{direction_shown};
-ghost use Rattle.pli_transmission.specs.Transmitting.{is_getting, on_entries, places_of, with_streams, AnswersTaking};
+ghost use Rattle.pli_transmission.specs.Transmitting.{is_getting, on_entries, places_of, with_streams};
 ghost use Rattle.pli_values.specs.View.{layout_of};
 
 use crate::control::{control, move_by};
@@ -218,7 +218,7 @@ impl<I: InputStream> Streams<I> {
     }
 
     /// 37: A. PUT drops and writes the newest text; GET takes the field, which becomes the newest text. Without memory
-    /// nothing is shown, but the text or the field may be gone.
+    /// nothing changed.
     #[inline(never)]
     pub fn text<O: OutputStream>(
         &mut self,
@@ -229,7 +229,7 @@ impl<I: InputStream> Streams<I> {
     ) -> Result<Reply, Refusal>
         ensures answers { (c : Call) → (all : List ℕ) → I.agrees self.new.input all →
             I.has_failed self.new.input ≡ false →
-            AnswersTaking (λ c. edits.text_served c first second)
+            Answers (λ c. edits.text_served c first second)
             (on_entries entries.old (with_streams (world_of O.output shown.old) (I.input self.old.input all)
             self.old.edits.items c)) result
             (on_entries entries.new (with_streams (world_of O.output shown.new) (I.input self.new.input all)
@@ -245,7 +245,6 @@ impl<I: InputStream> Streams<I> {
             return Err(Refusal::Bad);
         };
         text(
-            self.alloc,
             &mut self.edits[newest],
             entries,
             &mut self.input,

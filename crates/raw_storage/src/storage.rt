@@ -8,13 +8,22 @@ ghost use Rattle.raw_storage.specs.Lending.{LendsBytes, LendsRange};
 
 use crate::bytes;
 use std::alloc::{AllocError, Global};
+use std::fmt;
 use std::marker::Model;
+use thiserror::Error;
 
-/// Why no storage was made, by its number.
-#[derive(Clone, Copy, Debug, PartialEq, Eq, Drop, thiserror::Error)]
+/// Why no storage was made, by its number. It prints as `1 Memory`.
+#[derive(Clone, Copy, Debug, PartialEq, Eq, Drop, Error)]
 pub enum StorageFault {
-    #[error("out of memory")]
+    /// Out of memory.
     Memory = 1,
+}
+
+impl fmt::Display for StorageFault {
+    fn fmt<W: fmt::Write>(&self, f: &mut fmt::Formatter<W>) -> fmt::Result {
+        let number = *self as u8;
+        write!(f, "{number} {self:?}")
+    }
 }
 
 impl From<AllocError> for StorageFault {
