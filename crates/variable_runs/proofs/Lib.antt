@@ -1,0 +1,4 @@
+pub mod Lists
+pub mod ListsAmong
+pub mod Known
+pub mod Rows
