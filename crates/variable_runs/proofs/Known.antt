@@ -24,10 +24,11 @@ use Rattle.block_runs.proofs.Places.{Bounds, bounds}
 use Rattle.program_runs.specs.Calls.{Callee, begun_at, block_at}
 use Rattle.program_runs.specs.Procedures.{beginning_for, layer_for}
 use Rattle.program_runs.specs.Statements.{Block, IsBegun}
-use Rattle.program_runs.specs.Variables.{Declared, IsDeclared, generation_for, made_of}
+use Rattle.program_runs.specs.Variables.{Declared, generation_for, made_of}
 use Rattle.expression_runs.specs.Variables.{IsNumber, Spot, number_declared, number_place}
 use Rattle.variable_runs.specs.Known.{IsKnown, IsOwn, place_of}
-use Rattle.variable_runs.specs.Lists.{Among, AreAll, AreDeclared, AreListed, all_made, layer_after, layer_behind}
+use Rattle.variable_runs.specs.Lists.{Among, AreAll, AreDeclared, AreListed, Declares, all_made, layer_after}
+use Rattle.variable_runs.specs.Lists.{layer_behind}
 use Rattle.variable_runs.proofs.Lists.{Binds, layers_after}
 
 -- ---- at a point
@@ -49,7 +50,7 @@ record Has (q : Point) (at lower : ℕ) (a : Activation) (as' : List Activation)
 -- where it has just been made
 has_new :
     (w : Surroundings) (p : Point) (φ : Layer) (φs : List Layer) (a : Activation) (as' : List Activation)
-    (d : Declared) → Binds p a as' → IsDeclared w p d φ φs →
+    (d : Declared) → Binds p a as' → Declares w p d φ φs →
     Has (with_made (made_of w.parts φ d) p) φ.at φ.lower a as' d
 has_new w p φ φs a as' d binds is =
     let serial = p.state.serials + 1 in
@@ -59,8 +60,6 @@ has_new w p φ φs a as' d binds is =
       shape = (generation_for d).shape;
     } in
     let living = living_at serial (newest_height p.state.activations) (generation_for d) in
-    let size = is.size in
-    let fits = is.fits in
     record {
       serial = serial;
       given = omega arith;
@@ -70,8 +69,14 @@ has_new w p φ φs a as' d binds is =
       lives = ap (λ t. cond t (Some living) (living_of p.state.living serial)) (eq-eqb serial serial refl);
       shape = refl;
       place = ap (λ t. cond t (φ.at + (d.place + name_bytes)) (p.places.at serial)) (eq-eqb serial serial refl);
-      inside = omega (arith, size, fits);
+      inside = inside is;
     }
+  where
+    inside :
+        Declares w p d φ φs →
+        φ.at + (d.place + name_bytes + data_size (shape_of [] d.declared).signature) ≤ φ.lower
+    inside (inl h) = let size = h.size in let fits = h.fits in omega (arith, size, fits)
+    inside (inr h) = let size = h.size in let fits = h.fits in omega (arith, size, fits)
 
 -- it has it still where another has been made
 has_still :
@@ -109,9 +114,9 @@ has_kept :
     Has p at lower a as' d → Has (all_made w.parts φ xs p) at lower a as' d
 has_kept w e p φ at lower a as' d [] n less listed h = h
 has_kept w e p φ at lower a as' d (y ∷ xs) n less listed h =
-    let here = listed.0.index in
-    has_kept w e (with_made (made_of w.parts φ y) p) (layer_behind w.parts φ y) at lower a as' d xs (n + 1)
-    (omega (arith, less)) listed.1 (has_still w p φ at lower a as' d y (omega (arith, less, here)) h)
+    let late = listed.0.late in
+    has_kept w e (with_made (made_of w.parts φ y) p) (layer_behind w.parts φ y) at lower a as' d xs (y.index + 1)
+    (omega (arith, less, late)) listed.1 (has_still w p φ at lower a as' d y (omega (arith, less, late)) h)
 
 -- so it has each of them
 has_each :
@@ -120,13 +125,12 @@ has_each :
     AreDeclared w p φ φs xs → Binds p a as' → Among d xs → Has (all_made w.parts φ xs p) φ.at φ.lower a as' d
 has_each w e p φ φs a as' d [] n listed are binds among = absurd among
 has_each w e p φ φs a as' d (x ∷ xs) n listed are binds (inl same) =
-    let here = listed.0.index in
     subst (λ y. Has (all_made w.parts φ (x ∷ xs) p) φ.at φ.lower a as' y) (sym same)
-    (has_kept w e (with_made (made_of w.parts φ x) p) (layer_behind w.parts φ x) φ.at φ.lower a as' x xs (n + 1)
-    (omega (arith, here)) listed.1 (has_new w p φ φs a as' x binds are.0))
+    (has_kept w e (with_made (made_of w.parts φ x) p) (layer_behind w.parts φ x) φ.at φ.lower a as' x xs (x.index + 1)
+    (omega arith) listed.1 (has_new w p φ φs a as' x binds are.0))
 has_each w e p φ φs a as' d (x ∷ xs) n listed are binds (inr there) =
     let new = has_new w p φ φs a as' x binds are.0 in
-    has_each w e (with_made (made_of w.parts φ x) p) (layer_behind w.parts φ x) φs a as' d xs (n + 1) listed.1 are.1
+    has_each w e (with_made (made_of w.parts φ x) p) (layer_behind w.parts φ x) φs a as' d xs (x.index + 1) listed.1 are.1
     new.binds there
 
 -- ---- in its block

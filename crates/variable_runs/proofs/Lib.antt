@@ -1,3 +1,5 @@
+pub mod AreaMemory
+pub mod AreaVariables
 pub mod Lists
 pub mod ListsAmong
 pub mod Known

@@ -1,5 +1,5 @@
 -- Variables that are made one behind the other: a procedure makes all that it declares.
-use Rattle.std.proofs.Common.{◌≡◌, ℕ, ◌+◌, ◌<◌, ◌≤◌, List, [], ◌∷◌, length, map, refl, sym, ap, ◌∙◌}
+use Rattle.std.proofs.Common.{◌≡◌, ℕ, ◌+◌, ◌<◌, ◌≤◌, inl, inr, List, [], ◌∷◌, length, Some, false, refl, sym, ap, ◌∙◌}
 use Rattle.std.proofs.Common.{subst, arith}
 use Rattle.std.specs.Prelude.{pos}
 use Rattle.rv_meaning.specs.declared.instr.Instr.{Instr}
@@ -14,10 +14,12 @@ use Rattle.pli_meaning.specs.Making.{with_binding}
 use Rattle.pli_meaning.specs.Raising.{Around, at_line}
 use Rattle.pli_meaning.specs.StorageState.{Activation, Binding, State, newest_height}
 use Rattle.pli_serving.specs.ServiceState.{Services}
+use Rattle.pli_serving.specs.Templates.{shape_at}
 use Rattle.pli_coding.specs.Assembly.{size_of}
 use Rattle.pli_coding.specs.Entries.{constant_made}
 use Rattle.pli_coding.specs.Environments.{Environment}
-use Rattle.pli_coding.specs.Frames.{MemoryParts}
+use Rattle.pli_coding.specs.Frames.{MemoryParts, is_automatic}
+use Rattle.pli_coding.specs.Locating.{table_number}
 use Rattle.storage_relation.specs.Stored.{Lives}
 use Rattle.storage_relation.proofs.Living.{lives_added}
 use Rattle.activation_relation.specs.Landing.{Changed, resumed}
@@ -34,19 +36,50 @@ use Rattle.run_steps.proofs.Reach.{reach_then, reached_holds, stay}
 use Rattle.block_runs.specs.Machines.{AreIn, IsImage, IsIn}
 use Rattle.program_runs.specs.Calls.{AreMade, Callee, act_index, begun_at, variables_index}
 use Rattle.program_runs.specs.Procedures.{beginning_for, layer_for}
-use Rattle.program_runs.specs.Variables.{Declared, IsDeclared, generation_for, made_of}
+use Rattle.program_runs.specs.Variables.{Declared, generation_for, made_of}
 use Rattle.program_runs.proofs.Variables.{becomes_comes, made_becomes, variable_means}
-use Rattle.variable_runs.specs.Lists.{AreAll, AreDeclared, AreListed, all_made, layer_after, layer_behind}
-use Rattle.variable_runs.specs.Lists.{made_code}
+use Rattle.variable_runs.specs.Lists.{AreAll, AreDeclared, AreListed, AreThose, Declares, all_made, layer_after}
+use Rattle.variable_runs.specs.Lists.{layer_behind, made_code}
+use Rattle.variable_runs.proofs.AreaMemory as A
+use Rattle.variable_runs.proofs.AreaVariables.{area_comes, area_means}
 
 -- ---- one of them
 
 next_stands :
     (w : Surroundings) (code : List Instr) (p : Point) (x : Declared) (φ : Layer) (φs : List Layer) →
-    Stands w p × IsImage w code p → IsDeclared w p x φ φs →
+    Stands w p × IsImage w code p → Declares w p x φ φs →
     Stands w (with_made (made_of w.parts φ x) p) × IsImage w code (with_made (made_of w.parts φ x) p)
-next_stands w code p x φ φs known is =
+next_stands w code p x φ φs known (inl is) =
     (made_becomes (record { stands = known.0; image = known.1; is = is })).stands
+next_stands w code p x φ φs known (inr is) =
+    A.made_stands (record { stands = known.0; image = known.1; is = is })
+
+next_comes :
+    (w : Surroundings) (code : List Instr) (e : Environment) (p : Point) (numbers : ℕ → ℕ) (x : Declared) (φ : Layer)
+    (φs : List Layer) (c index : ℕ) (f : Family) → Stands w p × IsImage w code p → Declares w p x φ φs →
+    (table_number e x.declared ≡ x.number) × (e.parts ≡ w.parts) →
+    Linked w.links code index (constant_made e x.place x.declared) → AreIn w p numbers index f →
+    Reach code c f (services_of p) (c + size_of (constant_made e x.place x.declared))
+    (services_of (with_made (made_of w.parts φ x) p))
+    (λ b y. IsIn w (with_made (made_of w.parts φ x) p) numbers
+    (index + size_of (constant_made e x.place x.declared)) b y)
+next_comes w code e p numbers x φ φs c index f known (inl is) same l there =
+    becomes_comes w code e p (with_made (made_of w.parts φ x) p) numbers x φ φs c index f known is
+    (made_becomes (record { stands = known.0; image = known.1; is = is })) same l there
+next_comes w code e p numbers x φ φs c index f known (inr is) same l there =
+    area_comes w code e p numbers x φ φs c index f known is same l there
+
+next_means :
+    (w : Surroundings) (p : Point) (x : Declared) (φ : Layer) (φs : List Layer) (acts : ℕ) → Declares w p x φ φs →
+    K.variable_made x.index (generation_for x) acts p.state ≡ Normal tt (with_made (made_of w.parts φ x) p).state
+next_means w p x φ φs acts (inl is) = variable_means w p x φ φs acts is
+next_means w p x φ φs acts (inr is) = area_means w p x φ φs acts is
+
+next_shape :
+    (w : Surroundings) (p : Point) (x : Declared) (φ : Layer) (φs : List Layer) → Declares w p x φ φs →
+    shape_at p.places.signatures x.number ≡ Some (shape_of [] x.declared)
+next_shape w p x φ φs (inl is) = is.shape
+next_shape w p x φ φs (inr is) = is.shape
 
 -- the newest block's layer, once it has been made
 pub next_layers :
@@ -55,12 +88,13 @@ pub next_layers :
 next_layers w p x φ φs newest = ap (λ ls. newest_grown (made_of w.parts φ x) ls) newest
 
 next_lives :
-    (w : Surroundings) (p : Point) (x : Declared) (φ : Layer) (φs : List Layer) → IsDeclared w p x φ φs →
+    (w : Surroundings) (p : Point) (x : Declared) (φ : Layer) (φs : List Layer) → Declares w p x φ φs →
     Lives p.places p.state →
     Lives (with_made (made_of w.parts φ x) p).places (with_made (made_of w.parts φ x) p).state
 next_lives w p x φ φs is lives =
     let l = K.living_at (p.state.serials + 1) (newest_height p.state.activations) (generation_for x) in
-    let h = lives_added p.places p.state l (made_of w.parts φ x).place x.number refl refl is.shape lives in
+    let h = lives_added p.places p.state l (made_of w.parts φ x).place x.number refl refl (next_shape w p x φ φs is)
+    lives in
     record { falling = h.falling; numbered = h.numbered; extents = h.extents }
 
 -- ---- all of them
@@ -97,10 +131,9 @@ all_come w code e p numbers φ φs (x ∷ xs) n c index f are listed parts known
     let rest = made_code e xs in
     let size = size_append first rest in
     let q = with_made (made_of w.parts φ x) p in
-    let r1 = becomes_comes w code e p q numbers x φ φs c index f known are.0
-    (made_becomes (record { stands = known.0; image = known.1; is = are.0 })) (listed.0.table, parts)
+    let r1 = next_comes w code e p numbers x φ φs c index f known are.0 (listed.0.table, parts)
     (front_of first rest l) there in
-    let r2 = all_come w code e q numbers (layer_behind w.parts φ x) φs xs (n + 1) (c + size_of first)
+    let r2 = all_come w code e q numbers (layer_behind w.parts φ x) φs xs (x.index + 1) (c + size_of first)
     (index + size_of first) (reached r1) are.1 listed.1 parts (next_stands w code p x φ φs known are.0)
     (back_of first rest l) (reached_holds r1) in
     moved_in (all_made w.parts (layer_behind w.parts φ x) xs q) (omega (arith, size)) (omega (arith, size))
@@ -108,37 +141,52 @@ all_come w code e p numbers φ φs (x ∷ xs) n c index f are listed parts known
 
 -- ---- what they mean
 
+-- what isn't AUTOMATIC isn't made here
+unmade :
+    (around : Around) (n acts : ℕ) (d : Y.DeclaredVariable) (c : Y.StorageClass) (s : State) →
+    is_automatic c ≡ false → K.automatic_made around n d c acts s ≡ Normal tt s
+unfolding K.automatic_made give
+unmade around n acts d Y.AutomaticClass s e = absurd (cc e)
+unmade around n acts d Y.StaticClass s e = refl
+unmade around n acts d Y.ParameterClass s e = refl
+unmade around n acts d Y.BasedClass s e = refl
+unmade around n acts d Y.ControlledClass s e = refl
+
 all_mean :
     (around : Around) (w : Surroundings) (e : Environment) (p : Point) (φ : Layer) (φs : List Layer)
-    (xs : List Declared) (n acts : ℕ) → AreDeclared w p φ φs xs → AreListed e n xs →
-    K.variables_made around n (map (λ x. x.declared) xs) acts p.state ≡ Normal tt (all_made w.parts φ xs p).state
+    (xs : List Declared) (ds : List Y.DeclaredVariable) (n m acts : ℕ) → AreDeclared w p φ φs xs → AreListed e m xs →
+    AreThose n xs ds → K.variables_made around n ds acts p.state ≡ Normal tt (all_made w.parts φ xs p).state
 unfolding K.variables_made K.automatic_made K.extents give ◌>>=◌ ◌>>◌
-all_mean around w e p φ φs [] n acts are listed = refl
-all_mean around w e p φ φs (x ∷ xs) n acts are listed =
+all_mean around w e p φ φs [] [] n m acts are listed those = refl
+all_mean around w e p φ φs (x ∷ xs) [] n m acts are listed those = absurd those
+all_mean around w e p φ φs [] (d ∷ ds) n m acts are listed those =
+    ap (λ flow. flow_on acts flow (λ u. K.variables_made around (n + 1) ds)) (unmade around n acts d d.class p.state those.0)
+    ∙ all_mean around w e p φ φs [] ds (n + 1) m acts are listed those.1
+all_mean around w e p φ φs (x ∷ xs) (d ∷ ds) n m acts are listed (inr those) =
+    ap (λ flow. flow_on acts flow (λ u. K.variables_made around (n + 1) ds)) (unmade around n acts d d.class p.state those.0)
+    ∙ all_mean around w e p φ φs (x ∷ xs) ds (n + 1) m acts are listed those.1
+all_mean around w e p φ φs (x ∷ xs) (d' ∷ ds) n m acts are listed (inl those) =
     let d = x.declared in
     let s = p.state in
-    let ds = map (λ (y : Declared). y.declared) xs in
     let q = with_made (made_of w.parts φ x) p in
     let made : K.variable_made n (generation_for x) acts s ≡ Normal tt q.state =
-    ap (λ i. K.variable_made i (generation_for x) acts s) (sym listed.0.index)
-    ∙ variable_means w p x φ φs acts are.0 in
-    ap (λ c. flow_on acts (K.automatic_made around n d c acts s) (λ u. K.variables_made around (n + 1) ds))
+    ap (λ i. K.variable_made i (generation_for x) acts s) (sym those.0)
+    ∙ next_means w p x φ φs acts are.0 in
+    ap (λ u. K.variables_made around n (u ∷ ds) acts s) those.1
+    ∙ ap (λ c. flow_on acts (K.automatic_made around n d c acts s) (λ u. K.variables_made around (n + 1) ds))
     listed.0.class
     ∙ ap (λ es. flow_on acts (flow_on acts (K.extents around es acts s)
     (λ values. K.variable_made n (fresh (shape_of values d) (pos 0) (initial_of d))))
     (λ u. K.variables_made around (n + 1) ds)) listed.0.evaluations
     ∙ ap (λ flow. flow_on acts flow (λ u. K.variables_made around (n + 1) ds)) made
-    ∙ all_mean around w e q (layer_behind w.parts φ x) φs xs (n + 1) acts are.1 listed.1
+    ∙ all_mean around w e q (layer_behind w.parts φ x) φs xs ds (n + 1) (x.index + 1) acts are.1 listed.1 those.2
 
 block_means :
-    (around : Around) (head : Y.BlockHead) (ds : List Y.DeclaredVariable) (acts : ℕ) (s s' : State) →
-    head.kind ≡ Y.ProcedureBlock → variables_of_block around.program head.number ≡ ds →
-    K.variables_made around 0 ds acts s ≡ Normal tt s' →
+    (around : Around) (head : Y.BlockHead) (acts : ℕ) (s s' : State) → head.kind ≡ Y.ProcedureBlock →
+    K.variables_made around 0 (variables_of_block around.program head.number) acts s ≡ Normal tt s' →
     M.block_variables_made around head head.kind acts s ≡ Normal tt s'
 unfolding M.block_variables_made
-block_means around head ds acts s s' e all made =
-    ap (λ kind. M.block_variables_made around head kind acts s) e
-    ∙ ap (λ us. K.variables_made around 0 us acts s) all ∙ made
+block_means around head acts s s' e made = ap (λ kind. M.block_variables_made around head kind acts s) e ∙ made
 
 -- ---- the block then
 
@@ -243,9 +291,9 @@ all_procedure w code c p numbers xs h =
           (λ b z. IsIn w q numbers (variables_index c + size_of us) b z)) (sym h.code)
           (all_come w code c.environment start numbers φ φs xs 0 credits (variables_index c) f h.declared h.listed
           h.parts known (subst (Linked w.links code (variables_index c)) h.code l) there));
-      means = block_means (at_line c.around c.procedure.head.line) c.procedure.head (map (λ (x : Declared). x.declared) xs)
-          w.acts start.state q.state h.kind h.variables
-          (all_mean (at_line c.around c.procedure.head.line) w c.environment start φ φs xs 0 w.acts h.declared h.listed)
+      means = block_means (at_line c.around c.procedure.head.line) c.procedure.head w.acts start.state q.state h.kind
+          (all_mean (at_line c.around c.procedure.head.line) w c.environment start φ φs xs
+          (variables_of_block c.around.program c.procedure.head.number) 0 0 w.acts h.declared h.listed h.those)
           ∙ ap (λ (u : Point). Normal tt u.state) (sym here);
       activation = record a { bindings = bound.bindings };
       parent = refl;

@@ -1,5 +1,6 @@
 -- Variables of a procedure at any point of the block that calls it, if they can be made at the block's first statement.
-use Rattle.std.proofs.Common.{◌≡◌, ℕ, ◌+◌, ◌%◌, ◌≤◌, List, [], ◌∷◌, length, true, refl, sym, ap, ◌∙◌, subst, arith}
+use Rattle.std.proofs.Common.{◌≡◌, ℕ, ◌+◌, ◌%◌, ◌≤◌, inl, inr, List, [], ◌∷◌, length, true, refl, sym, ap, ◌∙◌}
+use Rattle.std.proofs.Common.{subst, arith}
 use Rattle.std.specs.Prelude.{cond, nat_le, ◌==◌}
 use Rattle.pli_meaning.specs.Contents.{footprint_of}
 use Rattle.pli_meaning.specs.DeclaredShapes.{shape_of}
@@ -14,7 +15,8 @@ use Rattle.program_runs.specs.Calls.{Callee, begun_at}
 use Rattle.program_runs.specs.Procedures.{layer_for}
 use Rattle.program_runs.specs.Statements.{Block, IsAmong, IsBegun}
 use Rattle.program_runs.specs.Variables.{Declared, IsDeclared, generation_for, made_of, place_behind}
-use Rattle.variable_runs.specs.Lists.{AreAll, AreDeclared, layer_behind}
+use Rattle.variable_runs.specs.Areas.{IsArea}
+use Rattle.variable_runs.specs.Lists.{AreAll, AreDeclared, Declares, layer_behind}
 
 -- two points with their newest blocks' layers, alike as far as a variable's making can tell
 record AreAlike (p q : Point) (φ ψ : Layer) : Type 0 where
@@ -54,6 +56,41 @@ declared_alike w p q x φ ψ φs ψs a newest h =
       limit = subst (λ n. nat_le (n + footprint_of (generation_for x)) most_automatic ≡ true) (sym a.in_use) h.limit;
     }
 
+area_alike :
+    (w : Surroundings) (p q : Point) (x : Declared) (φ ψ : Layer) (φs ψs : List Layer) → AreAlike p q φ ψ →
+    q.control.layers ≡ ψ ∷ ψs → IsArea w p x φ φs → IsArea w q x ψ ψs
+area_alike w p q x φ ψ φs ψs a newest h =
+    let at = a.at in
+    let top = a.top in
+    let lower = a.lower in
+    let here = h.here in
+    let fits = h.fits in
+    record {
+      newest = newest;
+      here = omega (arith, at, top, here);
+      capacity = h.capacity;
+      holds = h.holds;
+      size = h.size;
+      fits = omega (arith, at, lower, fits);
+      even = subst (λ n. (n + place_behind w.parts x) % 16 ≡ 0) (sym at) h.even;
+      low = subst (λ n. n ≤ w.parts.stack_start) (sym a.low) h.low;
+      shape = a.signatures x.number (shape_of [] x.declared) h.shape;
+      number = h.number;
+      initial = h.initial;
+      none = h.none;
+      area = h.area;
+      fixed = h.fixed;
+      rounded = h.rounded;
+      bounded = h.bounded;
+      limit = subst (λ n. nat_le (n + footprint_of (generation_for x)) most_automatic ≡ true) (sym a.in_use) h.limit;
+    }
+
+either_alike :
+    (w : Surroundings) (p q : Point) (x : Declared) (φ ψ : Layer) (φs ψs : List Layer) → AreAlike p q φ ψ →
+    q.control.layers ≡ ψ ∷ ψs → Declares w p x φ φs → Declares w q x ψ ψs
+either_alike w p q x φ ψ φs ψs a newest (inl h) = inl (declared_alike w p q x φ ψ φs ψs a newest h)
+either_alike w p q x φ ψ φs ψs a newest (inr h) = inr (area_alike w p q x φ ψ φs ψs a newest h)
+
 bound_height : (b : Binding) (as' : List Activation) → newest_height (with_binding b as') ≡ newest_height as'
 bound_height b [] = refl
 bound_height b (a ∷ as') = refl
@@ -81,7 +118,7 @@ all_alike :
     q.control.layers ≡ ψ ∷ ψs → AreDeclared w p φ φs xs → AreDeclared w q ψ ψs xs
 all_alike w p q φ ψ φs ψs [] a newest h = tt
 all_alike w p q φ ψ φs ψs (x ∷ xs) a newest h = (
-  declared_alike w p q x φ ψ φs ψs a newest h.0,
+  either_alike w p q x φ ψ φs ψs a newest h.0,
   all_alike w (with_made (made_of w.parts φ x) p) (with_made (made_of w.parts ψ x) q) (layer_behind w.parts φ x)
       (layer_behind w.parts ψ x) φs ψs xs (alike_made w p q x φ ψ a)
       (ap (λ ls. newest_grown (made_of w.parts ψ x) ls) newest) h.1,
@@ -95,7 +132,7 @@ all_among k c xs p numbers held b o h =
     let φ : Point → Layer = λ q. layer_for w q held c.procedure c.calling in
     record {
       kind = h.kind;
-      variables = h.variables;
+      those = h.those;
       listed = h.listed;
       code = h.code;
       made = h.made;

@@ -132,17 +132,17 @@ pair_all input acts =
     let n = linked_length (links_of pair_code) 0 pair_code in
     record {
       kind = refl;
-      variables = refl;
+      those = inl (refl, refl, inl (refl, refl, tt));
       listed = (
-        record { class = refl; evaluations = refl; index = refl; table = refl },
-        (record { class = refl; evaluations = refl; index = refl; table = refl }, tt),
+        record { class = refl; evaluations = refl; late = omega arith; table = refl },
+        (record { class = refl; evaluations = refl; late = omega arith; table = refl }, tt),
       );
       code = refl;
       made = refl;
       parts = refl;
       few = omega arith;
       declared = (
-        record {
+        inl (record {
           newest = refl;
           here = refl;
           holds = omega arith;
@@ -159,9 +159,9 @@ pair_all input acts =
           values = (tt, tt);
           valued = number_valued;
           limit = refl;
-        },
+        }),
         (
-          record {
+          inl (record {
             newest = refl;
             here = refl;
             holds = omega arith;
@@ -178,7 +178,7 @@ pair_all input acts =
             values = (tt, tt);
             valued = number_valued;
             limit = refl;
-          },
+          }),
           tt,
         ),
       );

@@ -1,12 +1,13 @@
--- Several variables of constant size and without INITIAL values, made one behind the other in the newest block.
-use Rattle.std.specs.Prelude.{ℕ, ◌+◌, ◌≤◌, ◌≡◌, ◌⊎◌, ◌++◌, List, [], ◌∷◌, length, map, ⊤}
+-- Several variables of constant size and without INITIAL values, areas among them, made one behind the other in the
+-- newest block.
+use Rattle.std.specs.Prelude.{ℕ, ◌+◌, ◌≤◌, ◌≡◌, ◌⊎◌, ◌++◌, List, [], ◌∷◌, length, false, ⊤}
 use Rattle.rv_meaning.specs.declared.instr.Instr.{Instr}
 use Rattle.pli_typing.specs.TypedTree as Y
 use Rattle.pli_meaning.specs.DeclaredShapes.{variables_of_block}
 use Rattle.pli_coding.specs.Assembly.{Code}
 use Rattle.pli_coding.specs.Entries.{constant_made}
 use Rattle.pli_coding.specs.Environments.{Environment}
-use Rattle.pli_coding.specs.Frames.{MemoryParts}
+use Rattle.pli_coding.specs.Frames.{MemoryParts, is_automatic}
 use Rattle.pli_coding.specs.Locating.{table_number}
 use Rattle.activation_relation.specs.Layers.{Layer, Point}
 use Rattle.activation_relation.specs.Points.{Surroundings}
@@ -15,6 +16,7 @@ use Rattle.program_runs.specs.Calls.{AreMade, Callee, begun_at}
 use Rattle.program_runs.specs.Procedures.{layer_for}
 use Rattle.program_runs.specs.Statements.{Block, IsAmong, IsBegun}
 use Rattle.program_runs.specs.Variables.{Declared, IsDeclared, made_of}
+use Rattle.variable_runs.specs.Areas.{IsArea}
 
 -- ---- where they are made
 
@@ -38,11 +40,15 @@ first_all parts xs (φ ∷ φs) p = all_made parts φ xs p
 abbrev pub newest_all : MemoryParts → List Declared → Point → Point
 newest_all parts xs p = first_all parts xs p.control.layers p
 
+-- a variable of values, or an area
+abbrev pub Declares : Surroundings → Point → Declared → Layer → List Layer → Type 0
+Declares w p x φ φs = IsDeclared w p x φ φs ⊎ IsArea w p x φ φs
+
 -- each can be made where those before it have been
 abbrev pub AreDeclared : Surroundings → Point → Layer → List Layer → List Declared → Type 0
 AreDeclared w p φ φs [] = ⊤
 AreDeclared w p φ φs (x ∷ xs) =
-    IsDeclared w p x φ φs
+    Declares w p x φ φs
     × AreDeclared w (with_made (made_of w.parts φ x) p) (layer_behind w.parts φ x) φs xs
 
 -- ---- their code
@@ -51,23 +57,33 @@ abbrev pub made_code : Environment → List Declared → Code
 made_code e [] = []
 made_code e (x ∷ xs) = constant_made e x.place x.declared ++ made_code e xs
 
--- the nth variable of its block: AUTOMATIC, of no extents that are evaluated, and with a signature in the table
+-- AUTOMATIC, of no extents that are evaluated, and with a signature in the table; no earlier one than the nth of its
+-- block
 pub record IsListed (e : Environment) (n : ℕ) (x : Declared) : Type 0 where
   pub class : x.declared.class ≡ Y.AutomaticClass
   pub evaluations : x.declared.evaluations ≡ []
-  pub index : x.index ≡ n
+  pub late : n ≤ x.index
   pub table : table_number e x.declared ≡ x.number
 
 abbrev pub AreListed : Environment → (n : ℕ) → List Declared → Type 0
 AreListed e n [] = ⊤
-AreListed e n (x ∷ xs) = IsListed e n x × AreListed e (n + 1) xs
+AreListed e n (x ∷ xs) = IsListed e n x × AreListed e (x.index + 1) xs
+
+-- what a block declares from its nth variable on are these, and others that aren't AUTOMATIC
+abbrev pub AreThose : (n : ℕ) → List Declared → List Y.DeclaredVariable → Type 0
+AreThose n [] [] = ⊤
+AreThose n (x ∷ xs) [] = ⊥
+AreThose n [] (d ∷ ds) = (is_automatic d.class ≡ false) × AreThose (n + 1) [] ds
+AreThose n (x ∷ xs) (d ∷ ds) =
+    ((x.index ≡ n) × (d ≡ x.declared) × AreThose (n + 1) xs ds)
+    ⊎ ((is_automatic d.class ≡ false) × AreThose (n + 1) (x ∷ xs) ds)
 
 -- ---- the variables of a procedure
 
 -- the program declares them so, its code is that, and as many serials come with an act
 pub record AreAll (w : Surroundings) (c : Callee) (p : Point) (numbers : ℕ → ℕ) (xs : List Declared) : Type 0 where
   pub kind : c.procedure.head.kind ≡ Y.ProcedureBlock
-  pub variables : variables_of_block c.around.program c.procedure.head.number ≡ map (λ x. x.declared) xs
+  pub those : AreThose 0 xs (variables_of_block c.around.program c.procedure.head.number)
   pub listed : AreListed c.environment 0 xs
   pub code : c.procedure.variables ≡ made_code c.environment xs
   pub made : c.made ≡ newest_all w.parts xs
