@@ -1,0 +1,5 @@
+pub mod ChangedPoints
+pub mod BasedCode
+pub mod BasedMeaning
+pub mod BasedPoints
+pub mod BasedReads
