@@ -299,6 +299,23 @@ generation_follows w (VariableName n) change p shape extent =
     living_follows w n (generation_changed change) p (generation_keeping change shape extent)
 generation_follows w (BasedName n o) change p shape extent = area_follows w n (changed_at o change) p
 
+-- the world stays
+pub area_world : (n : ℕ) (change : List Placed → List Placed) (s : State) → (with_area n change s).world ≡ s.world
+area_world n change s = by (n == heap_serial)
+  where
+    by :
+        (q : Bool) →
+        (cond q (record s { heap = change s.heap }) (record s { living = living_changed n (area_changed change) s.living })).world
+        ≡ s.world
+    by true = refl
+    by false = refl
+
+pub generation_world :
+    (n : Name) (change : Generation → Generation) (s : State) → (with_generation n change s).world ≡ s.world
+generation_world NullName change s = refl
+generation_world (VariableName n) change s = refl
+generation_world (BasedName n o) change s = area_world n (changed_at o change) s
+
 -- one after the other
 pub follows_then : {w : Surroundings} {p q r : Point} → Follows w p q → Follows w q r → Follows w p r
 follows_then {w} {p} {q} {r} a b =

@@ -3,3 +3,5 @@ pub mod BasedCode
 pub mod BasedMeaning
 pub mod BasedPoints
 pub mod BasedReads
+pub mod BasedPuts
+pub mod BasedAssignments

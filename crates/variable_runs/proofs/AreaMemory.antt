@@ -1,11 +1,12 @@
 -- An area that is made: memory has it and all that was there, all frames stand, and what service 7 answers.
-use Rattle.std.proofs.Common.{◌≡◌, ℕ, suc, ◌+◌, ◌-◌, ◌*◌, ◌%◌, ◌^◌, ◌<◌, ◌≤◌, List, [], ◌∷◌, length, map, Bool}
-use Rattle.std.proofs.Common.{true, false, None, Some, inl, inr, refl, sym, ap, ◌∙◌, subst, arith}
+use Rattle.std.proofs.Common.{◌≡◌, ◌⊎◌, ℕ, suc, ◌+◌, ◌-◌, ◌*◌, ◌/◌, ◌%◌, ◌^◌, ◌<◌, ◌≤◌, List, [], ◌∷◌, length, map, Bool}
+use Rattle.std.proofs.Common.{true, false, Option, None, Some, inl, inr, refl, sym, ap, ◌∙◌, subst, arith}
 use Rattle.std.specs.Prelude.{cond, pos, ◌&&◌, ◌==◌, nat_le, nat_lt}
 use Rattle.std.proofs.lemmas.Bool.{le-leb, lt-ltb}
 use Rattle.std.proofs.lemmas.Bool.Decides.{nat_tests}
 use Rattle.rv_meaning.specs.declared.instr.Instr.{Instr}
 use Rattle.rv_meaning.specs.Machine.{memory_size}
+use Rattle.rv_meaning.specs.Memory.{load}
 use Rattle.pli_meaning.specs.BasicValues.{VariableName}
 use Rattle.pli_meaning.specs.Contents.{fresh}
 use Rattle.pli_meaning.specs.DeclaredShapes.{shape_of}
@@ -17,7 +18,7 @@ use Rattle.granule_keeper.specs.Granules.{granules}
 use Rattle.area_keeper.specs.Keeper.{Keeper}
 use Rattle.area_keeper.specs.KeeperLaws.{Keeps}
 use Rattle.area_keeper.specs.KeptAreas.{with_part}
-use Rattle.area_keeper.proofs.Agreement.{length_part}
+use Rattle.area_keeper.proofs.Agreement.{length_part, length_with_part}
 use Rattle.pli_serving.specs.ActsAndEnds.{run_ended}
 use Rattle.pli_serving.specs.Answers.{Answer, Done}
 use Rattle.pli_serving.specs.Arguments.{capacity_of, bytes_taken, shape_of_number}
@@ -33,11 +34,14 @@ use Rattle.storage_relation.specs.Changes.{Making, IsMaking, made}
 use Rattle.storage_relation.specs.Served.{Holds, served_living}
 use Rattle.storage_relation.specs.Standing as Standing
 use Rattle.storage_relation.specs.Standing.{bytes_of, holder_by, holder_of}
-use Rattle.storage_relation.specs.Stored.{IsBeside}
+use Rattle.storage_relation.specs.Stored.{Beside, IsBeside}
+use Rattle.storage_relation.specs.Telling.{HasWords}
+use Rattle.storage_relation.proofs.NameWords.{name_words}
+use Rattle.storage_relation.proofs.Slices.{part_written}
 use Rattle.storage_relation.proofs.Changes.{made_holds, made_served, limit_same}
 use Rattle.storage_relation.proofs.Confined.{beside_written, beside_both}
 use Rattle.storage_relation.proofs.Making.{begins_area, same_held}
-use Rattle.activation_relation.specs.Frames.{FramesStand, AreLaid, upper_top, lower_end}
+use Rattle.activation_relation.specs.Frames.{BesideTold, FramesStand, AreLaid, upper_top, lower_end}
 use Rattle.activation_relation.specs.Layers.{Layer, Point, activation_of, now, services_of}
 use Rattle.activation_relation.specs.Points.{Surroundings, Stands}
 use Rattle.activation_relation.specs.Variables.{FitsBlock, newest_grown, with_made}
@@ -49,7 +53,9 @@ use Rattle.run_steps.specs.Engine.{call_at}
 use Rattle.run_steps.specs.Unlimited as U
 use Rattle.block_runs.specs.Machines.{AreEven, IsImage}
 use Rattle.block_runs.proofs.Places.{bounds}
-use Rattle.program_runs.specs.Variables.{Declared, generation_for, made_of, place_behind}
+use Rattle.program_runs.specs.Names.{name_told, named_of}
+use Rattle.program_runs.specs.Variables.{Declared, generation_for, place_behind}
+use Rattle.program_runs.proofs.Names.{IsWord}
 use Rattle.program_runs.proofs.VariableMemory.{frames_grown, told_there}
 use Rattle.variable_runs.specs.Areas.{IsArea}
 
@@ -111,9 +117,90 @@ owned_bytes {p = p} {x = x} k owner =
     ap (λ o. bytes_of p.keeper (holder_by (generation_for x) o)) k.is.area
     ∙ ap (λ (u : Keeper). u.bytes_for k.is.capacity) k.image.keeper
 
+-- a word of the name, among those that are told
+word_or_before :
+    (place serial : ℕ) (told : ℕ → Option ℕ) (n v : ℕ) → name_told place serial told n ≡ Some v →
+    (told n ≡ Some v) ⊎ IsWord place serial n v
+word_or_before place serial told n v e = t0 (n == place) refl e
+  where
+    some : {a b : ℕ} → Some a ≡ Some b → b ≡ a
+    some h = cc h
+
+    t12 : (q : Bool) → (n == place + 12) ≡ q → cond q (Some (serial / 2 ^ 32)) (told n) ≡ Some v →
+        (told n ≡ Some v) ⊎ IsWord place serial n v
+    t12 true f h = inr (inr (inr (inr (grind (arith, nat_tests), some h))))
+    t12 false f h = inl h
+
+    t8 : (q : Bool) → (n == place + 8) ≡ q →
+        cond q (Some (serial % 2 ^ 32)) (cond (n == place + 12) (Some (serial / 2 ^ 32)) (told n)) ≡ Some v →
+        (told n ≡ Some v) ⊎ IsWord place serial n v
+    t8 true f h = inr (inr (inr (inl (grind (arith, nat_tests), some h))))
+    t8 false f h = t12 (n == place + 12) refl h
+
+    t4 : (q : Bool) → (n == place + 4) ≡ q →
+        cond q (Some 0) (cond (n == place + 8) (Some (serial % 2 ^ 32))
+        (cond (n == place + 12) (Some (serial / 2 ^ 32)) (told n))) ≡ Some v →
+        (told n ≡ Some v) ⊎ IsWord place serial n v
+    t4 true f h = inr (inr (inl (grind (arith, nat_tests), some h)))
+    t4 false f h = t8 (n == place + 8) refl h
+
+    t0 : (q : Bool) → (n == place) ≡ q →
+        cond q (Some 1) (cond (n == place + 4) (Some 0) (cond (n == place + 8) (Some (serial % 2 ^ 32))
+        (cond (n == place + 12) (Some (serial / 2 ^ 32)) (told n)))) ≡ Some v →
+        (told n ≡ Some v) ⊎ IsWord place serial n v
+    t0 true f h = inr (inl (grind (arith, nat_tests), some h))
+    t0 false f h = t4 (n == place + 4) refl h
+
+-- they lie within sixteen bytes
+word_within :
+    (place serial n v : ℕ) → IsWord place serial n v → (place ≤ n) × (n + 4 ≤ place + 16)
+word_within place serial n v (inl h) = let e = h.0 in (omega (arith, e), omega (arith, e))
+word_within place serial n v (inr (inl h)) = let e = h.0 in (omega (arith, e), omega (arith, e))
+word_within place serial n v (inr (inr (inl h))) = let e = h.0 in (omega (arith, e), omega (arith, e))
+word_within place serial n v (inr (inr (inr h))) = let e = h.0 in (omega (arith, e), omega (arith, e))
+
+-- and stand where the name does
+word_found :
+    (at place serial n v : ℕ) (m : List ℕ) → HasWords (VariableName serial) (at + place) m →
+    IsWord place serial n v → load 4 m (at + n) ≡ v
+word_found at place serial n v m words is = by is
+  where
+    here : (k j w : ℕ) → n ≡ place + k → at + place + k ≡ j → v ≡ w → load 4 m j ≡ w → load 4 m (at + n) ≡ v
+    here k j w e place' value there =
+        let same : at + n ≡ j = omega (arith, e, place') in
+        ap (load 4 m) same ∙ there ∙ sym value
+
+    by : IsWord place serial n v → load 4 m (at + n) ≡ v
+    by (inl h) = let e = h.0 in here 0 (at + place) 1 (omega (arith, e)) (omega arith) h.1 words.kind
+    by (inr (inl h)) = here 4 (at + place + 4) 0 h.0 refl h.1 words.offset
+    by (inr (inr (inl h))) = here 8 (at + place + 8) (serial % 2 ^ 32) h.0 refl h.1 words.low
+    by (inr (inr (inr h))) = here 12 (at + place + 12) (serial / 2 ^ 32) h.0 refl h.1 words.high
+
+told_cases :
+    {w : Surroundings} {code : List Instr} {p : Point} {x : Declared} {φ : Layer} {φs : List Layer} →
+    Around w code p x φ φs → (n v : ℕ) → (φ.told n ≡ Some v) ⊎ IsWord x.place (p.state.serials + 1) n v →
+    (φ.told n ≡ Some v) ⊎ ((φ.top ≤ φ.at + n) × (φ.at + n + 4 ≤ φ.at + place_behind w.parts x))
+told_cases k n v (inl was) = inl was
+told_cases {p = p} {x = x} k n v (inr is) =
+    let here = k.is.here in
+    let holds = k.is.holds in
+    let within = word_within x.place (p.state.serials + 1) n v is in
+    let low = within.0 in
+    let high = within.1 in
+    inr (omega (arith, here, low), omega (arith, high, holds))
+
+-- the data lie beside the name
+beside_name :
+    (p : Point) (x : Declared) (φ : Layer) (count : ℕ) → BesideTold (φ.at + (x.place + name_bytes)) count φ →
+    (n v : ℕ) → (φ.told n ≡ Some v) ⊎ IsWord x.place (p.state.serials + 1) n v →
+    Beside (φ.at + (x.place + name_bytes)) count (φ.at + n) 4
+beside_name p x φ count old n v (inl was) = old n v was
+beside_name p x φ count old n v (inr is) =
+    let high = (word_within x.place (p.state.serials + 1) n v is).1 in inr (omega (arith, high))
+
 pub fits_block :
     {w : Surroundings} {code : List Instr} {p : Point} {x : Declared} {φ : Layer} {φs : List Layer} →
-    Around w code p x φ φs → FitsBlock w p (made_of w.parts φ x) φ φs
+    Around w code p x φ φs → FitsBlock w p (named_of w.parts (p.state.serials + 1) φ x) φ φs
 fits_block {w} {p = p} {x = x} {φ = φ} k =
     let here = k.is.here in
     let holds = k.is.holds in
@@ -124,11 +211,12 @@ fits_block {w} {p = p} {x = x} {φ = φ} k =
       upper = omega (arith, here, holds);
       falls = omega arith;
       free = k.is.fits;
-      told = λ n v e. inl e;
+      told = λ n v e. told_cases k n v (word_or_before x.place (p.state.serials + 1) φ.told n v e);
       own = inl (
         omega (arith, here, fixed),
         omega (arith, holds, long),
-        told_over _ _ (laid_here k).0 (omega (arith, here)),
+        λ n v e. beside_name p x φ _ (told_over _ _ (laid_here k).0 (omega (arith, here))) n v
+            (word_or_before x.place (p.state.serials + 1) φ.told n v e),
       );
       extent = refl;
       shape = k.is.shape;
@@ -137,14 +225,14 @@ fits_block {w} {p = p} {x = x} {φ = φ} k =
 pub made_stands :
     {w : Surroundings} {code : List Instr} {p : Point} {x : Declared} {φ : Layer} {φs : List Layer} →
     Around w code p x φ φs →
-    Stands w (with_made (made_of w.parts φ x) p) × IsImage w code (with_made (made_of w.parts φ x) p)
+    Stands w (with_made (named_of w.parts (p.state.serials + 1) φ x) p) × IsImage w code (with_made (named_of w.parts (p.state.serials + 1) φ x) p)
 made_stands {w} {p = p} {x = x} {φ = φ} {φs = φs} k = (
-  variable_stands w p (made_of w.parts φ x) φ φs k.stands (fits_block k),
+  variable_stands w p (named_of w.parts (p.state.serials + 1) φ x) φ φs k.stands (fits_block k),
   record {
     keeper = k.image.keeper;
     layout = k.image.layout;
     parts = k.image.parts;
-    even = subst (λ ls. AreEven w.parts (newest_grown (made_of w.parts φ x) ls)) (sym k.is.newest)
+    even = subst (λ ls. AreEven w.parts (newest_grown (named_of w.parts (p.state.serials + 1) φ x) ls)) (sym k.is.newest)
         (k.is.even, (subst (AreEven w.parts) k.is.newest k.image.even).1);
   },
 )
@@ -245,9 +333,9 @@ is_making {w} {p = p} {x = x} {φ = φ} m k bytes h =
 pub made_holding :
     {w : Surroundings} {code : List Instr} {p : Point} {x : Declared} {φ : Layer} {φs : List Layer} (m : List ℕ)
     (k : Around w code p x φ φs) → length m ≡ memory_size → Holds (now p m) →
-    Holds (now (with_made (made_of w.parts φ x) p) (made_memory p φ x k.is.capacity m))
+    Holds (now (with_made (named_of w.parts (p.state.serials + 1) φ x) p) (made_memory p φ x k.is.capacity m))
 made_holding {w} {p = p} {x = x} {φ = φ} m k bytes h =
-    let q = with_made (made_of w.parts φ x) p in
+    let q = with_made (named_of w.parts (p.state.serials + 1) φ x) p in
     let making = making_of p φ x (area_data φ x k.is.capacity m) in
     let o = made_holds (now p m) h making (is_making m k bytes h) in
     let s = (made making (now p m)).state in
@@ -303,19 +391,47 @@ frames_stay {w} {p = p} {x = x} {φ = φ} {φs = φs} base m k bytes h frames =
     (beside_above w.parts at n p.control.layers k.stands.laid (omega (arith, top, here))) (made_beside m k bytes h) in
     subst (FramesStand w.parts base new p.state.activations) k.is.newest kept
 
+words_there :
+    {w : Surroundings} {code : List Instr} {p : Point} {x : Declared} {φ : Layer} {φs : List Layer} (m : List ℕ)
+    (k : Around w code p x φ φs) → length m ≡ memory_size → Holds (now p m) →
+    HasWords (VariableName (p.state.serials + 1)) (φ.at + x.place) (made_memory p φ x k.is.capacity m)
+words_there {w} {p = p} {x = x} {φ = φ} m k bytes h =
+    let name = B.name_bytes (VariableName (p.state.serials + 1)) in
+    let data' = area_data φ x k.is.capacity m in
+    let first = with_part data' (φ.at + (x.place + name_bytes)) m in
+    let holds = k.is.holds in
+    let small = place_small k in
+    let size = (data_is m k bytes h 0).0 in
+    let long = length_with_part data' (φ.at + (x.place + name_bytes)) m (omega (arith, holds, small, bytes, size)) in
+    name_words (VariableName (p.state.serials + 1)) (φ.at + x.place) (made_memory p φ x k.is.capacity m)
+    (record {
+      fits = k.is.serial;
+      tells = part_written name (φ.at + x.place) first (omega (arith, holds, small, bytes, long));
+    })
+
 pub made_frames :
     {w : Surroundings} {code : List Instr} {p : Point} {x : Declared} {φ : Layer} {φs : List Layer} (base : ℕ)
     (m : List ℕ) (k : Around w code p x φ φs) → length m ≡ memory_size → Holds (now p m) →
     FramesStand w.parts base m p.state.activations p.control.layers →
-    FramesStand w.parts base (made_memory p φ x k.is.capacity m) (with_made (made_of w.parts φ x) p).state.activations
-    (with_made (made_of w.parts φ x) p).control.layers
+    FramesStand w.parts base (made_memory p φ x k.is.capacity m) (with_made (named_of w.parts (p.state.serials + 1) φ x) p).state.activations
+    (with_made (named_of w.parts (p.state.serials + 1) φ x) p).control.layers
 made_frames {w} {p = p} {x = x} {φ = φ} {φs = φs} base m k bytes h frames =
     let new = made_memory p φ x k.is.capacity m in
     let kept = frames_stay base m k bytes h frames in
-    subst (λ ls. FramesStand w.parts base new (with_made (made_of w.parts φ x) p).state.activations
-    (newest_grown (made_of w.parts φ x) ls)) (sym k.is.newest)
-    (frames_grown w.parts base new _ (made_of w.parts φ x) p.state.activations φ φs
-    (refl, told_there w.parts base new p.state.activations φ φs kept) kept)
+    subst (λ ls. FramesStand w.parts base new (with_made (named_of w.parts (p.state.serials + 1) φ x) p).state.activations
+    (newest_grown (named_of w.parts (p.state.serials + 1) φ x) ls)) (sym k.is.newest)
+    (frames_grown w.parts base new _ (named_of w.parts (p.state.serials + 1) φ x) p.state.activations φ φs
+    (refl, λ n v e. found kept n v (word_or_before x.place (p.state.serials + 1) φ.told n v e)) kept)
+  where
+    found :
+        FramesStand w.parts base (made_memory p φ x k.is.capacity m) p.state.activations (φ ∷ φs) → (n v : ℕ) →
+        (φ.told n ≡ Some v) ⊎ IsWord x.place (p.state.serials + 1) n v →
+        load 4 (made_memory p φ x k.is.capacity m) (φ.at + n) ≡ v
+    found kept n v (inl was) =
+        told_there w.parts base (made_memory p φ x k.is.capacity m) p.state.activations φ φs kept n v was
+    found kept n v (inr is) =
+        word_found φ.at x.place (p.state.serials + 1) n v (made_memory p φ x k.is.capacity m)
+        (words_there m k bytes h) is
 
 pub made_length :
     {w : Surroundings} {code : List Instr} {p : Point} {x : Declared} {φ : Layer} {φs : List Layer} (m : List ℕ)
@@ -363,20 +479,20 @@ made_services :
     {w : Surroundings} {code : List Instr} {p : Point} {x : Declared} {φ : Layer} {φs : List Layer} (m : List ℕ) →
     Around w code p x φ φs → length m ≡ memory_size → Holds (now p m) →
     G.with_living (living_made p φ x (S.height (services_of p))) (services_of p)
-    ≡ services_of (with_made (made_of w.parts φ x) p)
+    ≡ services_of (with_made (named_of w.parts (p.state.serials + 1) φ x) p)
 made_services {w} {p = p} {x = x} {φ = φ} m k bytes h =
     let v = services_of p in
     let served' = made_served (now p m) h (making_of p φ x (area_data φ x k.is.capacity m)) (is_making m k bytes h) in
-    let layers : map activation_of (newest_grown (made_of w.parts φ x) p.control.layers)
+    let layers : map activation_of (newest_grown (named_of w.parts (p.state.serials + 1) φ x) p.control.layers)
     ≡ map activation_of p.control.layers =
-    ap (λ ls. map activation_of (newest_grown (made_of w.parts φ x) ls)) k.is.newest
+    ap (λ ls. map activation_of (newest_grown (named_of w.parts (p.state.serials + 1) φ x) ls)) k.is.newest
     ∙ sym (ap (λ ls. map activation_of ls) k.is.newest) in
     ap (λ o. G.with_living (living_made p φ x o) v) (owner_is k)
     ∙ ap (λ ls. record v { serials = p.state.serials + 1; living = ls }) (sym served')
     ∙ ap (λ as'. record v {
       serials = p.state.serials + 1;
-      living = map (served_living (with_made (made_of w.parts φ x) p).places)
-          (with_made (made_of w.parts φ x) p).state.living;
+      living = map (served_living (with_made (named_of w.parts (p.state.serials + 1) φ x) p).places)
+          (with_made (named_of w.parts (p.state.serials + 1) φ x) p).state.living;
       activations = as';
     }) (sym layers)
 
@@ -389,7 +505,7 @@ pub made_answer :
     {w : Surroundings} {code : List Instr} {p : Point} {x : Declared} {φ : Layer} {φs : List Layer} (m : List ℕ)
     (k : Around w code p x φ φs) → length m ≡ memory_size → Holds (now p m) → 4 * length code ≤ 2 ^ 22 →
     U.make_served (call_at code (services_of p) m) (φ.at + x.place) x.number 0 (φ.at + (x.place + name_bytes)) 0
-    ≡ Done (services_of (with_made (made_of w.parts φ x) p)) (made_memory p φ x k.is.capacity m) (φ.at + x.place) x.number
+    ≡ Done (services_of (with_made (named_of w.parts (p.state.serials + 1) φ x) p)) (made_memory p φ x k.is.capacity m) (φ.at + x.place) x.number
 made_answer {w} {code} {p} {x} {φ} {φs} m k bytes h small' =
     let v = services_of p in
     let c = call_at code v m in

@@ -46,7 +46,8 @@ use Rattle.block_runs.proofs.BlockEntries.{small_is, word_fits, word_is}
 use Rattle.block_runs.proofs.FrameBeginnings.{stack_put}
 use Rattle.block_runs.proofs.Places.{IsFrame, ground_at}
 use Rattle.block_runs.proofs.PointGrounds.{StandsIn, in_known, known_in, point_frame, point_ground}
-use Rattle.program_runs.specs.Variables.{Declared, generation_for, made_of, place_behind}
+use Rattle.program_runs.specs.Names.{named_of}
+use Rattle.program_runs.specs.Variables.{Declared, generation_for, place_behind}
 use Rattle.program_runs.proofs.Variables.{own_code, own_coded, own_comes}
 use Rattle.variable_runs.specs.Areas.{IsArea}
 use Rattle.variable_runs.proofs.AreaMemory.{Around, made_answer, made_frames, made_holding, made_length, made_memory}
@@ -188,7 +189,7 @@ calling_made :
     frame_under w.parts p.control.layers ≡ φ.at → Linked w.links code i (Plain I.Ecall ∷ []) →
     ((b : Base) → At b i (Known (point_ground w p h) (services_of p) numbers (λ n. 0) (asked_regs w p x) b) (f b)) →
     Calling w.links code i f
-    (λ b. Done (services_of (with_made (made_of w.parts φ x) p)) (made_memory p φ x k.is.capacity (f b).machine.memory)
+    (λ b. Done (services_of (with_made (named_of w.parts (p.state.serials + 1) φ x) p)) (made_memory p φ x k.is.capacity (f b).machine.memory)
     (φ.at + x.place) x.number)
 calling_made {w} {code} {p} {x} {φ} {φs} k h f same l there =
     let at = frame_under w.parts p.control.layers in
@@ -262,17 +263,17 @@ pub area_comes :
     (table_number e x.declared ≡ x.number) × (e.parts ≡ w.parts) →
     Linked w.links code index (constant_made e x.place x.declared) → AreIn w p numbers index f →
     Reach code c f (services_of p) (c + size_of (constant_made e x.place x.declared))
-    (services_of (with_made (made_of w.parts φ x) p))
-    (λ b y. IsIn w (with_made (made_of w.parts φ x) p) numbers
+    (services_of (with_made (named_of w.parts (p.state.serials + 1) φ x) p))
+    (λ b y. IsIn w (with_made (named_of w.parts (p.state.serials + 1) φ x) p) numbers
     (index + size_of (constant_made e x.place x.declared)) b y)
 area_comes w code e p numbers x φ φs c index f known is same l there =
-    let q = with_made (made_of w.parts φ x) p in
+    let q = with_made (named_of w.parts (p.state.serials + 1) φ x) p in
     let k : Around w code p x φ φs = record { stands = known.0; image = known.1; is = is } in
     let new = made_stands k in
     let frame : frame_under w.parts q.control.layers ≡ φ.at =
-    ap (λ ls. frame_under w.parts (newest_grown (made_of w.parts φ x) ls)) is.newest in
+    ap (λ ls. frame_under w.parts (newest_grown (named_of w.parts (p.state.serials + 1) φ x) ls)) is.newest in
     let top : upper_top w.parts q.control.layers ≡ φ.at + place_behind w.parts x =
-    ap (λ ls. upper_top w.parts (newest_grown (made_of w.parts φ x) ls)) is.newest in
+    ap (λ ls. upper_top w.parts (newest_grown (named_of w.parts (p.state.serials + 1) φ x) ls)) is.newest in
     let h = point_frame known.0 known.1 in
     let h' = point_frame new.0 new.1 in
     let v = services_of p in
@@ -345,7 +346,7 @@ area_comes w code e p numbers x φ φs c index f known is same l there =
 
 pub area_means :
     (w : Surroundings) (p : Point) (x : Declared) (φ : Layer) (φs : List Layer) (acts : ℕ) → IsArea w p x φ φs →
-    K.variable_made x.index (generation_for x) acts p.state ≡ Normal tt (with_made (made_of w.parts φ x) p).state
+    K.variable_made x.index (generation_for x) acts p.state ≡ Normal tt (with_made (named_of w.parts (p.state.serials + 1) φ x) p).state
 unfolding K.variable_made looked choose stored ◌>>=◌
 area_means w p x φ φs acts is =
     ap (λ q. cond q (Normal tt (with_variable x.index (generation_for x) p.state))

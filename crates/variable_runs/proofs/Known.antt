@@ -18,17 +18,16 @@ use Rattle.storage_relation.proofs.Holders.{eqb-other}
 use Rattle.activation_relation.specs.Frames.{AreLaid, frame_under}
 use Rattle.activation_relation.specs.Layers.{Layer, Point}
 use Rattle.activation_relation.specs.Points.{Surroundings}
-use Rattle.activation_relation.specs.Variables.{with_made}
 use Rattle.block_runs.specs.Machines.{HasParts}
 use Rattle.block_runs.proofs.Places.{Bounds, bounds}
 use Rattle.program_runs.specs.Calls.{Callee, begun_at, block_at}
 use Rattle.program_runs.specs.Procedures.{beginning_for, layer_for}
 use Rattle.program_runs.specs.Statements.{Block, IsBegun}
-use Rattle.program_runs.specs.Variables.{Declared, generation_for, made_of}
+use Rattle.program_runs.specs.Variables.{Declared, generation_for}
 use Rattle.expression_runs.specs.Variables.{IsNumber, Spot, number_declared, number_place}
 use Rattle.variable_runs.specs.Known.{IsKnown, IsOwn, place_of}
-use Rattle.variable_runs.specs.Lists.{Among, AreAll, AreDeclared, AreListed, Declares, all_made, layer_after}
-use Rattle.variable_runs.specs.Lists.{layer_behind}
+use Rattle.variable_runs.specs.Lists.{Among, AreAll, AreDeclared, AreListed, Declares, all_made, behind_made}
+use Rattle.variable_runs.specs.Lists.{layer_after, layer_behind}
 use Rattle.variable_runs.proofs.Lists.{Binds, layers_after}
 
 -- ---- at a point
@@ -51,7 +50,7 @@ record Has (q : Point) (at lower : ℕ) (a : Activation) (as' : List Activation)
 has_new :
     (w : Surroundings) (p : Point) (φ : Layer) (φs : List Layer) (a : Activation) (as' : List Activation)
     (d : Declared) → Binds p a as' → Declares w p d φ φs →
-    Has (with_made (made_of w.parts φ d) p) φ.at φ.lower a as' d
+    Has (behind_made w.parts φ d p) φ.at φ.lower a as' d
 has_new w p φ φs a as' d binds is =
     let serial = p.state.serials + 1 in
     let b : Binding = record {
@@ -82,7 +81,7 @@ has_new w p φ φs a as' d binds is =
 has_still :
     (w : Surroundings) (p : Point) (φ : Layer) (at lower : ℕ) (a : Activation) (as' : List Activation)
     (d y : Declared) → d.index < y.index → Has p at lower a as' d →
-    Has (with_made (made_of w.parts φ y) p) at lower a as' d
+    Has (behind_made w.parts φ y p) at lower a as' d
 has_still w p φ at lower a as' d y less h =
     let serial = p.state.serials + 1 in
     let given = h.given in
@@ -115,7 +114,7 @@ has_kept :
 has_kept w e p φ at lower a as' d [] n less listed h = h
 has_kept w e p φ at lower a as' d (y ∷ xs) n less listed h =
     let late = listed.0.late in
-    has_kept w e (with_made (made_of w.parts φ y) p) (layer_behind w.parts φ y) at lower a as' d xs (y.index + 1)
+    has_kept w e (behind_made w.parts φ y p) (layer_behind w.parts (p.state.serials + 1) φ y) at lower a as' d xs (y.index + 1)
     (omega (arith, less, late)) listed.1 (has_still w p φ at lower a as' d y (omega (arith, less, late)) h)
 
 -- so it has each of them
@@ -126,11 +125,11 @@ has_each :
 has_each w e p φ φs a as' d [] n listed are binds among = absurd among
 has_each w e p φ φs a as' d (x ∷ xs) n listed are binds (inl same) =
     subst (λ y. Has (all_made w.parts φ (x ∷ xs) p) φ.at φ.lower a as' y) (sym same)
-    (has_kept w e (with_made (made_of w.parts φ x) p) (layer_behind w.parts φ x) φ.at φ.lower a as' x xs (x.index + 1)
+    (has_kept w e (behind_made w.parts φ x p) (layer_behind w.parts (p.state.serials + 1) φ x) φ.at φ.lower a as' x xs (x.index + 1)
     (omega arith) listed.1 (has_new w p φ φs a as' x binds are.0))
 has_each w e p φ φs a as' d (x ∷ xs) n listed are binds (inr there) =
     let new = has_new w p φ φs a as' x binds are.0 in
-    has_each w e (with_made (made_of w.parts φ x) p) (layer_behind w.parts φ x) φs a as' d xs (x.index + 1) listed.1 are.1
+    has_each w e (behind_made w.parts φ x p) (layer_behind w.parts (p.state.serials + 1) φ x) φs a as' d xs (x.index + 1) listed.1 are.1
     new.binds there
 
 -- ---- in its block
@@ -147,10 +146,10 @@ newest_has a as' bindings level index own =
     ∙ ap (λ t. binding_in (cond t (Some new) rest) index) (eq-eqb a.level level (sym own))
 
 layer_stays :
-    (parts : MemoryParts) (φ : Layer) (xs : List Declared) →
-    ((layer_after parts φ xs).at ≡ φ.at) × ((layer_after parts φ xs).lower ≡ φ.lower)
-layer_stays parts φ [] = (refl, refl)
-layer_stays parts φ (x ∷ xs) = layer_stays parts (layer_behind parts φ x) xs
+    (parts : MemoryParts) (serial : ℕ) (φ : Layer) (xs : List Declared) →
+    ((layer_after parts serial φ xs).at ≡ φ.at) × ((layer_after parts serial φ xs).lower ≡ φ.lower)
+layer_stays parts serial φ [] = (refl, refl)
+layer_stays parts serial φ (x ∷ xs) = layer_stays parts (serial + 1) (layer_behind parts serial φ x) xs
 
 pub known_own :
     (w : Surroundings) (code : List Instr) (c : Callee) (p : Point) (numbers : ℕ → ℕ) (xs : List Declared)
@@ -210,12 +209,12 @@ known_own w code c p numbers xs d x parts h among own b =
     active : (c.made start).state.activations ≡ record a { bindings = has.binds.bindings } ∷ p.state.activations
     active = ap (λ (u : Point). u.state.activations) here ∙ has.binds.active
 
-    layers : (c.made start).control.layers ≡ layer_after w.parts φ xs ∷ p.control.layers
+    layers : (c.made start).control.layers ≡ layer_after w.parts (start.state.serials + 1) φ xs ∷ p.control.layers
     layers = ap (λ (u : Point). u.control.layers) here ∙ layers_after w start φ p.control.layers xs refl
 
-    around : Bounds w.parts (layer_after w.parts φ xs ∷ p.control.layers)
+    around : Bounds w.parts (layer_after w.parts (start.state.serials + 1) φ xs ∷ p.control.layers)
     around =
-        bounds w.parts (layer_after w.parts φ xs ∷ p.control.layers)
+        bounds w.parts (layer_after w.parts (start.state.serials + 1) φ xs ∷ p.control.layers)
         (subst (AreLaid w.parts) layers b.resumes.stands.laid)
 
     first : 7 * 2 ^ 20 ≤ w.parts.stack_start
@@ -224,17 +223,17 @@ known_own w code c p numbers xs d x parts h among own b =
     last : w.parts.stack_end + 2 ^ 12 ≤ 15 * 2 ^ 20
     last = parts.inside
 
-    low : w.parts.stack_start ≤ (layer_after w.parts φ xs).at
+    low : w.parts.stack_start ≤ (layer_after w.parts (start.state.serials + 1) φ xs).at
     low = around.low
 
-    high : (layer_after w.parts φ xs).lower ≤ w.parts.stack_end
+    high : (layer_after w.parts (start.state.serials + 1) φ xs).lower ≤ w.parts.stack_end
     high = around.high
 
-    at : (layer_after w.parts φ xs).at ≡ φ.at
-    at = (layer_stays w.parts φ xs).0
+    at : (layer_after w.parts (start.state.serials + 1) φ xs).at ≡ φ.at
+    at = (layer_stays w.parts (start.state.serials + 1) φ xs).0
 
-    lower : (layer_after w.parts φ xs).lower ≡ φ.lower
-    lower = (layer_stays w.parts φ xs).1
+    lower : (layer_after w.parts (start.state.serials + 1) φ xs).lower ≡ φ.lower
+    lower = (layer_stays w.parts (start.state.serials + 1) φ xs).1
 
     inside : φ.at + (d.place + name_bytes + data_size (shape_of [] d.declared).signature) ≤ φ.lower
     inside = has.inside

@@ -36,23 +36,42 @@ use Rattle.run_steps.proofs.Reach.{reach_then, reached_holds, stay}
 use Rattle.block_runs.specs.Machines.{AreIn, IsImage, IsIn}
 use Rattle.program_runs.specs.Calls.{AreMade, Callee, act_index, begun_at, variables_index}
 use Rattle.program_runs.specs.Procedures.{beginning_for, layer_for}
-use Rattle.program_runs.specs.Variables.{Declared, generation_for, made_of}
+use Rattle.program_runs.specs.Names.{named_of}
+use Rattle.program_runs.specs.Variables.{Declared, IsDeclared, generation_for, made_of}
 use Rattle.program_runs.proofs.Variables.{becomes_comes, made_becomes, variable_means}
-use Rattle.variable_runs.specs.Lists.{AreAll, AreDeclared, AreListed, AreThose, Declares, all_made, layer_after}
-use Rattle.variable_runs.specs.Lists.{layer_behind, made_code}
+use Rattle.variable_runs.specs.Areas.{IsArea}
+use Rattle.variable_runs.specs.Lists.{AreAll, AreDeclared, AreListed, AreThose, Declares, all_made, behind_made}
+use Rattle.variable_runs.specs.Lists.{layer_after, layer_behind, made_code, made_now, told_by}
 use Rattle.variable_runs.proofs.AreaMemory as A
 use Rattle.variable_runs.proofs.AreaVariables.{area_comes, area_means}
 
 -- ---- one of them
 
+-- what is told then of a variable of values, and of an area
+values_now :
+    (w : Surroundings) (p : Point) (x : Declared) (φ : Layer) (φs : List Layer) → IsDeclared w p x φ φs →
+    with_made (made_of w.parts φ x) p ≡ behind_made w.parts φ x p
+values_now w p x φ φs is =
+    sym (ap (λ o. with_made (record (made_of w.parts φ x) { told = told_by o x.place (p.state.serials + 1) φ.told }) p)
+    is.fixed)
+
+area_now :
+    (w : Surroundings) (p : Point) (x : Declared) (φ : Layer) (φs : List Layer) → IsArea w p x φ φs →
+    with_made (named_of w.parts (p.state.serials + 1) φ x) p ≡ behind_made w.parts φ x p
+area_now w p x φ φs is =
+    sym (ap (λ o. with_made (record (made_of w.parts φ x) { told = told_by o x.place (p.state.serials + 1) φ.told }) p)
+    is.fixed)
+
 next_stands :
     (w : Surroundings) (code : List Instr) (p : Point) (x : Declared) (φ : Layer) (φs : List Layer) →
     Stands w p × IsImage w code p → Declares w p x φ φs →
-    Stands w (with_made (made_of w.parts φ x) p) × IsImage w code (with_made (made_of w.parts φ x) p)
+    Stands w (behind_made w.parts φ x p) × IsImage w code (behind_made w.parts φ x p)
 next_stands w code p x φ φs known (inl is) =
+    subst (λ q. Stands w q × IsImage w code q) (values_now w p x φ φs is)
     (made_becomes (record { stands = known.0; image = known.1; is = is })).stands
 next_stands w code p x φ φs known (inr is) =
-    A.made_stands (record { stands = known.0; image = known.1; is = is })
+    subst (λ q. Stands w q × IsImage w code q) (area_now w p x φ φs is)
+    (A.made_stands (record { stands = known.0; image = known.1; is = is }))
 
 next_comes :
     (w : Surroundings) (code : List Instr) (e : Environment) (p : Point) (numbers : ℕ → ℕ) (x : Declared) (φ : Layer)
@@ -60,18 +79,21 @@ next_comes :
     (table_number e x.declared ≡ x.number) × (e.parts ≡ w.parts) →
     Linked w.links code index (constant_made e x.place x.declared) → AreIn w p numbers index f →
     Reach code c f (services_of p) (c + size_of (constant_made e x.place x.declared))
-    (services_of (with_made (made_of w.parts φ x) p))
-    (λ b y. IsIn w (with_made (made_of w.parts φ x) p) numbers
-    (index + size_of (constant_made e x.place x.declared)) b y)
+    (services_of (behind_made w.parts φ x p))
+    (λ b y. IsIn w (behind_made w.parts φ x p) numbers (index + size_of (constant_made e x.place x.declared)) b y)
 next_comes w code e p numbers x φ φs c index f known (inl is) same l there =
-    becomes_comes w code e p (with_made (made_of w.parts φ x) p) numbers x φ φs c index f known is
-    (made_becomes (record { stands = known.0; image = known.1; is = is })) same l there
+    subst (λ q. Reach code c f (services_of p) (c + size_of (constant_made e x.place x.declared)) (services_of q)
+    (λ b y. IsIn w q numbers (index + size_of (constant_made e x.place x.declared)) b y)) (values_now w p x φ φs is)
+    (becomes_comes w code e p (with_made (made_of w.parts φ x) p) numbers x φ φs c index f known is
+    (made_becomes (record { stands = known.0; image = known.1; is = is })) same l there)
 next_comes w code e p numbers x φ φs c index f known (inr is) same l there =
-    area_comes w code e p numbers x φ φs c index f known is same l there
+    subst (λ q. Reach code c f (services_of p) (c + size_of (constant_made e x.place x.declared)) (services_of q)
+    (λ b y. IsIn w q numbers (index + size_of (constant_made e x.place x.declared)) b y)) (area_now w p x φ φs is)
+    (area_comes w code e p numbers x φ φs c index f known is same l there)
 
 next_means :
     (w : Surroundings) (p : Point) (x : Declared) (φ : Layer) (φs : List Layer) (acts : ℕ) → Declares w p x φ φs →
-    K.variable_made x.index (generation_for x) acts p.state ≡ Normal tt (with_made (made_of w.parts φ x) p).state
+    K.variable_made x.index (generation_for x) acts p.state ≡ Normal tt (behind_made w.parts φ x p).state
 next_means w p x φ φs acts (inl is) = variable_means w p x φ φs acts is
 next_means w p x φ φs acts (inr is) = area_means w p x φ φs acts is
 
@@ -84,13 +106,12 @@ next_shape w p x φ φs (inr is) = is.shape
 -- the newest block's layer, once it has been made
 pub next_layers :
     (w : Surroundings) (p : Point) (x : Declared) (φ : Layer) (φs : List Layer) → p.control.layers ≡ φ ∷ φs →
-    (with_made (made_of w.parts φ x) p).control.layers ≡ layer_behind w.parts φ x ∷ φs
-next_layers w p x φ φs newest = ap (λ ls. newest_grown (made_of w.parts φ x) ls) newest
+    (behind_made w.parts φ x p).control.layers ≡ layer_behind w.parts (p.state.serials + 1) φ x ∷ φs
+next_layers w p x φ φs newest = ap (λ ls. newest_grown (made_now w.parts (p.state.serials + 1) φ x) ls) newest
 
 next_lives :
     (w : Surroundings) (p : Point) (x : Declared) (φ : Layer) (φs : List Layer) → Declares w p x φ φs →
-    Lives p.places p.state →
-    Lives (with_made (made_of w.parts φ x) p).places (with_made (made_of w.parts φ x) p).state
+    Lives p.places p.state → Lives (behind_made w.parts φ x p).places (behind_made w.parts φ x p).state
 next_lives w p x φ φs is lives =
     let l = K.living_at (p.state.serials + 1) (newest_height p.state.activations) (generation_for x) in
     let h = lives_added p.places p.state l (made_of w.parts φ x).place x.number refl refl (next_shape w p x φ φs is)
@@ -105,7 +126,7 @@ all_stand :
     Stands w (all_made w.parts φ xs p) × IsImage w code (all_made w.parts φ xs p)
 all_stand w code p φ φs [] are known = known
 all_stand w code p φ φs (x ∷ xs) are known =
-    all_stand w code (with_made (made_of w.parts φ x) p) (layer_behind w.parts φ x) φs xs are.1
+    all_stand w code (behind_made w.parts φ x p) (layer_behind w.parts (p.state.serials + 1) φ x) φs xs are.1
     (next_stands w code p x φ φs known are.0)
 
 -- counts of credits and indices that are the same
@@ -130,13 +151,13 @@ all_come w code e p numbers φ φs (x ∷ xs) n c index f are listed parts known
     let first = constant_made e x.place x.declared in
     let rest = made_code e xs in
     let size = size_append first rest in
-    let q = with_made (made_of w.parts φ x) p in
+    let q = behind_made w.parts φ x p in
     let r1 = next_comes w code e p numbers x φ φs c index f known are.0 (listed.0.table, parts)
     (front_of first rest l) there in
-    let r2 = all_come w code e q numbers (layer_behind w.parts φ x) φs xs (x.index + 1) (c + size_of first)
+    let r2 = all_come w code e q numbers (layer_behind w.parts (p.state.serials + 1) φ x) φs xs (x.index + 1) (c + size_of first)
     (index + size_of first) (reached r1) are.1 listed.1 parts (next_stands w code p x φ φs known are.0)
     (back_of first rest l) (reached_holds r1) in
-    moved_in (all_made w.parts (layer_behind w.parts φ x) xs q) (omega (arith, size)) (omega (arith, size))
+    moved_in (all_made w.parts (layer_behind w.parts (p.state.serials + 1) φ x) xs q) (omega (arith, size)) (omega (arith, size))
     (reach_then r1 r2)
 
 -- ---- what they mean
@@ -168,7 +189,7 @@ all_mean around w e p φ φs (x ∷ xs) (d ∷ ds) n m acts are listed (inr thos
 all_mean around w e p φ φs (x ∷ xs) (d' ∷ ds) n m acts are listed (inl those) =
     let d = x.declared in
     let s = p.state in
-    let q = with_made (made_of w.parts φ x) p in
+    let q = behind_made w.parts φ x p in
     let made : K.variable_made n (generation_for x) acts s ≡ Normal tt q.state =
     ap (λ i. K.variable_made i (generation_for x) acts s) (sym those.0)
     ∙ next_means w p x φ φs acts are.0 in
@@ -179,7 +200,7 @@ all_mean around w e p φ φs (x ∷ xs) (d' ∷ ds) n m acts are listed (inl tho
     (λ values. K.variable_made n (fresh (shape_of values d) (pos 0) (initial_of d))))
     (λ u. K.variables_made around (n + 1) ds)) listed.0.evaluations
     ∙ ap (λ flow. flow_on acts flow (λ u. K.variables_made around (n + 1) ds)) made
-    ∙ all_mean around w e q (layer_behind w.parts φ x) φs xs ds (n + 1) (x.index + 1) acts are.1 listed.1 those.2
+    ∙ all_mean around w e q (layer_behind w.parts (p.state.serials + 1) φ x) φs xs ds (n + 1) (x.index + 1) acts are.1 listed.1 those.2
 
 block_means :
     (around : Around) (head : Y.BlockHead) (acts : ℕ) (s s' : State) → head.kind ≡ Y.ProcedureBlock →
@@ -195,17 +216,18 @@ changed_in φ =
     record { units = φ.units; waits = φ.waits; told = φ.told; top = φ.top; carried = φ.carried }
 
 layer_resumed :
-    (parts : MemoryParts) (xs : List Declared) (m : Made) (φ : Layer) → m.lower ≡ φ.lower →
-    layer_after parts (grown m φ) xs ≡ resumed (changed_in (layer_after parts (grown m φ) xs)) φ
-layer_resumed parts [] m φ e = ap (λ n. record φ { told = m.told; top = m.top; lower = n }) e
-layer_resumed parts (x ∷ xs) m φ e = layer_resumed parts xs (made_of parts (grown m φ) x) φ e
+    (parts : MemoryParts) (serial : ℕ) (xs : List Declared) (m : Made) (φ : Layer) → m.lower ≡ φ.lower →
+    layer_after parts serial (grown m φ) xs ≡ resumed (changed_in (layer_after parts serial (grown m φ) xs)) φ
+layer_resumed parts serial [] m φ e = ap (λ n. record φ { told = m.told; top = m.top; lower = n }) e
+layer_resumed parts serial (x ∷ xs) m φ e =
+    layer_resumed parts (serial + 1) xs (made_now parts serial (grown m φ) x) φ e
 
 pub layers_after :
     (w : Surroundings) (p : Point) (φ : Layer) (φs : List Layer) (xs : List Declared) → p.control.layers ≡ φ ∷ φs →
-    (all_made w.parts φ xs p).control.layers ≡ layer_after w.parts φ xs ∷ φs
+    (all_made w.parts φ xs p).control.layers ≡ layer_after w.parts (p.state.serials + 1) φ xs ∷ φs
 layers_after w p φ φs [] newest = newest
 layers_after w p φ φs (x ∷ xs) newest =
-    layers_after w (with_made (made_of w.parts φ x) p) (layer_behind w.parts φ x) φs xs (next_layers w p x φ φs newest)
+    layers_after w (behind_made w.parts φ x p) (layer_behind w.parts (p.state.serials + 1) φ x) φs xs (next_layers w p x φ φs newest)
 
 -- its activation has more bindings
 pub record Binds (q : Point) (a : Activation) (as' : List Activation) : Type 0 where
@@ -222,7 +244,7 @@ all_bind w p φ (x ∷ xs) a as' h =
       name = VariableName (p.state.serials + 1);
       shape = (generation_for x).shape;
     } in
-    all_bind w (with_made (made_of w.parts φ x) p) (layer_behind w.parts φ x) xs a as'
+    all_bind w (behind_made w.parts φ x p) (layer_behind w.parts (p.state.serials + 1) φ x) xs a as'
     (record { bindings = b ∷ h.bindings; active = ap (λ us. with_binding b us) h.active })
 
 all_remain :
@@ -231,11 +253,11 @@ all_remain :
     Lives p.places p.state → Remains r p → Remains r (all_made w.parts φ xs p)
 all_remain w r p φ φs [] a as' are binds above lives remains = remains
 all_remain w r p φ φs (x ∷ xs) a as' are binds above lives remains =
-    let m = made_of w.parts φ x in
+    let m = made_now w.parts (p.state.serials + 1) φ x in
     let q = with_made m p in
     let height = ap newest_height binds.active in
     let one = all_bind w p φ (x ∷ []) a as' binds in
-    all_remain w r q (layer_behind w.parts φ x) φs xs a as' are.1 one above (next_lives w p x φ φs are.0 lives)
+    all_remain w r q (layer_behind w.parts (p.state.serials + 1) φ x) φs xs a as' are.1 one above (next_lives w p x φ φs are.0 lives)
     (remains_made r p m remains lives (omega (arith, height, above)))
 
 all_serials :
@@ -243,7 +265,7 @@ all_serials :
     (all_made w.parts φ xs p).state.serials ≡ p.state.serials + length xs
 all_serials w p φ [] = omega arith
 all_serials w p φ (x ∷ xs) =
-    let rest = all_serials w (with_made (made_of w.parts φ x) p) (layer_behind w.parts φ x) xs in
+    let rest = all_serials w (behind_made w.parts φ x p) (layer_behind w.parts (p.state.serials + 1) φ x) xs in
     rest ∙ omega arith
 
 all_world :
@@ -251,18 +273,19 @@ all_world :
     ((all_made w.parts φ xs p).state.world ≡ p.state.world)
     × ((all_made w.parts φ xs p).control.waiting ≡ p.control.waiting)
 all_world w p φ [] = (refl, refl)
-all_world w p φ (x ∷ xs) = all_world w (with_made (made_of w.parts φ x) p) (layer_behind w.parts φ x) xs
+all_world w p φ (x ∷ xs) = all_world w (behind_made w.parts φ x p) (layer_behind w.parts (p.state.serials + 1) φ x) xs
 
 -- ---- of a procedure
 
 called_resumed :
-    (w : Surroundings) (c : Callee) (p : Point) (numbers : ℕ → ℕ) (xs : List Declared) →
-    layer_after w.parts (layer_for w p numbers c.procedure c.calling) xs
-    ≡ resumed (changed_in (layer_after w.parts (layer_for w p numbers c.procedure c.calling) xs))
+    (w : Surroundings) (c : Callee) (p : Point) (numbers : ℕ → ℕ) (xs : List Declared) (serial : ℕ) →
+    layer_after w.parts serial (layer_for w p numbers c.procedure c.calling) xs
+    ≡ resumed (changed_in (layer_after w.parts serial (layer_for w p numbers c.procedure c.calling) xs))
     (layer_for w p numbers c.procedure c.calling)
-called_resumed w c p numbers [] = refl
-called_resumed w c p numbers (x ∷ xs) =
-    let φ = layer_for w p numbers c.procedure c.calling in layer_resumed w.parts xs (made_of w.parts φ x) φ refl
+called_resumed w c p numbers [] serial = refl
+called_resumed w c p numbers (x ∷ xs) serial =
+    let φ = layer_for w p numbers c.procedure c.calling in
+    layer_resumed w.parts (serial + 1) xs (made_now w.parts serial φ x) φ refl
 
 pub all_procedure :
     (w : Surroundings) (code : List Instr) (c : Callee) (p : Point) (numbers : ℕ → ℕ) (xs : List Declared) →
@@ -297,9 +320,9 @@ all_procedure w code c p numbers xs h =
           ∙ ap (λ (u : Point). Normal tt u.state) (sym here);
       activation = record a { bindings = bound.bindings };
       parent = refl;
-      changed = changed_in (layer_after w.parts φ xs);
+      changed = changed_in (layer_after w.parts (start.state.serials + 1) φ xs);
       layers = ap (λ (u : Point). u.control.layers) here ∙ layers_after w start φ φs xs refl
-          ∙ ap (λ ψ. ψ ∷ φs) (called_resumed w c p numbers xs);
+          ∙ ap (λ ψ. ψ ∷ φs) (called_resumed w c p numbers xs (start.state.serials + 1));
       own = [];
       activations = ap (λ (u : Point). u.state.activations) here ∙ bound.active;
       idle = ap (λ (u : Point). u.control.waiting) here ∙ same.1;

@@ -38,5 +38,7 @@ pub record IsArea (w : Surroundings) (p : Point) (x : Declared) (φ : Layer) (φ
   pub fixed : capacity_of (shape_of [] x.declared) ≡ Some capacity
   pub rounded : capacity % 16 ≡ 0
   pub bounded : capacity ≤ greatest_capacity
-  -- and doesn't pass the limit on what is AUTOMATIC
+  -- its serial number has two words
+  pub serial : p.state.serials + 1 < 2 ^ 64
+  -- and it doesn't pass the limit on what is AUTOMATIC
   pub limit : nat_le (automatic_in_use p.state.living + footprint_of (generation_for x)) most_automatic ≡ true

@@ -1,9 +1,11 @@
 -- Several variables of constant size and without INITIAL values, areas among them, made one behind the other in the
 -- newest block.
-use Rattle.std.specs.Prelude.{ℕ, ◌+◌, ◌≤◌, ◌≡◌, ◌⊎◌, ◌++◌, List, [], ◌∷◌, length, false, ⊤}
+use Rattle.std.specs.Prelude.{ℕ, ◌+◌, ◌^◌, ◌<◌, ◌≤◌, ◌≡◌, ◌⊎◌, ◌++◌, List, [], ◌∷◌, length, Option, None, Some, is_some}
+use Rattle.std.specs.Prelude.{false, true, ⊤}
 use Rattle.rv_meaning.specs.declared.instr.Instr.{Instr}
 use Rattle.pli_typing.specs.TypedTree as Y
-use Rattle.pli_meaning.specs.DeclaredShapes.{variables_of_block}
+use Rattle.pli_meaning.specs.DeclaredShapes.{shape_of, variables_of_block}
+use Rattle.pli_serving.specs.Arguments.{capacity_of}
 use Rattle.pli_coding.specs.Assembly.{Code}
 use Rattle.pli_coding.specs.Entries.{constant_made}
 use Rattle.pli_coding.specs.Environments.{Environment}
@@ -11,8 +13,9 @@ use Rattle.pli_coding.specs.Frames.{MemoryParts, is_automatic}
 use Rattle.pli_coding.specs.Locating.{table_number}
 use Rattle.activation_relation.specs.Layers.{Layer, Point}
 use Rattle.activation_relation.specs.Points.{Surroundings}
-use Rattle.activation_relation.specs.Variables.{grown, with_made}
+use Rattle.activation_relation.specs.Variables.{Made, grown, with_made}
 use Rattle.program_runs.specs.Calls.{AreMade, Callee, begun_at}
+use Rattle.program_runs.specs.Names.{name_told}
 use Rattle.program_runs.specs.Procedures.{layer_for}
 use Rattle.program_runs.specs.Statements.{Block, IsAmong, IsBegun}
 use Rattle.program_runs.specs.Variables.{Declared, IsDeclared, made_of}
@@ -20,18 +23,31 @@ use Rattle.variable_runs.specs.Areas.{IsArea}
 
 -- ---- where they are made
 
+-- what is told of the words of an area's name from then on, which services read
+abbrev pub told_by : Option ℕ → (place serial : ℕ) → (ℕ → Option ℕ) → ℕ → Option ℕ
+told_by (Some capacity) place serial told = name_told place serial told
+told_by None place serial told = told
+
+abbrev pub made_now : MemoryParts → (serial : ℕ) → Layer → Declared → Made
+made_now parts serial φ x =
+    record (made_of parts φ x) { told = told_by (capacity_of (shape_of [] x.declared)) x.place serial φ.told }
+
 -- the newest block's layer behind one, and behind them all
-abbrev pub layer_behind : MemoryParts → Layer → Declared → Layer
-layer_behind parts φ x = grown (made_of parts φ x) φ
+abbrev pub layer_behind : MemoryParts → (serial : ℕ) → Layer → Declared → Layer
+layer_behind parts serial φ x = grown (made_now parts serial φ x) φ
 
-abbrev pub layer_after : MemoryParts → Layer → List Declared → Layer
-layer_after parts φ [] = φ
-layer_after parts φ (x ∷ xs) = layer_after parts (layer_behind parts φ x) xs
+abbrev pub layer_after : MemoryParts → (serial : ℕ) → Layer → List Declared → Layer
+layer_after parts serial φ [] = φ
+layer_after parts serial φ (x ∷ xs) = layer_after parts (serial + 1) (layer_behind parts serial φ x) xs
 
--- the point behind them, where the newest block has this layer
+-- the point behind one, and behind them all, where the newest block has this layer
+abbrev pub behind_made : MemoryParts → Layer → Declared → Point → Point
+behind_made parts φ x p = with_made (made_now parts (p.state.serials + 1) φ x) p
+
 abbrev pub all_made : MemoryParts → Layer → List Declared → Point → Point
 all_made parts φ [] p = p
-all_made parts φ (x ∷ xs) p = all_made parts (layer_behind parts φ x) xs (with_made (made_of parts φ x) p)
+all_made parts φ (x ∷ xs) p =
+    all_made parts (layer_behind parts (p.state.serials + 1) φ x) xs (behind_made parts φ x p)
 
 abbrev pub first_all : MemoryParts → List Declared → List Layer → Point → Point
 first_all parts xs [] p = p
@@ -49,7 +65,7 @@ abbrev pub AreDeclared : Surroundings → Point → Layer → List Layer → Lis
 AreDeclared w p φ φs [] = ⊤
 AreDeclared w p φ φs (x ∷ xs) =
     Declares w p x φ φs
-    × AreDeclared w (with_made (made_of w.parts φ x) p) (layer_behind w.parts φ x) φs xs
+    × AreDeclared w (behind_made w.parts φ x p) (layer_behind w.parts (p.state.serials + 1) φ x) φs xs
 
 -- ---- their code
 
@@ -97,11 +113,18 @@ AllMade =
     (w : Surroundings) (code : List Instr) (c : Callee) (p : Point) (numbers : ℕ → ℕ) (xs : List Declared) →
     AreAll w c p numbers xs → AreMade w code c p numbers
 
+-- the names of areas have serials of two words
+abbrev pub HaveWords : (serials : ℕ) → List Declared → Type 0
+HaveWords serials [] = ⊤
+HaveWords serials (x ∷ xs) =
+    (is_some (capacity_of (shape_of [] x.declared)) ≡ true → serials + 1 < 2 ^ 64) × HaveWords (serials + 1) xs
+
 -- what holds of them at a block's first statement holds at each of the block's points
 abbrev pub AllAmong : Type 0
 AllAmong =
     (k : Block) (c : Callee) (xs : List Declared) (p : Point) (numbers held : ℕ → ℕ) → IsBegun k →
-    IsAmong k numbers p → AreAll k.call.surroundings c k.first held xs → AreAll k.call.surroundings c p held xs
+    IsAmong k numbers p → HaveWords p.state.serials xs → AreAll k.call.surroundings c k.first held xs →
+    AreAll k.call.surroundings c p held xs
 
 -- one of them
 abbrev pub Among : Declared → List Declared → Type 0
