@@ -266,7 +266,7 @@ goes_by k labels x n source line index left' need most h acts wanted debt i p nu
     let rest = behind_found around' a.points.name in
     let designated = V.part_designated around' a.points.name based_shape whole_part [] w.acts p.state in
     let closed = before_closed w.acts rest (before_closed w.acts next' (owing_closed code debt
-    (statement_closed k labels acts i wanted left'))) in
+    (statement_aims k labels acts i wanted left'))) in
     let small' = word_small z wide in
     let some = h.some in
     let o' = held_among setting {numbers = numbers} 0 1 (word z) (some, h.held) (omega arith) small' o in
@@ -332,7 +332,7 @@ stored_goes k labels x n source line index left' need most h acts wanted debt i 
     let more = q.since in
     let around' = at_line k.around line in
     subst (λ u. Comes code c' f' v' (owing code debt aims) (put_in k x n line (BasicNumber z) w.acts u)) (sym q.state)
-    (onward (owing_closed code debt (statement_closed k labels acts i wanted left')) q.reach
+    (onward (owing_closed code debt aims) q.reach
     (λ g at.
     let a = points_at x n h.based q.among g (λ b. (at b).0) in
     subst (λ flow. Comes code y.wanted g (services_of p) (owing code debt aims) flow)
@@ -371,7 +371,7 @@ assign_does k labels x n source line index left' need most h ev p numbers c want
     let acts = p.state.world.acts in
     let aims = statement_aims k labels acts (index + size_in k stmt) wanted left' in
     let owed = owing code debt aims in
-    let closed = owing_closed code debt (statement_closed k labels acts (index + size_in k stmt) wanted left') in
+    let closed = owing_closed code debt aims in
     let source' = V.stored_value around' (Y.StoredNumber 31 source) in
     let next' : Unit {0} → Meaning (Unit {0}) = λ u. source' >>= (λ v. put_in k x n line v) in
     let fit : ℤ → Meaning BasicValue =

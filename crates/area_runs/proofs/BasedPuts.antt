@@ -1,6 +1,6 @@
 -- The point behind an assignment to what a pointer variable points to: all that holds at the point before holds there.
 use Rattle.std.proofs.Common.{◌≡◌, ℕ, ◌+◌, ◌-◌, ◌*◌, ◌%◌, ◌^◌, ◌<◌, ◌≤◌, List, [], ◌∷◌, length, Option, Some, None, refl}
-use Rattle.std.proofs.Common.{sym, ap, ◌∙◌, subst, arith}
+use Rattle.std.proofs.Common.{true, sym, ap, ◌∙◌, subst, arith}
 use Rattle.std.specs.Prelude.{ℤ, pos}
 use Rattle.rv_meaning.specs.Machine.{memory_size}
 use Rattle.rv_meaning.specs.Memory.{store}
@@ -24,6 +24,7 @@ use Rattle.storage_relation.proofs.Confined.{beside_written}
 use Rattle.storage_relation.proofs.MachineStores.{word_stored}
 use Rattle.storage_relation.proofs.Named.{alone_holder, area_holder, based_in, data_within}
 use Rattle.storage_relation.proofs.Values.{number_length}
+use Rattle.activation_relation.specs.Frames.{FramesStand}
 use Rattle.activation_relation.specs.Layers.{Point, now, services_of}
 use Rattle.activation_relation.specs.Points.{Stands, Surroundings}
 use Rattle.activation_relation.proofs.BlockVariables.{stored_stand}
@@ -32,7 +33,8 @@ use Rattle.block_runs.proofs.PointGrounds.{StandsIn}
 use Rattle.program_runs.specs.Statements.{Block, IsAmong}
 use Rattle.expression_runs.specs.Variables.{whole_part}
 use Rattle.area_runs.proofs.BasedPoints.{LivesAt, based_generation, element_now}
-use Rattle.area_runs.proofs.ChangedPoints.{follows_among, generation_follows, generation_world, with_state}
+use Rattle.area_runs.proofs.ChangedPoints.{Follows, follows_among, generation_follows, generation_input, generation_world}
+use Rattle.area_runs.proofs.ChangedPoints.{same_services, with_state}
 
 -- ---- the point
 
@@ -60,7 +62,11 @@ assignable p l z m wide =
 
 pub put_services :
     (p : Point) {name : Name} (l : LivesAt p name) (z : ℤ) → services_of (behind_put p l z) ≡ services_of p
-put_services p {name} l z = assigned_served (now p []) (designated_based name l.extent l.values) (BasicNumber z)
+put_services p {name} l z =
+    let d = designated_based name l.extent l.values in
+    same_services (put_state p.state name l.extent l.values z) p
+    (generation_world name (with_element d (BasicNumber z)) p.state)
+    (generation_input name (with_element d (BasicNumber z)) p.state) (assigned_served (now p []) d (BasicNumber z))
 
 -- ---- memory
 
@@ -139,7 +145,13 @@ put_stands w p {name} l z b m wide is stands =
     owner : Held p name m
     owner = held_in p name l.extent l.values m stands.storage l.lives
 
-    frames : _
+    follows : Follows w p (behind_put p l z)
+    follows =
+        generation_follows w name (with_element (designated_based name l.extent l.values) (BasicNumber z)) p (λ y. refl)
+        (λ y. refl)
+
+    frames :
+        FramesStand w.parts b.at (store 4 m at (word z)) (behind_put p l z).state.activations p.control.layers
     frames =
         let from = owner.from in
         let to = owner.to in
@@ -148,9 +160,11 @@ put_stands w p {name} l z b m wide is stands =
         let long = number_length 4 (word z) in
         let room = stands.storage.stored.inside owner.serial owner.holder owner.holds in
         let place : start + (at - start) ≡ at + 0 + 0 = omega (arith, from) in
-        stored_stand w p b.at owner.serial owner.holder m (store 4 m at (word z)) is stands.frames owner.holds
+        subst (λ xs. FramesStand w.parts b.at (store 4 m at (word z)) xs p.control.layers)
+        (sym follows.later.activations)
+        (stored_stand w p b.at owner.serial owner.holder m (store 4 m at (word z)) is stands.frames owner.holds
         (subst (λ m'. IsBeside start n m m') (ap (λ i. with_part bytes i m) place ∙ same)
-        (beside_written bytes start n (at - start) m (omega (arith, long, from, to)) room))
+        (beside_written bytes start n (at - start) m (omega (arith, long, from, to)) room)))
 
 -- data begin behind what memory has before them
 pub place_low :

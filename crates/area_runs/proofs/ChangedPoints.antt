@@ -15,7 +15,8 @@ use Rattle.storage_relation.specs.Stored.{AreLow}
 use Rattle.storage_relation.proofs.Holders.{living_of-changed, living_of-others}
 use Rattle.storage_relation.proofs.Living.{Stays, lives_changed, stays_area, stays_generation}
 use Rattle.activation_relation.specs.Entering.{Later}
-use Rattle.activation_relation.specs.Layers.{Layer, Point}
+use Rattle.storage_relation.specs.Served.{call}
+use Rattle.activation_relation.specs.Layers.{Point, now, services_of}
 use Rattle.activation_relation.specs.Owned.{AreOwned, IsPlaceOf}
 use Rattle.activation_relation.specs.Points.{Stands, Surroundings}
 use Rattle.activation_relation.specs.Remaining.{LivesOn, Remains, in_use_up_to}
@@ -189,7 +190,7 @@ pub record Follows (w : Surroundings) (p q : Point) : Type 0 where
   pub later : Later p q
   pub serials : q.state.serials ≡ p.state.serials
 
-living_follows :
+pub living_follows :
     (w : Surroundings) (n : ℕ) (change : Living → Living) (p : Point) → Keeping change →
     Follows w p (with_state (record p.state { living = living_changed n change p.state.living }) p)
 living_follows w n change p keeping =
@@ -315,6 +316,32 @@ pub generation_world :
 generation_world NullName change s = refl
 generation_world (VariableName n) change s = refl
 generation_world (BasedName n o) change s = area_world n (changed_at o change) s
+
+-- so does what is read
+pub area_input : (n : ℕ) (change : List Placed → List Placed) (s : State) → (with_area n change s).input ≡ s.input
+area_input n change s = by (n == heap_serial)
+  where
+    by :
+        (q : Bool) →
+        (cond q (record s { heap = change s.heap }) (record s { living = living_changed n (area_changed change) s.living })).input
+        ≡ s.input
+    by true = refl
+    by false = refl
+
+pub generation_input :
+    (n : Name) (change : Generation → Generation) (s : State) → (with_generation n change s).input ≡ s.input
+generation_input NullName change s = refl
+generation_input (VariableName n) change s = refl
+generation_input (BasedName n o) change s = area_input n (changed_at o change) s
+
+-- and all that services have, if they know what lives as before
+pub same_services :
+    (s : State) (p : Point) → s.world ≡ p.state.world → s.input ≡ p.state.input →
+    (call (record (now p []) { state = s })).services ≡ services_of p → services_of (with_state s p) ≡ services_of p
+same_services s p world input same =
+    let x = (call (record (now p []) { state = s })).services in
+    ap (λ u. record x { world = u; input = s.input }) world
+    ∙ ap (λ u. record x { world = p.state.world; input = u }) input ∙ same
 
 -- one after the other
 pub follows_then : {w : Surroundings} {p q r : Point} → Follows w p q → Follows w q r → Follows w p r
