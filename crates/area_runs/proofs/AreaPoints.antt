@@ -8,26 +8,26 @@ use Rattle.rv_meaning.specs.Machine.{memory_size}
 use Rattle.rv_meaning.specs.Memory.{load}
 use Rattle.pli_typing.specs.Signatures.{Area, Bit, Character, Fixed, Leaf, LeafKind, Offset, Pointer, Varying}
 use Rattle.pli_meaning.specs.BasicValues.{BasedName, VariableName}
-use Rattle.pli_meaning.specs.Contents.{Generation, Placed, footprint_of, fresh, gap, with_placed}
-use Rattle.pli_meaning.specs.DeclaredShapes.{initial_of}
+use Rattle.pli_meaning.specs.Codes.{area_code, heap_full_code}
+use Rattle.pli_meaning.specs.Contents.{Generation, IsOrdered, Placed, end_of, footprint_of, fresh, gap, gap_from}
+use Rattle.pli_meaning.specs.Contents.{with_placed}
+use Rattle.pli_meaning.specs.DeclaredShapes.{initial_of, shape_of}
 use Rattle.pli_meaning.specs.StorageState as Q
 use Rattle.pli_meaning.specs.StorageState.{Activation, AreaContents, Living, area_at, area_changed, area_in, area_of_kind}
 use Rattle.pli_meaning.specs.StorageState.{area_of_leaves, heap_serial, living_changed, with_area}
-use Rattle.pli_meaning.proofs.Gaps.{sound}
-use Rattle.area_keeper.specs.KeeperLaws.{Keeps}
 use Rattle.area_keeper.specs.KeptAreas.{with_part}
 use Rattle.area_keeper.proofs.Alikeness.{keeps_alike}
-use Rattle.area_keeper.proofs.Agreement.{length_with_part}
+use Rattle.area_keeper.proofs.Agreement.{length_part}
 use Rattle.pli_serving.specs.AreaServices as A
 use Rattle.pli_serving.specs.Answers.{Done}
 use Rattle.pli_serving.specs.Arguments.{name_in}
 use Rattle.pli_serving.specs.Bytes.{is_data, name_at, name_bytes}
 use Rattle.pli_serving.specs.Templates.{shape_at}
 use Rattle.pli_serving.specs.Values.{generation_bytes}
-use Rattle.storage_relation.specs.Changes.{Asking, GivesNamed, IsAsking}
+use Rattle.storage_relation.specs.Changes.{Asking, GivesNamed, IsAsking, made_by}
 use Rattle.storage_relation.specs.Served.{Holds, area_bytes_of, call}
-use Rattle.storage_relation.specs.Standing.{AreaOf, AreaStands, IsValued, bytes_of, held, leaf_in, leaves_of}
-use Rattle.storage_relation.specs.Stored.{IsBeside, StoredAs, slice, taken_as}
+use Rattle.storage_relation.specs.Standing.{AreaOf, AreaStands, IsValued, held, leaf_in, leaves_of, size_of}
+use Rattle.storage_relation.specs.Stored.{IsBeside, StoredAs, slice, taken_as, with_heap_made}
 use Rattle.storage_relation.specs.Telling.{AllHaveValues, IsOf}
 use Rattle.storage_relation.proofs.AreaLaws.{alike, area_placed}
 use Rattle.storage_relation.proofs.Calls.{allocate_step, allocated_holds, full_answered}
@@ -106,7 +106,8 @@ area_lives {k} {p = p} x is o =
           (area_in (Q.living_of p.state.living is.known.serial))) (eqb-other is.known.serial heap_serial some)
           ∙ ap area_in on.lives
           ∙ ap (λ s. area_of_leaves s.signature.leaves on.there.placed) (on.shape ∙ is.known.shape)
-          ∙ leaves_area _ _ on.there.placed is.area;
+          ∙ leaves_area (shape_of [] is.declared).signature.leaves (record { capacity = is.capacity; placed = [] })
+          on.there.placed is.area;
     }
   where
     on : LivesOn is.known.living (Q.living_of p.state.living is.known.serial)
@@ -165,6 +166,35 @@ based_valued leaf is less within = by_leaf leaf is less
         (leaf : ℕ) (is : List ℤ) → leaf < 1 → IsOf (leaf_in new_based leaf).kind (new_based.values leaf is)
     by_leaf zero is less = (omega arith, refl)
     by_leaf (suc leaf) is less = absurd (omega (arith, less))
+
+-- ---- gaps
+
+ordered_within : (start capacity : ℕ) (ps : List Placed) → IsOrdered start capacity ps → start ≤ capacity
+ordered_within start capacity [] h = h
+ordered_within start capacity (p ∷ ps) h =
+    let first = h.0 in
+    let last = h.2 in
+    omega (arith, first, last)
+
+-- one begins within the area
+gap_within :
+    (start capacity bytes : ℕ) (ps : List Placed) (o : ℕ) → IsOrdered start capacity ps →
+    gap_from start capacity bytes ps ≡ Some o → o ≤ capacity
+gap_within start capacity bytes [] o h e = by (nat_le (start + bytes) capacity) e
+  where
+    by : (q : Bool) → cond q (Some start) None ≡ Some o → o ≤ capacity
+    by true f = let same : start ≡ o = cc f in subst (λ u. u ≤ capacity) same h
+    by false f = absurd (cc f)
+gap_within start capacity bytes (p ∷ ps) o h e =
+    by (nat_le (start + bytes) p.offset) e (gap_within (end_of p) capacity bytes ps o h.3)
+  where
+    by :
+        (q : Bool) → cond q (Some start) (gap_from (end_of p) capacity bytes ps) ≡ Some o →
+        (gap_from (end_of p) capacity bytes ps ≡ Some o → o ≤ capacity) → o ≤ capacity
+    by true f rest =
+        let same : start ≡ o = cc f in
+        subst (λ u. u ≤ capacity) same (ordered_within start capacity (p ∷ ps) h)
+    by false f rest = rest f
 
 -- ---- service 10
 
@@ -228,6 +258,13 @@ asks_at {k} {x} {p = p} is o signature destination base m small shape holds fram
       shape = shape;
     }
 
+same_bytes : (o : ℕ) (x y : List ℕ) → ◌≡◌ {A = Option (ℕ × List ℕ)} (Some (o, x)) (Some (o, y)) → x ≡ y
+same_bytes o x y e = ap second e
+  where
+    second : Option (ℕ × List ℕ) → List ℕ
+    second None = []
+    second (Some p) = p.1
+
 -- where it has a gap
 pub record Answers {k : Block} {x : Spot} (is : HasArea k x) (p : Point) (signature destination : ℕ) (m : List ℕ)
     (o : ℕ) : Type 0 where
@@ -239,3 +276,138 @@ pub record Answers {k : Block} {x : Spot} (is : HasArea k x) (p : Point) (signat
   pub answer :
       A.allocate_served (call (now p m)) (area_place is) signature 0 0 destination
       ≡ Done (services_of p) (with_part (name_bytes (BasedName is.known.serial o)) destination memory) (area_place is) 0
+
+pub placed_answer :
+    {k : Block} {x : Spot} {p : Point} (is : HasArea k x) (signature destination : ℕ) (m : List ℕ) →
+    Asks is p signature destination m → (a : AreaAt k x is p) (o : ℕ) →
+    gap is.capacity (footprint_of new_based) a.living.placed ≡ Some o → Answers is p signature destination m o
+placed_answer {k} {x} {p} is signature destination m asks at o free =
+    record {
+      memory = memory;
+      holds = held_so;
+      beside = beside;
+      offset = offset;
+      answer = answer;
+    }
+  where
+    n : ℕ
+    n = is.known.serial
+
+    a : AreaContents
+    a = record { capacity = is.capacity; placed = at.living.placed }
+
+    h : Holds (now p m)
+    h = asks.holds
+
+    is_held : held p.state n ≡ Some (AreaOf a)
+    is_held = area_holder p.state n a at.area
+
+    taken : (bytes : List ℕ) → taken_as p.keeper p.places n bytes ≡ bytes
+    taken bytes = taken-other p.keeper p.places n bytes at.some
+
+    all : AllHaveValues (leaves_of new_based)
+    all = (tt, tt)
+
+    spelled : List ℕ
+    spelled = generation_bytes new_based
+
+    fits : FitsSigned w32 new_based.extent
+    fits = record { sfits = omega arith }
+
+    long : length spelled ≡ size_of new_based
+    long = spelled_length new_based all
+
+    bytes : List ℕ
+    bytes = slice p.keeper p.places n (AreaOf a) m
+
+    area : AreaStands p.keeper p.places.signatures a bytes
+    area = subst (AreaStands p.keeper p.places.signatures a) (taken bytes) (h.stored.stands n (AreaOf a) is_held)
+
+    r :
+        (new : List ℕ)
+        × (p.keeper.allocated (size_of new_based) signature new_based.extent bytes ≡ Some (o, new))
+        × (length new ≡ p.keeper.bytes_for is.capacity)
+        × StoredAs p.keeper p.places
+        (with_area n (with_placed (record { offset = o; generation = new_based })) p.state)
+        (with_part spelled (p.places.at n + p.keeper.data_at o new) (with_part new (p.places.at n) m))
+    r =
+        Placing.placed p.keeper h.keeps p.places p.state m n o signature a new_based spelled taken h.stored is_held free
+        asks.small fits asks.shape long (reads_spelled new_based all based_valued)
+
+    headed : List ℕ
+    headed = r.0
+
+    memory : List ℕ
+    memory = with_part spelled (p.places.at n + p.keeper.data_at o headed) (with_part headed (p.places.at n) m)
+
+    inside : p.places.at n + p.keeper.bytes_for is.capacity ≤ length m
+    inside = h.stored.inside n (AreaOf a) is_held
+
+    room : p.keeper.data_at o headed + size_of new_based ≤ p.keeper.bytes_for is.capacity
+    room =
+        let q = area_placed p.keeper p.places.signatures h.keeps a bytes new_based signature o spelled area free
+        asks.small fits asks.shape long (reads_spelled new_based all based_valued) in
+        let one : q.0 ≡ headed = same_bytes o q.0 headed (sym q.1 ∙ r.1) in
+        let as_long = length_part (p.places.at n) (p.keeper.bytes_for is.capacity) m inside in
+        subst (λ u. p.keeper.data_at o u + size_of new_based ≤ p.keeper.bytes_for is.capacity) one
+        (subst (λ u. p.keeper.data_at o q.0 + size_of new_based ≤ u) as_long q.3)
+
+    made : made_by n p.places ≡ p.places
+    made = ap (λ q. cond q (with_heap_made p.places) p.places) (eqb-other n heap_serial at.some)
+
+    held_so : Holds (record (now p memory) { state = placed_state n o p.state })
+    held_so =
+        let s = with_area n (with_placed (record { offset = o; generation = new_based })) p.state in
+        let stored = subst (λ π. StoredAs p.keeper π s memory) (sym made) r.3 in
+        subst (λ u. Holds (record (now p memory) { state = u })) (placed_same n o p.state at.some)
+        (subst (λ π. Holds (record (now p memory) { places = π; state = s })) made
+        (allocated_holds (now p m) h n o new_based memory stored))
+
+    beside : IsBeside (p.places.at n) (p.keeper.bytes_for is.capacity) m memory
+    beside =
+        let at' = p.places.at n in
+        let count = p.keeper.bytes_for is.capacity in
+        let as_many = r.2 in
+        let z : at' + 0 ≡ at' = omega arith in
+        let first = subst (λ i. IsBeside at' count m (with_part headed i m)) z
+        (beside_written headed at' count 0 m (omega (arith, as_many)) inside) in
+        let whole = first.as_many in
+        beside_both at' count m (with_part headed at' m) memory first
+        (beside_written spelled at' count (p.keeper.data_at o headed) (with_part headed at' m) (omega (arith, room, long))
+        (omega (arith, whole, inside)))
+
+    offset : o < 2 ^ 32
+    offset =
+        let ordered = keeps_alike.ordered is.capacity area.kept at.living.placed
+        (alike p.keeper p.places.signatures bytes area.kept at.living.placed area.are)
+        (h.keeps.order.ordered bytes (record { capacity = is.capacity; placed = area.kept }) area.stands) in
+        let within = gap_within 0 is.capacity (footprint_of new_based) at.living.placed o ordered free in
+        let most = h.keeps.order.bounded bytes (record { capacity = is.capacity; placed = area.kept }) area.stands in
+        omega (arith, within, most)
+
+    answer :
+        A.allocate_served (call (now p m)) (area_place is) signature 0 0 destination
+        ≡ Done (services_of p) (with_part (name_bytes (BasedName n o)) destination memory) (area_place is) 0
+    answer =
+        let c = call (now p m) in
+        let found : p.keeper.allocated (size_of new_based) signature new_based.extent
+        (taken_as p.keeper p.places n bytes) ≡ Some (o, headed) =
+        ap (p.keeper.allocated (size_of new_based) signature new_based.extent) (taken bytes) ∙ r.1 in
+        allocate_step (now p m) h (asking (area_place is) signature destination) n new_based a asks.asks at.area
+        ∙ ap (A.allocation_answered c (area_place is) destination n)
+        (ap (A.with_data c (area_bytes_of p.keeper p.places m n a) new_based) found)
+        ∙ ap (λ q. Done (cond q (record (services_of p) { heap_made = true }) (services_of p))
+        (with_part (name_bytes (BasedName n o)) destination memory) (area_place is) 0) (eqb-other n heap_serial at.some)
+
+-- where it has none
+pub full_answer :
+    {k : Block} {x : Spot} {p : Point} (is : HasArea k x) (signature destination : ℕ) (m : List ℕ) →
+    Asks is p signature destination m → (a : AreaAt k x is p) →
+    gap is.capacity (footprint_of new_based) a.living.placed ≡ None →
+    A.allocate_served (call (now p m)) (area_place is) signature 0 0 destination
+    ≡ Done (services_of p) m (area_place is) area_code
+full_answer {p = p} is signature destination m asks at none =
+    full_answered (now p m) asks.holds (asking (area_place is) signature destination) is.known.serial new_based
+    (record { capacity = is.capacity; placed = at.living.placed }) asks.asks at.area none
+    ∙ ap (λ q. Done (services_of p) m (area_place is) (cond q heap_full_code area_code))
+    (eqb-other is.known.serial heap_serial at.some)

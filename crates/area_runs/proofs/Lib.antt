@@ -5,3 +5,7 @@ pub mod BasedPoints
 pub mod BasedReads
 pub mod BasedPuts
 pub mod BasedAssignments
+pub mod Conditions
+pub mod AreaPoints
+pub mod AllocationCode
+pub mod AllocationMeaning
