@@ -9,3 +9,6 @@ pub mod Conditions
 pub mod AreaPoints
 pub mod AllocationCode
 pub mod AllocationMeaning
+pub mod AllocatedPoints
+pub mod AllocationGiven
+pub mod AllocationRuns
