@@ -81,19 +81,19 @@ use Rattle.area_runs.proofs.Conditions.{condition_comes}
 
 -- ---- its code, in three parts: what is given, the service, and what is behind it
 
-abbrev asked_code : {k : Block} {p n x : Spot} → IsBased k p n → HasArea k x → Code
+abbrev pub asked_code : {k : Block} {p n x : Spot} → IsBased k p n → HasArea k x → Code
 asked_code {k} {p} {n} {x} is area =
     amounts_code is.signature ++ given_code (place_of k.environment x) (name_at_place k.environment p)
 
-abbrev tried_code : Block → (p x : Spot) → Code
+abbrev pub tried_code : Block → (p x : Spot) → Code
 tried_code k p x =
     skip_where Test.Equal a1 zero_register
     (trying_code (placing_asked (place_of k.environment x) (name_at_place k.environment p)))
 
-abbrev whole_code : {k : Block} {p n x : Spot} → IsBased k p n → HasArea k x → Code
+abbrev pub whole_code : {k : Block} {p n x : Spot} → IsBased k p n → HasArea k x → Code
 whole_code {k} {p} {n} {x} is area = asked_code is area ++ (Plain I.Ecall ∷ tried_code k p x)
 
-split_whole :
+pub split_whole :
     {k : Block} {p n x : Spot} (is : IsBased k p n) (area : HasArea k x) →
     allocating_code is.signature (place_of k.environment x) (name_at_place k.environment p) ≡ whole_code is area
 split_whole {k} {p} {n} {x} is area =
@@ -129,18 +129,18 @@ split_whole {k} {p} {n} {x} is area =
 -- ---- what is given
 
 -- around it
-record Around' (k : Block) (p n x : Spot) (q : Point) (numbers : ℕ → ℕ) : Type 0 where
-  is : IsBased k p n
-  area : HasArea k x
-  words : 2 ≤ area.layer.words
-  waits : (i : ℕ) → area.layer.waits i ≡ None
-  among : IsAmong k numbers q
+pub record Given (k : Block) (p n x : Spot) (q : Point) (numbers : ℕ → ℕ) : Type 0 where
+  pub is : IsBased k p n
+  pub area : HasArea k x
+  pub words : 2 ≤ area.layer.words
+  pub waits : (i : ℕ) → area.layer.waits i ≡ None
+  pub among : IsAmong k numbers q
 
-abbrev frame_at : {k : Block} {p n x : Spot} {q : Point} {numbers : ℕ → ℕ} → Around' k p n x q numbers → frame_of k q
+abbrev frame_at : {k : Block} {p n x : Spot} {q : Point} {numbers : ℕ → ℕ} → Given k p n x q numbers → frame_of k q
 frame_at z = point_frame z.among.stands z.among.image
 
 given_comes :
-    {k : Block} {p n x : Spot} {q : Point} {numbers : ℕ → ℕ} {i : ℕ} (z : Around' k p n x q numbers) (c : ℕ)
+    {k : Block} {p n x : Spot} {q : Point} {numbers : ℕ → ℕ} {i : ℕ} (z : Given k p n x q numbers) (c : ℕ)
     (f : Family) → Linked k.call.surroundings.links k.call.code i (asked_code z.is z.area) →
     AreIn k.call.surroundings q numbers i f →
     Reach k.call.code c f (services_of q) (c + size_of (asked_code z.is z.area)) (services_of q)
@@ -200,7 +200,7 @@ given_comes {k} {p} {n} {x} {q} {numbers} {i} z c f l there =
 -- what service 10 is asked at a machine's memory
 asks_of :
     {k : Block} {p n x : Spot} {q : Point} {numbers : ℕ → ℕ} {i : ℕ} {rs : Base → List (ℕ × ℕ)}
-    (z : Around' k p n x q numbers) → length k.call.code ≤ most_code → (b : Base) (y : Whole) →
+    (z : Given k p n x q numbers) → length k.call.code ≤ most_code → (b : Base) (y : Whole) →
     At b i (Known (point_ground k.call.surroundings q (frame_at z)) (services_of q) numbers (λ j. 0) rs b) y →
     Asks z.area q z.is.signature (pointer_place z.is) y.machine.memory
 asks_of {k} {q = q} z small' b y s =
@@ -214,8 +214,8 @@ asks_of {k} {q = q} z small' b y s =
 
 -- ---- a gap is found
 
-found_reaches :
-    {k : Block} {p n x : Spot} {q : Point} {numbers : ℕ → ℕ} {i : ℕ} (z : Around' k p n x q numbers)
+pub found_reaches :
+    {k : Block} {p n x : Spot} {q : Point} {numbers : ℕ → ℕ} {i : ℕ} (z : Given k p n x q numbers)
     (a : PointsAt k p n z.is q) (at : AreaAt k x z.area q) (o : ℕ) →
     gap z.area.capacity (footprint_of new_based) at.living.placed ≡ Some o → (c : ℕ) (f : Family) →
     Linked k.call.surroundings.links k.call.code i (whole_code z.is z.area) →
@@ -303,9 +303,9 @@ found_reaches {k} {p} {n} {x} {q} {numbers} {i} z a at o free c f l there =
 
 -- ---- there is none
 
-full_comes :
+pub full_comes :
     {k : Block} {p n x : Spot} {q : Point} {numbers : ℕ → ℕ} {i : ℕ} {aims : Aims (Unit {0})}
-    (closed : Closed k.call.code aims) (z : Around' k p n x q numbers)
+    (closed : Closed k.call.code aims) (z : Given k p n x q numbers)
     (at : AreaAt k x z.area q) (around : Around) (routines : Routines k.call.surroundings.links k.call.code) →
     IsSystem (Q.force q.state.activations C.Area) × IsSystem (Q.force q.state.activations C.Error) →
     gap z.area.capacity (footprint_of new_based) at.living.placed ≡ None → (c : ℕ) (f : Family) →

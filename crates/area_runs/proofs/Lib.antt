@@ -12,3 +12,4 @@ pub mod AllocationMeaning
 pub mod AllocatedPoints
 pub mod AllocationGiven
 pub mod AllocationRuns
+pub mod AllocationStatements

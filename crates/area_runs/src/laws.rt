@@ -1,5 +1,6 @@
 // Laws of the definitions: each function's contract is one law, and calling it does nothing.
 
+ghost use Rattle.area_runs.specs.Allocations.{BasedAllocated};
 ghost use Rattle.area_runs.specs.Based.{BasedRead};
 ghost use Rattle.area_runs.specs.BasedAssignments.{BasedAssigned};
 
@@ -11,4 +12,9 @@ pub fn based_read()
 /// An assignment to what a pointer variable points to does what it means if its expression does.
 pub fn based_assigned()
     ensures { BasedAssigned }
+{}
+
+/// ALLOCATE of such a variable in an area, which sets the pointer variable, does what it means.
+pub fn based_allocated()
+    ensures { BasedAllocated }
 {}
