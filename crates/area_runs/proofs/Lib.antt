@@ -13,3 +13,4 @@ pub mod AllocatedPoints
 pub mod AllocationGiven
 pub mod AllocationRuns
 pub mod AllocationStatements
+pub mod Rows

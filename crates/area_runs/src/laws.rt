@@ -3,6 +3,9 @@
 ghost use Rattle.area_runs.specs.Allocations.{BasedAllocated};
 ghost use Rattle.area_runs.specs.Based.{BasedRead};
 ghost use Rattle.area_runs.specs.BasedAssignments.{BasedAssigned};
+ghost use Rattle.area_runs.specs.Rows.{LocateRan};
+
+use granule_keeper::laws::granules_keep;
 
 /// What a pointer variable points to leaves what it means in a register, at each point of the pointer's block.
 pub fn based_read()
@@ -18,3 +21,10 @@ pub fn based_assigned()
 pub fn based_allocated()
     ensures { BasedAllocated }
 {}
+
+/// A worked row: a number in an area that is doubled by way of a pointer, until it overflows.
+pub fn locate_ran()
+    ensures { LocateRan }
+{
+    granules_keep();
+}
