@@ -1,21 +1,17 @@
 -- The point behind ALLOCATE: the area has one generation more, and the pointer variable its name.
-use Rattle.std.proofs.Common.{◌≡◌, ◌≢◌, ◌⊎◌, inl, inr, ℕ, ◌+◌, ◌-◌, ◌*◌, ◌%◌, ◌^◌, ◌<◌, ◌≤◌, List, [], ◌∷◌, length, Option}
-use Rattle.std.proofs.Common.{None, Some, true, refl, sym, ap, ◌∙◌, subst, arith}
+use Rattle.std.proofs.Common.{◌≡◌, ◌≢◌, ◌⊎◌, inl, inr, ℕ, ◌+◌, List, []}
+use Rattle.std.proofs.Common.{Some, refl, ap, ◌∙◌, subst, arith}
 use Rattle.std.proofs.lemmas.Bool.{cases_eq}
-use Rattle.std.specs.Prelude.{ℤ, cond, pos, ◌==◌}
-use Rattle.rv_meaning.specs.Machine.{memory_size}
-use Rattle.pli_typing.specs.Signatures.{Pointer}
-use Rattle.pli_meaning.specs.BasicValues.{BasedName, BasicPointer, BasicValue, Name, VariableName}
+use Rattle.pli_meaning.specs.BasicValues.{BasedName, BasicPointer, Name, VariableName}
 use Rattle.pli_meaning.specs.Contents.{Generation, Placed, with_placed}
 use Rattle.pli_meaning.specs.Placing as P
 use Rattle.pli_meaning.specs.StorageState.{Living, State, area_changed, generation_at, generation_of, living_changed}
 use Rattle.pli_meaning.specs.StorageState.{living_of}
 use Rattle.area_keeper.specs.KeptAreas.{with_part}
 use Rattle.pli_serving.specs.Bytes.{name_bytes}
-use Rattle.pli_serving.specs.Stored.{kept_bytes}
-use Rattle.storage_relation.specs.Changes.{IsAssignable, assigned}
+use Rattle.storage_relation.specs.Changes.{IsAssignable}
 use Rattle.storage_relation.specs.Keeping.{StoresName}
-use Rattle.storage_relation.specs.Served.{Holds, call}
+use Rattle.storage_relation.specs.Served.{Holds}
 use Rattle.storage_relation.specs.Standing.{Alone, AreaOf, bytes_of, held}
 use Rattle.storage_relation.specs.Stored.{IsBeside}
 use Rattle.storage_relation.proofs.Calls.{seen_living}
@@ -30,7 +26,7 @@ use Rattle.activation_relation.proofs.BlockVariables.{stored_stand}
 use Rattle.run_steps.specs.Engine.{Base}
 use Rattle.block_runs.proofs.PointGrounds.{StandsIn}
 use Rattle.program_runs.specs.Statements.{Block, IsAmong}
-use Rattle.expression_runs.specs.Variables.{Spot, whole_part}
+use Rattle.expression_runs.specs.Variables.{Spot}
 use Rattle.area_runs.specs.Allocations.{HasArea}
 use Rattle.area_runs.specs.Based.{IsBased}
 use Rattle.area_runs.proofs.AllocationMeaning.{pointed_state}

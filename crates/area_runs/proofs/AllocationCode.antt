@@ -1,5 +1,5 @@
 -- The code of ALLOCATE in an area, where it sets a pointer variable of the running frame.
-use Rattle.std.proofs.Common.{◌≡◌, ℕ, ◌+◌, List, [], ◌∷◌, ◌++◌, Option, Some, None, Bool, true, ap, ◌∙◌}
+use Rattle.std.proofs.Common.{◌≡◌, ℕ, ◌+◌, [], ◌∷◌, ◌++◌, Option, Some, None, Bool, true, ap, ◌∙◌}
 use Rattle.std.specs.Prelude.{cond, negsuc, pos, ◌==◌, unwrap_or, if◌then◌else◌}
 use Rattle.rv_meaning.specs.declared.instr.BranchTest.TheVariants as Test
 use Rattle.rv_meaning.specs.declared.instr.Register.{Register}
@@ -7,7 +7,7 @@ use Rattle.pli_language.specs.declared.condition.Condition.TheVariants as C
 use Rattle.pli_typing.specs.TypedTree as Y
 use Rattle.pli_meaning.specs.Codes.{area_code}
 use Rattle.pli_meaning.specs.DeclaredShapes.{declared_variable}
-use Rattle.pli_coding.specs.Allocating.{act_code, amounts_found, behind_amounts, both_kept, placing_code, placing_tried}
+use Rattle.pli_coding.specs.Allocating.{act_code, amounts_found, behind_amounts, both_kept, placing_code}
 use Rattle.pli_coding.specs.Arithmetic.{raised}
 use Rattle.pli_coding.specs.Assembly.{Code, JumpBack, size_of}
 use Rattle.pli_coding.specs.Environments.{Environment, no_declaration, none_taken}

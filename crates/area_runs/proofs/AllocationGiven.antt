@@ -1,10 +1,8 @@
 -- What ALLOCATE gives to service 10: two words of the frame, and six registers.
-use Rattle.std.proofs.Common.{◌≡◌, inl, inr, ℕ, suc, ◌+◌, ◌-◌, ◌*◌, ◌%◌, ◌^◌, ◌<◌, ◌≤◌, List, [], ◌∷◌, ◌++◌, length, Option}
-use Rattle.std.proofs.Common.{None, Some, true, false, refl, sym, ap, ◌∙◌, subst, arith}
+use Rattle.std.proofs.Common.{◌≡◌, inr, ℕ, ◌+◌, ◌-◌, ◌^◌, ◌<◌, ◌≤◌, List, [], ◌∷◌, ◌++◌, length}
+use Rattle.std.proofs.Common.{None, refl, sym, ap, ◌∙◌, subst, arith}
 use Rattle.std.proofs.lemmas.Int.{ints}
-use Rattle.std.proofs.lemmas.List.{append_assoc}
-use Rattle.std.specs.Prelude.{ℤ, negsuc, pos, ◌==◌}
-use Rattle.rv_meaning.specs.declared.instr.BranchTest.TheVariants as Test
+use Rattle.std.specs.Prelude.{negsuc, pos}
 use Rattle.rv_meaning.specs.declared.instr.ImmediateOp.TheVariants as Imm
 use Rattle.rv_meaning.specs.declared.instr.Instr.{Instr}
 use Rattle.rv_meaning.specs.declared.instr.Instr.TheVariants as I
@@ -20,10 +18,9 @@ use Rattle.pli_coding.specs.Frames.{MemoryParts, own_offset}
 use Rattle.pli_coding.specs.Instructions.{load_word, number, plus, small}
 use Rattle.pli_coding.specs.Linking.{Links}
 use Rattle.pli_coding.specs.Registers.{a0, a1, a2, a3, a4, a7, frame_register}
-use Rattle.storage_relation.specs.Served.{Holds}
 use Rattle.storage_relation.specs.Stored.{IsBeside, IsClear}
 use Rattle.activation_relation.specs.Frames.{AreLaid, FramesStand, Stores, frame_bytes, frame_start, frame_under, stored}
-use Rattle.activation_relation.specs.Frames.{upper_top, word_place}
+use Rattle.activation_relation.specs.Frames.{upper_top}
 use Rattle.activation_relation.specs.Layers.{Layer, Point, now, services_of}
 use Rattle.activation_relation.specs.Owned.{AreOwned, AreWithin}
 use Rattle.activation_relation.specs.Points.{Stands, Surroundings}

@@ -1,12 +1,12 @@
 -- What ALLOCATE in an area means: a generation is placed in its least gap, and the pointer variable has its name; or AREA
 -- is raised.
-use Rattle.std.proofs.Common.{◌≡◌, ◌≢◌, ℕ, suc, List, [], ◌∷◌, Option, None, Some, Bool, true, false, refl, sym, ap, ◌∙◌}
-use Rattle.std.specs.Prelude.{ℤ, cond, pos, ◌==◌}
+use Rattle.std.proofs.Common.{◌≡◌, ◌≢◌, ℕ, suc, [], ◌∷◌, Option, None, Some, refl, sym, ap, ◌∙◌}
+use Rattle.std.specs.Prelude.{cond, ◌==◌}
 use Rattle.pli_language.specs.declared.condition.Condition.TheVariants as C
 use Rattle.pli_typing.specs.TypedTree as Y
 use Rattle.pli_meaning.specs.BasicValues.{BasedName, BasicPointer, Name, VariableName}
 use Rattle.pli_meaning.specs.Codes.{area_code, heap_full_code}
-use Rattle.pli_meaning.specs.Contents.{Generation, Placed, footprint_of, gap, with_placed}
+use Rattle.pli_meaning.specs.Contents.{footprint_of, gap}
 use Rattle.pli_meaning.specs.Control.{Meaning, Normal, act, choose, flow_on, give, given, looked, stored, stuck, ◌>>=◌}
 use Rattle.pli_meaning.specs.Control.{◌>>◌}
 use Rattle.pli_meaning.specs.DeclaredShapes.{declared_variable}
@@ -15,13 +15,12 @@ use Rattle.pli_meaning.specs.Making as K
 use Rattle.pli_meaning.specs.Placing as P
 use Rattle.pli_meaning.specs.Raising as R
 use Rattle.pli_meaning.specs.Raising.{Around}
-use Rattle.pli_meaning.specs.StorageState.{AreaContents, Binding, State, area_at, heap_serial, standing_for, with_area}
+use Rattle.pli_meaning.specs.StorageState.{AreaContents, State, area_at, heap_serial, standing_for, with_area}
 use Rattle.pli_meaning.specs.StorageState.{with_generation, with_world}
 use Rattle.pli_meaning.specs.World.{counted}
 use Rattle.storage_relation.proofs.Holders.{eqb-other}
-use Rattle.expression_runs.specs.Variables.{Spot, variable_of, whole, whole_part}
+use Rattle.expression_runs.specs.Variables.{Spot, variable_of, whole}
 use Rattle.variable_runs.specs.Known.{binding_for}
-use Rattle.area_runs.specs.Allocations.{allocation}
 use Rattle.area_runs.specs.Based.{based_declared, based_of}
 use Rattle.area_runs.proofs.AreaPoints.{new_based, placed_same, placed_state}
 use Rattle.area_runs.proofs.BasedMeaning.{Points, designated_pointer, pointer_designated}

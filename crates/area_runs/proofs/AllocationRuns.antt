@@ -1,38 +1,28 @@
 -- ALLOCATE does what it means: its act, what service 10 is given, and the service; without a gap AREA ends the run.
-use Rattle.std.proofs.Common.{◌≡◌, ℕ, suc, ◌+◌, ◌*◌, ◌^◌, ◌<◌, ◌≤◌, List, [], ◌∷◌, ◌++◌, length, Option, None, Some, true}
-use Rattle.std.proofs.Common.{false, refl, sym, ap, ◌∙◌, subst, arith}
+use Rattle.std.proofs.Common.{◌≡◌, ℕ, ◌+◌, ◌^◌, ◌<◌, ◌≤◌, List, [], ◌∷◌, ◌++◌, length, None, Some}
+use Rattle.std.proofs.Common.{refl, sym, ap, ◌∙◌, subst, arith}
 use Rattle.std.proofs.lemmas.List.{append_assoc}
 use Rattle.std.specs.Prelude.{negsuc, ◌==◌}
 use Rattle.rv_meaning.specs.declared.instr.BranchTest.TheVariants as Test
-use Rattle.rv_meaning.specs.declared.instr.Instr.{Instr}
 use Rattle.rv_meaning.specs.declared.instr.Instr.TheVariants as I
-use Rattle.rv_meaning.specs.Machine.{memory_size}
-use Rattle.rv_meaning.specs.Words.{sum}
 use Rattle.pli_language.specs.declared.condition.Condition.TheVariants as C
 use Rattle.pli_meaning.specs.BasicValues.{BasedName}
 use Rattle.pli_meaning.specs.Codes.{area_code}
 use Rattle.pli_meaning.specs.Contents.{footprint_of, gap}
-use Rattle.pli_meaning.specs.Control.{Label, Meaning, Normal, act, flow_on, ◌>>◌}
-use Rattle.pli_meaning.specs.Executing as M
-use Rattle.pli_meaning.specs.Placing as P
 use Rattle.pli_meaning.specs.Raising as R
 use Rattle.pli_meaning.specs.Raising.{Around, at_line}
 use Rattle.pli_meaning.specs.StorageState as Q
 use Rattle.pli_meaning.specs.StorageState.{ancestor, binding_in, newest_height, standing_for}
-use Rattle.pli_meaning.specs.World.{counted}
 use Rattle.area_keeper.specs.KeptAreas.{with_part}
 use Rattle.area_keeper.proofs.Agreement.{length_with_part}
 use Rattle.pli_serving.specs.Answers.{Answer, Done}
 use Rattle.pli_serving.specs.AreaServices as A
 use Rattle.pli_serving.specs.Bytes.{name_bytes}
-use Rattle.pli_coding.specs.Allocating.{act_code}
 use Rattle.pli_coding.specs.Arithmetic.{raised}
 use Rattle.pli_coding.specs.Assembly.{CallTo, Code, Plain, RaiseCondition, size_of}
-use Rattle.pli_coding.specs.Environments.{none_taken}
-use Rattle.pli_coding.specs.Instructions.{load_word, service, skip_where, small}
+use Rattle.pli_coding.specs.Instructions.{load_word, skip_where, small}
 use Rattle.pli_coding.specs.Registers.{a0, a1, a2, a3, a4, a7, frame_register, zero_register}
-use Rattle.activation_relation.specs.Frames.{frame_under}
-use Rattle.activation_relation.specs.Layers.{Layer, Point, now, services_of}
+use Rattle.activation_relation.specs.Layers.{Point, services_of}
 use Rattle.activation_relation.specs.ServiceLaws.{IsSystem}
 use Rattle.run_steps.specs.Bodies.{Known}
 use Rattle.run_steps.proofs.Bodies.{zero_is}
@@ -44,38 +34,30 @@ use Rattle.run_steps.specs.Items.{At, Linked}
 use Rattle.run_steps.proofs.Items.{straight}
 use Rattle.run_steps.proofs.Jumps.{back_of, call_piece, first_of, front_of, rest_of, skip_passed, skip_taken}
 use Rattle.run_steps.proofs.Linking.{size_append}
-use Rattle.run_steps.specs.Owing.{owing}
-use Rattle.run_steps.proofs.Owing.{comes_owing, done_owing, owing_closed}
-use Rattle.run_steps.specs.Reach.{Aims, Closed, Comes, Family, Reach, before, cost, reached}
-use Rattle.run_steps.proofs.Reach.{before_closed, comes_on, onward, reach_map, reach_then, reached_holds}
+use Rattle.run_steps.specs.Reach.{Aims, Closed, Comes, Family, Reach, cost, reached}
+use Rattle.run_steps.proofs.Reach.{onward, reach_map, reach_then, reached_holds}
 use Rattle.run_steps.proofs.Reaching.{reach_moved}
 use Rattle.run_steps.specs.Temporaries.{nothing}
-use Rattle.block_runs.specs.Machines.{AreIn, IsIn, acted}
+use Rattle.block_runs.specs.Machines.{AreIn, IsIn}
 use Rattle.block_runs.proofs.BlockEntries.{small_is}
-use Rattle.block_runs.proofs.PointActs.{act_comes}
 use Rattle.block_runs.proofs.PointGrounds.{call_is, in_known, point_frame, point_ground}
-use Rattle.program_runs.specs.Statements.{Block, Does, IsAmong, size_in, statement_aims}
-use Rattle.program_runs.proofs.Statements.{acted_among, goes_here, statement_closed}
+use Rattle.program_runs.specs.Statements.{Block, IsAmong}
 use Rattle.program_runs.proofs.Variables.{own_code}
-use Rattle.expression_runs.specs.Assignments.{setting_of}
-use Rattle.expression_runs.specs.Variables.{Spot, variable_of}
+use Rattle.expression_runs.specs.Variables.{Spot}
 use Rattle.expression_runs.specs.Raises.{Routines}
 use Rattle.expression_runs.proofs.Raises.{conditioned}
 use Rattle.expression_runs.proofs.Words.{frame_of}
-use Rattle.variable_runs.specs.Known.{binding_for, place_of}
-use Rattle.area_runs.specs.Allocations.{HasArea, IsAllocation, allocation}
-use Rattle.area_runs.specs.Based.{Ends, IsBased, based_shape}
-use Rattle.area_runs.proofs.AllocatedPoints.{allocated_among, allocated_point, allocated_services, allocated_stands}
-use Rattle.area_runs.proofs.AllocatedPoints.{allocated_state, points_then}
-use Rattle.area_runs.proofs.AllocationCode.{allocating_code, allocation_coded, amounts_code, placed_code, placing_asked}
+use Rattle.variable_runs.specs.Known.{place_of}
+use Rattle.area_runs.specs.Allocations.{HasArea}
+use Rattle.area_runs.specs.Based.{IsBased, based_shape}
+use Rattle.area_runs.proofs.AllocatedPoints.{allocated_point, allocated_services, allocated_stands}
+use Rattle.area_runs.proofs.AllocationCode.{allocating_code, amounts_code, placing_asked}
 use Rattle.area_runs.proofs.AllocationCode.{trying_code}
 use Rattle.area_runs.proofs.AllocationGiven.{IsFree, given_code, given_reaches, given_regs, kept_reaches}
-use Rattle.area_runs.proofs.AllocationMeaning.{all_allocated, allocations_are, locator_is, no_more, place_again}
-use Rattle.area_runs.proofs.AllocationMeaning.{placing_found, placing_full, set_locator}
-use Rattle.area_runs.proofs.AreaPoints.{Answers, AreaAt, Asks, area_base, area_lives, area_place, asks_at, full_answer}
-use Rattle.area_runs.proofs.AreaPoints.{new_based, placed_answer, placed_state}
+use Rattle.area_runs.proofs.AreaPoints.{Answers, AreaAt, Asks, area_base, area_place, asks_at, full_answer}
+use Rattle.area_runs.proofs.AreaPoints.{new_based, placed_answer}
 use Rattle.area_runs.proofs.BasedCode.{name_at_place}
-use Rattle.area_runs.proofs.BasedPoints.{PointsAt, own_base, pointer_place, points_at}
+use Rattle.area_runs.proofs.BasedPoints.{PointsAt, own_base, pointer_place}
 use Rattle.area_runs.proofs.BasedReads.{laid_out}
 use Rattle.area_runs.proofs.Conditions.{condition_comes}
 

@@ -1,8 +1,7 @@
 -- The statement ALLOCATE does what it means.
-use Rattle.std.proofs.Common.{◌≡◌, ℕ, suc, ◌+◌, ◌^◌, ◌<◌, ◌≤◌, List, [], ◌∷◌, ◌++◌, Option, None, Some, refl, sym, ap}
+use Rattle.std.proofs.Common.{◌≡◌, ℕ, suc, ◌+◌, ◌<◌, ◌≤◌, List, [], ◌∷◌, ◌++◌, Option, None, Some, refl, sym, ap}
 use Rattle.std.proofs.Common.{◌∙◌, subst, arith}
 use Rattle.pli_language.specs.declared.condition.Condition.TheVariants as C
-use Rattle.pli_meaning.specs.BasicValues.{BasedName}
 use Rattle.pli_meaning.specs.Codes.{area_code}
 use Rattle.pli_meaning.specs.Contents.{footprint_of, gap}
 use Rattle.pli_meaning.specs.Control.{Label, Meaning, act, flow_on, ◌>>◌}
@@ -29,15 +28,14 @@ use Rattle.block_runs.proofs.PointActs.{act_comes}
 use Rattle.program_runs.specs.Statements.{Block, Does, IsAmong, size_in, statement_aims}
 use Rattle.program_runs.proofs.Statements.{acted_among, goes_here, statement_closed}
 use Rattle.expression_runs.specs.Variables.{Spot, variable_of}
-use Rattle.variable_runs.specs.Known.{binding_for, place_of}
+use Rattle.variable_runs.specs.Known.{binding_for}
 use Rattle.area_runs.specs.Allocations.{HasArea, IsAllocation, allocation}
 use Rattle.area_runs.proofs.AllocatedPoints.{allocated_among, allocated_point, allocated_state, points_then}
-use Rattle.area_runs.proofs.AllocationCode.{allocating_code, allocation_coded}
+use Rattle.area_runs.proofs.AllocationCode.{allocation_coded}
 use Rattle.area_runs.proofs.AllocationMeaning.{all_allocated, allocate_of, allocations_are, locator_is, no_more}
 use Rattle.area_runs.proofs.AllocationMeaning.{place_again, placing_found, placing_full, set_locator}
 use Rattle.area_runs.proofs.AllocationRuns.{Given, found_reaches, full_comes, split_whole, whole_code}
-use Rattle.area_runs.proofs.AreaPoints.{AreaAt, area_lives, new_based, placed_state}
-use Rattle.area_runs.proofs.BasedCode.{name_at_place}
+use Rattle.area_runs.proofs.AreaPoints.{AreaAt, area_lives, new_based}
 use Rattle.area_runs.proofs.BasedPoints.{PointsAt, points_at}
 
 -- what the area stands for

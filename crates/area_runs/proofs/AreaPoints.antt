@@ -1,9 +1,9 @@
 -- An AREA variable at a point of its block, and a generation that is placed in it: what service 10 answers.
-use Rattle.std.proofs.Common.{◌≡◌, ◌≢◌, ◌⊎◌, inl, inr, ℕ, zero, suc, ◌+◌, ◌*◌, ◌/◌, ◌%◌, ◌^◌, ◌<◌, ◌≤◌, List, [], ◌∷◌}
+use Rattle.std.proofs.Common.{◌≡◌, ◌≢◌, inl, inr, ℕ, zero, suc, ◌+◌, ◌/◌, ◌%◌, ◌^◌, ◌<◌, ◌≤◌, List, [], ◌∷◌}
 use Rattle.std.proofs.Common.{length, Option, None, Some, Bool, true, false, refl, sym, ap, ◌∙◌, subst, arith}
 use Rattle.std.proofs.lemmas.Bool.{le-leb}
 use Rattle.std.specs.Int.{w32}
-use Rattle.std.specs.Prelude.{FitsSigned, ℤ, cond, pos, ◌&&◌, ◌==◌, nat_le}
+use Rattle.std.specs.Prelude.{FitsSigned, ℤ, cond, pos, ◌&&◌, nat_le}
 use Rattle.rv_meaning.specs.Machine.{memory_size}
 use Rattle.rv_meaning.specs.Memory.{load}
 use Rattle.pli_typing.specs.Signatures.{Area, Bit, Character, Fixed, Leaf, LeafKind, Offset, Pointer, Varying}
@@ -21,7 +21,7 @@ use Rattle.area_keeper.proofs.Agreement.{length_part}
 use Rattle.pli_serving.specs.AreaServices as A
 use Rattle.pli_serving.specs.Answers.{Done}
 use Rattle.pli_serving.specs.Arguments.{name_in}
-use Rattle.pli_serving.specs.Bytes.{is_data, name_at, name_bytes}
+use Rattle.pli_serving.specs.Bytes.{name_at, name_bytes}
 use Rattle.pli_serving.specs.Templates.{shape_at}
 use Rattle.pli_serving.specs.Values.{generation_bytes}
 use Rattle.storage_relation.specs.Changes.{Asking, GivesNamed, IsAsking, made_by}

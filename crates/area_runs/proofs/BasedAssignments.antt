@@ -1,10 +1,10 @@
 -- An assignment to what a pointer variable points to: its act, its expression, and the store where service 8 finds it.
-use Rattle.std.proofs.Common.{◌≡◌, ℕ, ◌+◌, ◌*◌, ◌%◌, ◌^◌, ◌<◌, ◌≤◌, List, [], ◌∷◌, ◌++◌, Option, None, Some, true, refl}
+use Rattle.std.proofs.Common.{◌≡◌, ℕ, ◌+◌, ◌*◌, ◌%◌, ◌<◌, ◌≤◌, List, [], ◌∷◌, ◌++◌, Option, None, Some, true, refl}
 use Rattle.std.proofs.Common.{length, sym, ap, ◌∙◌, subst, arith}
 use Rattle.std.specs.Prelude.{ℤ, pos, slice_get, unwrap_or, ◌==◌}
 use Rattle.rv_meaning.specs.Machine.{memory_size, value}
 use Rattle.rv_meaning.specs.Memory.{store}
-use Rattle.rv_meaning.specs.Words.{sum, word}
+use Rattle.rv_meaning.specs.Words.{word}
 use Rattle.rv_meaning.proofs.MemoryLaws.{length-store}
 use Rattle.pli_typing.specs.TypedTree as Y
 use Rattle.pli_meaning.specs.BasicValues.{BasicNumber, BasicValue, Name}
@@ -33,7 +33,7 @@ use Rattle.pli_coding.specs.Storing.{word_stored}
 use Rattle.storage_relation.specs.Served.{place_now}
 use Rattle.activation_relation.specs.Layers.{Point, now, services_of}
 use Rattle.activation_relation.specs.Points.{Surroundings}
-use Rattle.run_steps.specs.Bodies.{Known, with'}
+use Rattle.run_steps.specs.Bodies.{Known}
 use Rattle.run_steps.specs.Engine.{Base}
 use Rattle.run_steps.specs.Items.{At, Linked}
 use Rattle.run_steps.proofs.Items.{straight}
@@ -47,7 +47,7 @@ use Rattle.run_steps.proofs.Reach.{before_closed, comes_on, onward, reach_map, r
 use Rattle.run_steps.proofs.Reaching.{reach_moved}
 use Rattle.run_steps.specs.Temporaries.{Temporaries, nothing}
 use Rattle.run_steps.proofs.Temporaries.{fetch_piece}
-use Rattle.block_runs.specs.Machines.{AreIn, IsIn, acted}
+use Rattle.block_runs.specs.Machines.{IsIn, acted}
 use Rattle.block_runs.proofs.CallStatements.{comes_map}
 use Rattle.block_runs.proofs.Places.{IsFrame}
 use Rattle.block_runs.proofs.PointActs.{act_comes}
@@ -57,13 +57,13 @@ use Rattle.program_runs.proofs.JumpsOut.{jumps_repaid, jumps_since}
 use Rattle.program_runs.proofs.Statements.{acted_among, goes_here, statement_closed}
 use Rattle.expression_runs.specs.Assignments.{setting_of}
 use Rattle.expression_runs.specs.Laws as L
-use Rattle.expression_runs.specs.Values.{HasRegisters, HasWord, Setting, Stretch, behind, in_registers, number_aims}
+use Rattle.expression_runs.specs.Values.{HasRegisters, HasWord, Setting, Stretch, behind, number_aims}
 use Rattle.expression_runs.specs.Variables.{Spot, variable_of, whole_part}
 use Rattle.expression_runs.proofs.Assignments.{fit_is}
-use Rattle.expression_runs.proofs.Saving.{held_after, held_among, held_is_given, register_left, saved_reach}
+use Rattle.expression_runs.proofs.Saving.{held_after, held_among, held_is_given, saved_reach}
 use Rattle.expression_runs.proofs.VariablePoints.{first_base}
 use Rattle.expression_runs.proofs.Words.{frame_of, known_word}
-use Rattle.area_runs.specs.Based.{Ends, IsBased, based_declared, based_of, based_shape, pointer_declared, through}
+use Rattle.area_runs.specs.Based.{IsBased, based_declared, based_of, based_shape, pointer_declared, through}
 use Rattle.area_runs.specs.BasedAssignments.{IsAssignment, assignment}
 use Rattle.area_runs.proofs.BasedCode.{found_code, found_coded, name_at_place}
 use Rattle.area_runs.proofs.BasedMeaning.{behind_found, part_found, part_missing, through_is}
@@ -71,7 +71,7 @@ use Rattle.area_runs.proofs.BasedPoints.{LivesAt, PointsAt, based_generation, li
 use Rattle.area_runs.proofs.BasedPuts.{behind_put, designated_based, place_low, put_among, put_services, put_stands}
 use Rattle.area_runs.proofs.BasedPuts.{put_state}
 use Rattle.area_runs.proofs.ChangedPoints.{generation_world}
-use Rattle.area_runs.proofs.BasedReads.{ found_regs, living_found, located_ground, missing_ends, there_at}
+use Rattle.area_runs.proofs.BasedReads.{found_regs, living_found, located_ground, missing_ends, there_at}
 
 -- ---- the code of the store
 

@@ -1,5 +1,5 @@
 -- What it means to follow a pointer variable.
-use Rattle.std.proofs.Common.{◌≡◌, ℕ, List, [], ◌∷◌, Option, None, Some, refl, ap, ◌∙◌}
+use Rattle.std.proofs.Common.{◌≡◌, ℕ, List, [], None, Some, ap, ◌∙◌}
 use Rattle.std.specs.Prelude.{ℤ, pos, take}
 use Rattle.pli_typing.specs.TypedTree as Y
 use Rattle.pli_meaning.specs.BasicValues.{BasicPointer, BasicValue, Name, VariableName}

@@ -1,9 +1,9 @@
 -- A pointer variable at a point of its block, what it points to, and what service 8 answers.
-use Rattle.std.proofs.Common.{◌≡◌, ℕ, ◌+◌, ◌*◌, ◌%◌, ◌^◌, ◌<◌, ◌≤◌, inl, inr, List, [], ◌∷◌, length, None, Some}
-use Rattle.std.proofs.Common.{Bool, true, false, refl, sym, ap, ◌∙◌, subst, arith}
+use Rattle.std.proofs.Common.{◌≡◌, ℕ, ◌+◌, ◌%◌, ◌^◌, ◌<◌, ◌≤◌, inl, inr, List, [], length, None, Some}
+use Rattle.std.proofs.Common.{true, refl, sym, ap, ◌∙◌, subst, arith}
 use Rattle.std.proofs.lemmas.Bool.{le-leb}
 use Rattle.std.proofs.lemmas.Bool.Decides.{nat_tests}
-use Rattle.std.specs.Prelude.{ℤ, cond, int_le, negsuc, pos, ◌&&◌, ◌==◌, nat_le}
+use Rattle.std.specs.Prelude.{ℤ, cond, int_le, negsuc, pos, ◌&&◌, nat_le}
 use Rattle.rv_meaning.specs.Machine.{memory_size}
 use Rattle.rv_meaning.specs.Memory.{load}
 use Rattle.rv_meaning.specs.Words.{word}
@@ -11,7 +11,7 @@ use Rattle.pli_typing.specs.Signatures.{Fixed, Pointer}
 use Rattle.pli_meaning.specs.BasicValues.{BasicBit, BasicNumber, BasicOffset, BasicPointer, BasicText, BasicValue, Name}
 use Rattle.pli_meaning.specs.BasicValues.{VariableName}
 use Rattle.pli_meaning.specs.Codes.{no_generation_code}
-use Rattle.pli_meaning.specs.Contents.{Generation, Shape, leaves_with}
+use Rattle.pli_meaning.specs.Contents.{Generation, leaves_with}
 use Rattle.pli_meaning.specs.Numbers.{is_of_precision}
 use Rattle.pli_meaning.specs.StorageState as Q
 use Rattle.pli_meaning.specs.StorageState.{ancestor, binding_in, generation_at, generation_of, newest_height}
@@ -22,7 +22,6 @@ use Rattle.pli_serving.specs.Finding.{Found}
 use Rattle.pli_serving.specs.Names.{resolve_served, resolved}
 use Rattle.pli_serving.specs.Outcomes.{or_bad}
 use Rattle.pli_serving.specs.Templates.{shape_at}
-use Rattle.pli_coding.specs.Frames.{name_bytes}
 use Rattle.storage_relation.specs.Served as H
 use Rattle.storage_relation.specs.Served.{call, place_now}
 use Rattle.storage_relation.specs.Standing.{IsElementNow}
@@ -43,8 +42,7 @@ use Rattle.block_runs.specs.Machines.{AreIn}
 use Rattle.program_runs.specs.Statements.{Block, IsAmong}
 use Rattle.expression_runs.specs.Variables.{IsFrameOf, Spot}
 use Rattle.expression_runs.proofs.VariablePoints.{first_base}
-use Rattle.variable_runs.specs.Known.{IsKnown, place_of}
-use Rattle.area_runs.specs.Based.{IsBased, based_shape, pointer_declared}
+use Rattle.area_runs.specs.Based.{IsBased, based_shape}
 use Rattle.area_runs.proofs.BasedCode.{name_at_place}
 use Rattle.area_runs.proofs.BasedMeaning.{Points, pointer_generation, pointer_shape}
 

@@ -1,20 +1,18 @@
 -- The point behind an assignment to what a pointer variable points to: all that holds at the point before holds there.
-use Rattle.std.proofs.Common.{◌≡◌, ℕ, ◌+◌, ◌-◌, ◌*◌, ◌%◌, ◌^◌, ◌<◌, ◌≤◌, List, [], ◌∷◌, length, Option, Some, None, refl}
+use Rattle.std.proofs.Common.{◌≡◌, ℕ, ◌+◌, ◌-◌, ◌≤◌, List, [], length, Some, refl}
 use Rattle.std.proofs.Common.{true, sym, ap, ◌∙◌, subst, arith}
-use Rattle.std.specs.Prelude.{ℤ, pos}
-use Rattle.rv_meaning.specs.Machine.{memory_size}
+use Rattle.std.specs.Prelude.{ℤ}
 use Rattle.rv_meaning.specs.Memory.{store}
 use Rattle.rv_meaning.specs.Words.{word}
 use Rattle.pli_typing.specs.Signatures.{Fixed}
 use Rattle.pli_meaning.specs.BasicValues.{BasedName, BasicNumber, BasicValue, Name, NullName, VariableName}
-use Rattle.pli_meaning.specs.Contents.{Generation}
 use Rattle.pli_meaning.specs.Evaluating.{Designated}
 use Rattle.pli_meaning.specs.Numbers.{is_of_precision}
 use Rattle.pli_meaning.specs.Placing.{with_element}
 use Rattle.pli_meaning.specs.StorageState.{State, area_at, generation_at, with_generation}
 use Rattle.area_keeper.specs.KeptAreas.{with_part}
 use Rattle.pli_serving.specs.Stored.{kept_bytes}
-use Rattle.storage_relation.specs.Changes.{IsAssignable, assigned}
+use Rattle.storage_relation.specs.Changes.{IsAssignable}
 use Rattle.storage_relation.specs.Keeping.{StoresNumber}
 use Rattle.storage_relation.specs.Served.{Holds, place_now}
 use Rattle.storage_relation.specs.Standing.{Alone, AreaOf, Holder, bytes_of, held}

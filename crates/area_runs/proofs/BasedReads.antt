@@ -1,6 +1,6 @@
 -- What a pointer variable points to is found by service 8, and read; where nothing lives there, the run ends.
-use Rattle.std.proofs.Common.{◌≡◌, ℕ, ◌+◌, ◌*◌, ◌%◌, ◌^◌, ◌<◌, ◌≤◌, List, [], ◌∷◌, ◌++◌, length, Option, None, Some, true}
-use Rattle.std.proofs.Common.{false, refl, sym, ap, ◌∙◌, subst, arith}
+use Rattle.std.proofs.Common.{◌≡◌, ℕ, ◌+◌, ◌*◌, ◌%◌, ◌^◌, ◌<◌, ◌≤◌, List, [], ◌∷◌, ◌++◌, length, Option, None, Some}
+use Rattle.std.proofs.Common.{refl, sym, ap, ◌∙◌, subst, arith}
 use Rattle.std.specs.Prelude.{ℤ, pos, ◌==◌}
 use Rattle.std.proofs.lemmas.List.{append_assoc}
 use Rattle.rv_meaning.specs.declared.instr.BranchTest.TheVariants as Test
@@ -13,7 +13,7 @@ use Rattle.pli_language.specs.declared.condition.Condition.TheVariants as C
 use Rattle.pli_typing.specs.TypedTree as Y
 use Rattle.pli_meaning.specs.BasicValues.{Name}
 use Rattle.pli_meaning.specs.Contents.{Generation, number_in}
-use Rattle.pli_meaning.specs.Control.{Meaning, Normal, flow_on, give, ◌>>=◌}
+use Rattle.pli_meaning.specs.Control.{Meaning, Normal, give, ◌>>=◌}
 use Rattle.pli_meaning.specs.DeclaredShapes.{declared_variable}
 use Rattle.pli_meaning.specs.Evaluating as V
 use Rattle.pli_meaning.specs.Raising as R
@@ -23,12 +23,11 @@ use Rattle.pli_serving.specs.Answers.{Answer, Done}
 use Rattle.pli_serving.specs.Names.{resolve_served}
 use Rattle.pli_serving.specs.ServiceState.{Services}
 use Rattle.pli_serving.specs.Serving.{found_served}
-use Rattle.pli_coding.specs.Assembly.{Code, JumpTo, Plain, RaiseError, size_of}
+use Rattle.pli_coding.specs.Assembly.{JumpTo, Plain, RaiseError, size_of}
 use Rattle.pli_coding.specs.Expressions.{number_code}
 use Rattle.pli_coding.specs.Instructions.{number, small, status_tested}
 use Rattle.pli_coding.specs.Registers.{a0, a1, a2, a3, a4, a7, zero_register}
-use Rattle.storage_relation.specs.Served as H
-use Rattle.storage_relation.specs.Served.{call, place_now}
+use Rattle.storage_relation.specs.Served.{place_now}
 use Rattle.activation_relation.specs.Frames.{frame_under, upper_top}
 use Rattle.activation_relation.specs.Layers.{Point, now, services_of}
 use Rattle.activation_relation.specs.Points.{Surroundings}
@@ -37,32 +36,31 @@ use Rattle.run_steps.specs.Bodies.{Ground, Known}
 use Rattle.run_steps.proofs.Bodies.{constant_piece, zero_is}
 use Rattle.run_steps.specs.Calls.{Calling}
 use Rattle.run_steps.proofs.Calls.{call_done}
-use Rattle.run_steps.specs.Engine.{Base, WordAt, address, call_at, served}
+use Rattle.run_steps.specs.Engine.{Base, call_at, served}
 use Rattle.run_steps.specs.Items.{At, Linked}
 use Rattle.run_steps.proofs.Items.{straight}
 use Rattle.run_steps.proofs.Jumps.{back_of, first_of, front_of, jump_piece, rest_of, skip_passed, skip_taken}
 use Rattle.run_steps.proofs.Linking.{size_append}
 use Rattle.run_steps.specs.Reach.{Aims, Closed, Comes, Family, Reach, before, cost, reached}
-use Rattle.run_steps.proofs.Reach.{before_closed, comes_on, onward, reach_map, reach_then, reached_holds}
+use Rattle.run_steps.proofs.Reach.{before_closed, comes_on, onward, reach_then, reached_holds}
 use Rattle.run_steps.proofs.Reaching.{reach_moved}
 use Rattle.run_steps.specs.Temporaries.{nothing}
 use Rattle.run_steps.specs.Unlimited as U
 use Rattle.image_runs.specs.Runs.{Whole}
-use Rattle.block_runs.specs.Machines.{AreIn, IsImage}
+use Rattle.block_runs.specs.Machines.{AreIn}
 use Rattle.block_runs.proofs.BlockEntries.{small_is, word_fits, word_is}
 use Rattle.block_runs.proofs.Places.{IsFrame, ground_at}
-use Rattle.block_runs.proofs.PointGrounds.{StandsIn, call_is, in_known, known_in, point_frame, point_ground}
+use Rattle.block_runs.proofs.PointGrounds.{StandsIn, call_is, known_in, point_frame, point_ground}
 use Rattle.program_runs.specs.Statements.{Block, IsAmong}
 use Rattle.program_runs.proofs.Variables.{own_code, own_comes}
 use Rattle.expression_runs.specs.Laws as L
-use Rattle.expression_runs.specs.Raises.{Routines}
 use Rattle.expression_runs.specs.Values.{Setting, behind, in_registers, number_aims}
 use Rattle.expression_runs.specs.Variables.{Spot, whole_part}
 use Rattle.expression_runs.proofs.Raises.{coded, error_comes}
 use Rattle.expression_runs.proofs.VariablePoints.{first_base}
 use Rattle.expression_runs.proofs.Words.{frame_of, number_closed, valued, word_here}
-use Rattle.area_runs.specs.Based.{Ends, IsBased, based_declared, based_of, based_shape, through}
-use Rattle.area_runs.proofs.BasedCode.{addressing_code, asking_code, found_code, name_at_place, read_code, read_coded}
+use Rattle.area_runs.specs.Based.{Ends, IsBased, based_of, based_shape, through}
+use Rattle.area_runs.proofs.BasedCode.{addressing_code, asking_code, found_code, name_at_place, read_coded}
 use Rattle.area_runs.proofs.BasedCode.{value_loaded}
 use Rattle.area_runs.proofs.BasedMeaning.{behind_found, part_found, part_missing, through_is}
 use Rattle.area_runs.proofs.BasedPoints.{IsLaidOut, LivesAt, PointsAt, based_generation, lives_at, missing_answer}

@@ -1,35 +1,28 @@
 -- A raise of any condition without a unit: an act, ERROR's act, and the end of the run.
-use Rattle.std.proofs.Common.{◌≡◌, ℕ, suc, ◌+◌, ◌*◌, ◌^◌, ◌<◌, ◌≤◌, List, [], ◌∷◌, ◌++◌, Some, None, true, refl, sym}
+use Rattle.std.proofs.Common.{◌≡◌, ℕ, suc, ◌+◌, ◌^◌, ◌<◌, List, [], ◌∷◌, ◌++◌, Some, None, true, refl, sym}
 use Rattle.std.proofs.Common.{ap, ◌∙◌, subst, arith, lit<, add-one}
 use Rattle.std.proofs.lemmas.Bool.{lt-ltb}
-use Rattle.std.specs.Prelude.{cond, Option, ◌==◌}
+use Rattle.std.specs.Prelude.{Option, ◌==◌}
 use Rattle.rv_meaning.specs.declared.instr.BranchTest.TheVariants as Test
 use Rattle.rv_meaning.specs.declared.instr.Instr.{Instr}
 use Rattle.rv_meaning.specs.declared.instr.Instr.TheVariants as I
 use Rattle.rv_meaning.specs.Words.{sum}
 use Rattle.pli_language.specs.declared.condition.Condition.{Condition}
 use Rattle.pli_language.specs.declared.condition.Condition.TheVariants as C
-use Rattle.pli_meaning.specs.declared.outcome.End.TheVariants as E
-use Rattle.pli_meaning.specs.Control.{Meaning, act, finish, looked, ◌>>=◌, ◌>>◌}
+use Rattle.pli_meaning.specs.Control.{act, looked, ◌>>=◌, ◌>>◌}
 use Rattle.pli_meaning.specs.Raising as R
 use Rattle.pli_meaning.specs.Raising.{Around}
-use Rattle.pli_meaning.specs.StorageState.{Activation, BlockUnit, OnUnit, State, SystemUnit, force, with_world}
-use Rattle.pli_meaning.specs.World.{ending, raising}
-use Rattle.pli_serving.specs.ActsAndEnds as W
-use Rattle.pli_serving.specs.Answers as A
-use Rattle.pli_serving.specs.Answers.{Done, Ends}
+use Rattle.pli_meaning.specs.StorageState.{Activation, BlockUnit, OnUnit, State, SystemUnit, force}
+use Rattle.pli_meaning.specs.World.{raising}
+use Rattle.pli_serving.specs.Answers.{Done}
 use Rattle.pli_serving.specs.OnUnits as U
-use Rattle.pli_serving.specs.Outcomes.{or_bad}
-use Rattle.pli_coding.specs.Arithmetic.{overflow_raised, raised}
-use Rattle.pli_coding.specs.Assembly.{BaseIn, CallTo, ErrorEnd, JumpAhead, Mark, OffsetOf, Plain, RaiseCondition}
-use Rattle.pli_coding.specs.Assembly.{RaiseError, size_of}
-use Rattle.pli_coding.specs.Environments.{fetch, save}
-use Rattle.pli_coding.specs.Images.{error_code, error_end, to_unit, unit_begun}
+use Rattle.pli_coding.specs.Assembly.{BaseIn, JumpAhead, Mark, Plain, RaiseCondition}
+use Rattle.pli_coding.specs.Assembly.{size_of}
+use Rattle.pli_coding.specs.Images.{error_code, to_unit, unit_begun}
 use Rattle.pli_coding.specs.Instructions.{small, subtract}
-use Rattle.pli_coding.specs.Registers.{a0, a1, a2, a7, return_register, u0, zero_register}
+use Rattle.pli_coding.specs.Registers.{a0, a2, a7, return_register, u0, zero_register}
 use Rattle.storage_relation.specs.Served.{Holds}
 use Rattle.storage_relation.proofs.Making.{same_held}
-use Rattle.activation_relation.specs.Changes.{with_act}
 use Rattle.activation_relation.specs.Frames.{frame_under}
 use Rattle.activation_relation.specs.Layers.{Point, now, services_of}
 use Rattle.activation_relation.specs.Points.{Stands, Surroundings}
@@ -39,16 +32,16 @@ use Rattle.activation_relation.proofs.Units.{raise_unanswered}
 use Rattle.run_steps.specs.Bodies.{Known}
 use Rattle.run_steps.proofs.Bodies.{zero_is}
 use Rattle.run_steps.specs.Calls.{Calling}
-use Rattle.run_steps.proofs.Calls.{acts, call_acts, call_ends, call_pauses, called, comes_act, comes_finish, end_pauses}
+use Rattle.run_steps.proofs.Calls.{call_acts, call_pauses, called, comes_act}
 use Rattle.run_steps.specs.Engine.{Base, address}
 use Rattle.run_steps.specs.Items.{At, Linked}
 use Rattle.run_steps.proofs.Items.{straight}
-use Rattle.run_steps.proofs.Jumps.{back_of, call_piece, first_of, front_of, rest_of, skip_taken}
+use Rattle.run_steps.proofs.Jumps.{back_of, first_of, front_of, rest_of, skip_taken}
 use Rattle.run_steps.specs.Reach.{Aims, Closed, Comes, Family, cost, reached}
 use Rattle.run_steps.proofs.Reach.{before_closed, comes_on, onward, reached_holds}
-use Rattle.block_runs.specs.Machines.{IsImage, IsIn}
+use Rattle.block_runs.specs.Machines.{IsImage}
 use Rattle.block_runs.proofs.Places.{IsFrame}
-use Rattle.block_runs.proofs.PointGrounds.{call_is, point_frame, point_ground}
+use Rattle.block_runs.proofs.PointGrounds.{call_is, point_ground}
 use Rattle.expression_runs.specs.Raises.{Routines}
 use Rattle.expression_runs.proofs.Raises.{conditioned, error_comes, raised_at}
 
