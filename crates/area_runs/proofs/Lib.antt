@@ -1,0 +1,16 @@
+pub mod ChangedPoints
+pub mod BasedCode
+pub mod BasedMeaning
+pub mod BasedPoints
+pub mod BasedReads
+pub mod BasedPuts
+pub mod BasedAssignments
+pub mod Conditions
+pub mod AreaPoints
+pub mod AllocationCode
+pub mod AllocationMeaning
+pub mod AllocatedPoints
+pub mod AllocationGiven
+pub mod AllocationRuns
+pub mod AllocationStatements
+pub mod Rows

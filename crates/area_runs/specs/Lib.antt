@@ -1,0 +1,4 @@
+pub mod Based
+pub mod BasedAssignments
+pub mod Allocations
+pub mod Rows
