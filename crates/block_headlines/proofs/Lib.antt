@@ -1,2 +1,3 @@
 pub mod JumpRuns
+pub mod TextRuns
 pub mod Headlines

@@ -26,14 +26,14 @@ use Rattle.run_steps.specs.Temporaries.{nothing}
 use Rattle.block_runs.proofs.BlockEntries.{small_is, word_is}
 use Rattle.block_runs.proofs.CallStatements.{comes_map}
 use Rattle.block_runs.proofs.PointGrounds.{in_known, known_in, point_frame, point_ground}
+use Rattle.program_runs.specs.Statements.{with_texts}
+use Rattle.program_runs.proofs.Waiting.{over_first, texts_among, texts_in}
 use Rattle.expression_runs.specs.Values.{Setting, behind, in_registers}
 use Rattle.text_runs.specs.Laws.{NumberDoes, TextDoes}
 use Rattle.text_runs.specs.Texts.{text_aims, value_aims}
-use Rattle.text_runs.specs.Waiting.{with_texts}
 use Rattle.text_runs.proofs.Lengths.{short_wide}
 use Rattle.text_runs.proofs.Points.{value_closed}
 use Rattle.text_runs.proofs.TextCalls.{Asking, asks, three}
-use Rattle.text_runs.proofs.Waiting.{over_first, texts_among, texts_in}
 
 pub length_measures :
     (entries : List Entry) (k : Setting) (x : Y.Text) (need : ℕ) → TextDoes entries k need x →

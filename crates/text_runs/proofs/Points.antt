@@ -14,14 +14,14 @@ use Rattle.run_steps.specs.Reach.{Closed, Comes, Family, Reach, reached}
 use Rattle.run_steps.proofs.Reach.{reach_map, reach_then, reach_with}
 use Rattle.block_runs.specs.Machines.{IsIn}
 use Rattle.block_runs.proofs.CallStatements.{comes_map}
-use Rattle.program_runs.specs.Statements.{Block, JumpsOut, JumpsTo, LandsAt}
+use Rattle.program_runs.specs.Statements.{Block, JumpsOut, JumpsTo, LandsAt, waiting}
 use Rattle.program_runs.proofs.JumpsOut.{jumps_later, jumps_since}
 use Rattle.expression_runs.specs.Laws as L
 use Rattle.expression_runs.specs.Values.{Setting, Stretch, behind, in_registers, number_aims}
 use Rattle.expression_runs.proofs.Words.{IsFurther, word_further, word_later}
 use Rattle.text_runs.specs.Laws.{NumberDoes}
 use Rattle.text_runs.specs.Texts.{HasText, text_aims, value_aims}
-use Rattle.text_runs.specs.Waiting.{over, waiting}
+use Rattle.text_runs.specs.Waiting.{over}
 
 -- ---- later
 

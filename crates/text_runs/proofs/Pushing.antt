@@ -34,17 +34,16 @@ use Rattle.block_runs.proofs.BlockEntries.{small_is}
 use Rattle.block_runs.specs.Machines.{AreIn}
 use Rattle.block_runs.proofs.CallStatements.{comes_map}
 use Rattle.block_runs.proofs.PointGrounds.{in_known, known_in, point_frame, point_ground}
-use Rattle.program_runs.specs.Statements.{IsAmong}
+use Rattle.program_runs.specs.Statements.{IsAmong, waiting, with_texts}
 use Rattle.program_runs.proofs.JumpsOut.{jumps_since}
+use Rattle.program_runs.proofs.Waiting.{over_first, over_more, texts_among, texts_in}
 use Rattle.expression_runs.specs.Values.{HasRegisters, Setting, behind, in_registers}
 use Rattle.expression_runs.proofs.Words.{known_word}
 use Rattle.text_runs.specs.Laws.{NumberDoes, TextDoes}
 use Rattle.text_runs.specs.Texts.{ErrorComes, error_aims, text_aims, value_aims}
-use Rattle.text_runs.specs.Waiting.{waiting, with_texts}
 use Rattle.text_runs.proofs.Lengths.{joined_short, number_short, number_text_is}
 use Rattle.text_runs.proofs.Points.{push_further, text_closed}
 use Rattle.text_runs.proofs.TextCalls.{Asking, asks, status_none, status_some, three}
-use Rattle.text_runs.proofs.Waiting.{over_first, over_more, texts_among, texts_in}
 
 -- ---- a number
 

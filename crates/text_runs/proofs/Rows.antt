@@ -39,7 +39,7 @@ use Rattle.program_runs.specs.Procedures.{begin_of, end_of, procedure_code}
 use Rattle.program_runs.specs.Programs.{IsWhole, Whole, main_of}
 use Rattle.program_runs.specs.Starts.{first_family, image_parts, main_called, no_numbers, start_of}
 use Rattle.program_runs.specs.Starts.{start_point, surroundings_of}
-use Rattle.program_runs.specs.Statements.{Block, Does, EachDoes, IsAmong, IsBegun}
+use Rattle.program_runs.specs.Statements.{Block, Does, EachDoes, IsAmong, IsBegun, waiting}
 use Rattle.program_runs.specs.Variables as D
 use Rattle.program_runs.specs.Variables.{IsOnly, newest_made}
 use Rattle.program_runs.specs.VariableRows as W
@@ -50,6 +50,7 @@ use Rattle.program_runs.proofs.Rows.{is_datum, names_none, none_named}
 use Rattle.program_runs.proofs.Statements.{none_does}
 use Rattle.program_runs.proofs.VariableProcedures.{one_made}
 use Rattle.program_runs.proofs.VariableRows.{differs_alone, number_valued}
+use Rattle.program_runs.proofs.Waiting.{begun_waits}
 use Rattle.expression_runs.specs.Assignments.{IsAssignment, setting_of}
 use Rattle.expression_runs.specs.Raises.{IsUnraised, Routines}
 use Rattle.expression_runs.specs.Values.{OverflowComes, Setting}
@@ -72,12 +73,12 @@ use Rattle.text_runs.specs.Rows.{inner_last, inner_rest, main_coded, wait_added,
 use Rattle.text_runs.specs.Rows.{wait_called, wait_code, wait_end, wait_entry, wait_environment, wait_first}
 use Rattle.text_runs.specs.Rows.{wait_function, wait_image, wait_inner, wait_label, wait_main, wait_number}
 use Rattle.text_runs.specs.Rows.{wait_program, wait_rest, wait_spot, wait_text, wait_twice}
-use Rattle.text_runs.specs.Waiting.{over, waiting}
+use Rattle.text_runs.specs.Waiting.{over}
 use Rattle.text_runs.proofs.Errors.{error_ends}
 use Rattle.text_runs.proofs.Measuring.{length_measures}
 use Rattle.text_runs.proofs.Points.{above_does}
 use Rattle.text_runs.proofs.Pushing.{joined_pushes, number_pushes}
-use Rattle.text_runs.proofs.Waiting.{begun_waits, call_waits, number_waits}
+use Rattle.text_runs.proofs.Waiting.{call_waits, number_waits}
 
 -- ---- its code
 

@@ -20,10 +20,9 @@ use Rattle.run_steps.specs.Items.{Linked}
 use Rattle.run_steps.specs.Numbers.{IsWide}
 use Rattle.run_steps.specs.Reach.{Aims, Comes, Family, Reach, cost}
 use Rattle.block_runs.specs.Machines.{AreIn, IsIn}
-use Rattle.program_runs.specs.Statements.{Block, IsAmong, JumpsTo}
+use Rattle.program_runs.specs.Statements.{Block, IsAmong, JumpsTo, waiting}
 use Rattle.expression_runs.specs.Raises.{Routines}
 use Rattle.expression_runs.specs.Values.{HasRegisters, HasWord, Setting, Stretch, behind, in_registers}
-use Rattle.text_runs.specs.Waiting.{waiting}
 
 -- ---- a number while texts wait
 

@@ -1,4 +1,5 @@
-use Rattle.text_runs.proofs.Waiting.{begun_waits, call_waits, number_waits, unraised_waits}
+use Rattle.program_runs.proofs.Waiting.{begun_waits}
+use Rattle.text_runs.proofs.Waiting.{call_waits, number_waits, unraised_waits}
 use Rattle.text_runs.proofs.laws.texts_wait.Goals as goal
 
 pub returns : goal.returns
