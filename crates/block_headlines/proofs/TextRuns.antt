@@ -1,5 +1,5 @@
 -- The worked rows in which texts wait run at each number of acts.
-use Rattle.std.proofs.Common.{◌*◌, ◌^◌, ◌≤◌, [], ◌∷◌, arith}
+use Rattle.std.proofs.Common.{[], ◌∷◌, arith}
 use Rattle.pli_meaning.specs.Pictures.{first_bytes}
 use Rattle.pli_coding.specs.Images.{picture_of}
 use Rattle.pli_headline.specs.Headline.{FitsMemory, parts}
