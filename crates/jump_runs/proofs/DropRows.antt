@@ -65,7 +65,7 @@ use Rattle.function_runs.specs.Functions.{IsFunction, function_code, function_ta
 use Rattle.function_runs.specs.OuterVariables.{IsInside}
 use Rattle.text_runs.specs.Laws.{NumberDoes, TextDoes}
 use Rattle.text_runs.proofs.Errors.{error_ends}
-use Rattle.text_runs.proofs.Measuring.{length_measures}
+use Rattle.text_runs.proofs.Taking.{length_measures}
 use Rattle.text_runs.proofs.Pushing.{joined_pushes, number_pushes}
 use Rattle.begin_runs.specs.FarGotos.{Far, IsFar}
 use Rattle.begin_runs.proofs.FarGotos.{far_does}

@@ -1,13 +1,18 @@
--- No text is longer than 1,024 bytes: those of numbers, and those that are joined.
-use Rattle.std.proofs.Common.{◌≡◌, ℕ, zero, suc, ◌+◌, ◌-◌, ◌/◌, ◌%◌, ◌<◌, ◌≤◌, List, [], ◌∷◌, ◌++◌, length}
-use Rattle.std.proofs.Common.{Some, None, Bool, true, false, refl, ap, ◌∙◌, subst, arith, length-append}
-use Rattle.std.specs.Prelude.{ℤ, pos, negsuc, cond, nat_lt, nat_le, ◌==◌}
+-- No text is longer than 1,024 bytes: those of numbers, those that are joined, and parts; so lengths and places in them
+-- are numbers.
+use Rattle.std.proofs.Common.{◌≡◌, ℕ, zero, suc, ◌+◌, ◌-◌, ◌/◌, ◌%◌, ◌^◌, ◌<◌, ◌≤◌, List, [], ◌∷◌, ◌++◌, length}
+use Rattle.std.proofs.Common.{Option, Some, None, Bool, true, false, refl, ap, ◌∙◌, subst, arith, length-append}
+use Rattle.std.specs.Prelude.{ℤ, pos, negsuc, cond, drop, nat_lt, nat_le, ◌==◌}
+use Rattle.std.specs.List.{list_any}
 use Rattle.std.proofs.lemmas.Bool.Decides.{nat_tests}
 use Rattle.std.proofs.lemmas.Int.{ints}
-use Rattle.std.proofs.lemmas.List.{length-replicate}
+use Rattle.std.proofs.lemmas.List.{length-drop, length-replicate}
 use Rattle.rv_meaning.specs.Words.{signed, word}
 use Rattle.pli_meaning.specs.Stream.{blanks, decimal_digits, decimal_text, digits_before}
-use Rattle.pli_meaning.specs.Texts.{behind_blanks, bit_text, joined, number_places, number_text}
+use Rattle.pli_meaning.specs.Numbers.{is_of_precision}
+use Rattle.pli_meaning.specs.Texts.{begins, behind_blanks, bit_text, found_from, index_of, joined, number_in_text}
+use Rattle.pli_meaning.specs.Texts.{number_places, number_text, signed_value, strange_from, substring_from, verify_of}
+use Rattle.pli_meaning.specs.Texts.{within_precision, without_leading_blanks, without_trailing_blanks}
 use Rattle.pli_serving.specs.TextServices as X
 use Rattle.run_steps.specs.Numbers.{IsWide}
 use Rattle.text_runs.specs.Texts.{IsShort}
@@ -50,7 +55,7 @@ pub number_short : (p : ℕ) (z : ℤ) → IsShort (number_text p z)
 number_short p z = placed_short (number_places p) (decimal_text z) (places_few (nat_le p 15)) (decimal_few z)
 
 -- what service 21 makes of a word
-signed_word : (z : ℤ) → IsWide z → signed (word z) ≡ z
+pub signed_word : (z : ℤ) → IsWide z → signed (word z) ≡ z
 signed_word z h = grind (arith, ints, nat_tests)
 
 some_places : (p : ℕ) → 0 < p → (p == 0) ≡ false
@@ -76,7 +81,60 @@ pub joined_short : (s t whole : List ℕ) → joined s t ≡ Some whole → IsSh
 joined_short s t whole h =
     joined_by (nat_le (length s + length t) 1024) (length s + length t) (s ++ t) whole refl (length-append s t) h
 
--- ---- lengths as numbers
+-- ---- parts of a text
 
-pub short_wide : (n : ℕ) → n ≤ 1024 → IsWide (pos n)
-short_wide n h = grind (arith, nat_tests)
+some_short :
+    (q : Bool) (one part : List ℕ) → IsShort one → cond q (Some one) None ≡ Some part → IsShort part
+some_short true one part short h = let same : one ≡ part = cc h in subst IsShort same short
+some_short false one part short h = absurd (cc h)
+
+pub from_short : (s : List ℕ) (i : ℤ) (part : List ℕ) → IsShort s → substring_from s i ≡ Some part → IsShort part
+from_short s (pos (suc n)) part short h =
+    let d = length-drop n s in
+    some_short (nat_le n (length s)) (drop n s) part (omega (arith, d, short)) h
+from_short s (pos zero) part short h = absurd (cc h)
+from_short s (negsuc n) part short h = absurd (cc h)
+
+-- ---- lengths and places as numbers
+
+found_by : (q : Bool) (place n later : ℕ) → later ≤ place + 1 + n → cond q place later ≤ place + suc n
+found_by true place n later h = omega arith
+found_by false place n later h = omega (arith, h)
+
+found_most : (place : ℕ) (s t : List ℕ) → found_from place s t ≤ place + length s
+found_most place [] t = omega arith
+found_most place (b ∷ s) t =
+    found_by (begins t (b ∷ s)) place (length s) (found_from (place + 1) s t) (found_most (place + 1) s t)
+
+pub index_most : (s t : List ℕ) → index_of s t ≤ 1 + length s
+index_most s [] = omega arith
+index_most s (b ∷ t) = found_most 1 s (b ∷ t)
+
+strange_by : (q : Bool) (place n later : ℕ) → later ≤ place + 1 + n → cond q later place ≤ place + suc n
+strange_by true place n later h = omega (arith, h)
+strange_by false place n later h = omega arith
+
+strange_most : (place : ℕ) (s t : List ℕ) → strange_from place s t ≤ place + length s
+strange_most place [] t = omega arith
+strange_most place (b ∷ s) t =
+    strange_by (list_any (λ c. c == b) t) place (length s) (strange_from (place + 1) s t)
+    (strange_most (place + 1) s t)
+
+pub verify_most : (s t : List ℕ) → verify_of s t ≤ 1 + length s
+verify_most s t = strange_most 1 s t
+
+pub small_wide : (n : ℕ) → n < 2 ^ 31 → IsWide (pos n)
+small_wide n h = grind (arith, nat_tests)
+
+-- ---- numbers that texts show
+
+within_wide : (b : Bool) (x z : ℤ) → is_of_precision 31 x ≡ b → cond b (Some x) None ≡ Some z → IsWide z
+within_wide true x z e h = let same : x ≡ z = cc h in subst (λ u. is_of_precision 31 u ≡ true) same e
+within_wide false x z e h = absurd (cc h)
+
+precise_wide : (o : Option ℤ) (z : ℤ) → within_precision 31 o ≡ Some z → IsWide z
+precise_wide None z h = absurd (cc h)
+precise_wide (Some x) z h = within_wide (is_of_precision 31 x) x z refl h
+
+pub number_wide : (t : List ℕ) (z : ℤ) → number_in_text t ≡ Some z → IsWide z
+number_wide t z h = precise_wide (signed_value (without_trailing_blanks (without_leading_blanks t))) z h

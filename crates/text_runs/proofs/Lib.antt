@@ -3,6 +3,8 @@ pub mod TextCalls
 pub mod Points
 pub mod Lengths
 pub mod Errors
+pub mod Tested
+pub mod Sequences
 pub mod Pushing
-pub mod Measuring
+pub mod Taking
 pub mod Rows

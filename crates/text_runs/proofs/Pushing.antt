@@ -1,49 +1,48 @@
--- Texts come onto the stack: that of a number, and two that become one.
-use Rattle.std.proofs.Common.{◌≡◌, ℕ, ◌+◌, ◌<◌, ◌≤◌, List, [], ◌∷◌, ◌++◌, Option, Some, None, refl, sym, ap}
+-- Texts come onto the stack: that of a number, two that become one, and the rest of one from a place on.
+use Rattle.std.proofs.Common.{◌≡◌, ℕ, ◌+◌, ◌<◌, ◌≤◌, List, [], ◌∷◌, ◌++◌, refl, sym, ap}
 use Rattle.std.proofs.Common.{◌∙◌, subst, arith, lit<}
 use Rattle.std.specs.Prelude.{ℤ, max}
-use Rattle.std.proofs.Math.Nat.{le-max_left, le-max_right}
-use Rattle.rv_meaning.specs.Words.{word}
+use Rattle.rv_meaning.specs.declared.instr.Instr.{Instr}
+use Rattle.rv_meaning.specs.Words.{signed, word}
 use Rattle.pli_typing.specs.TypedTree as Y
-use Rattle.pli_meaning.specs.Codes.{too_long_code}
+use Rattle.pli_meaning.specs.Codes.{substring_code, too_long_code}
 use Rattle.pli_meaning.specs.Control.{Meaning, give, ◌>>=◌}
 use Rattle.pli_meaning.specs.Evaluating as V
 use Rattle.pli_meaning.specs.Raising as R
-use Rattle.pli_meaning.specs.Texts.{joined, number_text}
+use Rattle.pli_meaning.specs.Texts.{joined, number_text, substring_from}
 use Rattle.pli_serving.specs.Answers.{Done}
-use Rattle.pli_serving.specs.Outcomes.{becoming, on_two_texts, or_status, with_entries}
+use Rattle.pli_serving.specs.Outcomes.{becoming, on_text, on_two_texts, or_status, with_entries}
 use Rattle.pli_serving.specs.ServiceState.{Entry, TextEntry}
 use Rattle.pli_serving.specs.TextServices as X
-use Rattle.pli_coding.specs.Assembly.{JumpTo, RaiseError, size_of}
+use Rattle.pli_coding.specs.Assembly.{size_of}
 use Rattle.pli_coding.specs.Expressions.{number_code, text_code}
-use Rattle.pli_coding.specs.Instructions.{service, small, status_tested, tested_service}
-use Rattle.pli_coding.specs.Registers.{a1}
+use Rattle.pli_coding.specs.Instructions.{service, small, tested_service}
+use Rattle.pli_coding.specs.Registers.{a1, a2}
 use Rattle.activation_relation.specs.Layers.{Point, services_of}
-use Rattle.activation_relation.specs.Points.{AreOver}
 use Rattle.run_steps.specs.Bodies.{Known}
 use Rattle.run_steps.proofs.Bodies.{zero_is}
 use Rattle.run_steps.specs.Engine.{Base, call_at}
-use Rattle.run_steps.specs.Items.{Linked}
 use Rattle.run_steps.proofs.Items.{straight}
-use Rattle.run_steps.proofs.Jumps.{back_of, front_of, rest_of}
+use Rattle.run_steps.proofs.Jumps.{back_of, front_of}
 use Rattle.run_steps.proofs.Linking.{size_append}
 use Rattle.run_steps.proofs.Reaching.{reach_moved}
-use Rattle.run_steps.specs.Reach.{Comes, Family, before, cost, reached}
-use Rattle.run_steps.proofs.Reach.{comes_on, onward, reach_map, reach_then, reached_holds}
+use Rattle.run_steps.specs.Numbers.{IsWide}
+use Rattle.run_steps.specs.Reach.{Comes, Family, before, reached}
+use Rattle.run_steps.proofs.Reach.{comes_on, onward, reach_map, reach_then, reached_holds, stay}
 use Rattle.block_runs.proofs.BlockEntries.{small_is}
-use Rattle.block_runs.specs.Machines.{AreIn}
 use Rattle.block_runs.proofs.CallStatements.{comes_map}
 use Rattle.block_runs.proofs.PointGrounds.{in_known, known_in, point_frame, point_ground}
-use Rattle.program_runs.specs.Statements.{IsAmong, waiting, with_texts}
-use Rattle.program_runs.proofs.JumpsOut.{jumps_since}
+use Rattle.program_runs.specs.Statements.{with_texts}
 use Rattle.program_runs.proofs.Waiting.{over_first, over_more, texts_among, texts_in}
-use Rattle.expression_runs.specs.Values.{HasRegisters, Setting, behind, in_registers}
+use Rattle.expression_runs.specs.Values.{Setting, behind, in_registers}
 use Rattle.expression_runs.proofs.Words.{known_word}
 use Rattle.text_runs.specs.Laws.{NumberDoes, TextDoes}
-use Rattle.text_runs.specs.Texts.{ErrorComes, error_aims, text_aims, value_aims}
-use Rattle.text_runs.proofs.Lengths.{joined_short, number_short, number_text_is}
-use Rattle.text_runs.proofs.Points.{push_further, text_closed}
-use Rattle.text_runs.proofs.TextCalls.{Asking, asks, status_none, status_some, three}
+use Rattle.text_runs.specs.Texts.{ErrorComes, IsShort, text_aims, value_aims}
+use Rattle.text_runs.proofs.Lengths.{from_short, joined_short, number_short, number_text_is, signed_word}
+use Rattle.text_runs.proofs.Points.{text_closed}
+use Rattle.text_runs.proofs.Sequences.{Last, anything, text_and_number, text_leads, two_texts}
+use Rattle.text_runs.proofs.TextCalls.{Asking, asks, status_told, three, told}
+use Rattle.text_runs.proofs.Tested.{Place, Tested, tested_comes}
 
 -- ---- a number
 
@@ -137,177 +136,192 @@ number_pushes entries k x precision need some few el p numbers taken c index f o
 -- ---- two texts
 
 -- the right one on top of the left one, with what both come to
-join_comes :
-    (entries : List Entry) (k : Setting) → ErrorComes (List ℕ) k → (s t : List ℕ) (o : Option (List ℕ)) →
-    joined s t ≡ o → (p : Point) (numbers : ℕ → ℕ) (taken c index : ℕ) (f : Family) →
-    IsAmong (waiting (TextEntry t ∷ TextEntry s ∷ entries) k.block) numbers p → p.control.line ≡ k.around.line →
-    AreOver (entries ++ k.block.first.control.entries) k.block.first.control.edits k.block.first.control.layers →
-    Linked k.block.call.surroundings.links k.block.call.code index (tested_service 22) →
-    c + 5 + k.most ≤ cost k.block.call.code → AreIn k.block.call.surroundings p numbers index f →
-    Comes k.block.call.code c f (services_of p)
-    (text_aims entries k (behind p numbers taken c index (tested_service 22)))
-    (R.or_error k.around too_long_code o k.block.call.surroundings.acts p.state)
-unfolding R.or_error give
-join_comes entries k error s t None is p numbers taken c index f o line over' l paid there =
-    let w = k.block.call.surroundings in
+joined_last :
+    (entries : List Entry) (k : Setting) → ErrorComes (List ℕ) k → (s t : List ℕ) →
+    Last entries (TextEntry t ∷ TextEntry s ∷ entries) k (text_aims entries k) anything (tested_service 22)
+    (R.or_error k.around too_long_code (joined s t))
+joined_last entries k error s t p numbers taken c index f o line over' l paid there =
     let h = point_frame o.stands o.image in
     let v = services_of p in
     let e = k.block.first.control.entries in
     let x : Base → ℕ = λ b. (f b).machine.registers 10 in
     let whole = behind p numbers taken c index (tested_service 22) in
-    let closed = text_closed entries k whole in
-    let asking : Asking = record {
+    let place : Place = record {
+      entries = TextEntry t ∷ TextEntry s ∷ entries;
+      setting = k;
+      point = p;
+      numbers = numbers;
+      credits = c;
+      index = index;
+      family = f;
+    } in
+    let asked : Tested (List ℕ) = record {
       number = 22;
+      code = too_long_code;
       x = x;
       y = λ b. (f b).machine.registers 11;
       z = λ b. (f b).machine.registers 12;
-      first = x;
-      second = λ b. too_long_code;
       answer = λ call x0 x1 x2. X.join_served call x0;
+      outcome = joined s t;
+      texts = λ both. TextEntry both ∷ (entries ++ e);
+      result = λ both. x;
     } in
-    let r1 = asks {g' = point_ground w p h} {t = λ j. 0} asking c f
+    tested_comes place asked (text_closed entries k whole) h
+    (record {
+      among = o;
+      line = line;
+      linked = l;
+      paid = paid;
+      there = λ b. known_in h (there b).0 (refl, (refl, (refl, tt)));
+    })
     (record {
       small' = lit< tt;
+      coded = lit< tt;
+      some = refl;
       serves = λ call r. refl;
       answers = λ b m.
           let call = call_at k.block.call.code v m in
           ap (λ es. on_two_texts es (λ left right below. or_status call (x b) too_long_code (joined left right)
           (λ both. becoming call (with_entries (TextEntry both ∷ below) v) (x b) 0))) o.entries
-          ∙ ap (λ q. or_status call (x b) too_long_code q
-          (λ both. becoming call (with_entries (TextEntry both ∷ (entries ++ e)) v) (x b) 0)) is;
-      more = omega arith;
+          ∙ status_told call (x b) too_long_code
+          (λ both. services_of (with_texts (TextEntry both ∷ (entries ++ e)) p)) (λ both. x b) (joined s t);
     })
-    (record { reserved = λ b. refl; memory = λ b m stands. stands }) (front_of (service 22) status_tested l)
-    (λ b. known_in h (there b) (refl, (refl, (refl, tt)))) in
-    let l1 = back_of (service 22) status_tested l in
-    onward closed r1 (λ g1 at1.
-    onward closed (status_some (c + 2) too_long_code g1 refl l1 at1) (λ g2 at2.
-    comes_map (error_aims (List ℕ) k p.state.world.acts) (text_aims entries k whole)
-    (R.error {R = List ℕ} k.around too_long_code w.acts p.state)
-    (λ c' f' v' r s' q. absurd q)
-    (λ c' f' v' height label s' q. q)
-    (λ c' f' v' r s' q. absurd q)
-    (error (TextEntry t ∷ TextEntry s ∷ entries) p numbers (c + 2 + 1) (index + 2 + 1) too_long_code g2 o line
-    (lit< tt) (rest_of _ (JumpTo RaiseError ∷ []) l1) (omega (arith, paid))
-    (λ b. (in_known h o.image.parts (at2 b), (at2 b).holds.regs.1.0)))))
-join_comes entries k error s t (Some both) is p numbers taken c index f o line over' l paid there =
-    let w = k.block.call.surroundings in
-    let h = point_frame o.stands o.image in
-    let v = services_of p in
-    let e = k.block.first.control.entries in
-    let x : Base → ℕ = λ b. (f b).machine.registers 10 in
-    let entries' = TextEntry both ∷ entries in
-    let q = with_texts (entries' ++ e) p in
-    let asking : Asking = record {
-      number = 22;
-      x = x;
-      y = λ b. (f b).machine.registers 11;
-      z = λ b. (f b).machine.registers 12;
-      first = x;
-      second = λ b. 0;
-      answer = λ call x0 x1 x2. X.join_served call x0;
-    } in
-    let r1 = asks {g' = point_ground w q h} {t = λ j. 0} asking c f
-    (record {
-      small' = lit< tt;
-      serves = λ call r. refl;
-      answers = λ b m.
-          let call = call_at k.block.call.code v m in
-          ap (λ es. on_two_texts es (λ left right below. or_status call (x b) too_long_code (joined left right)
-          (λ whole. becoming call (with_entries (TextEntry whole ∷ below) v) (x b) 0))) o.entries
-          ∙ ap (λ u. or_status call (x b) too_long_code u
-          (λ whole. becoming call (with_entries (TextEntry whole ∷ (entries ++ e)) v) (x b) 0)) is;
-      more = omega arith;
+    error (λ c' f' v' height label s' q. q)
+    (λ both g is at. record {
+      short = joined_short s t both is;
+      point = with_texts (TextEntry both ∷ (entries ++ e)) p;
+      numbers = numbers;
+      among = texts_among k.block (TextEntry t ∷ TextEntry s ∷ entries) (TextEntry both ∷ entries) o
+          (over_more (TextEntry both ∷ []) (entries ++ e) k.block.first.control.edits k.block.first.control.layers
+          over');
+      since = omega arith;
+      line = refl;
+      stays = λ n less. refl;
+      state = refl;
+      reach = stay k.block.call.code whole.wanted g
+          (services_of (with_texts (TextEntry both ∷ (entries ++ e)) p)) _
+          (λ b. in_known h o.image.parts (at b));
     })
-    (record { reserved = λ b. refl; memory = λ b m stands. texts_in (entries' ++ e) stands })
-    (front_of (service 22) status_tested l) (λ b. known_in h (there b) (refl, (refl, (refl, tt)))) in
-    let r2 = status_none (c + 2) (reached r1) (back_of (service 22) status_tested l) (reached_holds r1) in
-    record {
-      to = record {
-        short = joined_short s t both is;
-        point = q;
-        numbers = numbers;
-        among = texts_among k.block (TextEntry t ∷ TextEntry s ∷ entries) entries' o
-            (over_more (TextEntry both ∷ []) (entries ++ e) k.block.first.control.edits k.block.first.control.layers
-            over');
-        since = omega arith;
-        line = refl;
-        stays = λ n less. refl;
-        state = refl;
-        reach = reach_map _ (reach_moved {i'' = index + size_of (tested_service 22)} (omega arith) (omega arith)
-            (reach_then r1 r2)) (λ b y at. in_known h o.image.parts at);
-      };
-    }
-
-enough_left : (k : Setting) (taken m n : ℕ) → HasRegisters k taken (max m n) → HasRegisters k taken m
-enough_left k taken m n h =
-    let room = h.0 in
-    let most = le-max_left m n in
-    (omega (arith, room, most), h.1)
-
-enough_right : (k : Setting) (taken m n : ℕ) → HasRegisters k taken (max m n) → HasRegisters k taken n
-enough_right k taken m n h =
-    let room = h.0 in
-    let most = le-max_right m n in
-    (omega (arith, room, most), h.1)
 
 pub joined_pushes :
     (entries : List Entry) (k : Setting) (left right : Y.Text) (m n : ℕ) → ErrorComes (List ℕ) k →
     TextDoes entries k m left → ((s : List ℕ) → TextDoes (TextEntry s ∷ entries) k n right) →
     TextDoes entries k (max m n) (Y.Joined left right)
-unfolding V.text ◌>>=◌
-joined_pushes entries k left right m n error el er p numbers taken c index f o line registers l paid there =
+unfolding V.text
+joined_pushes entries k left right m n error el er =
+    two_texts entries k (text_aims entries k) (text_leads entries k) m n
+    (λ taken. text_code k.block.environment taken left) (λ taken. text_code k.block.environment taken right)
+    (tested_service 22) (V.text k.around left) (V.text k.around right)
+    (λ s t. R.or_error k.around too_long_code (joined s t)) el er
+    (λ s t short short'. joined_last entries k error s t)
+
+-- ---- a part of a text
+
+from_answer :
+    (code : List Instr) (p : Point) (m text : List ℕ) (i : ℤ) (y : ℕ) (below : List Entry) → IsWide i →
+    p.control.entries ≡ TextEntry text ∷ below →
+    X.cut_served (call_at code (services_of p) m) (word i) y 0
+    ≡ told (services_of p) m (word i) substring_code (λ part. services_of (with_texts (TextEntry part ∷ below) p))
+    (λ part. word i) (substring_from text i)
+from_answer code p m text i y below wide top =
+    let v = services_of p in
+    let c = call_at code v m in
+    ap (λ u. on_text u (λ t more. or_status c (word i) substring_code (substring_from t (signed (word i)))
+    (λ part. becoming c (with_entries (TextEntry part ∷ more) v) (word i) 0))) top
+    ∙ ap (λ u. or_status c (word i) substring_code (substring_from text u)
+    (λ part. Done (services_of (with_texts (TextEntry part ∷ below) p)) m (word i) 0)) (signed_word i wide)
+    ∙ status_told c (word i) substring_code (λ part. services_of (with_texts (TextEntry part ∷ below) p))
+    (λ part. word i) (substring_from text i)
+
+from_last :
+    (entries : List Entry) (k : Setting) → ErrorComes (List ℕ) k → (text : List ℕ) (i : ℤ) → IsShort text →
+    IsWide i →
+    Last entries (TextEntry text ∷ entries) k (text_aims entries k) (λ b x. x ≡ word i)
+    (small a2 0 ∷ tested_service 23) (R.or_error k.around substring_code (substring_from text i))
+from_last entries k error text i short wide p numbers taken c index f o line over' l paid there =
     let w = k.block.call.surroundings in
-    let code = k.block.call.code in
-    let t = in_registers k.words taken in
-    let a = text_code k.block.environment t left in
-    let b' = text_code k.block.environment t right in
-    let call = tested_service 22 in
-    let n1 = size_append a (b' ++ call) in
-    let n2 = size_append b' call in
-    let whole = behind p numbers taken c index (a ++ (b' ++ call)) in
-    let goal = text_aims entries k whole in
-    let closed = text_closed entries k whole in
-    let last : List ℕ → List ℕ → Meaning (List ℕ) = λ s u. R.or_error k.around too_long_code (joined s u) in
-    let rest : List ℕ → Meaning (List ℕ) = λ s. V.text k.around right >>= (λ u. last s u) in
-    let l1 = back_of a (b' ++ call) l in
-    let over' = over_first k.block entries o in
-    comes_on w.acts (V.text k.around left w.acts p.state) rest
-    (comes_map (text_aims entries k (behind p numbers taken c index a)) (before code goal w.acts rest)
-    (V.text k.around left w.acts p.state)
-    (λ c1 f1 v1 s s1 q1.
-    let p1 = q1.point in
-    let since1 = q1.since in
-    subst (λ s'. Comes code c1 f1 v1 goal (rest s w.acts s')) (sym q1.state)
-    (onward closed q1.reach
-    (λ g1 at1.
-    let c2 = c + size_of a in
-    let i2 = index + size_of a in
-    comes_on w.acts (V.text k.around right w.acts p1.state) (last s)
-    (comes_map (text_aims (TextEntry s ∷ entries) k (behind p1 q1.numbers taken c2 i2 b'))
-    (before code goal w.acts (last s)) (V.text k.around right w.acts p1.state)
-    (λ c3 f3 v3 u s3 q3.
-    let p3 = q3.point in
-    let since3 = q3.since in
-    subst (λ s'. Comes code c3 f3 v3 goal (last s u w.acts s')) (sym q3.state)
-    (onward closed q3.reach
-    (λ g3 at3.
-    push_further entries k
+    let h = point_frame o.stands o.image in
+    let v = services_of p in
+    let e = k.block.first.control.entries in
+    let one = small a2 0 ∷ [] in
+    let y : Base → ℕ = λ b. (f b).machine.registers 11 in
+    let whole = behind p numbers taken c index (one ++ tested_service 23) in
+    let r1 = straight c f v v
+    (λ b. Known (point_ground w p h) v numbers (λ j. 0) (three (λ b'. word i) y (λ b'. 0)) b)
+    (front_of one (tested_service 23) l) (omega arith) (λ b. (there b).0.at.pc)
+    (λ b.
+    let o' = (known_word k.block h (there b)).holds in record {
+      body = record {
+        services = o'.body.services;
+        registers = o'.body.registers;
+        bytes = o'.body.bytes;
+        memory = o'.body.memory;
+      };
+      regs = (o'.regs.0, (refl, (small_is _ 0 (zero_is o'.body) (lit< tt), tt)));
+    }) in
+    onward (text_closed entries k whole) r1
+    (λ g at.
+    let place : Place = record {
+      entries = TextEntry text ∷ entries;
+      setting = k;
+      point = p;
+      numbers = numbers;
+      credits = c + 1;
+      index = index + 1;
+      family = g;
+    } in
+    let asked : Tested (List ℕ) = record {
+      number = 23;
+      code = substring_code;
+      x = λ b. word i;
+      y = y;
+      z = λ b. 0;
+      answer = λ call x0 x1 x2. X.cut_served call x0 x1 x2;
+      outcome = substring_from text i;
+      texts = λ part. TextEntry part ∷ (entries ++ e);
+      result = λ part b. word i;
+    } in
+    tested_comes place asked (text_closed entries k whole) h
     (record {
-      acts = omega (arith, since1, since3);
-      line = q3.line ∙ q1.line;
-      index = omega (arith, n1, n2);
-      wanted = omega (arith, n1, n2);
-      taken = omega arith;
-      stays = λ i less. q3.stays i less ∙ q1.stays i less;
+      among = o;
+      line = line;
+      linked = back_of one (tested_service 23) l;
+      paid = omega (arith, paid);
+      there = at;
     })
-    (join_comes entries k error s u (joined s u) refl p3 q3.numbers taken (c2 + size_of b') (i2 + size_of b') g3
-    q3.among (q3.line ∙ q1.line ∙ line) over' (back_of b' call l1) (omega (arith, paid, n1, n2)) at3))))
-    (λ c3 f3 v3 height label s3 q3. jumps_since since1 q3)
-    (λ c3 f3 v3 r s3 q3. absurd q3)
-    (er s p1 q1.numbers taken c2 i2 g1 q1.among (q1.line ∙ line) (enough_right k taken m n registers)
-    (front_of b' call l1) (omega (arith, paid, n1, n2)) at1)))))
-    (λ c1 f1 v1 height label s1 q1. q1)
-    (λ c1 f1 v1 r s1 q1. absurd q1)
-    (el p numbers taken c index f o line (enough_left k taken m n registers) (front_of a (b' ++ call) l)
-    (omega (arith, paid, n1, n2)) there))
+    (record {
+      small' = lit< tt;
+      coded = lit< tt;
+      some = refl;
+      serves = λ call r. refl;
+      answers = λ b m. from_answer k.block.call.code p m text i (y b) (entries ++ e) wide o.entries;
+    })
+    error (λ c' f' v' height label s' q. q)
+    (λ part g' is at'. record {
+      short = from_short text i part short is;
+      point = with_texts (TextEntry part ∷ (entries ++ e)) p;
+      numbers = numbers;
+      among = texts_among k.block (TextEntry text ∷ entries) (TextEntry part ∷ entries) o
+          (over_more (TextEntry part ∷ []) (entries ++ e) k.block.first.control.edits k.block.first.control.layers
+          over');
+      since = omega arith;
+      line = refl;
+      stays = λ n less. refl;
+      state = refl;
+      reach = reach_map _
+          (reach_moved {c'' = whole.wanted} {i'' = whole.index} (omega arith) (omega arith)
+          (stay k.block.call.code (c + 1 + 5) g' (services_of (with_texts (TextEntry part ∷ (entries ++ e)) p)) _ at'))
+          (λ b y' is'. in_known h o.image.parts is');
+    }))
+
+pub from_cuts :
+    (entries : List Entry) (k : Setting) (x : Y.Text) (start : Y.Number) (m n : ℕ) → ErrorComes (List ℕ) k →
+    TextDoes entries k m x → ((s : List ℕ) → NumberDoes (TextEntry s ∷ entries) k n start) →
+    TextDoes entries k (max m n) (Y.SubstringFrom x start)
+unfolding V.text
+from_cuts entries k x start m n error el er =
+    text_and_number entries k (text_aims entries k) (text_leads entries k) m n
+    (λ taken. text_code k.block.environment taken x) (λ taken. number_code k.block.environment taken start)
+    (small a2 0 ∷ tested_service 23) (V.text k.around x) (V.number k.around start)
+    (λ s i. R.or_error k.around substring_code (substring_from s i)) el er
+    (λ s i short wide. from_last entries k error s i short wide)

@@ -75,7 +75,7 @@ use Rattle.text_runs.specs.Rows.{wait_function, wait_image, wait_inner, wait_lab
 use Rattle.text_runs.specs.Rows.{wait_program, wait_rest, wait_spot, wait_text, wait_twice}
 use Rattle.text_runs.specs.Waiting.{over}
 use Rattle.text_runs.proofs.Errors.{error_ends}
-use Rattle.text_runs.proofs.Measuring.{length_measures}
+use Rattle.text_runs.proofs.Taking.{length_measures}
 use Rattle.text_runs.proofs.Points.{above_does}
 use Rattle.text_runs.proofs.Pushing.{joined_pushes, number_pushes}
 use Rattle.text_runs.proofs.Waiting.{call_waits, number_waits}

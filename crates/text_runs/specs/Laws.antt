@@ -1,5 +1,5 @@
 -- The laws of texts in expressions at the points of a block.
-use Rattle.std.specs.Prelude.{ℕ, ◌<◌, ◌≤◌, List, [], ◌∷◌, max}
+use Rattle.std.specs.Prelude.{ℕ, ℤ, ◌<◌, ◌≤◌, List, [], ◌∷◌, max}
 use Rattle.pli_typing.specs.TypedTree as Y
 use Rattle.pli_meaning.specs.Evaluating.{number, text}
 use Rattle.pli_serving.specs.ServiceState.{Entry, TextEntry}
@@ -34,7 +34,25 @@ pub record TextsDo : Type 0 where
       (entries : List Entry) (k : Setting) (left right : Y.Text) (m n : ℕ) → ErrorComes (List ℕ) k →
       TextDoes entries k m left → ((s : List ℕ) → TextDoes (TextEntry s ∷ entries) k n right) →
       TextDoes entries k (max m n) (Y.Joined left right)
+  -- the rest of a text from a place on; where it has no such place ERROR comes
+  pub rest :
+      (entries : List Entry) (k : Setting) (x : Y.Text) (start : Y.Number) (m n : ℕ) → ErrorComes (List ℕ) k →
+      TextDoes entries k m x → ((s : List ℕ) → NumberDoes (TextEntry s ∷ entries) k n start) →
+      TextDoes entries k (max m n) (Y.SubstringFrom x start)
   -- a text is measured and dropped
   pub length :
       (entries : List Entry) (k : Setting) (x : Y.Text) (need : ℕ) → TextDoes entries k need x →
       NumberDoes entries k need (Y.LengthOf x)
+  -- a place in the left one of two texts, which are dropped
+  pub index :
+      (entries : List Entry) (k : Setting) (searched sought : Y.Text) (m n : ℕ) → TextDoes entries k m searched →
+      ((s : List ℕ) → TextDoes (TextEntry s ∷ entries) k n sought) →
+      NumberDoes entries k (max m n) (Y.IndexOf searched sought)
+  pub verify :
+      (entries : List Entry) (k : Setting) (searched allowed : Y.Text) (m n : ℕ) → TextDoes entries k m searched →
+      ((s : List ℕ) → TextDoes (TextEntry s ∷ entries) k n allowed) →
+      NumberDoes entries k (max m n) (Y.VerifyOf searched allowed)
+  -- the number that a text shows, or ERROR
+  pub shown :
+      (entries : List Entry) (k : Setting) (x : Y.Text) (need : ℕ) → ErrorComes ℤ k → TextDoes entries k need x →
+      NumberDoes entries k need (Y.NumberOfText x)

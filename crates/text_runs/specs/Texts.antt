@@ -118,6 +118,7 @@ pub record IsErrorless (k : Setting) : Type 0 where
   pub acts : k.block.call.surroundings.acts + 1 < 2 ^ 64
   pub most : 6 < k.most
 
--- then the run ends
-abbrev pub ErrorEnds : Type 0
-ErrorEnds = (k : Setting) → IsErrorless k → ErrorComes (List ℕ) k
+-- then the run ends, whatever was to come of the service
+pub record ErrorEnds : Type 0 where
+  pub text : (k : Setting) → IsErrorless k → ErrorComes (List ℕ) k
+  pub number : (k : Setting) → IsErrorless k → ErrorComes ℤ k
