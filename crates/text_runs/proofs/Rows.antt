@@ -550,8 +550,8 @@ unfolding F.give F.◌>>=◌ F.◌>>◌ F.looked F.stored F.act F.finish F.retur
 flows = tt
 
 unfoldable values : Unit {0}
-unfolding V.number V.text V.designated V.located V.numbers V.variable_designated V.part_designated V.stored_value R.or_error
-    R.demanded R.value_of R.raised R.unit_run R.error R.error_unit_run P.element_stored M.assigned
+unfolding V.number V.text V.designated V.located V.numbers V.variable_designated V.part_designated V.stored_value
+    R.or_error R.demanded R.value_of R.raised R.unit_run R.error R.error_unit_run P.element_stored M.assigned
 values = tt
 
 unfoldable calls : Unit {0}

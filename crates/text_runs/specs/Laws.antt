@@ -19,8 +19,8 @@ TextDoes entries k need x =
     Pushes entries k need (λ taken. text_code k.block.environment taken x) (text k.around x)
 
 pub record TextsDo : Type 0 where
-  -- what is known of numbers where nothing waits, and jumps to no label of the block itself, holds in the block that has
-  -- what waits
+  -- what is known of numbers where nothing waits, and jumps to no label of the block itself, holds in the block that
+  -- has what waits
   pub above :
       (entries : List Entry) (k : Setting) (x : Y.Number) (need : ℕ) → L.Does (over entries k) need x →
       NumberDoes entries k need x

@@ -1,5 +1,5 @@
--- A worked row: a main procedure that joins a number to what a function returns, which doubles it, until it overflows in
--- the function. The text of the number waits while the function runs.
+-- A worked row: a main procedure that joins a number to what a function returns, which doubles it, until it overflows
+-- in the function. The text of the number waits while the function runs.
 use Rattle.std.specs.Prelude.{ℕ, suc, ◌+◌, ◌^◌, ◌<◌, ◌≡◌, List, [], ◌∷◌, length, map, None, Some}
 use Rattle.rv_meaning.specs.Machine.{memory_size}
 use Rattle.pli_language.specs.declared.condition.Condition.TheVariants as C

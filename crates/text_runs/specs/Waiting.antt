@@ -1,5 +1,5 @@
--- What is known of a block and around its expressions, while texts wait above those that stood on the stack at its first
--- statement.
+-- What is known of a block and around its expressions, while texts wait above those that stood on the stack at its
+-- first statement.
 use Rattle.std.specs.Prelude.{ℕ, List, []}
 use Rattle.pli_serving.specs.ServiceState.{Entry}
 use Rattle.program_runs.specs.Calls.{Callee}
