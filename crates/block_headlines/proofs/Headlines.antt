@@ -55,6 +55,7 @@ use Rattle.jump_runs.specs.Rows.{bolt_program}
 use Rattle.jump_runs.specs.UnitRows.{flee_program}
 use Rattle.copy_units.specs.Rows.{mute_program}
 use Rattle.text_runs.specs.Rows.{wait_program}
+use Rattle.text_units.specs.Rows.{rise_program}
 use Rattle.unit_runs.specs.BeginRows.{host_entry, host_environment, host_main, host_program, host_units}
 use Rattle.unit_runs.specs.CallRows.{lend_entry, lend_environment, lend_main, lend_procedure, lend_program, lend_units}
 use Rattle.unit_runs.specs.DeepRows.{deep_entry, deep_environment, deep_main, deep_program, deep_units}
@@ -71,7 +72,8 @@ use Rattle.unit_runs.proofs.Rows.{mend_does, mend_finish, mend_is}
 use Rattle.block_headlines.specs.Headlines.{HeadlinesOfRows, Layout, Runs, UnitsRun, whole_of}
 use Rattle.block_headlines.proofs.JumpRuns.{bolt_layout, bolt_program_runs, flee_layout, flee_program_runs}
 use Rattle.block_headlines.proofs.JumpRuns.{mute_layout, mute_program_runs, shed_layout, shed_program_runs}
-use Rattle.block_headlines.proofs.TextRuns.{drop_layout, drop_program_runs, wait_layout, wait_program_runs}
+use Rattle.block_headlines.proofs.TextRuns.{drop_layout, drop_program_runs, rise_layout, rise_units_run}
+use Rattle.block_headlines.proofs.TextRuns.{wait_layout, wait_program_runs}
 
 -- a program whose run is known at each number of acts, from its first instruction
 record IsKnown (program : Y.Program) (x : Layout) : Type 0 where
@@ -587,6 +589,7 @@ rows_kept laws keeps =
       lending = unit_kept laws keeps lend_program lend_layout lend_units_run;
       hosting = kept laws keeps host_program host_layout host_program_runs;
       deepening = unit_kept laws keeps deep_program deep_layout deep_units_run;
+      rising = unit_kept laws keeps rise_program rise_layout rise_units_run;
       bolting = kept laws keeps bolt_program bolt_layout bolt_program_runs;
       shedding = kept laws keeps shed_program shed_layout shed_program_runs;
       waiting = kept laws keeps wait_program wait_layout wait_program_runs;

@@ -10,7 +10,9 @@ use Rattle.text_runs.specs.Rows.{wait_entry, wait_environment, wait_function, wa
 use Rattle.text_runs.proofs.Rows.{wait_each, wait_finish, wait_is}
 use Rattle.jump_runs.specs.DropRows.{drop_entry, drop_environment, drop_function, drop_main, drop_program}
 use Rattle.jump_runs.proofs.DropRows.{drop_each, drop_finish, drop_is}
-use Rattle.block_headlines.specs.Headlines.{Layout, Runs}
+use Rattle.text_units.specs.Rows.{rise_entry, rise_environment, rise_main, rise_program, rise_units}
+use Rattle.text_units.proofs.Rows.{rise_does, rise_finish, rise_is}
+use Rattle.block_headlines.specs.Headlines.{Layout, Runs, UnitsRun}
 use Rattle.block_headlines.proofs.JumpRuns.{fits}
 
 wait_fits : FitsMemory (picture_of parts wait_program)
@@ -61,4 +63,29 @@ drop_program_runs =
           drop_is input (first_bytes (picture_of parts drop_program)) acts few
           (first_length (picture_of parts drop_program) drop_fits);
       each = λ input acts few b. drop_each input acts few b;
+    }
+
+rise_fits : FitsMemory (picture_of parts rise_program)
+rise_fits = fits rise_program (omega arith) (omega arith)
+
+abbrev pub rise_layout : Layout
+rise_layout =
+    record {
+      main = rise_main;
+      others = [];
+      environment = rise_environment;
+      entry = rise_entry;
+      end = rise_finish;
+      units = rise_units;
+      serials = 1;
+      made = newest_made parts number_declared;
+    }
+
+pub rise_units_run : UnitsRun rise_program rise_layout
+rise_units_run =
+    record {
+      whole = λ input acts few.
+          rise_is input (first_bytes (picture_of parts rise_program)) acts few
+          (first_length (picture_of parts rise_program) rise_fits);
+      body = λ input acts few b. rise_does input acts few b;
     }

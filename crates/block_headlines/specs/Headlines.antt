@@ -30,6 +30,7 @@ use Rattle.jump_runs.specs.Rows.{bolt_program}
 use Rattle.jump_runs.specs.UnitRows.{flee_program}
 use Rattle.copy_units.specs.Rows.{mute_program}
 use Rattle.text_runs.specs.Rows.{wait_program}
+use Rattle.text_units.specs.Rows.{rise_program}
 use Rattle.program_runs.specs.Starts.{no_numbers, start_point, surroundings_of}
 use Rattle.program_runs.specs.Statements.{EachDoes, IsBegun}
 use Rattle.unit_runs.specs.BeginRows.{host_program}
@@ -136,6 +137,7 @@ pub record HeadlinesOfRows : Type 0 where
   pub lending : Headline lend_program (picture_of parts lend_program) (table_of lend_program)
   pub hosting : Headline host_program (picture_of parts host_program) (table_of host_program)
   pub deepening : Headline deep_program (picture_of parts deep_program) (table_of deep_program)
+  pub rising : Headline rise_program (picture_of parts rise_program) (table_of rise_program)
   pub bolting : Headline bolt_program (picture_of parts bolt_program) (table_of bolt_program)
   pub shedding : Headline shed_program (picture_of parts shed_program) (table_of shed_program)
   pub dropping : Headline drop_program (picture_of parts drop_program) (table_of drop_program)
