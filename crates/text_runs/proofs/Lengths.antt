@@ -2,7 +2,7 @@
 -- are numbers.
 use Rattle.std.proofs.Common.{◌≡◌, ℕ, zero, suc, ◌+◌, ◌-◌, ◌/◌, ◌%◌, ◌^◌, ◌<◌, ◌≤◌, List, [], ◌∷◌, ◌++◌, length}
 use Rattle.std.proofs.Common.{Option, Some, None, Bool, true, false, refl, ap, ◌∙◌, subst, arith, length-append}
-use Rattle.std.specs.Prelude.{ℤ, pos, negsuc, cond, drop, nat_lt, nat_le, ◌==◌}
+use Rattle.std.specs.Prelude.{ℤ, pos, negsuc, cond, drop, nat_lt, nat_le, take, ◌==◌}
 use Rattle.std.specs.List.{list_any}
 use Rattle.std.proofs.lemmas.Bool.Decides.{nat_tests}
 use Rattle.std.proofs.lemmas.Int.{ints}
@@ -10,9 +10,10 @@ use Rattle.std.proofs.lemmas.List.{length-drop, length-replicate}
 use Rattle.rv_meaning.specs.Words.{signed, word}
 use Rattle.pli_meaning.specs.Stream.{blanks, decimal_digits, decimal_text, digits_before}
 use Rattle.pli_meaning.specs.Numbers.{is_of_precision}
-use Rattle.pli_meaning.specs.Texts.{begins, behind_blanks, bit_text, found_from, index_of, joined, number_in_text}
-use Rattle.pli_meaning.specs.Texts.{number_places, number_text, signed_value, strange_from, substring_from, verify_of}
-use Rattle.pli_meaning.specs.Texts.{within_precision, without_leading_blanks, without_trailing_blanks}
+use Rattle.pli_meaning.specs.Texts.{begins, behind_blanks, bit_text, first_bytes, first_of, found_from, index_of}
+use Rattle.pli_meaning.specs.Texts.{joined, number_in_text, number_places, number_text, signed_value, strange_from}
+use Rattle.pli_meaning.specs.Texts.{substring, substring_from, verify_of, within_precision, without_leading_blanks}
+use Rattle.pli_meaning.specs.Texts.{without_trailing_blanks}
 use Rattle.pli_serving.specs.TextServices as X
 use Rattle.run_steps.specs.Numbers.{IsWide}
 use Rattle.text_runs.specs.Texts.{IsShort}
@@ -94,6 +95,26 @@ from_short s (pos (suc n)) part short h =
     some_short (nat_le n (length s)) (drop n s) part (omega (arith, d, short)) h
 from_short s (pos zero) part short h = absurd (cc h)
 from_short s (negsuc n) part short h = absurd (cc h)
+
+taken_less : (n : ℕ) (s : List ℕ) → length (take n s) ≤ length s
+taken_less zero [] = omega arith
+taken_less zero (x ∷ xs) = omega arith
+taken_less (suc n) [] = omega arith
+taken_less (suc n) (x ∷ xs) = let h = taken_less n xs in omega (arith, h)
+
+first_short : (s : List ℕ) (j : ℤ) (part : List ℕ) → IsShort s → first_bytes s j ≡ Some part → IsShort part
+first_short s (pos n) part short h =
+    let l = taken_less n s in some_short (nat_le n (length s)) (take n s) part (omega (arith, l, short)) h
+first_short s (negsuc n) part short h = absurd (cc h)
+
+first_of_short :
+    (o : Option (List ℕ)) (j : ℤ) (part : List ℕ) → ((s : List ℕ) → o ≡ Some s → IsShort s) →
+    first_of o j ≡ Some part → IsShort part
+first_of_short None j part all h = absurd (cc h)
+first_of_short (Some s) j part all h = first_short s j part (all s refl) h
+
+pub part_short : (s : List ℕ) (i j : ℤ) (part : List ℕ) → IsShort s → substring s i j ≡ Some part → IsShort part
+part_short s i j part short h = first_of_short (substring_from s i) j part (λ u e. from_short s i u short e) h
 
 -- ---- lengths and places as numbers
 

@@ -6,5 +6,6 @@ pub mod Errors
 pub mod Tested
 pub mod Sequences
 pub mod Pushing
+pub mod Parts
 pub mod Taking
 pub mod Rows

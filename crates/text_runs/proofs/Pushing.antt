@@ -1,24 +1,23 @@
--- Texts come onto the stack: that of a number, two that become one, and the rest of one from a place on.
-use Rattle.std.proofs.Common.{◌≡◌, ℕ, ◌+◌, ◌<◌, ◌≤◌, List, [], ◌∷◌, ◌++◌, refl, sym, ap}
+-- Texts come onto the stack: that of a number, and two that become one.
+use Rattle.std.proofs.Common.{ℕ, ◌+◌, ◌<◌, ◌≤◌, List, [], ◌∷◌, ◌++◌, refl, sym, ap}
 use Rattle.std.proofs.Common.{◌∙◌, subst, arith, lit<}
 use Rattle.std.specs.Prelude.{ℤ, max}
-use Rattle.rv_meaning.specs.declared.instr.Instr.{Instr}
-use Rattle.rv_meaning.specs.Words.{signed, word}
+use Rattle.rv_meaning.specs.Words.{word}
 use Rattle.pli_typing.specs.TypedTree as Y
-use Rattle.pli_meaning.specs.Codes.{substring_code, too_long_code}
+use Rattle.pli_meaning.specs.Codes.{too_long_code}
 use Rattle.pli_meaning.specs.Control.{Meaning, give, ◌>>=◌}
 use Rattle.pli_meaning.specs.Evaluating as V
 use Rattle.pli_meaning.specs.Raising as R
-use Rattle.pli_meaning.specs.Texts.{joined, number_text, substring_from}
+use Rattle.pli_meaning.specs.Texts.{joined, number_text}
 use Rattle.pli_serving.specs.Answers.{Done}
-use Rattle.pli_serving.specs.Outcomes.{becoming, on_text, on_two_texts, or_status, with_entries}
+use Rattle.pli_serving.specs.Outcomes.{becoming, on_two_texts, or_status, with_entries}
 use Rattle.pli_serving.specs.ServiceState.{Entry, TextEntry}
 use Rattle.pli_serving.specs.TextServices as X
 use Rattle.pli_coding.specs.Assembly.{size_of}
 use Rattle.pli_coding.specs.Expressions.{number_code, text_code}
 use Rattle.pli_coding.specs.Instructions.{service, small, tested_service}
-use Rattle.pli_coding.specs.Registers.{a1, a2}
-use Rattle.activation_relation.specs.Layers.{Point, services_of}
+use Rattle.pli_coding.specs.Registers.{a1}
+use Rattle.activation_relation.specs.Layers.{services_of}
 use Rattle.run_steps.specs.Bodies.{Known}
 use Rattle.run_steps.proofs.Bodies.{zero_is}
 use Rattle.run_steps.specs.Engine.{Base, call_at}
@@ -26,7 +25,6 @@ use Rattle.run_steps.proofs.Items.{straight}
 use Rattle.run_steps.proofs.Jumps.{back_of, front_of}
 use Rattle.run_steps.proofs.Linking.{size_append}
 use Rattle.run_steps.proofs.Reaching.{reach_moved}
-use Rattle.run_steps.specs.Numbers.{IsWide}
 use Rattle.run_steps.specs.Reach.{Comes, Family, before, reached}
 use Rattle.run_steps.proofs.Reach.{comes_on, onward, reach_map, reach_then, reached_holds, stay}
 use Rattle.block_runs.proofs.BlockEntries.{small_is}
@@ -37,11 +35,11 @@ use Rattle.program_runs.proofs.Waiting.{over_first, over_more, texts_among, text
 use Rattle.expression_runs.specs.Values.{Setting, behind, in_registers}
 use Rattle.expression_runs.proofs.Words.{known_word}
 use Rattle.text_runs.specs.Laws.{NumberDoes, TextDoes}
-use Rattle.text_runs.specs.Texts.{ErrorComes, IsShort, text_aims, value_aims}
-use Rattle.text_runs.proofs.Lengths.{from_short, joined_short, number_short, number_text_is, signed_word}
+use Rattle.text_runs.specs.Texts.{ErrorComes, text_aims, value_aims}
+use Rattle.text_runs.proofs.Lengths.{joined_short, number_short, number_text_is}
 use Rattle.text_runs.proofs.Points.{text_closed}
-use Rattle.text_runs.proofs.Sequences.{Last, anything, text_and_number, text_leads, two_texts}
-use Rattle.text_runs.proofs.TextCalls.{Asking, asks, status_told, three, told}
+use Rattle.text_runs.proofs.Sequences.{Last, anything, text_leads, two_texts}
+use Rattle.text_runs.proofs.TextCalls.{Asking, asks, status_told, three}
 use Rattle.text_runs.proofs.Tested.{Place, Tested, tested_comes}
 
 -- ---- a number
@@ -214,114 +212,3 @@ joined_pushes entries k left right m n error el er =
     (tested_service 22) (V.text k.around left) (V.text k.around right)
     (λ s t. R.or_error k.around too_long_code (joined s t)) el er
     (λ s t short short'. joined_last entries k error s t)
-
--- ---- a part of a text
-
-from_answer :
-    (code : List Instr) (p : Point) (m text : List ℕ) (i : ℤ) (y : ℕ) (below : List Entry) → IsWide i →
-    p.control.entries ≡ TextEntry text ∷ below →
-    X.cut_served (call_at code (services_of p) m) (word i) y 0
-    ≡ told (services_of p) m (word i) substring_code (λ part. services_of (with_texts (TextEntry part ∷ below) p))
-    (λ part. word i) (substring_from text i)
-from_answer code p m text i y below wide top =
-    let v = services_of p in
-    let c = call_at code v m in
-    ap (λ u. on_text u (λ t more. or_status c (word i) substring_code (substring_from t (signed (word i)))
-    (λ part. becoming c (with_entries (TextEntry part ∷ more) v) (word i) 0))) top
-    ∙ ap (λ u. or_status c (word i) substring_code (substring_from text u)
-    (λ part. Done (services_of (with_texts (TextEntry part ∷ below) p)) m (word i) 0)) (signed_word i wide)
-    ∙ status_told c (word i) substring_code (λ part. services_of (with_texts (TextEntry part ∷ below) p))
-    (λ part. word i) (substring_from text i)
-
-from_last :
-    (entries : List Entry) (k : Setting) → ErrorComes (List ℕ) k → (text : List ℕ) (i : ℤ) → IsShort text →
-    IsWide i →
-    Last entries (TextEntry text ∷ entries) k (text_aims entries k) (λ b x. x ≡ word i)
-    (small a2 0 ∷ tested_service 23) (R.or_error k.around substring_code (substring_from text i))
-from_last entries k error text i short wide p numbers taken c index f o line over' l paid there =
-    let w = k.block.call.surroundings in
-    let h = point_frame o.stands o.image in
-    let v = services_of p in
-    let e = k.block.first.control.entries in
-    let one = small a2 0 ∷ [] in
-    let y : Base → ℕ = λ b. (f b).machine.registers 11 in
-    let whole = behind p numbers taken c index (one ++ tested_service 23) in
-    let r1 = straight c f v v
-    (λ b. Known (point_ground w p h) v numbers (λ j. 0) (three (λ b'. word i) y (λ b'. 0)) b)
-    (front_of one (tested_service 23) l) (omega arith) (λ b. (there b).0.at.pc)
-    (λ b.
-    let o' = (known_word k.block h (there b)).holds in record {
-      body = record {
-        services = o'.body.services;
-        registers = o'.body.registers;
-        bytes = o'.body.bytes;
-        memory = o'.body.memory;
-      };
-      regs = (o'.regs.0, (refl, (small_is _ 0 (zero_is o'.body) (lit< tt), tt)));
-    }) in
-    onward (text_closed entries k whole) r1
-    (λ g at.
-    let place : Place = record {
-      entries = TextEntry text ∷ entries;
-      setting = k;
-      point = p;
-      numbers = numbers;
-      credits = c + 1;
-      index = index + 1;
-      family = g;
-    } in
-    let asked : Tested (List ℕ) = record {
-      number = 23;
-      code = substring_code;
-      x = λ b. word i;
-      y = y;
-      z = λ b. 0;
-      answer = λ call x0 x1 x2. X.cut_served call x0 x1 x2;
-      outcome = substring_from text i;
-      texts = λ part. TextEntry part ∷ (entries ++ e);
-      result = λ part b. word i;
-    } in
-    tested_comes place asked (text_closed entries k whole) h
-    (record {
-      among = o;
-      line = line;
-      linked = back_of one (tested_service 23) l;
-      paid = omega (arith, paid);
-      there = at;
-    })
-    (record {
-      small' = lit< tt;
-      coded = lit< tt;
-      some = refl;
-      serves = λ call r. refl;
-      answers = λ b m. from_answer k.block.call.code p m text i (y b) (entries ++ e) wide o.entries;
-    })
-    error (λ c' f' v' height label s' q. q)
-    (λ part g' is at'. record {
-      short = from_short text i part short is;
-      point = with_texts (TextEntry part ∷ (entries ++ e)) p;
-      numbers = numbers;
-      among = texts_among k.block (TextEntry text ∷ entries) (TextEntry part ∷ entries) o
-          (over_more (TextEntry part ∷ []) (entries ++ e) k.block.first.control.edits k.block.first.control.layers
-          over');
-      since = omega arith;
-      line = refl;
-      stays = λ n less. refl;
-      state = refl;
-      reach = reach_map _
-          (reach_moved {c'' = whole.wanted} {i'' = whole.index} (omega arith) (omega arith)
-          (stay k.block.call.code (c + 1 + 5) g' (services_of (with_texts (TextEntry part ∷ (entries ++ e)) p)) _ at'))
-          (λ b y' is'. in_known h o.image.parts is');
-    }))
-
-pub from_cuts :
-    (entries : List Entry) (k : Setting) (x : Y.Text) (start : Y.Number) (m n : ℕ) → ErrorComes (List ℕ) k →
-    TextDoes entries k m x → ((s : List ℕ) → NumberDoes (TextEntry s ∷ entries) k n start) →
-    TextDoes entries k (max m n) (Y.SubstringFrom x start)
-unfolding V.text
-from_cuts entries k x start m n error el er =
-    text_and_number entries k (text_aims entries k) (text_leads entries k) m n
-    (λ taken. text_code k.block.environment taken x) (λ taken. number_code k.block.environment taken start)
-    (small a2 0 ∷ tested_service 23) (V.text k.around x) (V.number k.around start)
-    (λ s i. R.or_error k.around substring_code (substring_from s i)) el er
-    (λ s i short wide. from_last entries k error s i short wide)

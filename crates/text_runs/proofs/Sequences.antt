@@ -90,6 +90,22 @@ Last entries there k A holds last meaning =
     Comes k.block.call.code c f (services_of p) (A (behind p numbers taken c index last))
     (meaning k.block.call.surroundings.acts p.state)
 
+-- the same with the word of a number in a0, above a text, and with registers for temporaries
+abbrev pub LastWith :
+    {X : Type 0} → List Entry → (text : List ℕ) → (k : Setting) → (Stretch → Aims X) → (need : ℕ) → ℤ →
+    (Taken → Code) → Meaning X → Type 0
+LastWith entries text k A need z last meaning =
+    (p : Point) (numbers : ℕ → ℕ) (taken c index : ℕ) (f : Family) →
+    IsAmong (waiting (TextEntry text ∷ entries) k.block) numbers p → p.control.line ≡ k.around.line →
+    StandOver entries k → HasRegisters k taken need →
+    Linked k.block.call.surroundings.links k.block.call.code index (last (in_registers k.words taken)) →
+    c + size_of (last (in_registers k.words taken)) + k.most ≤ cost k.block.call.code →
+    ((b : Base) →
+    IsIn k.block.call.surroundings p numbers index b (f b) × (value (f b).machine a0 ≡ word z)) →
+    Comes k.block.call.code c f (services_of p)
+    (A (behind p numbers taken c index (last (in_registers k.words taken))))
+    (meaning k.block.call.surroundings.acts p.state)
+
 abbrev pub anything : Base → ℕ → Type 0
 anything b x = Unit {0}
 
@@ -218,29 +234,30 @@ two_texts {X} entries k A leads m n left right last first second next' el er end
 
 -- a text waits while a number is evaluated, whose word comes in a0
 pub text_and_number :
-    {X : Type 0} (entries : List Entry) (k : Setting) (A : Stretch → Aims X) → Leads k A → (m n : ℕ)
-    (left right : Taken → Code) (last : Code) (first : Meaning (List ℕ)) (second : Meaning ℤ)
+    {X : Type 0} (entries : List Entry) (k : Setting) (A : Stretch → Aims X) → Leads k A → (m n q : ℕ)
+    (left right last : Taken → Code) (first : Meaning (List ℕ)) (second : Meaning ℤ)
     (next' : List ℕ → ℤ → Meaning X) → Pushes entries k m left first →
     ((s : List ℕ) → Evaluates (TextEntry s ∷ entries) k n right second) →
-    ((s : List ℕ) (z : ℤ) → IsShort s → IsWide z →
-    Last entries (TextEntry s ∷ entries) k A (λ b x. x ≡ word z) last (next' s z)) →
-    Part entries k A (max m n) (λ taken. left taken ++ (right taken ++ last))
+    ((s : List ℕ) (z : ℤ) → IsShort s → IsWide z → LastWith entries s k A q z last (next' s z)) →
+    Part entries k A (max m (max n q)) (λ taken. left taken ++ (right taken ++ last taken))
     (first >>= (λ s. second >>= (λ z. next' s z)))
 unfolding ◌>>=◌
-text_and_number {X} entries k A leads m n left right last first second next' el er ends p numbers taken c index f o
+text_and_number {X} entries k A leads m n q left right last first second next' el er ends p numbers taken c index f o
     line registers l paid there =
     let w = k.block.call.surroundings in
     let code = k.block.call.code in
     let t = in_registers k.words taken in
     let a = left t in
     let b' = right t in
-    let n1 = size_append a (b' ++ last) in
-    let n2 = size_append b' last in
-    let whole = behind p numbers taken c index (a ++ (b' ++ last)) in
+    let end = last t in
+    let more = enough_right k taken m (max n q) registers in
+    let n1 = size_append a (b' ++ end) in
+    let n2 = size_append b' end in
+    let whole = behind p numbers taken c index (a ++ (b' ++ end)) in
     let goal = A whole in
     let closed = leads.closed whole in
     let rest : List ℕ → Meaning X = λ s. second >>= (λ u. next' s u) in
-    let l1 = back_of a (b' ++ last) l in
+    let l1 = back_of a (b' ++ end) l in
     comes_on w.acts (first w.acts p.state) rest
     (comes_map (text_aims entries k (behind p numbers taken c index a)) (before code goal w.acts rest)
     (first w.acts p.state)
@@ -259,7 +276,7 @@ text_and_number {X} entries k A leads m n left right last first second next' el 
     let o3 = q3.1 in
     let p3 = o3.point in
     let since3 = o3.since in
-    let x = behind p3 o3.numbers taken (c2 + size_of b') (i2 + size_of b') last in
+    let x = behind p3 o3.numbers taken (c2 + size_of b') (i2 + size_of b') end in
     subst (λ s'. Comes code c3 f3 v3 goal (next' s z w.acts s')) (sym o3.state)
     (onward closed o3.reach
     (λ g3 at3.
@@ -273,12 +290,13 @@ text_and_number {X} entries k A leads m n left right last first second next' el 
       stays = λ i less. o3.stays i less ∙ q1.stays i less;
     })
     (ends s z q1.short q3.0 p3 o3.numbers taken (c2 + size_of b') (i2 + size_of b') g3 o3.among
-    (o3.line ∙ q1.line ∙ line) (over_first k.block entries o) (back_of b' last l1) (omega (arith, paid, n1, n2)) at3))))
+    (o3.line ∙ q1.line ∙ line) (over_first k.block entries o) (enough_right k taken n q more) (back_of b' end l1)
+    (omega (arith, paid, n1, n2)) at3))))
     (λ c3 f3 v3 height label s3 q3. leads.jumped whole c3 f3 v3 height label s3 (jumps_since since1 q3))
     (λ c3 f3 v3 r s3 q3. absurd q3)
-    (er s p1 q1.numbers taken c2 i2 g1 q1.among (q1.line ∙ line) (enough_right k taken m n registers)
-    (front_of b' last l1) (omega (arith, paid, n1, n2)) at1)))))
+    (er s p1 q1.numbers taken c2 i2 g1 q1.among (q1.line ∙ line) (enough_left k taken n q more)
+    (front_of b' end l1) (omega (arith, paid, n1, n2)) at1)))))
     (λ c1 f1 v1 height label s1 q1. leads.jumped whole c1 f1 v1 height label s1 q1)
     (λ c1 f1 v1 r s1 q1. absurd q1)
-    (el p numbers taken c index f o line (enough_left k taken m n registers) (front_of a (b' ++ last) l)
+    (el p numbers taken c index f o line (enough_left k taken m (max n q) registers) (front_of a (b' ++ end) l)
     (omega (arith, paid, n1)) there))

@@ -1,5 +1,5 @@
 -- The laws of texts in expressions at the points of a block.
-use Rattle.std.specs.Prelude.{ℕ, ℤ, ◌<◌, ◌≤◌, List, [], ◌∷◌, max}
+use Rattle.std.specs.Prelude.{ℕ, ℤ, suc, ◌<◌, ◌≤◌, List, [], ◌∷◌, max}
 use Rattle.pli_typing.specs.TypedTree as Y
 use Rattle.pli_meaning.specs.Evaluating.{number, text}
 use Rattle.pli_serving.specs.ServiceState.{Entry, TextEntry}
@@ -39,6 +39,13 @@ pub record TextsDo : Type 0 where
       (entries : List Entry) (k : Setting) (x : Y.Text) (start : Y.Number) (m n : ℕ) → ErrorComes (List ℕ) k →
       TextDoes entries k m x → ((s : List ℕ) → NumberDoes (TextEntry s ∷ entries) k n start) →
       TextDoes entries k (max m n) (Y.SubstringFrom x start)
+  -- so many bytes from there; the place waits while the count is evaluated
+  pub part :
+      (entries : List Entry) (k : Setting) (x : Y.Text) (start count : Y.Number) (m n q : ℕ) →
+      ErrorComes (List ℕ) k → TextDoes entries k m x →
+      ((s : List ℕ) → NumberDoes (TextEntry s ∷ entries) k n start) →
+      ((s : List ℕ) → NumberDoes (TextEntry s ∷ entries) k q count) →
+      TextDoes entries k (max m (max n (suc q))) (Y.Substring x start count)
   -- a text is measured and dropped
   pub length :
       (entries : List Entry) (k : Setting) (x : Y.Text) (need : ℕ) → TextDoes entries k need x →

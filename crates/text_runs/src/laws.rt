@@ -17,8 +17,8 @@ pub fn error_ends()
     ensures { ErrorEnds }
 {}
 
-/// Texts of numbers, texts that are joined and the rest of one come onto the stack above those that wait; what is told
-/// of texts as a number drops them.
+/// Texts of numbers, texts that are joined and parts of one come onto the stack above those that wait; what is told of
+/// texts as a number drops them.
 pub fn texts_do()
     ensures { TextsDo }
 {}
