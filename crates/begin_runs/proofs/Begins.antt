@@ -51,6 +51,7 @@ use Rattle.program_runs.proofs.JumpsOut.{jumps_repaid, jumps_since, returns_repa
 use Rattle.program_runs.proofs.Lists.{list_does}
 use Rattle.program_runs.proofs.NewestBlocks.{Newest, newest_ancestor, newest_at, newest_own}
 use Rattle.program_runs.proofs.Statements.{acted_among, resumes_among, statement_closed}
+use Rattle.program_runs.proofs.Waiting.{outer_among}
 use Rattle.begin_runs.specs.BeginBlocks.{AreMade, Inner, IsBegin, begin_of, beginning_size, begun_in, end_index}
 use Rattle.begin_runs.specs.BeginBlocks.{entry_index, environment_of, inner_beginning, inner_block, inner_layer}
 use Rattle.begin_runs.specs.BeginBlocks.{list_code, list_index}
@@ -290,15 +291,7 @@ first_begun z h =
           resumes = b.resumes;
           remains = b.remains;
           numbers = z.numbers;
-          among = record {
-            stands = h.among.stands;
-            image = h.among.image;
-            later = h.among.later;
-            few = h.among.few;
-            entries = h.among.entries;
-            others = h.among.others;
-            words = h.among.words;
-          };
+          among = outer_among k z.labels [] b h.among;
         },
         b.outer,
       );

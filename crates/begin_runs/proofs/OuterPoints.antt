@@ -17,6 +17,7 @@ use Rattle.activation_relation.proofs.Remaining.{remains_left, remains_then}
 use Rattle.activation_relation.proofs.Unwinding.{activations_ended}
 use Rattle.block_runs.specs.Machines.{AreEven, IsImage}
 use Rattle.program_runs.specs.Statements.{AreOuter, IsOuter, Outer}
+use Rattle.program_runs.proofs.Waiting.{texts_remain}
 use Rattle.begin_runs.specs.Unwinding.{Target, unwound_point}
 
 -- ---- one block after the other
@@ -57,7 +58,7 @@ outer_dropped w code (x ∷ os) p zero o rest are e =
       layers = are.0.among.later.layers;
       activations = are.0.among.later.activations;
       acts = are.0.among.later.acts;
-      remains = are.0.among.later.remains;
+      remains = texts_remain x.first.control.entries p.control.entries are.0.among.later.remains;
       is = (p, are.0);
     })
 outer_dropped w code (x ∷ os) p (suc n) o rest are e =
@@ -71,7 +72,8 @@ outer_dropped w code (x ∷ os) p (suc n) o rest are e =
       activations = ap (drop (suc n)) (h.among.later.activations ∙ h.resumes.activations) ∙ d.activations;
       acts = omega (arith, more, later, acts);
       remains = remains_then o.first x.point p d.remains
-          (remains_then x.point x.first p h.remains h.among.later.remains);
+          (remains_then x.point x.first p h.remains
+          (texts_remain x.first.control.entries p.control.entries h.among.later.remains));
       is = d.is;
     }
 

@@ -49,12 +49,15 @@ use Rattle.begin_runs.specs.LeaveRows.{leave_entry, leave_environment, leave_mai
 use Rattle.begin_runs.specs.Rows.{nest_entry, nest_environment, nest_main, nest_program}
 use Rattle.begin_runs.proofs.LeaveRows.{leave_each, leave_finish, leave_is}
 use Rattle.begin_runs.proofs.Rows.{nest_each, nest_finish, nest_is}
+use Rattle.jump_runs.specs.DropRows.{drop_program}
 use Rattle.jump_runs.specs.FunctionRows.{shed_program}
 use Rattle.jump_runs.specs.Rows.{bolt_program}
 use Rattle.jump_runs.specs.UnitRows.{flee_program}
 use Rattle.copy_units.specs.Rows.{mute_program}
 use Rattle.variable_runs.specs.Rows.{pair_program}
 use Rattle.area_runs.specs.Rows.{locate_program}
+use Rattle.text_runs.specs.Rows.{wait_program}
+use Rattle.text_units.specs.Rows.{rise_program}
 use Rattle.unit_runs.specs.BeginRows.{host_entry, host_environment, host_main, host_program, host_units}
 use Rattle.unit_runs.specs.CallRows.{lend_entry, lend_environment, lend_main, lend_procedure, lend_program, lend_units}
 use Rattle.unit_runs.specs.DeepRows.{deep_entry, deep_environment, deep_main, deep_program, deep_units}
@@ -72,6 +75,8 @@ use Rattle.block_headlines.specs.Headlines.{HeadlinesOfRows, Layout, Runs, Units
 use Rattle.block_headlines.proofs.JumpRuns.{bolt_layout, bolt_program_runs, flee_layout, flee_program_runs}
 use Rattle.block_headlines.proofs.JumpRuns.{mute_layout, mute_program_runs, shed_layout, shed_program_runs}
 use Rattle.block_headlines.proofs.VariableRuns.{locate_layout, locate_program_runs, pair_layout, pair_program_runs}
+use Rattle.block_headlines.proofs.TextRuns.{drop_layout, drop_program_runs, rise_layout, rise_units_run}
+use Rattle.block_headlines.proofs.TextRuns.{wait_layout, wait_program_runs}
 
 -- a program whose run is known at each number of acts, from its first instruction
 record IsKnown (program : Y.Program) (x : Layout) : Type 0 where
@@ -587,8 +592,11 @@ rows_kept laws keeps =
       lending = unit_kept laws keeps lend_program lend_layout lend_units_run;
       hosting = kept laws keeps host_program host_layout host_program_runs;
       deepening = unit_kept laws keeps deep_program deep_layout deep_units_run;
+      rising = unit_kept laws keeps rise_program rise_layout rise_units_run;
       bolting = kept laws keeps bolt_program bolt_layout bolt_program_runs;
       shedding = kept laws keeps shed_program shed_layout shed_program_runs;
+      waiting = kept laws keeps wait_program wait_layout wait_program_runs;
+      dropping = kept laws keeps drop_program drop_layout drop_program_runs;
       fleeing = kept laws keeps flee_program flee_layout flee_program_runs;
       muting = kept laws keeps mute_program mute_layout mute_program_runs;
       pairing = kept laws keeps pair_program pair_layout pair_program_runs;

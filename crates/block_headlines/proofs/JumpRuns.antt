@@ -20,7 +20,7 @@ use Rattle.copy_units.specs.Rows.{mute_entry, mute_environment, mute_function, m
 use Rattle.copy_units.proofs.Rows.{mute_each, mute_finish, mute_is}
 use Rattle.block_headlines.specs.Headlines.{Layout, Runs}
 
-fits :
+pub fits :
     (program : Y.Program) → size_of (code_of parts program) ≤ 2 ^ 20 →
     length (picture_of parts program).statics ≤ 3 * 2 ^ 20 → FitsMemory (picture_of parts program)
 fits program small' few =

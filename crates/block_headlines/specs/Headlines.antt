@@ -24,12 +24,15 @@ use Rattle.reference_runs.specs.LocalRows.{kept_program}
 use Rattle.reference_runs.specs.ReferenceRows.{passed_program}
 use Rattle.begin_runs.specs.LeaveRows.{leave_program}
 use Rattle.begin_runs.specs.Rows.{nest_program}
+use Rattle.jump_runs.specs.DropRows.{drop_program}
 use Rattle.jump_runs.specs.FunctionRows.{shed_program}
 use Rattle.jump_runs.specs.Rows.{bolt_program}
 use Rattle.jump_runs.specs.UnitRows.{flee_program}
 use Rattle.copy_units.specs.Rows.{mute_program}
 use Rattle.variable_runs.specs.Rows.{pair_program}
 use Rattle.area_runs.specs.Rows.{locate_program}
+use Rattle.text_runs.specs.Rows.{wait_program}
+use Rattle.text_units.specs.Rows.{rise_program}
 use Rattle.program_runs.specs.Starts.{no_numbers, start_point, surroundings_of}
 use Rattle.program_runs.specs.Statements.{EachDoes, IsBegun}
 use Rattle.unit_runs.specs.BeginRows.{host_program}
@@ -127,6 +130,7 @@ pub record HeadlinesOfRows : Type 0 where
   pub passing : Headline passed_program (picture_of parts passed_program) (table_of passed_program)
   pub keeping : Headline kept_program (picture_of parts kept_program) (table_of kept_program)
   pub fetching : Headline fetch_program (picture_of parts fetch_program) (table_of fetch_program)
+  pub waiting : Headline wait_program (picture_of parts wait_program) (table_of wait_program)
   pub nesting : Headline nest_program (picture_of parts nest_program) (table_of nest_program)
   pub leaving : Headline leave_program (picture_of parts leave_program) (table_of leave_program)
   pub mending : Headline mend_program (picture_of parts mend_program) (table_of mend_program)
@@ -135,8 +139,10 @@ pub record HeadlinesOfRows : Type 0 where
   pub lending : Headline lend_program (picture_of parts lend_program) (table_of lend_program)
   pub hosting : Headline host_program (picture_of parts host_program) (table_of host_program)
   pub deepening : Headline deep_program (picture_of parts deep_program) (table_of deep_program)
+  pub rising : Headline rise_program (picture_of parts rise_program) (table_of rise_program)
   pub bolting : Headline bolt_program (picture_of parts bolt_program) (table_of bolt_program)
   pub shedding : Headline shed_program (picture_of parts shed_program) (table_of shed_program)
+  pub dropping : Headline drop_program (picture_of parts drop_program) (table_of drop_program)
   pub fleeing : Headline flee_program (picture_of parts flee_program) (table_of flee_program)
   pub muting : Headline mute_program (picture_of parts mute_program) (table_of mute_program)
   pub pairing : Headline pair_program (picture_of parts pair_program) (table_of pair_program)

@@ -47,6 +47,7 @@ use Rattle.program_runs.proofs.JumpsOut.{outs_since}
 use Rattle.program_runs.proofs.NewestBlocks.{Newest, newest_at, own_ancestor}
 use Rattle.program_runs.proofs.Procedures.{layer_begins}
 use Rattle.program_runs.proofs.Statements.{acted_among, at_end, statement_closed}
+use Rattle.program_runs.proofs.Waiting.{outer_among}
 use Rattle.begin_runs.specs.BehindLists.{from_point, list_aims}
 use Rattle.unit_runs.specs.InnerLists.{IsList, ListDoes}
 use Rattle.jump_runs.specs.Calls.{block_in}
@@ -180,15 +181,7 @@ first_begun z h begun' stands =
           resumes = b.resumes;
           remains = b.remains;
           numbers = z.numbers;
-          among = record {
-            stands = o.stands;
-            image = o.image;
-            later = o.later;
-            few = o.few;
-            entries = o.entries;
-            others = o.others;
-            words = o.words;
-          };
+          among = outer_among z.block z.labels [] b o;
         },
         b.outer,
       );

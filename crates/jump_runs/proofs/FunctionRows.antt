@@ -311,7 +311,8 @@ inner_number :
     IsAmong (shed_block input acts) numbers p → IsBegun (inner_block input acts more call p numbers) →
     IsNumber (inner_block input acts more call p numbers) shed_spot
 inner_number input acts more call p numbers b o b' =
-    function_number (six input acts) (called_from (shed_callee more) call) shed_spot (inside_is input acts more call b)
+    function_number [] (six input acts) (called_from (shed_callee more) call) shed_spot
+    (inside_is input acts more call b)
     (shed_number input acts) p numbers o (inner_made input acts more call p numbers) b'
 
 -- ---- its statements
@@ -361,7 +362,7 @@ far_is input acts more call p numbers b o b' =
       inner = omega arith;
       few = omega arith;
       found = ap height_of
-          (function_ancestor (six input acts) (called_from (shed_callee more) call) shed_spot
+          (function_ancestor [] (six input acts) (called_from (shed_callee more) call) shed_spot
           (inside_is input acts more call b) p numbers o (inner_made input acts more call p numbers) b');
       registers = omega arith;
       entries = refl;
@@ -409,7 +410,7 @@ called_is :
     (input : List ℕ) (more : ℕ) → suc more + 1 < 2 ^ 64 → IsBegun (shed_block input (suc more)) →
     L.Does (six input (suc more)) 0 shed_called
 called_is input more few b =
-    jump_function_does (six input (suc more)) (shed_callee more) more
+    jump_function_does [] (six input (suc more)) (shed_callee more) more
     (record {
       begun = b;
       function = inner_is input (suc more) more few;

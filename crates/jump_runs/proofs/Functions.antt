@@ -1,5 +1,5 @@
--- The call of a function that may jump out, in an expression of the block that declares it.
-use Rattle.std.proofs.Common.{◌≡◌, ℕ, ◌+◌, ◌<◌, ◌≤◌, [], ◌∷◌, ◌++◌, length, Option, Some, None, Bool, true, refl}
+-- The call of a function that may jump out, in an expression of the block that declares it, while texts wait.
+use Rattle.std.proofs.Common.{◌≡◌, ℕ, ◌+◌, ◌<◌, ◌≤◌, [], ◌∷◌, ◌++◌, List, length, Option, Some, None, Bool, true, refl}
 use Rattle.std.proofs.Common.{sym, ap, ◌∙◌, subst, arith}
 use Rattle.std.proofs.lemmas.Bool.{eq-eqb}
 use Rattle.std.proofs.lemmas.List.{append_assoc}
@@ -18,6 +18,7 @@ use Rattle.pli_meaning.specs.Making as K
 use Rattle.pli_meaning.specs.Raising.{Around, Entry, at_line}
 use Rattle.pli_meaning.specs.StorageState.{State, ancestor_at, height_of, most_activations, newest_ended}
 use Rattle.pli_meaning.specs.World.{World, counted}
+use Rattle.pli_serving.specs.ServiceState as S
 use Rattle.pli_serving.specs.ServiceState.{Services}
 use Rattle.pli_coding.specs.Allocating.{act_code}
 use Rattle.pli_coding.specs.Assembly.{CallTo, Code, Mark, ProcedureEntry, ReturnPlace, size_of}
@@ -52,17 +53,21 @@ use Rattle.block_runs.proofs.EmptyMeaning.{entry_acts, own_return}
 use Rattle.block_runs.proofs.PointActs.{act_comes, stands_acted}
 use Rattle.program_runs.specs.Calls.{AreMade, Callee, begun_at, body_index, left_over, variables_index}
 use Rattle.program_runs.specs.Procedures.{HasRoom, begin_of, block_of, frame_for}
-use Rattle.program_runs.specs.Statements.{Block, IsAmong, IsBegun}
+use Rattle.program_runs.specs.Statements.{Block, IsAmong, IsBegun, waiting}
 use Rattle.program_runs.proofs.Calls.{on_same}
 use Rattle.program_runs.proofs.CallStatements.{newest_frame_at}
 use Rattle.program_runs.proofs.NewestBlocks.{newest_at, own_ancestor}
-use Rattle.expression_runs.specs.Laws as L
-use Rattle.expression_runs.specs.Values.{Setting, behind, in_registers, number_aims}
-use Rattle.expression_runs.proofs.Words.{number_closed}
+use Rattle.program_runs.proofs.Waiting.{outer_among}
+use Rattle.expression_runs.specs.Values.{Setting, behind, in_registers}
 use Rattle.function_runs.specs.FunctionCalls.{IsFunctionCall, call_of, called_from}
 use Rattle.function_runs.specs.Functions.{IsFunction, function_at, function_beginning, function_code}
 use Rattle.function_runs.specs.Functions.{function_end, function_entry, function_tail}
 use Rattle.function_runs.proofs.Beginnings.{function_begins}
+use Rattle.text_runs.specs.Laws.{NumberDoes}
+use Rattle.text_runs.specs.Texts.{value_aims}
+use Rattle.text_runs.specs.Waiting.{over}
+use Rattle.text_runs.proofs.Points.{value_closed}
+use Rattle.text_runs.proofs.Waiting.{call_waits}
 use Rattle.jump_runs.specs.Exits.{exit_aims, hand_aims}
 use Rattle.jump_runs.specs.Functions.{FunctionDoes, IsFunctionList, function_in}
 use Rattle.jump_runs.proofs.Exits.{calls_hand, exit_closed}
@@ -120,9 +125,10 @@ block_means around c k s kind few =
     ∙ ap (λ q. left q newest_ended (M.block_body around' head body entry k s')) (own_return head.kind kind)
     ∙ ap (λ flow. left true newest_ended flow) (body_means around' c k s' kind)
 
--- ---- a function called at a point of a block, from an index
+-- ---- a function called at a point of a block, from an index, while texts wait
 
 pub record Here : Type 0 where
+  pub entries : List S.Entry
   pub setting : Setting
   pub callee : Callee
   pub more : ℕ
@@ -138,7 +144,7 @@ own_block z = function_in z.setting (callee_of z) z.point z.numbers
 
 pub record IsHere (z : Here) : Type 0 where
   pub is : IsFunctionCall z.setting z.callee z.more
-  pub among : IsAmong z.setting.block z.numbers z.point
+  pub among : IsAmong (waiting z.entries z.setting.block) z.numbers z.point
   pub calls :
       Linked z.setting.block.call.surroundings.links z.setting.block.call.code z.call
       (CallTo (ProcedureEntry z.callee.procedure.head.number) ∷ [])
@@ -286,15 +292,7 @@ first_begun z h begun' stands =
           resumes = b.resumes;
           remains = b.remains;
           numbers = z.numbers;
-          among = record {
-            stands = o.stands;
-            image = o.image;
-            later = o.later;
-            few = o.few;
-            entries = o.entries;
-            others = o.others;
-            words = o.words;
-          };
+          among = outer_among z.setting.block z.setting.labels z.entries b o;
         },
         b.outer,
       );
@@ -456,15 +454,15 @@ abbrev as_number : Option BasicValue → Meaning ℤ
 as_number r = V.returned r >>= (λ v. give (number_in v))
 
 behind_goes :
-    (k : Setting) (c : Callee) (more taken index credits : ℕ) {numbers : ℕ → ℕ} {p : Point}
-    (h : IsFunctionCall k c more) (o : IsAmong k.block numbers p) (part : Code) (call : ℕ) →
+    (entries : List S.Entry) (k : Setting) (c : Callee) (more taken index credits : ℕ) {numbers : ℕ → ℕ} {p : Point}
+    (h : IsFunctionCall k c more) (o : IsAmong (waiting entries k.block) numbers p) (part : Code) (call : ℕ) →
     call + 2 ≡ index + size_of part → (c' : ℕ) (f : Family) (v : Services) (r : Option BasicValue) (s : State) →
     IsBehind (function_at k.block.call.surroundings k.block.call.code (called_from c call) p numbers)
     (credits + size_of part) c' f v r s →
-    Comes k.block.call.code c' f v (number_aims k.block k.labels (behind p numbers taken credits index part))
+    Comes k.block.call.code c' f v (value_aims entries k (behind p numbers taken credits index part))
     (as_number r k.block.call.surroundings.acts s)
 unfolding V.returned ◌>>=◌ give
-behind_goes k c more taken index credits {numbers} {p} h o part call at c' f v (Some (BasicNumber z)) s q =
+behind_goes entries k c more taken index credits {numbers} {p} h o part call at c' f v (Some (BasicNumber z)) s q =
     let w = k.block.call.surroundings in
     record {
       to = (
@@ -475,7 +473,7 @@ behind_goes k c more taken index credits {numbers} {p} h o part call at c' f v (
           among = record {
             stands = q.stands;
             image = q.image;
-            later = later_then k.block.first p q.point o.later q.later;
+            later = later_then (waiting entries k.block).first p q.point o.later q.later;
             few = q.few;
             entries = q.entries ∙ o.entries;
             others = o.others;
@@ -492,24 +490,24 @@ behind_goes k c more taken index credits {numbers} {p} h o part call at c' f v (
         },
       );
     }
-behind_goes k c more taken index credits h o part call at c' f v None s q = absurd q.result
-behind_goes k c more taken index credits h o part call at c' f v (Some (BasicBit b)) s q = absurd q.result
-behind_goes k c more taken index credits h o part call at c' f v (Some (BasicOffset b)) s q = absurd q.result
-behind_goes k c more taken index credits h o part call at c' f v (Some (BasicText b)) s q = absurd q.result
-behind_goes k c more taken index credits h o part call at c' f v (Some (BasicPointer b)) s q = absurd q.result
+behind_goes entries k c more taken index credits h o part call at c' f v None s q = absurd q.result
+behind_goes entries k c more taken index credits h o part call at c' f v (Some (BasicBit b)) s q = absurd q.result
+behind_goes entries k c more taken index credits h o part call at c' f v (Some (BasicOffset b)) s q = absurd q.result
+behind_goes entries k c more taken index credits h o part call at c' f v (Some (BasicText b)) s q = absurd q.result
+behind_goes entries k c more taken index credits h o part call at c' f v (Some (BasicPointer b)) s q = absurd q.result
 
 -- ---- the call
 
 pub jump_function_does :
-    (k : Setting) (c : Callee) (more : ℕ) → IsFunctionCall k c more →
-    ((call : ℕ) (p : Point) (numbers : ℕ → ℕ) → IsAmong k.block numbers p →
+    (entries : List S.Entry) (k : Setting) (c : Callee) (more : ℕ) → IsFunctionCall k c more →
+    ((call : ℕ) (p : Point) (numbers : ℕ → ℕ) → IsAmong (waiting entries k.block) numbers p →
     AreMade k.block.call.surroundings k.block.call.code (called_from c call) p numbers) →
-    ((call : ℕ) (p : Point) (numbers : ℕ → ℕ) → IsAmong k.block numbers p →
+    ((call : ℕ) (p : Point) (numbers : ℕ → ℕ) → IsAmong (waiting entries k.block) numbers p →
     IsFunctionList (function_in k (called_from c call) p numbers) c.procedure.body (body_index c) →
     FunctionDoes (function_in k (called_from c call) p numbers) c.procedure.body (body_index c)) →
-    L.Does k 0 (call_of k c)
+    NumberDoes entries k 0 (call_of k c)
 unfolding V.number ◌>>=◌
-jump_function_does k c more h made' does p numbers taken credits index f o line registers l paid there =
+jump_function_does entries k c more h made' does p numbers taken credits index f o line registers l paid there =
     let w = k.block.call.surroundings in
     let code = k.block.call.code in
     let y = call_at k c taken index p numbers in
@@ -522,6 +520,7 @@ jump_function_does k c more h made' does p numbers taken credits index f o line 
     let l' = subst (Linked w.links code index) eq l in
     let call = index + size_of given' in
     let z : Here = record {
+      entries = entries;
       setting = k;
       callee = c;
       more = more;
@@ -530,8 +529,9 @@ jump_function_does k c more h made' does p numbers taken credits index f o line 
       numbers = numbers;
     } in
     let x = behind p numbers taken credits index part in
-    let goal = number_aims k.block k.labels x in
-    let closed' = number_closed k.block k.labels x in
+    let goal = value_aims entries k x in
+    let closed' = value_closed entries k x in
+    let h' = call_waits k entries c more h in
     let tree = Y.Calling c.procedure.head.number k.block.environment.level Y.NoArgument in
     let entry = function_entry c.procedure c.calling.parent in
     let flow = M.block_run c.around (block_of c.procedure) entry w.acts p.state in
@@ -544,13 +544,15 @@ jump_function_does k c more h made' does p numbers taken credits index f o line 
       made = made' call p numbers o;
     } in
     comes_on w.acts (V.called k.around tree w.acts p.state) as_number
-    (subst (Comes code credits f (services_of p) (before code goal w.acts as_number)) (sym (called_means k c more h o))
+    (subst (Comes code credits f (services_of p) (before code goal w.acts as_number))
+    (sym (called_means (over entries k) c more h' o))
     (onward (before_closed w.acts as_number closed')
-    (arguments_given y p numbers index credits f o.stands o.image (h.words, refl) (parent_frame k c more h o)
-    (front_of given' call' l') there)
+    (arguments_given y p numbers index credits f o.stands o.image (h.words, refl)
+    (parent_frame (over entries k) c more h' o) (front_of given' call' l') there)
     (λ g at.
     comes_map (hand_aims (own_block z) acts (credits + size_of part)) (before code goal w.acts as_number) flow
-    (λ c1 f1 v1 r s q. behind_goes k c more taken index credits h o part call (omega (arith, size, n)) c1 f1 v1 r s q)
+    (λ c1 f1 v1 r s q.
+    behind_goes entries k c more taken index credits h o part call (omega (arith, size, n)) c1 f1 v1 r s q)
     (λ c1 f1 v1 height label s q. record { to = q })
     (λ c1 f1 v1 r s q. absurd q)
     (function_hands z is (credits + size_of given') (credits + size_of part) g (does call p numbers o)

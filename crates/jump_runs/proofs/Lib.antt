@@ -6,4 +6,5 @@ pub mod Errors
 pub mod FunctionLists
 pub mod Functions
 pub mod FunctionRows
+pub mod DropRows
 pub mod UnitRows

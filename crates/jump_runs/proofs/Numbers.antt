@@ -2,14 +2,16 @@
 use Rattle.std.proofs.Common.{◌≡◌, ℕ, List, [], ◌∷◌, refl, ◌∙◌, subst}
 use Rattle.pli_meaning.specs.Control.{Label}
 use Rattle.pli_meaning.specs.StorageState.{ancestor_at}
+use Rattle.pli_serving.specs.ServiceState.{Entry}
 use Rattle.activation_relation.specs.Chains.{AreActive}
 use Rattle.activation_relation.specs.Landing.{resumed, with_units}
 use Rattle.activation_relation.specs.Layers.{Point}
 use Rattle.block_runs.specs.Machines.{HasParts}
 use Rattle.program_runs.specs.Calls.{AreMade, Callee, block_at}
 use Rattle.program_runs.specs.Procedures.{layer_for}
-use Rattle.program_runs.specs.Statements.{Block, IsAmong, IsBegun, Outer, as_outer}
+use Rattle.program_runs.specs.Statements.{Block, IsAmong, IsBegun, Outer, as_outer, waiting}
 use Rattle.program_runs.specs.Variables.{Declared, IsOnly}
+use Rattle.program_runs.proofs.Waiting.{begun_waits}
 use Rattle.expression_runs.specs.OwnVariables.{IsOwn}
 use Rattle.expression_runs.specs.Values.{Setting}
 use Rattle.expression_runs.specs.Variables.{IsNumber, Spot}
@@ -18,6 +20,7 @@ use Rattle.function_runs.specs.Functions.{function_block}
 use Rattle.function_runs.specs.OuterVariables.{IsInside}
 use Rattle.function_runs.proofs.OuterVariables.{Over, over_number, same_ancestor}
 use Rattle.function_runs.proofs.OwnVariables as O
+use Rattle.text_runs.proofs.Waiting.{number_waits}
 use Rattle.jump_runs.specs.Calls.{block_in}
 use Rattle.jump_runs.specs.Functions.{function_in}
 
@@ -108,10 +111,10 @@ called_own k labels c p numbers d x parts h own b =
 -- ---- a function's
 
 function_over :
-    (k : Setting) (c : Callee) (x : Spot) → IsInside k.block c x → (p : Point) (numbers : ℕ → ℕ) →
-    AreMade k.block.call.surroundings k.block.call.code c p numbers → IsBegun (function_in k c p numbers) →
-    Over k.block (function_in k c p numbers) p
-function_over k c x h p numbers made b =
+    (entries : List Entry) (k : Setting) (c : Callee) (x : Spot) → IsInside k.block c x → (p : Point)
+    (numbers : ℕ → ℕ) → AreMade k.block.call.surroundings k.block.call.code c p numbers →
+    IsBegun (function_in k c p numbers) → Over (waiting entries k.block) (function_in k c p numbers) p
+function_over entries k c x h p numbers made b =
     let units = k.block.call.surroundings.units in
     let first = (function_in k c p numbers).first in
     let φ = resumed made.changed (layer_for k.block.call.surroundings p numbers c.procedure c.calling) in
@@ -137,20 +140,23 @@ function_over k c x h p numbers made b =
     }
 
 pub function_number :
-    (k : Setting) (c : Callee) (x : Spot) → IsInside k.block c x → IsNumber k.block x → (p : Point)
-    (numbers : ℕ → ℕ) → IsAmong k.block numbers p → AreMade k.block.call.surroundings k.block.call.code c p numbers →
+    (entries : List Entry) (k : Setting) (c : Callee) (x : Spot) → IsInside k.block c x → IsNumber k.block x →
+    (p : Point) (numbers : ℕ → ℕ) → IsAmong (waiting entries k.block) numbers p →
+    AreMade k.block.call.surroundings k.block.call.code c p numbers →
     IsBegun (function_in k c p numbers) → IsNumber (function_in k c p numbers) x
-function_number k c x h is p numbers o made b =
-    over_number {k = k.block} {inner = function_in k c p numbers} {numbers = numbers} {p = p} x
-    (function_over k c x h p numbers made b) h.begun o h.further h.program h.parts is
+function_number entries k c x h is p numbers o made b =
+    over_number {k = waiting entries k.block} {inner = function_in k c p numbers} {numbers = numbers} {p = p} x
+    (function_over entries k c x h p numbers made b) (begun_waits k.block entries h.begun) o h.further h.program h.parts
+    (number_waits k.block entries x is)
 
 pub function_ancestor :
-    (k : Setting) (c : Callee) (x : Spot) → IsInside k.block c x → (p : Point) (numbers : ℕ → ℕ) →
-    IsAmong k.block numbers p → AreMade k.block.call.surroundings k.block.call.code c p numbers →
-    IsBegun (function_in k c p numbers) →
+    (entries : List Entry) (k : Setting) (c : Callee) (x : Spot) → IsInside k.block c x → (p : Point)
+    (numbers : ℕ → ℕ) → IsAmong (waiting entries k.block) numbers p →
+    AreMade k.block.call.surroundings k.block.call.code c p numbers → IsBegun (function_in k c p numbers) →
     ancestor_at (function_in k c p numbers).first.state x.level ≡ ancestor_at k.block.first.state x.level
-function_ancestor k c x h p numbers o made b =
-    same_ancestor x.level (function_over k c x h p numbers made b) h.begun o h.further
+function_ancestor entries k c x h p numbers o made b =
+    same_ancestor x.level (function_over entries k c x h p numbers made b) (begun_waits k.block entries h.begun) o
+    h.further
 
 pub function_own :
     (k : Setting) (c : Callee) (p : Point) (numbers : ℕ → ℕ) (d : Declared) (x : Spot) →

@@ -334,7 +334,8 @@ inner_number :
     IsAmong (flee_block input acts) numbers p → IsBegun (inner_block input acts more call p numbers) →
     IsNumber (inner_block input acts more call p numbers) flee_spot
 inner_number input acts more call p numbers b o b' =
-    function_number (six input acts) (called_from (flee_callee more) call) flee_spot (inside_is input acts more call b)
+    function_number [] (six input acts) (called_from (flee_callee more) call) flee_spot
+    (inside_is input acts more call b)
     (flee_number input acts) p numbers o (inner_made input acts more call p numbers) b'
 
 -- ---- its block with the units that it has by then
@@ -485,7 +486,7 @@ unit_each input more call past p numbers few b o b' h own r is =
                   (record { own = own; level = refl; inner = refl; program = refl; parts = refl }) is made b'') h.begun
                   is.among (omega arith))
                   ∙ like.ancestors 0
-                  ∙ ap height_of (function_ancestor (six input acts) (called_from (flee_callee (suc more)) call)
+                  ∙ ap height_of (function_ancestor [] (six input acts) (called_from (flee_callee (suc more)) call)
                   flee_spot (inside_is input acts (suc more) call b) p numbers o
                   (inner_made input acts (suc more) call p numbers) b');
               registers = omega arith;
@@ -624,7 +625,7 @@ called_is :
     (input : List ℕ) (more : ℕ) → suc more + 1 < 2 ^ 64 → IsBegun (flee_block input (suc more)) →
     L.Does (six input (suc more)) 0 flee_called
 called_is input more few b =
-    jump_function_does (six input (suc more)) (flee_callee more) more
+    jump_function_does [] (six input (suc more)) (flee_callee more) more
     (record {
       begun = b;
       function = inner_is input (suc more) more few;

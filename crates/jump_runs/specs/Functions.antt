@@ -1,11 +1,12 @@
 -- Functions that may jump out of the expression that calls them, to a label of the block that declares them, or of one
 -- around that.
-use Rattle.std.specs.Prelude.{ℕ, ◌+◌, ◌*◌, ◌^◌, ◌<◌, ◌≤◌, ◌≡◌, ⊤, true, false, [], ◌∷◌, ◌++◌}
+use Rattle.std.specs.Prelude.{ℕ, ◌+◌, ◌*◌, ◌^◌, ◌<◌, ◌≤◌, ◌≡◌, ⊤, true, false, List, [], ◌∷◌, ◌++◌}
 use Rattle.pli_language.specs.declared.condition.Condition.TheVariants as C
 use Rattle.pli_typing.specs.TypedTree as Y
 use Rattle.pli_meaning.specs.Control.{◌>>◌}
 use Rattle.pli_meaning.specs.Executing.{end_reached, labels_in, list}
 use Rattle.pli_meaning.specs.StorageState.{ancestor_at, force}
+use Rattle.pli_serving.specs.ServiceState.{Entry}
 use Rattle.pli_coding.specs.Assembly.{RaiseError, size_of}
 use Rattle.pli_coding.specs.Environments.{none_taken}
 use Rattle.pli_coding.specs.Linking.{place_of}
@@ -18,9 +19,8 @@ use Rattle.run_steps.specs.Items.{Linked}
 use Rattle.run_steps.specs.Reach.{Comes, Family}
 use Rattle.block_runs.specs.Machines.{AreIn, HasParts}
 use Rattle.program_runs.specs.Calls.{AreMade, Callee, body_index, left_over}
-use Rattle.program_runs.specs.Statements.{AreMarked, Block, EachDoes, IsAmong, IsBegun, as_outer}
+use Rattle.program_runs.specs.Statements.{AreMarked, Block, EachDoes, IsAmong, IsBegun, as_outer, waiting}
 use Rattle.program_runs.specs.Variables.{Declared, IsOnly}
-use Rattle.expression_runs.specs.Laws as L
 use Rattle.expression_runs.specs.OwnVariables.{IsOwn}
 use Rattle.expression_runs.specs.Raises.{Routines}
 use Rattle.expression_runs.specs.Values.{Setting}
@@ -28,6 +28,7 @@ use Rattle.expression_runs.specs.Variables.{IsNumber, Spot}
 use Rattle.function_runs.specs.FunctionCalls.{IsFunctionCall, call_of, called_from}
 use Rattle.function_runs.specs.Functions.{function_block}
 use Rattle.function_runs.specs.OuterVariables.{IsInside}
+use Rattle.text_runs.specs.Laws.{NumberDoes}
 use Rattle.unit_runs.specs.Changing.{AllDo, IsPast, Past, after, past_point}
 use Rattle.unit_runs.specs.Signals.{IsResumed}
 use Rattle.jump_runs.specs.Exits.{exit_aims}
@@ -109,26 +110,28 @@ pub record FunctionListsDo : Type 0 where
 
 -- ---- its call
 
--- a call leaves the function's value, or goes on where the function jumps
+-- a call leaves the function's value while texts wait, or goes on where the function jumps, which drops them
 abbrev pub JumpFunctionsDo : Type 0
 JumpFunctionsDo =
-    (k : Setting) (c : Callee) (more : ℕ) → IsFunctionCall k c more →
-    ((call : ℕ) (p : Point) (numbers : ℕ → ℕ) → IsAmong k.block numbers p →
+    (entries : List Entry) (k : Setting) (c : Callee) (more : ℕ) → IsFunctionCall k c more →
+    ((call : ℕ) (p : Point) (numbers : ℕ → ℕ) → IsAmong (waiting entries k.block) numbers p →
     AreMade k.block.call.surroundings k.block.call.code (called_from c call) p numbers) →
-    ((call : ℕ) (p : Point) (numbers : ℕ → ℕ) → IsAmong k.block numbers p →
+    ((call : ℕ) (p : Point) (numbers : ℕ → ℕ) → IsAmong (waiting entries k.block) numbers p →
     IsFunctionList (function_in k (called_from c call) p numbers) c.procedure.body (body_index c) →
     FunctionDoes (function_in k (called_from c call) p numbers) c.procedure.body (body_index c)) →
-    L.Does k 0 (call_of k c)
+    NumberDoes entries k 0 (call_of k c)
 
 -- it has the variables and the static ancestors of the block that declares it, and may have a variable of its own
 pub record FunctionBlocks : Type 0 where
   pub outer :
-      (k : Setting) (c : Callee) (x : Spot) → IsInside k.block c x → IsNumber k.block x → (p : Point)
-      (numbers : ℕ → ℕ) → IsAmong k.block numbers p → AreMade k.block.call.surroundings k.block.call.code c p numbers →
+      (entries : List Entry) (k : Setting) (c : Callee) (x : Spot) → IsInside k.block c x → IsNumber k.block x →
+      (p : Point) (numbers : ℕ → ℕ) → IsAmong (waiting entries k.block) numbers p →
+      AreMade k.block.call.surroundings k.block.call.code c p numbers →
       IsBegun (function_in k c p numbers) → IsNumber (function_in k c p numbers) x
   pub ancestor :
-      (k : Setting) (c : Callee) (x : Spot) → IsInside k.block c x → (p : Point) (numbers : ℕ → ℕ) →
-      IsAmong k.block numbers p → AreMade k.block.call.surroundings k.block.call.code c p numbers →
+      (entries : List Entry) (k : Setting) (c : Callee) (x : Spot) → IsInside k.block c x → (p : Point)
+      (numbers : ℕ → ℕ) → IsAmong (waiting entries k.block) numbers p →
+      AreMade k.block.call.surroundings k.block.call.code c p numbers →
       IsBegun (function_in k c p numbers) →
       ancestor_at (function_in k c p numbers).first.state x.level ≡ ancestor_at k.block.first.state x.level
   pub own :

@@ -1,6 +1,7 @@
 // Laws of the definitions: each function's contract is one law, and calling it does nothing.
 
 ghost use Rattle.jump_runs.specs.Calls.{CalledBlocks, JumpCallsDo};
+ghost use Rattle.jump_runs.specs.DropRows.{DropRan};
 ghost use Rattle.jump_runs.specs.Exits.{CallsHand};
 ghost use Rattle.jump_runs.specs.FunctionRows.{ShedRan};
 ghost use Rattle.jump_runs.specs.Functions.{FunctionBlocks, FunctionListsDo, JumpFunctionsDo};
@@ -29,7 +30,7 @@ pub fn function_lists_do()
     ensures { FunctionListsDo }
 {}
 
-/// The call of such a function in an expression leaves its value, or goes on where the function jumps.
+/// The call of such a function in an expression leaves its value while texts wait, or goes on where the function jumps.
 pub fn jump_functions_do()
     ensures { JumpFunctionsDo }
 {}
@@ -49,6 +50,13 @@ pub fn bolt_ran()
 /// A worked row: a main procedure with an expression that calls a function, which jumps out of it to a label.
 pub fn shed_ran()
     ensures { ShedRan }
+{
+    granules_keep();
+}
+
+/// A worked row: the same while a text waits on the stack, which the jump drops.
+pub fn drop_ran()
+    ensures { DropRan }
 {
     granules_keep();
 }

@@ -2,6 +2,7 @@ pub mod Ends
 pub mod Starts
 pub mod Procedures
 pub mod JumpsOut
+pub mod Waiting
 pub mod Statements
 pub mod NewestBlocks
 pub mod Gotos

@@ -8,7 +8,7 @@ use Rattle.pli_meaning.specs.Control.{Label, is_among}
 use Rattle.pli_meaning.specs.Executing.{labels_in, list, statement}
 use Rattle.pli_meaning.specs.Raising.{Around}
 use Rattle.pli_meaning.specs.StorageState.{Activation, State}
-use Rattle.pli_serving.specs.ServiceState.{Services}
+use Rattle.pli_serving.specs.ServiceState.{Entry, Services}
 use Rattle.pli_coding.specs.Assembly.{LabelPlace, ReturnPlace, size_of}
 use Rattle.pli_coding.specs.Environments.{BlockOwner, Environment, block_around, none_taken}
 use Rattle.pli_coding.specs.Linking.{Links, place_of}
@@ -107,7 +107,18 @@ pub record IsAmong (k : Block) (numbers : ℕ → ℕ) (p : Point) : Type 0 wher
   pub others : (n : ℕ) → k.registers ≤ n → numbers n ≡ k.call.numbers n
   pub words : (n : ℕ) → numbers n < 2 ^ 32
 
--- a block further out was the newest where the next one was entered, among its own points
+-- ---- where texts wait in an expression
+
+abbrev pub with_texts : List Entry → Point → Point
+with_texts entries p = record p { control = record p.control { entries = entries } }
+
+-- the block, at whose points these stand above those that stood on the stack at its first statement
+abbrev pub waiting : List Entry → Block → Block
+waiting entries k = record k { first = with_texts (entries ++ k.first.control.entries) k.first }
+
+-- ---- blocks further out
+
+-- one was the newest where the next one was entered, among its own points but for texts that waited there
 pub record IsOuter (w : Surroundings) (code : List Instr) (o : Outer) (p : Point) : Type 0 where
   pub activation : Activation
   pub resumes :
@@ -115,7 +126,7 @@ pub record IsOuter (w : Surroundings) (code : List Instr) (o : Outer) (p : Point
       o.first
   pub remains : Remains o.point o.first
   pub numbers : ℕ → ℕ
-  pub among : IsAmong (outer_block w code o []) numbers p
+  pub among : IsAmong (outer_block w code o []) numbers (with_texts o.first.control.entries p)
 
 abbrev pub AreOuter : Surroundings → List Instr → Point → List Outer → Type 0
 AreOuter w code p [] = ⊤

@@ -33,6 +33,7 @@ use Rattle.block_runs.proofs.Endings as E
 use Rattle.block_runs.proofs.PointActs.{stands_acted}
 use Rattle.program_runs.specs.Statements.{IsAmong, IsBegun, JumpsOut, JumpsTo}
 use Rattle.program_runs.proofs.JumpsOut.{jumps_later}
+use Rattle.program_runs.proofs.Waiting.{outer_among}
 use Rattle.unit_runs.specs.Raised.{AreMade, IsRaiseOf, IsRaised, Raise, Standing, begun_unit, end_index, raise_aims}
 use Rattle.unit_runs.specs.Raised.{unit_beginning, unit_block, unit_call, unit_layer}
 use Rattle.unit_runs.specs.UnitBeginnings.{IsUnit}
@@ -197,15 +198,7 @@ first_begun z h o =
           resumes = b.resumes;
           remains = b.remains;
           numbers = z.raise.numbers;
-          among = record {
-            stands = a.stands;
-            image = a.image;
-            later = a.later;
-            few = a.few;
-            entries = a.entries;
-            others = a.others;
-            words = a.words;
-          };
+          among = outer_among k z.setting.labels [] b a;
         },
         b.outer,
       );

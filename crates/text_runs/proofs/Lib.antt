@@ -1,0 +1,11 @@
+pub mod Waiting
+pub mod TextCalls
+pub mod Points
+pub mod Lengths
+pub mod Errors
+pub mod Tested
+pub mod Sequences
+pub mod Pushing
+pub mod Parts
+pub mod Taking
+pub mod Rows

@@ -1,0 +1,4 @@
+pub mod Waiting
+pub mod Texts
+pub mod Laws
+pub mod Rows

@@ -1,0 +1,18 @@
+// Laws of the definitions: each function's contract is one law, and calling it does nothing.
+
+ghost use Rattle.text_units.specs.Raises.{RaisesWait};
+ghost use Rattle.text_units.specs.Rows.{RiseRan};
+
+use granule_keeper::laws::granules_keep;
+
+/// A unit is raised while texts wait as it is without: behind it they are there.
+pub fn raises_wait()
+    ensures { RaisesWait }
+{}
+
+/// A worked row: a main procedure with a unit for FIXEDOVERFLOW, which returns into an expression in which a text waits.
+pub fn rise_ran()
+    ensures { RiseRan }
+{
+    granules_keep();
+}
