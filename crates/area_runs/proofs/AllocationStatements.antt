@@ -61,8 +61,8 @@ placing_by :
     k.call.surroundings.acts (no_more (at_line k.around line)))
     k.call.surroundings.acts (set_locator (at_line k.around line) p h.area.known.serial))
     (P.placing (suc h.turns) (at_line k.around line) h.area.known.serial new_based k.call.surroundings.acts q.state)
-placing_by k labels n p x line index left' most h acts wanted debt i q numbers o j f since same paid afford end l there a
-    at None none =
+placing_by k labels n p x line index left' most h acts wanted debt i q numbers o j f since same paid afford end l
+    there a at None none =
     let w = k.call.surroundings in
     let code = k.call.code in
     let around' = at_line k.around line in
@@ -88,8 +88,8 @@ placing_by k labels n p x line index left' most h acts wanted debt i q numbers o
       subst (λ xs. IsSystem (Q.force xs C.Area)) (sym o.later.activations) h.full,
       subst (λ xs. IsSystem (Q.force xs C.Error)) (sym o.later.activations) h.ends.error,
     ) none 0 f (omega (arith, afford), h.ends.acts) same l there))
-placing_by k labels n p x line index left' most h acts wanted debt i q numbers o j f since same paid afford end l there a
-    at (Some offset) free =
+placing_by k labels n p x line index left' most h acts wanted debt i q numbers o j f since same paid afford end l
+    there a at (Some offset) free =
     let w = k.call.surroundings in
     let code = k.call.code in
     let around' = at_line k.around line in

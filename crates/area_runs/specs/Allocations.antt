@@ -46,8 +46,8 @@ abbrev pub allocation : (based pointer area : Spot) → (line : ℕ) → Y.Stmt
 allocation n p x line =
     Y.Allocate (Y.AllocateBased (based_of n) (Some (variable_of x)) (Y.SetPointer (whole p)) ∷ []) line
 
--- where it stands, and that one act pays for it. Two words of the frame, in which nothing waits, hold what service 10 is
--- given. No unit is in force for AREA, so it ends the run where the area has no gap.
+-- where it stands, and that one act pays for it. Two words of the frame, in which nothing waits, hold what service 10
+-- is given. No unit is in force for AREA, so it ends the run where the area has no gap.
 pub record IsAllocation (k : Block) (labels : List Label) (n p x : Spot) (line index most : ℕ) : Type 0 where
   pub act : HasAct k line
   pub based : IsBased k p n
