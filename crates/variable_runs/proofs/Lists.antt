@@ -155,7 +155,8 @@ all_come w code e p numbers φ φs (x ∷ xs) n c index f are listed parts known
     let r1 = next_comes w code e p numbers x φ φs c index f known are.0 (listed.0.table, parts)
     (front_of first rest l) there in
     let r2 = all_come w code e q numbers (layer_behind w.parts (p.state.serials + 1) φ x) φs xs (x.index + 1)
-    (c + size_of first) (index + size_of first) (reached r1) are.1 listed.1 parts (next_stands w code p x φ φs known are.0)
+    (c + size_of first) (index + size_of first) (reached r1)
+    are.1 listed.1 parts (next_stands w code p x φ φs known are.0)
     (back_of first rest l) (reached_holds r1) in
     moved_in (all_made w.parts (layer_behind w.parts (p.state.serials + 1) φ x) xs q) (omega (arith, size))
     (omega (arith, size))
