@@ -148,7 +148,6 @@ allocate_does k labels n p x line index left' most h q numbers c wanted f o paid
     let owed = owing code debt aims in
     let closed = owing_closed code debt aims in
     let next' : Unit {0} → Meaning (Unit {0}) = λ u. P.allocations around' (allocate_of n p x ∷ []) in
-    let all = h.paid in
     let most' = h.ends.most in
     comes_owing debt (M.statement k.around stmt w.acts q.state)
     (comes_on w.acts (act counted w.acts q.state) next'
@@ -170,6 +169,6 @@ allocate_does k labels n p x line index left' most h q numbers c wanted f o paid
     (before code (before code owed w.acts (no_more around')) w.acts (set_locator around' p serial))
     (P.placing turns around' serial new_based w.acts q'.state)) (sym h.some)
     (placing_by k labels n p x line index left' most h acts wanted debt (index + size_in k stmt) q' numbers o'
-    (index + size_of one) g (omega arith) refl (omega arith) (omega (arith, all, most', n0, n1)) (omega (arith, n0, n1))
+    (index + size_of one) g (omega arith) refl (omega arith) (omega (arith, most', n0, n1)) (omega (arith, n0, n1))
     (back_of one whole' l) at' a area
     (gap h.area.capacity (footprint_of new_based) area.living.placed) refl)))))))
