@@ -68,7 +68,8 @@ stays_as ls n j change l e = by (cases_eq j n)
 abbrev pub points_then :
     {s : State} {x : Spot} (n o : ℕ) → Points s x → Points (placed_state n o s) x
 points_then {s} n o h =
-    let t = stays_as s.living n h.serial (with_placed (record { offset = o; generation = new_based })) h.living h.lives in
+    let t = stays_as s.living n h.serial (with_placed (record { offset = o; generation = new_based })) h.living
+    h.lives in
     record {
       serial = h.serial;
       stands = h.stands;
@@ -184,7 +185,8 @@ allocated_stands {k} {x} {p = p} w is area at pointer signature o b memory found
     storage =
         let new = assigned_holds (now q found.memory) placed (designated_pointer h.serial h.values) (BasicPointer name)
         own in
-        subst (λ i. Holds (now (allocated_point n o p pointer.points) (with_part (name_bytes name) i found.memory))) place
+        subst (λ i. Holds (now (allocated_point n o p pointer.points) (with_part (name_bytes name) i found.memory)))
+        place
         (record {
           keeps = new.keeps;
           heap = record { at = new.heap.at; capacity = new.heap.capacity };
@@ -201,7 +203,8 @@ allocated_stands {k} {x} {p = p} w is area at pointer signature o b memory found
 
     holder : held q.state h.serial ≡ Some (Alone (pointer_generation h.values))
     holder =
-        alone_holder q.state (q.state.serials + 1) h.serial (pointer_generation h.values) placed.lives.falling there refl
+        alone_holder q.state (q.state.serials + 1) h.serial (pointer_generation h.values) placed.lives.falling there
+        refl
 
     frames : FramesStand w.parts b.at final p.state.activations p.control.layers
     frames =

@@ -19,7 +19,8 @@ use Rattle.pli_coding.specs.Instructions.{load_word, number, plus, small}
 use Rattle.pli_coding.specs.Linking.{Links}
 use Rattle.pli_coding.specs.Registers.{a0, a1, a2, a3, a4, a7, frame_register}
 use Rattle.storage_relation.specs.Stored.{IsBeside, IsClear}
-use Rattle.activation_relation.specs.Frames.{AreLaid, FramesStand, Stores, frame_bytes, frame_start, frame_under, stored}
+use Rattle.activation_relation.specs.Frames.{AreLaid, FramesStand, Stores, frame_bytes, frame_start, frame_under}
+use Rattle.activation_relation.specs.Frames.{stored}
 use Rattle.activation_relation.specs.Frames.{upper_top}
 use Rattle.activation_relation.specs.Layers.{Layer, Point, now, services_of}
 use Rattle.activation_relation.specs.Owned.{AreOwned, AreWithin}
@@ -186,7 +187,8 @@ kept_reaches {w} {p} {φ} {φs} {links} {code} {numbers} {i} signature h known f
     (record { reserved_stay = λ y u. refl; known_stay = λ b y u o. o; set = λ y u. refl })
     (front_of num kept_code l1) (reached_holds r1) in
     let r3 = straight (c + 1 + size_of num) (reached r2) v v
-    (λ b y. Known (words_ground w p signature h) v numbers (λ j. 0) nothing b y) (back_of num kept_code l1) (omega arith)
+    (λ b y. Known (words_ground w p signature h) v numbers (λ j. 0) nothing b y) (back_of num kept_code l1)
+    (omega arith)
     (λ b. (reached_holds r2 b).pc)
     (λ b.
     let o = (reached_holds r2 b).holds in

@@ -1,5 +1,5 @@
--- What ALLOCATE in an area means: a generation is placed in its least gap, and the pointer variable has its name; or AREA
--- is raised.
+-- What ALLOCATE in an area means: a generation is placed in its least gap, and the pointer variable has its name;
+-- or AREA is raised.
 use Rattle.std.proofs.Common.{◌≡◌, ◌≢◌, ℕ, suc, [], ◌∷◌, Option, None, Some, refl, sym, ap, ◌∙◌}
 use Rattle.std.specs.Prelude.{cond, ◌==◌}
 use Rattle.pli_language.specs.declared.condition.Condition.TheVariants as C
@@ -46,7 +46,8 @@ pub allocations_are :
 unfolding P.allocations P.allocation P.based_allocated P.area_or_heap V.area_meant K.extents R.demanded R.or_error given
     choose looked give ◌>>=◌ ◌>>◌
 allocations_are around n p x d serial k s declared stands =
-    ap (λ o. flow_on k (given o (λ e. P.based_allocated around e (Some (variable_of x)) (Y.SetPointer (whole p))) stuck k s)
+    ap (λ o. flow_on k (given o (λ e. P.based_allocated around e (Some (variable_of x)) (Y.SetPointer (whole p)))
+    stuck k s)
     (no_more around)) declared
     ∙ ap (λ o. flow_on k (flow_on k (R.or_error around 101 (V.serial_of o) k s)
     (λ a. (P.placing around.turns around a new_based) >>= (set_locator around p a))) (no_more around)) stands

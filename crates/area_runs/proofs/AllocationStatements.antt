@@ -61,8 +61,8 @@ placing_by :
     k.call.surroundings.acts (no_more (at_line k.around line)))
     k.call.surroundings.acts (set_locator (at_line k.around line) p h.area.known.serial))
     (P.placing (suc h.turns) (at_line k.around line) h.area.known.serial new_based k.call.surroundings.acts q.state)
-placing_by k labels n p x line index left' most h acts wanted debt i q numbers o j f since same paid afford end l there a
-    at None none =
+placing_by k labels n p x line index left' most h acts wanted debt i q numbers o j f since same paid afford end l
+    there a at None none =
     let w = k.call.surroundings in
     let code = k.call.code in
     let around' = at_line k.around line in
@@ -88,8 +88,8 @@ placing_by k labels n p x line index left' most h acts wanted debt i q numbers o
       subst (λ xs. IsSystem (Q.force xs C.Area)) (sym o.later.activations) h.full,
       subst (λ xs. IsSystem (Q.force xs C.Error)) (sym o.later.activations) h.ends.error,
     ) none 0 f (omega (arith, afford), h.ends.acts) same l there))
-placing_by k labels n p x line index left' most h acts wanted debt i q numbers o j f since same paid afford end l there a
-    at (Some offset) free =
+placing_by k labels n p x line index left' most h acts wanted debt i q numbers o j f since same paid afford end l
+    there a at (Some offset) free =
     let w = k.call.surroundings in
     let code = k.call.code in
     let around' = at_line k.around line in
@@ -148,7 +148,6 @@ allocate_does k labels n p x line index left' most h q numbers c wanted f o paid
     let owed = owing code debt aims in
     let closed = owing_closed code debt aims in
     let next' : Unit {0} → Meaning (Unit {0}) = λ u. P.allocations around' (allocate_of n p x ∷ []) in
-    let all = h.paid in
     let most' = h.ends.most in
     comes_owing debt (M.statement k.around stmt w.acts q.state)
     (comes_on w.acts (act counted w.acts q.state) next'
@@ -170,6 +169,6 @@ allocate_does k labels n p x line index left' most h q numbers c wanted f o paid
     (before code (before code owed w.acts (no_more around')) w.acts (set_locator around' p serial))
     (P.placing turns around' serial new_based w.acts q'.state)) (sym h.some)
     (placing_by k labels n p x line index left' most h acts wanted debt (index + size_in k stmt) q' numbers o'
-    (index + size_of one) g (omega arith) refl (omega arith) (omega (arith, all, most', n0, n1)) (omega (arith, n0, n1))
+    (index + size_of one) g (omega arith) refl (omega arith) (omega (arith, most', n0, n1)) (omega (arith, n0, n1))
     (back_of one whole' l) at' a area
     (gap h.area.capacity (footprint_of new_based) area.living.placed) refl)))))))

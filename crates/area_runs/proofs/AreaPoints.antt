@@ -13,7 +13,8 @@ use Rattle.pli_meaning.specs.Contents.{Generation, IsOrdered, Placed, end_of, fo
 use Rattle.pli_meaning.specs.Contents.{with_placed}
 use Rattle.pli_meaning.specs.DeclaredShapes.{initial_of, shape_of}
 use Rattle.pli_meaning.specs.StorageState as Q
-use Rattle.pli_meaning.specs.StorageState.{Activation, AreaContents, Living, area_at, area_changed, area_in, area_of_kind}
+use Rattle.pli_meaning.specs.StorageState.{Activation, AreaContents, Living, area_at, area_changed, area_in}
+use Rattle.pli_meaning.specs.StorageState.{area_of_kind}
 use Rattle.pli_meaning.specs.StorageState.{area_of_leaves, heap_serial, living_changed, with_area}
 use Rattle.area_keeper.specs.KeptAreas.{with_part}
 use Rattle.area_keeper.proofs.Alikeness.{keeps_alike}
@@ -205,7 +206,10 @@ asking area signature destination =
 -- the area's state then
 abbrev pub placed_state : (serial offset : ℕ) → Q.State → Q.State
 placed_state serial o s =
-    record s { living = living_changed serial (area_changed (with_placed (record { offset = o; generation = new_based }))) s.living }
+    record s {
+      living = living_changed serial
+          (area_changed (with_placed (record { offset = o; generation = new_based }))) s.living;
+    }
 
 pub placed_same :
     (n o : ℕ) (s : Q.State) → n ≢ heap_serial →
@@ -373,7 +377,8 @@ placed_answer {k} {x} {p} is signature destination m asks at o free =
         (beside_written headed at' count 0 m (omega (arith, as_many)) inside) in
         let whole = first.as_many in
         beside_both at' count m (with_part headed at' m) memory first
-        (beside_written spelled at' count (p.keeper.data_at o headed) (with_part headed at' m) (omega (arith, room, long))
+        (beside_written spelled at' count (p.keeper.data_at o headed) (with_part headed at' m)
+        (omega (arith, room, long))
         (omega (arith, whole, inside)))
 
     offset : o < 2 ^ 32

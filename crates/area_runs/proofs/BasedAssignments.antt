@@ -100,7 +100,8 @@ put_coded e x n signature pointer declared table own =
 
 -- no temporary waits in a word of the frame
 no_words :
-    (w : Surroundings) (p : Point) (name : Name) (at : Base → ℕ) (h : IsFrame _) → Temporaries (located_ground w p name at h)
+    (w : Surroundings) (p : Point) (name : Name) (at : Base → ℕ) (h : IsFrame _) →
+    Temporaries (located_ground w p name at h)
 no_words w p name at h =
     record {
       kept = λ t b m j x less bytes few o. absurd (omega (arith, less));
@@ -338,7 +339,8 @@ stored_goes k labels x n source line index left' need most h acts wanted debt i 
     subst (λ flow. Comes code y.wanted g (services_of p) (owing code debt aims) flow)
     (sym (ap (λ flow. flow_on w.acts flow (λ d. P.element_stored d (BasicNumber z)))
     (through_is around' n w.acts a.points h.based.meant)))
-    (goes_by k labels x n source line index left' need most h acts wanted debt i p q.numbers q.among y.wanted y.index g z
+    (goes_by k labels x n source line index left' need most h acts wanted debt i p q.numbers q.among y.wanted
+    y.index g z
     wide (omega (arith, since, more)) (q.line ∙ same) paid afford end l at a
     (Q.named p.state a.points.name based_shape) refl)))
 

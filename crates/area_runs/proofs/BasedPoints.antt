@@ -199,7 +199,8 @@ lives_at p signature name g m' held shape e =
           let inside = (named_at p.keeper stored.keeps p.places p.state m (p.state.serials + 1) name
           (based_generation g.extent g.values) stored.stored stored.lives.falling lives refl).inside in (
             ap (load 4 m) (sym there)
-                ∙ word_loaded 31 (at + 0 + 0) first.0 m refl (subst (λ v. Tells (Fixed 31) v (at + 0 + 0) m) first.1 t.0),
+                ∙ word_loaded 31 (at + 0 + 0) first.0 m refl
+                (subst (λ v. Tells (Fixed 31) v (at + 0 + 0) m) first.1 t.0),
             subst (λ i. i % 4 ≡ 0) there t.1,
             omega (arith, inside),
           );
@@ -276,7 +277,8 @@ resolved_answer {k} {p = p} is o a l m stored layout =
     let v = call (now p m) in
     let at = pointer_place is in
     let g = based_generation l.extent l.values in
-    let i = asked_named (now p m) stored at is.signature a.points.name based_shape g (number_of_now p is.signature m (numbered is o))
+    let i = asked_named (now p m) stored at is.signature a.points.name based_shape g
+    (number_of_now p is.signature m (numbered is o))
     (name_read is a m stored layout) l.named in
     let found = i.0.found in
     let answer : Found → Answer = λ f. or_bad (shape_of_number v f.signature)
@@ -298,5 +300,6 @@ missing_answer {k} {p = p} is o a m stored layout none =
     let answer : Found → Answer = λ f. or_bad (shape_of_number v f.signature)
     (λ s. resolved v 0 0 f (leaves_with f.extent s)) in
     ap (λ q. where_found q (Done (services_of p) m at no_generation_code) answer)
-    (asked_unnamed (now p m) stored at is.signature a.points.name based_shape (number_of_now p is.signature m (numbered is o))
+    (asked_unnamed (now p m) stored at is.signature a.points.name based_shape
+    (number_of_now p is.signature m (numbered is o))
     (name_read is a m stored layout) none)

@@ -31,7 +31,8 @@ use Rattle.block_runs.proofs.PointGrounds.{StandsIn}
 use Rattle.program_runs.specs.Statements.{Block, IsAmong}
 use Rattle.expression_runs.specs.Variables.{whole_part}
 use Rattle.area_runs.proofs.BasedPoints.{LivesAt, based_generation, element_now}
-use Rattle.area_runs.proofs.ChangedPoints.{Follows, follows_among, generation_follows, generation_input, generation_world}
+use Rattle.area_runs.proofs.ChangedPoints.{Follows, follows_among, generation_follows, generation_input}
+use Rattle.area_runs.proofs.ChangedPoints.{generation_world}
 use Rattle.area_runs.proofs.ChangedPoints.{same_services, with_state}
 
 -- ---- the point

@@ -372,7 +372,8 @@ value_comes :
     (λ j. 0) (valued (word lives.z)) b) y)
 value_comes k {numbers} {p} {i} {name} lives h at c f facts l there =
     let v = services_of p in
-    straight c f v v (λ b y. Known (point_ground k.call.surroundings p h) v numbers (λ j. 0) (valued (word lives.z)) b y)
+    straight c f v v (λ b y. Known (point_ground k.call.surroundings p h) v numbers (λ j. 0) (valued (word lives.z))
+    b y)
     l (omega arith) (λ b. (there b).pc)
     (λ b.
     let o' = (there b).holds in
@@ -455,7 +456,8 @@ read_by k x n is ends p numbers taken c index f o line l paid there a (Some g) s
     let r = value_comes k.block lives h found.at (c + size_of finds) (reached found.reach)
     (λ b. (found.even b, found.inside b)) (back_of finds value_loaded l0) (reached_holds found.reach) in
     subst (λ flow. Comes code c f (services_of p) (before code aims w.acts next') flow)
-    (sym (part_found k.around p.state a.points.name (based_generation lives.extent lives.values) w.acts lives.named refl))
+    (sym (part_found k.around p.state a.points.name (based_generation lives.extent lives.values) w.acts lives.named
+    refl))
     (record {
       to = subst (λ u. Comes code c f (services_of p) aims (Normal (number_in u) p.state)) (sym lives.value)
           (record {

@@ -1,4 +1,5 @@
--- Points at which something changes that lives, but not where it stands: all that holds at the point before holds there.
+-- Points at which something changes that lives, but not where it stands: all that holds at the point before
+-- holds there.
 use Rattle.std.proofs.Common.{◌≡◌, ◌≢◌, ◌⊎◌, inl, inr, ℕ, ◌+◌, ◌*◌, ◌≤◌, List, [], ◌∷◌, Option, None, Some, Bool, true}
 use Rattle.std.proofs.Common.{false, refl, sym, ap, ◌∙◌, subst, arith}
 use Rattle.std.proofs.lemmas.Bool.{cases_eq}
@@ -306,7 +307,8 @@ area_world n change s = by (n == heap_serial)
   where
     by :
         (q : Bool) →
-        (cond q (record s { heap = change s.heap }) (record s { living = living_changed n (area_changed change) s.living })).world
+        (cond q (record s { heap = change s.heap })
+        (record s { living = living_changed n (area_changed change) s.living })).world
         ≡ s.world
     by true = refl
     by false = refl
@@ -323,7 +325,8 @@ area_input n change s = by (n == heap_serial)
   where
     by :
         (q : Bool) →
-        (cond q (record s { heap = change s.heap }) (record s { living = living_changed n (area_changed change) s.living })).input
+        (cond q (record s { heap = change s.heap })
+        (record s { living = living_changed n (area_changed change) s.living })).input
         ≡ s.input
     by true = refl
     by false = refl

@@ -337,7 +337,6 @@ allocation_is :
     (input : List ℕ) (acts : ℕ) → acts + 1 < 2 ^ 64 → IsBegun (locate_block input acts) →
     IsAllocation (locate_block input acts) (locate_label ∷ []) based_spot pointer_spot area_spot 3 locate_start 100
 allocation_is input acts few b =
-    let n = linked_length (links_of locate_code) 0 locate_code in
     record {
       act = record { line_fits = omega arith; acts = few };
       based = is_based input acts b;
@@ -350,7 +349,6 @@ allocation_is input acts few b =
       some = refl;
       statement = front_of (stmt_code locate_environment none_taken locate_allocation)
           (stmts_code locate_environment none_taken locate_rest) body_linked;
-      paid = omega (arith, n);
     }
 
 abbrev first_index : ℕ

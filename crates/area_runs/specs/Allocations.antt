@@ -10,8 +10,7 @@ use Rattle.pli_coding.specs.Statements.{stmt_code}
 use Rattle.activation_relation.specs.Layers.{Layer}
 use Rattle.activation_relation.specs.ServiceLaws.{IsSystem}
 use Rattle.run_steps.specs.Items.{Linked}
-use Rattle.run_steps.specs.Reach.{cost}
-use Rattle.program_runs.specs.Statements.{Block, Does, HasAct, size_in}
+use Rattle.program_runs.specs.Statements.{Block, Does, HasAct}
 use Rattle.expression_runs.specs.Assignments.{setting_of}
 use Rattle.expression_runs.specs.Variables.{Spot, variable_of, whole}
 use Rattle.variable_runs.specs.Known.{IsKnown, place_of}
@@ -46,8 +45,8 @@ abbrev pub allocation : (based pointer area : Spot) → (line : ℕ) → Y.Stmt
 allocation n p x line =
     Y.Allocate (Y.AllocateBased (based_of n) (Some (variable_of x)) (Y.SetPointer (whole p)) ∷ []) line
 
--- where it stands, and that one act pays for it. Two words of the frame, in which nothing waits, hold what service 10 is
--- given. No unit is in force for AREA, so it ends the run where the area has no gap.
+-- where it stands. Two words of the frame, in which nothing waits, hold what service 10 is given. No unit is in force
+-- for AREA, so it ends the run where the area has no gap.
 pub record IsAllocation (k : Block) (labels : List Label) (n p x : Spot) (line index most : ℕ) : Type 0 where
   pub act : HasAct k line
   pub based : IsBased k p n
@@ -60,7 +59,6 @@ pub record IsAllocation (k : Block) (labels : List Label) (n p x : Spot) (line i
   pub some : k.around.turns ≡ suc turns
   pub statement :
       Linked k.call.surroundings.links k.call.code index (stmt_code k.environment none_taken (allocation n p x line))
-  pub paid : size_in k (allocation n p x line) + most ≤ cost k.call.code
 
 -- it does what it means
 abbrev pub BasedAllocated : Type 0

@@ -1,5 +1,6 @@
 -- An area that is made: memory has it and all that was there, all frames stand, and what service 7 answers.
-use Rattle.std.proofs.Common.{◌≡◌, ◌⊎◌, ℕ, suc, ◌+◌, ◌-◌, ◌*◌, ◌/◌, ◌%◌, ◌^◌, ◌<◌, ◌≤◌, List, [], ◌∷◌, length, map, Bool}
+use Rattle.std.proofs.Common.{◌≡◌, ◌⊎◌, ℕ, suc, ◌+◌, ◌-◌, ◌*◌, ◌/◌, ◌%◌, ◌^◌, ◌<◌, ◌≤◌, List, [], ◌∷◌, length, map}
+use Rattle.std.proofs.Common.{Bool}
 use Rattle.std.proofs.Common.{true, false, Option, None, Some, inl, inr, refl, sym, ap, ◌∙◌, subst, arith}
 use Rattle.std.specs.Prelude.{cond, pos, ◌&&◌, ◌==◌, nat_le, nat_lt}
 use Rattle.std.proofs.lemmas.Bool.{le-leb, lt-ltb}
@@ -225,14 +226,16 @@ fits_block {w} {p = p} {x = x} {φ = φ} k =
 pub made_stands :
     {w : Surroundings} {code : List Instr} {p : Point} {x : Declared} {φ : Layer} {φs : List Layer} →
     Around w code p x φ φs →
-    Stands w (with_made (named_of w.parts (p.state.serials + 1) φ x) p) × IsImage w code (with_made (named_of w.parts (p.state.serials + 1) φ x) p)
+    Stands w (with_made (named_of w.parts (p.state.serials + 1) φ x) p)
+    × IsImage w code (with_made (named_of w.parts (p.state.serials + 1) φ x) p)
 made_stands {w} {p = p} {x = x} {φ = φ} {φs = φs} k = (
   variable_stands w p (named_of w.parts (p.state.serials + 1) φ x) φ φs k.stands (fits_block k),
   record {
     keeper = k.image.keeper;
     layout = k.image.layout;
     parts = k.image.parts;
-    even = subst (λ ls. AreEven w.parts (newest_grown (named_of w.parts (p.state.serials + 1) φ x) ls)) (sym k.is.newest)
+    even = subst (λ ls. AreEven w.parts (newest_grown (named_of w.parts (p.state.serials + 1) φ x) ls))
+        (sym k.is.newest)
         (k.is.even, (subst (AreEven w.parts) k.is.newest k.image.even).1);
   },
 )
@@ -413,12 +416,14 @@ pub made_frames :
     {w : Surroundings} {code : List Instr} {p : Point} {x : Declared} {φ : Layer} {φs : List Layer} (base : ℕ)
     (m : List ℕ) (k : Around w code p x φ φs) → length m ≡ memory_size → Holds (now p m) →
     FramesStand w.parts base m p.state.activations p.control.layers →
-    FramesStand w.parts base (made_memory p φ x k.is.capacity m) (with_made (named_of w.parts (p.state.serials + 1) φ x) p).state.activations
+    FramesStand w.parts base (made_memory p φ x k.is.capacity m)
+    (with_made (named_of w.parts (p.state.serials + 1) φ x) p).state.activations
     (with_made (named_of w.parts (p.state.serials + 1) φ x) p).control.layers
 made_frames {w} {p = p} {x = x} {φ = φ} {φs = φs} base m k bytes h frames =
     let new = made_memory p φ x k.is.capacity m in
     let kept = frames_stay base m k bytes h frames in
-    subst (λ ls. FramesStand w.parts base new (with_made (named_of w.parts (p.state.serials + 1) φ x) p).state.activations
+    subst (λ ls. FramesStand w.parts base new
+    (with_made (named_of w.parts (p.state.serials + 1) φ x) p).state.activations
     (newest_grown (named_of w.parts (p.state.serials + 1) φ x) ls)) (sym k.is.newest)
     (frames_grown w.parts base new _ (named_of w.parts (p.state.serials + 1) φ x) p.state.activations φ φs
     (refl, λ n v e. found kept n v (word_or_before x.place (p.state.serials + 1) φ.told n v e)) kept)
@@ -505,7 +510,8 @@ pub made_answer :
     {w : Surroundings} {code : List Instr} {p : Point} {x : Declared} {φ : Layer} {φs : List Layer} (m : List ℕ)
     (k : Around w code p x φ φs) → length m ≡ memory_size → Holds (now p m) → 4 * length code ≤ 2 ^ 22 →
     U.make_served (call_at code (services_of p) m) (φ.at + x.place) x.number 0 (φ.at + (x.place + name_bytes)) 0
-    ≡ Done (services_of (with_made (named_of w.parts (p.state.serials + 1) φ x) p)) (made_memory p φ x k.is.capacity m) (φ.at + x.place) x.number
+    ≡ Done (services_of (with_made (named_of w.parts (p.state.serials + 1) φ x) p))
+    (made_memory p φ x k.is.capacity m) (φ.at + x.place) x.number
 made_answer {w} {code} {p} {x} {φ} {φs} m k bytes h small' =
     let v = services_of p in
     let c = call_at code v m in

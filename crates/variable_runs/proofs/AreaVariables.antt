@@ -189,7 +189,8 @@ calling_made :
     frame_under w.parts p.control.layers ≡ φ.at → Linked w.links code i (Plain I.Ecall ∷ []) →
     ((b : Base) → At b i (Known (point_ground w p h) (services_of p) numbers (λ n. 0) (asked_regs w p x) b) (f b)) →
     Calling w.links code i f
-    (λ b. Done (services_of (with_made (named_of w.parts (p.state.serials + 1) φ x) p)) (made_memory p φ x k.is.capacity (f b).machine.memory)
+    (λ b. Done (services_of (with_made (named_of w.parts (p.state.serials + 1) φ x) p))
+    (made_memory p φ x k.is.capacity (f b).machine.memory)
     (φ.at + x.place) x.number)
 calling_made {w} {code} {p} {x} {φ} {φs} k h f same l there =
     let at = frame_under w.parts p.control.layers in
@@ -346,7 +347,8 @@ area_comes w code e p numbers x φ φs c index f known is same l there =
 
 pub area_means :
     (w : Surroundings) (p : Point) (x : Declared) (φ : Layer) (φs : List Layer) (acts : ℕ) → IsArea w p x φ φs →
-    K.variable_made x.index (generation_for x) acts p.state ≡ Normal tt (with_made (named_of w.parts (p.state.serials + 1) φ x) p).state
+    K.variable_made x.index (generation_for x) acts p.state
+    ≡ Normal tt (with_made (named_of w.parts (p.state.serials + 1) φ x) p).state
 unfolding K.variable_made looked choose stored ◌>>=◌
 area_means w p x φ φs acts is =
     ap (λ q. cond q (Normal tt (with_variable x.index (generation_for x) p.state))

@@ -100,7 +100,8 @@ has_still w p φ at lower a as' d y less h =
       bound = ap (λ t. cond t (Some b) (binding_of h.binds.bindings d.index))
           (eqb-other y.index d.index (λ e. omega (arith, e, less))) ∙ h.bound;
       living = h.living;
-      lives = ap (λ t. cond t (Some living) (living_of p.state.living h.serial)) (eqb-other serial h.serial other) ∙ h.lives;
+      lives = ap (λ t. cond t (Some living) (living_of p.state.living h.serial)) (eqb-other serial h.serial other)
+          ∙ h.lives;
       shape = h.shape;
       place = ap (λ t. cond t (φ.at + (y.place + name_bytes)) (p.places.at h.serial)) (eqb-other h.serial serial other')
           ∙ h.place;
@@ -114,8 +115,9 @@ has_kept :
 has_kept w e p φ at lower a as' d [] n less listed h = h
 has_kept w e p φ at lower a as' d (y ∷ xs) n less listed h =
     let late = listed.0.late in
-    has_kept w e (behind_made w.parts φ y p) (layer_behind w.parts (p.state.serials + 1) φ y) at lower a as' d xs (y.index + 1)
-    (omega (arith, less, late)) listed.1 (has_still w p φ at lower a as' d y (omega (arith, less, late)) h)
+    has_kept w e (behind_made w.parts φ y p) (layer_behind w.parts (p.state.serials + 1) φ y) at lower a as' d xs
+    (y.index + 1) (omega (arith, less, late)) listed.1
+    (has_still w p φ at lower a as' d y (omega (arith, less, late)) h)
 
 -- so it has each of them
 has_each :
@@ -125,12 +127,12 @@ has_each :
 has_each w e p φ φs a as' d [] n listed are binds among = absurd among
 has_each w e p φ φs a as' d (x ∷ xs) n listed are binds (inl same) =
     subst (λ y. Has (all_made w.parts φ (x ∷ xs) p) φ.at φ.lower a as' y) (sym same)
-    (has_kept w e (behind_made w.parts φ x p) (layer_behind w.parts (p.state.serials + 1) φ x) φ.at φ.lower a as' x xs (x.index + 1)
-    (omega arith) listed.1 (has_new w p φ φs a as' x binds are.0))
+    (has_kept w e (behind_made w.parts φ x p) (layer_behind w.parts (p.state.serials + 1) φ x) φ.at φ.lower a as' x
+    xs (x.index + 1) (omega arith) listed.1 (has_new w p φ φs a as' x binds are.0))
 has_each w e p φ φs a as' d (x ∷ xs) n listed are binds (inr there) =
     let new = has_new w p φ φs a as' x binds are.0 in
-    has_each w e (behind_made w.parts φ x p) (layer_behind w.parts (p.state.serials + 1) φ x) φs a as' d xs (x.index + 1) listed.1 are.1
-    new.binds there
+    has_each w e (behind_made w.parts φ x p) (layer_behind w.parts (p.state.serials + 1) φ x) φs a as' d xs
+    (x.index + 1) listed.1 are.1 new.binds there
 
 -- ---- in its block
 

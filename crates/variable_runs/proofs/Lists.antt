@@ -154,10 +154,12 @@ all_come w code e p numbers φ φs (x ∷ xs) n c index f are listed parts known
     let q = behind_made w.parts φ x p in
     let r1 = next_comes w code e p numbers x φ φs c index f known are.0 (listed.0.table, parts)
     (front_of first rest l) there in
-    let r2 = all_come w code e q numbers (layer_behind w.parts (p.state.serials + 1) φ x) φs xs (x.index + 1) (c + size_of first)
-    (index + size_of first) (reached r1) are.1 listed.1 parts (next_stands w code p x φ φs known are.0)
+    let r2 = all_come w code e q numbers (layer_behind w.parts (p.state.serials + 1) φ x) φs xs (x.index + 1)
+    (c + size_of first) (index + size_of first) (reached r1)
+    are.1 listed.1 parts (next_stands w code p x φ φs known are.0)
     (back_of first rest l) (reached_holds r1) in
-    moved_in (all_made w.parts (layer_behind w.parts (p.state.serials + 1) φ x) xs q) (omega (arith, size)) (omega (arith, size))
+    moved_in (all_made w.parts (layer_behind w.parts (p.state.serials + 1) φ x) xs q) (omega (arith, size))
+    (omega (arith, size))
     (reach_then r1 r2)
 
 -- ---- what they mean
@@ -181,10 +183,12 @@ unfolding K.variables_made K.automatic_made K.extents give ◌>>=◌ ◌>>◌
 all_mean around w e p φ φs [] [] n m acts are listed those = refl
 all_mean around w e p φ φs (x ∷ xs) [] n m acts are listed those = absurd those
 all_mean around w e p φ φs [] (d ∷ ds) n m acts are listed those =
-    ap (λ flow. flow_on acts flow (λ u. K.variables_made around (n + 1) ds)) (unmade around n acts d d.class p.state those.0)
+    ap (λ flow. flow_on acts flow (λ u. K.variables_made around (n + 1) ds))
+    (unmade around n acts d d.class p.state those.0)
     ∙ all_mean around w e p φ φs [] ds (n + 1) m acts are listed those.1
 all_mean around w e p φ φs (x ∷ xs) (d ∷ ds) n m acts are listed (inr those) =
-    ap (λ flow. flow_on acts flow (λ u. K.variables_made around (n + 1) ds)) (unmade around n acts d d.class p.state those.0)
+    ap (λ flow. flow_on acts flow (λ u. K.variables_made around (n + 1) ds))
+    (unmade around n acts d d.class p.state those.0)
     ∙ all_mean around w e p φ φs (x ∷ xs) ds (n + 1) m acts are listed those.1
 all_mean around w e p φ φs (x ∷ xs) (d' ∷ ds) n m acts are listed (inl those) =
     let d = x.declared in
@@ -200,7 +204,8 @@ all_mean around w e p φ φs (x ∷ xs) (d' ∷ ds) n m acts are listed (inl tho
     (λ values. K.variable_made n (fresh (shape_of values d) (pos 0) (initial_of d))))
     (λ u. K.variables_made around (n + 1) ds)) listed.0.evaluations
     ∙ ap (λ flow. flow_on acts flow (λ u. K.variables_made around (n + 1) ds)) made
-    ∙ all_mean around w e q (layer_behind w.parts (p.state.serials + 1) φ x) φs xs ds (n + 1) (x.index + 1) acts are.1 listed.1 those.2
+    ∙ all_mean around w e q (layer_behind w.parts (p.state.serials + 1) φ x) φs xs ds (n + 1) (x.index + 1) acts
+    are.1 listed.1 those.2
 
 block_means :
     (around : Around) (head : Y.BlockHead) (acts : ℕ) (s s' : State) → head.kind ≡ Y.ProcedureBlock →
@@ -227,7 +232,8 @@ pub layers_after :
     (all_made w.parts φ xs p).control.layers ≡ layer_after w.parts (p.state.serials + 1) φ xs ∷ φs
 layers_after w p φ φs [] newest = newest
 layers_after w p φ φs (x ∷ xs) newest =
-    layers_after w (behind_made w.parts φ x p) (layer_behind w.parts (p.state.serials + 1) φ x) φs xs (next_layers w p x φ φs newest)
+    layers_after w (behind_made w.parts φ x p) (layer_behind w.parts (p.state.serials + 1) φ x) φs xs
+    (next_layers w p x φ φs newest)
 
 -- its activation has more bindings
 pub record Binds (q : Point) (a : Activation) (as' : List Activation) : Type 0 where
@@ -257,7 +263,8 @@ all_remain w r p φ φs (x ∷ xs) a as' are binds above lives remains =
     let q = with_made m p in
     let height = ap newest_height binds.active in
     let one = all_bind w p φ (x ∷ []) a as' binds in
-    all_remain w r q (layer_behind w.parts (p.state.serials + 1) φ x) φs xs a as' are.1 one above (next_lives w p x φ φs are.0 lives)
+    all_remain w r q (layer_behind w.parts (p.state.serials + 1) φ x) φs xs a as' are.1 one above
+    (next_lives w p x φ φs are.0 lives)
     (remains_made r p m remains lives (omega (arith, height, above)))
 
 all_serials :

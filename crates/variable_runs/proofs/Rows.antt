@@ -51,7 +51,8 @@ use Rattle.expression_runs.proofs.Raises.{overflow_ends}
 use Rattle.expression_runs.proofs.Sums.{sum_does}
 use Rattle.expression_runs.proofs.VariablePoints.{variable_does}
 use Rattle.variable_runs.specs.Lists.{AreAll, newest_all}
-use Rattle.variable_runs.specs.Rows.{other_declared, other_spot, pair_again, pair_back, pair_body, pair_code, pair_coded}
+use Rattle.variable_runs.specs.Rows.{other_declared, other_spot, pair_again, pair_back, pair_body, pair_code}
+use Rattle.variable_runs.specs.Rows.{pair_coded}
 use Rattle.variable_runs.specs.Rows.{pair_declared, pair_end, pair_entry, pair_environment, pair_first, pair_image}
 use Rattle.variable_runs.specs.Rows.{pair_label, pair_last, pair_main, pair_other, pair_program, pair_rest, pair_spot}
 use Rattle.variable_runs.specs.Rows.{pair_sum}
