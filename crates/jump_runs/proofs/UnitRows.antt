@@ -335,8 +335,7 @@ inner_number :
     IsNumber (inner_block input acts more call p numbers) flee_spot
 inner_number input acts more call p numbers b o b' =
     function_number [] (six input acts) (called_from (flee_callee more) call) flee_spot
-    (inside_is input acts more call b)
-    (flee_number input acts) p numbers o (inner_made input acts more call p numbers) b'
+    (inside_is input acts more call b) (flee_number input acts) p numbers o (inner_made input acts more call p numbers) b'
 
 -- ---- its block with the units that it has by then
 
