@@ -312,8 +312,8 @@ inner_number :
     IsNumber (inner_block input acts more call p numbers) shed_spot
 inner_number input acts more call p numbers b o b' =
     function_number [] (six input acts) (called_from (shed_callee more) call) shed_spot
-    (inside_is input acts more call b)
-    (shed_number input acts) p numbers o (inner_made input acts more call p numbers) b'
+    (inside_is input acts more call b) (shed_number input acts) p numbers o
+    (inner_made input acts more call p numbers) b'
 
 -- ---- its statements
 

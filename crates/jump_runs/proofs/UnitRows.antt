@@ -146,8 +146,7 @@ body_linked =
     let body = stmts_code flee_environment none_taken flee_body in
     let tail = Mark (ReturnPlace 0) ∷ end_of flee_main in
     let rest = one ++ (body ++ tail) in
-    front_of body tail
-    (back_of one (body ++ tail)
+    front_of body tail (back_of one (body ++ tail)
     (back_of flee_main.variables rest (back_of (begin_of flee_main) (flee_main.variables ++ rest) main_linked)))
 
 inner_body_linked :
@@ -335,8 +334,8 @@ inner_number :
     IsNumber (inner_block input acts more call p numbers) flee_spot
 inner_number input acts more call p numbers b o b' =
     function_number [] (six input acts) (called_from (flee_callee more) call) flee_spot
-    (inside_is input acts more call b)
-    (flee_number input acts) p numbers o (inner_made input acts more call p numbers) b'
+    (inside_is input acts more call b) (flee_number input acts) p numbers o
+    (inner_made input acts more call p numbers) b'
 
 -- ---- its block with the units that it has by then
 

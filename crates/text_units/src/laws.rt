@@ -10,7 +10,7 @@ pub fn raises_wait()
     ensures { RaisesWait }
 {}
 
-/// A worked row: a main procedure with a unit for FIXEDOVERFLOW, which returns into an expression in which a text waits.
+/// A worked row: a main procedure with a unit for FIXEDOVERFLOW, which returns into an expression where a text waits.
 pub fn rise_ran()
     ensures { RiseRan }
 {

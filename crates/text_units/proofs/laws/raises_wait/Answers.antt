@@ -5,4 +5,7 @@ use Rattle.text_units.proofs.laws.raises_wait.Goals as goal
 
 pub returns : goal.returns
 returns c =
-    record { raised = raised_waits; overflow = λ entries k x more h does e. overflow_returns (over entries k) x more h does e }
+    record {
+      raised = raised_waits;
+      overflow = λ entries k x more h does e. overflow_returns (over entries k) x more h does e;
+    }
