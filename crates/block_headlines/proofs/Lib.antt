@@ -1,2 +1,3 @@
 pub mod JumpRuns
+pub mod VariableRuns
 pub mod Headlines

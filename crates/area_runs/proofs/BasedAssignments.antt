@@ -1,0 +1,407 @@
+-- An assignment to what a pointer variable points to: its act, its expression, and the store where service 8 finds it.
+use Rattle.std.proofs.Common.{◌≡◌, ℕ, ◌+◌, ◌*◌, ◌%◌, ◌^◌, ◌<◌, ◌≤◌, List, [], ◌∷◌, ◌++◌, Option, None, Some, true, refl}
+use Rattle.std.proofs.Common.{length, sym, ap, ◌∙◌, subst, arith}
+use Rattle.std.specs.Prelude.{ℤ, pos, slice_get, unwrap_or, ◌==◌}
+use Rattle.rv_meaning.specs.Machine.{memory_size, value}
+use Rattle.rv_meaning.specs.Memory.{store}
+use Rattle.rv_meaning.specs.Words.{sum, word}
+use Rattle.rv_meaning.proofs.MemoryLaws.{length-store}
+use Rattle.pli_typing.specs.TypedTree as Y
+use Rattle.pli_meaning.specs.BasicValues.{BasicNumber, BasicValue, Name}
+use Rattle.pli_meaning.specs.Contents.{Generation}
+use Rattle.pli_meaning.specs.Control.{Label, Meaning, Normal, act, flow_on, give, stored, ◌>>=◌, ◌>>◌}
+use Rattle.pli_meaning.specs.DeclaredShapes.{declared_variable}
+use Rattle.pli_meaning.specs.Evaluating as V
+use Rattle.pli_meaning.specs.Executing as M
+use Rattle.pli_meaning.specs.Numbers.{checked, is_of_precision}
+use Rattle.pli_meaning.specs.Placing as P
+use Rattle.pli_meaning.specs.Raising as R
+use Rattle.pli_meaning.specs.Raising.{Around, at_line}
+use Rattle.pli_meaning.specs.StorageState as Q
+use Rattle.pli_meaning.specs.StorageState.{State, with_world}
+use Rattle.pli_meaning.specs.World.{World, counted}
+use Rattle.pli_serving.specs.ServiceState.{Services}
+use Rattle.pli_coding.specs.Allocating.{act_code}
+use Rattle.pli_coding.specs.Assembly.{Code, size_of}
+use Rattle.pli_coding.specs.Environments.{Environment, fetch, no_declaration, none_taken, save, with_number}
+use Rattle.pli_coding.specs.Expressions.{number_code, reference_code}
+use Rattle.pli_coding.specs.Instructions.{store_word}
+use Rattle.pli_coding.specs.Locating as C
+use Rattle.pli_coding.specs.Locating.{no_leaf, table_number}
+use Rattle.pli_coding.specs.Registers.{a0, u3}
+use Rattle.pli_coding.specs.Storing.{word_stored}
+use Rattle.storage_relation.specs.Served.{place_now}
+use Rattle.activation_relation.specs.Layers.{Point, now, services_of}
+use Rattle.activation_relation.specs.Points.{Surroundings}
+use Rattle.run_steps.specs.Bodies.{Known, with'}
+use Rattle.run_steps.specs.Engine.{Base}
+use Rattle.run_steps.specs.Items.{At, Linked}
+use Rattle.run_steps.proofs.Items.{straight}
+use Rattle.run_steps.proofs.Jumps.{back_of, front_of, linked_at}
+use Rattle.run_steps.proofs.Linking.{size_append}
+use Rattle.run_steps.proofs.Numbers.{word_small}
+use Rattle.run_steps.specs.Owing.{owing}
+use Rattle.run_steps.proofs.Owing.{comes_owing, done_owing, owing_closed}
+use Rattle.run_steps.specs.Reach.{Comes, Family, Reach, before, cost, reached}
+use Rattle.run_steps.proofs.Reach.{before_closed, comes_on, onward, reach_map, reach_then, reached_holds}
+use Rattle.run_steps.proofs.Reaching.{reach_moved}
+use Rattle.run_steps.specs.Temporaries.{Temporaries, nothing}
+use Rattle.run_steps.proofs.Temporaries.{fetch_piece}
+use Rattle.block_runs.specs.Machines.{AreIn, IsIn, acted}
+use Rattle.block_runs.proofs.CallStatements.{comes_map}
+use Rattle.block_runs.proofs.Places.{IsFrame}
+use Rattle.block_runs.proofs.PointActs.{act_comes}
+use Rattle.block_runs.proofs.PointGrounds.{StandsIn, in_known, point_frame, point_ground}
+use Rattle.program_runs.specs.Statements.{Block, Does, IsAmong, size_in, statement_aims}
+use Rattle.program_runs.proofs.JumpsOut.{jumps_repaid, jumps_since}
+use Rattle.program_runs.proofs.Statements.{acted_among, goes_here, statement_closed}
+use Rattle.expression_runs.specs.Assignments.{setting_of}
+use Rattle.expression_runs.specs.Laws as L
+use Rattle.expression_runs.specs.Values.{HasRegisters, HasWord, Setting, Stretch, behind, in_registers, number_aims}
+use Rattle.expression_runs.specs.Variables.{Spot, variable_of, whole_part}
+use Rattle.expression_runs.proofs.Assignments.{fit_is}
+use Rattle.expression_runs.proofs.Saving.{held_after, held_among, held_is_given, register_left, saved_reach}
+use Rattle.expression_runs.proofs.VariablePoints.{first_base}
+use Rattle.expression_runs.proofs.Words.{frame_of, known_word}
+use Rattle.area_runs.specs.Based.{Ends, IsBased, based_declared, based_of, based_shape, pointer_declared, through}
+use Rattle.area_runs.specs.BasedAssignments.{IsAssignment, assignment}
+use Rattle.area_runs.proofs.BasedCode.{found_code, found_coded, name_at_place}
+use Rattle.area_runs.proofs.BasedMeaning.{behind_found, part_found, part_missing, through_is}
+use Rattle.area_runs.proofs.BasedPoints.{LivesAt, PointsAt, based_generation, lives_at, points_at}
+use Rattle.area_runs.proofs.BasedPuts.{behind_put, designated_based, place_low, put_among, put_services, put_stands}
+use Rattle.area_runs.proofs.BasedPuts.{put_state}
+use Rattle.area_runs.proofs.ChangedPoints.{generation_world}
+use Rattle.area_runs.proofs.BasedReads.{ found_regs, living_found, located_ground, missing_ends, there_at}
+
+-- ---- the code of the store
+
+abbrev value_stored : Code
+value_stored = store_word u3 a0 (pos 0)
+
+abbrev put_code : (place signature : ℕ) → Code
+put_code place signature =
+    save a0 none_taken ++ (found_code place signature ++ (fetch a0 none_taken ++ value_stored))
+
+put_coded :
+    (e : Environment) (x n : Spot) (signature : ℕ) →
+    declared_variable e.program (variable_of x) ≡ Some pointer_declared →
+    declared_variable e.program (based_of n) ≡ Some based_declared → table_number e based_declared ≡ signature →
+    (x.level == e.level) ≡ true → word_stored e none_taken (through x n) ≡ put_code (name_at_place e x) signature
+put_coded e x n signature pointer declared table own =
+    ap (λ o. save a0 none_taken ++ (reference_code e (with_number none_taken) (through x n)
+    ++ (fetch a0 none_taken ++ C.stored (leaf_of o).type a0 (record { register = u3; displacement = pos 0 })))) declared
+    ∙ ap (λ u. save a0 none_taken ++ (u ++ (fetch a0 none_taken ++ value_stored)))
+    (found_coded e (with_number none_taken) x n signature pointer declared table own)
+  where
+    leaf_of : Option Y.DeclaredVariable → Y.Leaf
+    leaf_of o = unwrap_or (slice_get (unwrap_or o no_declaration).leaves 0) no_leaf
+
+-- ---- the store
+
+-- no temporary waits in a word of the frame
+no_words :
+    (w : Surroundings) (p : Point) (name : Name) (at : Base → ℕ) (h : IsFrame _) → Temporaries (located_ground w p name at h)
+no_words w p name at h =
+    record {
+      kept = λ t b m j x less bytes few o. absurd (omega (arith, less));
+      found = λ t b m j less few o. absurd (omega (arith, less));
+    }
+
+-- a number in a0 goes where the data stand
+value_goes :
+    (k : Block) {numbers : ℕ → ℕ} {p : Point} {i : ℕ} {name : Name} (o : IsAmong k numbers p) (l : LivesAt p name)
+    (h : frame_of k p) (at : Base → ℕ) (c : ℕ) (f : Family) (z : ℤ) → is_of_precision 31 z ≡ true →
+    4 * length k.call.code ≤ p.places.low → ((b : Base) → (at b % 4 ≡ 0) × (at b + 4 ≤ memory_size)) →
+    Linked k.call.surroundings.links k.call.code i value_stored →
+    ((b : Base) → At b i (Known (located_ground k.call.surroundings p name at h) (services_of p) numbers (λ j. 0)
+    (λ b'. (10, word z) ∷ found_regs at b') b) (f b)) →
+    Reach k.call.code c f (services_of p) (c + size_of value_stored) (services_of p)
+    (λ b y. At b (i + size_of value_stored)
+    (Known (point_ground k.call.surroundings (behind_put p l z) h) (services_of p) numbers (λ j. 0) nothing b) y)
+value_goes k {numbers} {p} {i} {name} o l h at c f z wide low facts linked there =
+    let w = k.call.surroundings in
+    let v = services_of p in
+    let q = behind_put p l z in
+    let small' = linked.small' in
+    straight c f v v (λ b y. Known (point_ground w q h) v numbers (λ j. 0) nothing b y) linked (omega arith)
+    (λ b. (there b).pc)
+    (λ b.
+    let o' = (there b).holds in
+    let y = (f b).machine.registers in
+    let m = (f b).machine.memory in
+    let stands = put_stands w p l z b m wide o.stands o'.body.memory.0 in
+    let here = o'.body.memory.1 in
+    let behind' = place_low p l m o'.body.memory.0.storage in
+    let new : store 4 m (place_now (now p m) name) (word z) ≡ store 4 m (at b) (y 10) =
+    ap (λ j. store 4 m j (word z)) here ∙ ap (store 4 m (at b)) (sym o'.regs.0) in (
+      record {
+        offset = at b;
+        is = there_at b (y 28) (at b) o'.regs.1.0 (facts b).1;
+        aligned = (facts b).0;
+        inside = (facts b).1;
+      },
+      omega (arith, here, behind', low),
+      record {
+        body = record {
+          services = o'.body.services;
+          registers = o'.body.registers;
+          bytes = length-store 4 m (at b) (y 10) ∙ o'.body.bytes;
+          memory = subst (StandsIn w q b) new stands;
+        };
+        regs = tt;
+      },
+    ))
+
+-- the value waits while it is found: from there to the point behind
+put_reaches :
+    (k' : Setting) (x n : Spot) (is : IsBased k'.block x n) {numbers : ℕ → ℕ} {p : Point} {index : ℕ} →
+    k'.words ≡ 0 → HasRegisters k' 0 1 → IsAmong k'.block numbers p → (c : ℕ) (f : Family) (z : ℤ)
+    (wide : is_of_precision 31 z ≡ true) (a : PointsAt k'.block x n is p) (lives : LivesAt p a.points.name) →
+    Linked k'.block.call.surroundings.links k'.block.call.code index
+    (put_code (name_at_place k'.block.environment x) is.signature) →
+    ((b : Base) → IsIn k'.block.call.surroundings p numbers index b (f b) × (value (f b).machine a0 ≡ word z)) →
+    Reach k'.block.call.code c f (services_of p)
+    (c + size_of (put_code (name_at_place k'.block.environment x) is.signature)) (services_of (behind_put p lives z))
+    (λ b y. IsIn k'.block.call.surroundings (behind_put p lives z) (held_after numbers 0 (word z))
+    (index + size_of (put_code (name_at_place k'.block.environment x) is.signature)) b y)
+put_reaches k' x n is {numbers} {p} {index} none registers o c f z wide a lives l there =
+    let k = k'.block in
+    let w = k.call.surroundings in
+    let h = point_frame o.stands o.image in
+    let q = behind_put p lives z in
+    let small' = word_small z wide in
+    let o' = held_among k' 0 1 (word z) registers (omega arith) small' o in
+    let finds = found_code (name_at_place k.environment x) is.signature in
+    let saves = save a0 none_taken in
+    let back = fetch a0 none_taken in
+    let l1 = back_of saves (finds ++ (back ++ value_stored)) l in
+    let l2 = back_of finds (back ++ value_stored) l1 in
+    let n1 = size_append finds (back ++ value_stored) in
+    let same = o.later.remains.low in
+    let low' = is.low in
+    let low : 4 * length k.call.code ≤ p.places.low = omega (arith, same, low') in
+    let r1 = subst (λ j. (Linked w.links k.call.code index (save a0 (record { registers = 0; words = j }))) →
+    Reach k.call.code c f (services_of p) (c + size_of (save a0 (record { registers = 0; words = j }))) (services_of p)
+    (λ b y. At b (index + size_of (save a0 (record { registers = 0; words = j })))
+    (Known (point_ground w p h) (services_of p) (held_after numbers 0 (word z)) (λ i. 0) nothing b) y)) none
+    (λ l'. saved_reach k' 0 0 h registers c f (word z) small' l' (λ b. known_word k h (there b)))
+    (front_of saves (finds ++ (back ++ value_stored)) l) in
+    let found = living_found {numbers = held_after numbers 0 (word z)} is o' a lives h (c + size_of saves) (reached r1)
+    (front_of finds (back ++ value_stored) l1) (λ b. in_known h o.image.parts (reached_holds r1 b)) in
+    let r2 = found.reach in
+    let r3 = fetch_piece (no_words w p a.points.name found.at h) (c + size_of saves + size_of finds) (reached r2) a0
+    none_taken (word z) (λ left. absurd (cc left)) small' (held_is_given numbers 0 (word z))
+    (record { reserved_stay = λ y u. refl; known_stay = λ b y u s. s; set = λ y u. refl })
+    (record { reserved_stay = λ y u. refl; known_stay = λ b y u s. s; set = λ y u. refl })
+    (front_of back value_stored l2) (reached_holds r2) in
+    let r4 = value_goes k o' lives h found.at (c + size_of saves + size_of finds + size_of back) (reached r3) z wide low
+    (λ b. (found.even b, found.inside b)) (back_of back value_stored l2) (reached_holds r3) in
+    let all = reach_moved {c'' = c + size_of (put_code (name_at_place k.environment x) is.signature)}
+    {i'' = index + size_of (put_code (name_at_place k.environment x) is.signature)}
+    (omega (arith, n1)) (omega (arith, n1)) (reach_then r1 (reach_then r2 (reach_then r3 r4))) in
+    subst (λ v. Reach k.call.code c f (services_of p)
+    (c + size_of (put_code (name_at_place k.environment x) is.signature)) v
+    (λ b y. IsIn w q (held_after numbers 0 (word z))
+    (index + size_of (put_code (name_at_place k.environment x) is.signature)) b y))
+    (sym (put_services p lives z))
+    (reach_map _ all (λ b y s.
+    in_known {t = λ j. 0} {rs = nothing} h o.image.parts
+    (record {
+      pc = s.pc;
+      holds = record {
+        body = record {
+          services = s.holds.body.services ∙ sym (put_services p lives z);
+          registers = s.holds.body.registers;
+          bytes = s.holds.body.bytes;
+          memory = s.holds.body.memory;
+        };
+        regs = tt;
+      };
+    })))
+
+-- ---- what it means
+
+assigned_found :
+    (around : Around) (s : State) (name : Name) (extent : ℤ) (values : ℕ → List ℤ → BasicValue) (k : ℕ) (z : ℤ) →
+    Q.named s name based_shape ≡ Some (based_generation extent values) →
+    flow_on k (V.part_designated around name based_shape whole_part [] k s) (λ d. P.element_stored d (BasicNumber z))
+    ≡ Normal tt (put_state s name extent values z)
+unfolding P.element_stored stored
+assigned_found around s name extent values k z named =
+    ap (λ q. flow_on k q (λ d. P.element_stored d (BasicNumber z)))
+    (part_found around s name (based_generation extent values) k named refl)
+    ∙ ap (λ u. Normal tt (with_world u (put_state s name extent values z)))
+    (sym (generation_world name (P.with_element (designated_based name extent values) (BasicNumber z)) s))
+
+abbrev put_in : Block → (x n : Spot) → (line : ℕ) → BasicValue → Meaning (Unit {0})
+put_in k x n line v = M.assigned (at_line k.around line) (through x n) v
+
+-- ---- the statement
+
+-- by what lives there
+goes_by :
+    (k : Block) (labels : List Label) (x n : Spot) (source : Y.Number) (line index left' need most : ℕ)
+    (h : IsAssignment k labels x n source line index need most) (acts wanted debt i : ℕ) (p : Point)
+    (numbers : ℕ → ℕ) (o : IsAmong k numbers p) (c j : ℕ) (f : Family) (z : ℤ) → is_of_precision 31 z ≡ true →
+    acts ≤ p.state.world.acts → p.control.line ≡ line →
+    c + size_of (put_code (name_at_place k.environment x) h.based.signature) ≤ wanted + debt →
+    c + size_of (put_code (name_at_place k.environment x) h.based.signature) + 18 < cost k.call.code →
+    j + size_of (put_code (name_at_place k.environment x) h.based.signature) ≡ i →
+    Linked k.call.surroundings.links k.call.code j
+    (put_code (name_at_place k.environment x) h.based.signature) →
+    ((b : Base) → IsIn k.call.surroundings p numbers j b (f b) × (value (f b).machine a0 ≡ word z)) →
+    (a : PointsAt k x n h.based p) (q : Option Generation) → Q.named p.state a.points.name based_shape ≡ q →
+    Comes k.call.code c f (services_of p) (owing k.call.code debt (statement_aims k labels acts i wanted left'))
+    (flow_on k.call.surroundings.acts
+    (V.part_designated (at_line k.around line) a.points.name based_shape whole_part [] k.call.surroundings.acts p.state)
+    (λ d. P.element_stored d (BasicNumber z)))
+goes_by k labels x n source line index left' need most h acts wanted debt i p numbers o c j f z wide since at_line' paid
+    afford end l there a None none =
+    let w = k.call.surroundings in
+    let code = k.call.code in
+    let around' = at_line k.around line in
+    let setting = setting_of k labels line most in
+    let owed = owing code debt (statement_aims k labels acts i wanted left') in
+    let next' : V.Designated → Meaning (Unit {0}) = λ d. P.element_stored d (BasicNumber z) in
+    let rest = behind_found around' a.points.name in
+    let designated = V.part_designated around' a.points.name based_shape whole_part [] w.acts p.state in
+    let closed = before_closed w.acts rest (before_closed w.acts next' (owing_closed code debt
+    (statement_aims k labels acts i wanted left'))) in
+    let small' = word_small z wide in
+    let some = h.some in
+    let o' = held_among setting {numbers = numbers} 0 1 (word z) (some, h.held) (omega arith) small' o in
+    let frame = point_frame o.stands o.image in
+    let finds = found_code (name_at_place k.environment x) h.based.signature in
+    let saves = save a0 none_taken in
+    let back = fetch a0 none_taken ++ value_stored in
+    let n1 = size_append finds back in
+    let r1 = saved_reach setting 0 0 frame (some, h.held) c f (word z) small' (front_of saves (finds ++ back) l)
+    (λ b. known_word k frame (there b)) in
+    comes_on w.acts designated next'
+    (subst (λ flow. Comes code c f (services_of p) (before code owed w.acts next') flow)
+    (sym (part_missing around' p.state a.points.name w.acts none))
+    (comes_on w.acts (R.error {R = Generation} around' 101 w.acts p.state) rest
+    (onward closed r1 (λ g at.
+    missing_ends {k = setting} {numbers = held_after numbers 0 (word z)} closed h.based h.ends around' o' a frame
+    (c + size_of saves) g none at_line' (omega (arith, afford, n1))
+    (front_of finds back (back_of saves (finds ++ back) l)) (λ b. in_known frame o.image.parts (at b))))))
+goes_by k labels x n source line index left' need most h acts wanted debt i p numbers o c j f z wide since at_line' paid
+    afford end l there a (Some g) some' =
+    let w = k.call.surroundings in
+    let code = k.call.code in
+    let around' = at_line k.around line in
+    let setting = setting_of k labels line most in
+    let aims = statement_aims k labels acts i wanted left' in
+    let some = h.some in
+    let small' = word_small z wide in
+    let o' = held_among setting {numbers = numbers} 0 1 (word z) (some, h.held) (omega arith) small' o in
+    let lives = lives_at p h.based.signature a.points.name g (f first_base).machine.memory
+    (there first_base).0.at.storage (o.later.remains.signatures h.based.signature based_shape h.based.numbered) some' in
+    let r = put_reaches setting x n h.based refl (some, h.held) o c f z wide a lives l there in
+    let q = behind_put p lives z in
+    let stays = generation_world a.points.name
+    (P.with_element (designated_based a.points.name lives.extent lives.values) (BasicNumber z)) p.state in
+    let more : acts ≤ q.state.world.acts = subst (λ (u : World). acts ≤ u.acts) (sym stays) since in
+    subst (λ flow. Comes code c f (services_of p) (owing code debt aims) flow)
+    (sym (assigned_found around' p.state a.points.name lives.extent lives.values w.acts z lives.named))
+    (record {
+      to = done_owing (statement_closed k labels acts i wanted left') debt wanted paid r tt q.state
+          (λ g' at'. goes_here acts wanted g' more (put_among lives z o')
+          (λ b. subst (λ u. IsIn w q (held_after numbers 0 (word z)) u b (g' b)) end (at' b)));
+    })
+
+stored_goes :
+    (k : Block) (labels : List Label) (x n : Spot) (source : Y.Number) (line index left' need most : ℕ)
+    (h : IsAssignment k labels x n source line index need most) (acts wanted debt i : ℕ) (c' : ℕ) (f' : Family)
+    (v' : Services) (z : ℤ) (s : State) (y : Stretch) → acts ≤ y.acts → y.line ≡ line →
+    is_of_precision 31 z ≡ true → HasWord k y (word z) c' f' v' s →
+    y.wanted + size_of (put_code (name_at_place k.environment x) h.based.signature) ≤ wanted + debt →
+    y.wanted + size_of (put_code (name_at_place k.environment x) h.based.signature) + 18 < cost k.call.code →
+    y.index + size_of (put_code (name_at_place k.environment x) h.based.signature) ≡ i →
+    Linked k.call.surroundings.links k.call.code y.index
+    (put_code (name_at_place k.environment x) h.based.signature) →
+    Comes k.call.code c' f' v' (owing k.call.code debt (statement_aims k labels acts i wanted left'))
+    (put_in k x n line (BasicNumber z) k.call.surroundings.acts s)
+unfolding M.assigned ◌>>=◌
+stored_goes k labels x n source line index left' need most h acts wanted debt i c' f' v' z s y since same wide q paid
+    afford end l =
+    let w = k.call.surroundings in
+    let code = k.call.code in
+    let aims = statement_aims k labels acts i wanted left' in
+    let p = q.point in
+    let more = q.since in
+    let around' = at_line k.around line in
+    subst (λ u. Comes code c' f' v' (owing code debt aims) (put_in k x n line (BasicNumber z) w.acts u)) (sym q.state)
+    (onward (owing_closed code debt aims) q.reach
+    (λ g at.
+    let a = points_at x n h.based q.among g (λ b. (at b).0) in
+    subst (λ flow. Comes code y.wanted g (services_of p) (owing code debt aims) flow)
+    (sym (ap (λ flow. flow_on w.acts flow (λ d. P.element_stored d (BasicNumber z)))
+    (through_is around' n w.acts a.points h.based.meant)))
+    (goes_by k labels x n source line index left' need most h acts wanted debt i p q.numbers q.among y.wanted y.index g z
+    wide (omega (arith, since, more)) (q.line ∙ same) paid afford end l at a
+    (Q.named p.state a.points.name based_shape) refl)))
+
+pub assign_does :
+    (k : Block) (labels : List Label) (x n : Spot) (source : Y.Number) (line index left' need most : ℕ) →
+    IsAssignment k labels x n source line index need most → L.Does (setting_of k labels line most) need source →
+    Does k labels (assignment x n source line) index left'
+unfolding M.statement V.stored_value ◌>>=◌ ◌>>◌
+assign_does k labels x n source line index left' need most h ev p numbers c wanted f o paid there =
+    let w = k.call.surroundings in
+    let code = k.call.code in
+    let e = k.environment in
+    let stmt = assignment x n source line in
+    let around' = at_line k.around line in
+    let one = act_code line in
+    let value' = number_code e none_taken source in
+    let store' = word_stored e none_taken (through x n) in
+    let puts = put_code (name_at_place e x) h.based.signature in
+    let coded = put_coded e x n h.based.signature h.based.pointer.declared h.based.declared h.based.table h.based.own in
+    let n0 = size_append one ((value' ++ []) ++ store') in
+    let n1 = size_append (value' ++ []) store' in
+    let n2 = size_append value' [] in
+    let n3 = ap (λ u. size_of u) coded in
+    let l = h.statement in
+    let l1 = back_of one ((value' ++ []) ++ store') l in
+    let lv = front_of value' [] (front_of (value' ++ []) store' l1) in
+    let ls = subst (Linked w.links code (index + size_of one + size_of (value' ++ []))) coded
+    (back_of (value' ++ []) store' l1) in
+    let debt = size_of value' + size_of store' in
+    let acts = p.state.world.acts in
+    let aims = statement_aims k labels acts (index + size_in k stmt) wanted left' in
+    let owed = owing code debt aims in
+    let closed = owing_closed code debt aims in
+    let source' = V.stored_value around' (Y.StoredNumber 31 source) in
+    let next' : Unit {0} → Meaning (Unit {0}) = λ u. source' >>= (λ v. put_in k x n line v) in
+    let fit : ℤ → Meaning BasicValue =
+    λ z. (R.value_of around' (checked 31 z)) >>= (λ z'. give (BasicNumber z')) in
+    let all = h.paid in
+    let most' = h.ends.most in
+    comes_owing debt (M.statement k.around stmt w.acts p.state)
+    (comes_on w.acts (act counted w.acts p.state) next'
+    (act_comes (before_closed w.acts next' closed) line (c + debt) 0 f (o.stands, o.image)
+    (h.act.line_fits, h.act.acts, omega (arith, paid, n0, n1, n2)) (front_of one ((value' ++ []) ++ store') l) there
+    (λ g less at.
+    let p' = acted line p in
+    let o' = acted_among line o less in
+    let flow = V.number around' source w.acts p'.state in
+    let y = behind p' numbers 0 0 (index + size_of one) value' in
+    comes_on w.acts (source' w.acts p'.state) (λ v. put_in k x n line v)
+    (comes_on w.acts flow fit
+    (comes_map (number_aims k labels y)
+    (before code (before code owed w.acts (λ v. put_in k x n line v)) w.acts fit) flow
+    (λ c' f' v' z s q.
+    subst (Comes code c' f' v' (before code owed w.acts (λ v. put_in k x n line v)))
+    (sym (fit_is around' z w.acts s q.0))
+    (record {
+      to = stored_goes k labels x n source line index left' need most h acts wanted debt (index + size_in k stmt) c' f'
+          v' z s y (omega arith) refl q.0 q.1 (omega (arith, n2, n3)) (omega (arith, all, most', n0, n1, n2, n3))
+          (omega (arith, n0, n1, n2, n3))
+          (linked_at (index + size_of one + size_of value') puts (omega (arith, n2)) ls);
+    }))
+    (λ c' f' v' height label s q.
+    λ i0 f0 v0 from. jumps_repaid debt from (jumps_since (omega arith) q))
+    (λ c' f' v' r s q. absurd q)
+    (ev p' numbers 0 0 (index + size_of one) g o' refl (let room = h.registers in omega (arith, room), h.held) lv
+    (omega (arith, all, n0, n1, n2)) at))))))

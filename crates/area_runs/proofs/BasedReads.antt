@@ -1,0 +1,489 @@
+-- What a pointer variable points to is found by service 8, and read; where nothing lives there, the run ends.
+use Rattle.std.proofs.Common.{◌≡◌, ℕ, ◌+◌, ◌*◌, ◌%◌, ◌^◌, ◌<◌, ◌≤◌, List, [], ◌∷◌, ◌++◌, length, Option, None, Some, true}
+use Rattle.std.proofs.Common.{false, refl, sym, ap, ◌∙◌, subst, arith}
+use Rattle.std.specs.Prelude.{ℤ, pos, ◌==◌}
+use Rattle.std.proofs.lemmas.List.{append_assoc}
+use Rattle.rv_meaning.specs.declared.instr.BranchTest.TheVariants as Test
+use Rattle.rv_meaning.specs.declared.instr.Instr.{Instr}
+use Rattle.rv_meaning.specs.declared.instr.Instr.TheVariants as I
+use Rattle.rv_meaning.specs.Machine.{memory_size}
+use Rattle.rv_meaning.specs.Memory.{load}
+use Rattle.rv_meaning.specs.Words.{sum, word}
+use Rattle.pli_language.specs.declared.condition.Condition.TheVariants as C
+use Rattle.pli_typing.specs.TypedTree as Y
+use Rattle.pli_meaning.specs.BasicValues.{Name}
+use Rattle.pli_meaning.specs.Contents.{Generation, number_in}
+use Rattle.pli_meaning.specs.Control.{Meaning, Normal, flow_on, give, ◌>>=◌}
+use Rattle.pli_meaning.specs.DeclaredShapes.{declared_variable}
+use Rattle.pli_meaning.specs.Evaluating as V
+use Rattle.pli_meaning.specs.Raising as R
+use Rattle.pli_meaning.specs.Raising.{Around}
+use Rattle.pli_meaning.specs.StorageState as Q
+use Rattle.pli_serving.specs.Answers.{Answer, Done}
+use Rattle.pli_serving.specs.Names.{resolve_served}
+use Rattle.pli_serving.specs.ServiceState.{Services}
+use Rattle.pli_serving.specs.Serving.{found_served}
+use Rattle.pli_coding.specs.Assembly.{Code, JumpTo, Plain, RaiseError, size_of}
+use Rattle.pli_coding.specs.Expressions.{number_code}
+use Rattle.pli_coding.specs.Instructions.{number, small, status_tested}
+use Rattle.pli_coding.specs.Registers.{a0, a1, a2, a3, a4, a7, zero_register}
+use Rattle.storage_relation.specs.Served as H
+use Rattle.storage_relation.specs.Served.{call, place_now}
+use Rattle.activation_relation.specs.Frames.{frame_under, upper_top}
+use Rattle.activation_relation.specs.Layers.{Point, now, services_of}
+use Rattle.activation_relation.specs.Points.{Surroundings}
+use Rattle.activation_relation.specs.ServiceLaws.{IsSystem}
+use Rattle.run_steps.specs.Bodies.{Ground, Known}
+use Rattle.run_steps.proofs.Bodies.{constant_piece, zero_is}
+use Rattle.run_steps.specs.Calls.{Calling}
+use Rattle.run_steps.proofs.Calls.{call_done}
+use Rattle.run_steps.specs.Engine.{Base, WordAt, address, call_at, served}
+use Rattle.run_steps.specs.Items.{At, Linked}
+use Rattle.run_steps.proofs.Items.{straight}
+use Rattle.run_steps.proofs.Jumps.{back_of, first_of, front_of, jump_piece, rest_of, skip_passed, skip_taken}
+use Rattle.run_steps.proofs.Linking.{size_append}
+use Rattle.run_steps.specs.Reach.{Aims, Closed, Comes, Family, Reach, before, cost, reached}
+use Rattle.run_steps.proofs.Reach.{before_closed, comes_on, onward, reach_map, reach_then, reached_holds}
+use Rattle.run_steps.proofs.Reaching.{reach_moved}
+use Rattle.run_steps.specs.Temporaries.{nothing}
+use Rattle.run_steps.specs.Unlimited as U
+use Rattle.image_runs.specs.Runs.{Whole}
+use Rattle.block_runs.specs.Machines.{AreIn, IsImage}
+use Rattle.block_runs.proofs.BlockEntries.{small_is, word_fits, word_is}
+use Rattle.block_runs.proofs.Places.{IsFrame, ground_at}
+use Rattle.block_runs.proofs.PointGrounds.{StandsIn, call_is, in_known, known_in, point_frame, point_ground}
+use Rattle.program_runs.specs.Statements.{Block, IsAmong}
+use Rattle.program_runs.proofs.Variables.{own_code, own_comes}
+use Rattle.expression_runs.specs.Laws as L
+use Rattle.expression_runs.specs.Raises.{Routines}
+use Rattle.expression_runs.specs.Values.{Setting, behind, in_registers, number_aims}
+use Rattle.expression_runs.specs.Variables.{Spot, whole_part}
+use Rattle.expression_runs.proofs.Raises.{coded, error_comes}
+use Rattle.expression_runs.proofs.VariablePoints.{first_base}
+use Rattle.expression_runs.proofs.Words.{frame_of, number_closed, valued, word_here}
+use Rattle.area_runs.specs.Based.{Ends, IsBased, based_declared, based_of, based_shape, through}
+use Rattle.area_runs.proofs.BasedCode.{addressing_code, asking_code, found_code, name_at_place, read_code, read_coded}
+use Rattle.area_runs.proofs.BasedCode.{value_loaded}
+use Rattle.area_runs.proofs.BasedMeaning.{behind_found, part_found, part_missing, through_is}
+use Rattle.area_runs.proofs.BasedPoints.{IsLaidOut, LivesAt, PointsAt, based_generation, lives_at, missing_answer}
+use Rattle.area_runs.proofs.BasedPoints.{own_base, pointer_place, points_at, resolved_answer}
+
+-- ---- what service 8 is given
+
+abbrev name_regs : {k : Block} {x n : Spot} → IsBased k x n → Base → List (ℕ × ℕ)
+name_regs is b = (10, pointer_place is) ∷ []
+
+abbrev asking_regs : {k : Block} {x n : Spot} → IsBased k x n → Base → List (ℕ × ℕ)
+asking_regs is b = (17, 8) ∷ (14, 0) ∷ (13, 0) ∷ (12, 0) ∷ (11, is.signature) ∷ name_regs is b
+
+pub laid_out : {k : Block} {numbers : ℕ → ℕ} {p : Point} → IsAmong k numbers p → 4 * length k.call.code ≤ 2 ^ 22 →
+    IsLaidOut p
+laid_out {k} o small' =
+    let e1 = ap (λ u. u.code_bytes) o.image.layout in
+    (omega (arith, e1, small'), ap (λ u. u.end) o.image.layout)
+
+-- with mode 0, whatever the other registers
+resolve_called :
+    (code : List Instr) (y : Whole) (v : Services) (x0 x1 : ℕ) → y.services ≡ v →
+    (y.machine.registers 17 ≡ 8) × (y.machine.registers 10 ≡ x0) × (y.machine.registers 11 ≡ x1)
+    × (y.machine.registers 12 ≡ 0) × (y.machine.registers 13 ≡ 0) × (y.machine.registers 14 ≡ 0) →
+    served code y ≡ resolve_served (call_at code v y.machine.memory) x0 x1 0 0
+unfolding served
+resolve_called code y v x0 x1 e r =
+    let x = y.machine.registers in
+    let m = y.machine.memory in
+    let c = call_at code y.services m in
+    ap (λ n. U.served n c x) r.0
+    ∙ ap (found_served c x) r.5
+    ∙ ap (λ u. resolve_served (call_at code u m) (x 10) (x 11) (x 12) (x 13)) e
+    ∙ ap (λ u. resolve_served (call_at code v m) u (x 11) (x 12) (x 13)) r.1
+    ∙ ap (λ u. resolve_served (call_at code v m) x0 u (x 12) (x 13)) r.2
+    ∙ ap (λ u. resolve_served (call_at code v m) x0 x1 u (x 13)) r.3
+    ∙ ap (λ u. resolve_served (call_at code v m) x0 x1 0 u) r.4
+
+-- the name's place, the signature's number, and the rest
+asking_comes :
+    {k : Block} {x n : Spot} {numbers : ℕ → ℕ} {p : Point} {i : ℕ} (is : IsBased k x n) (o : IsAmong k numbers p)
+    (h : frame_of k p) (c : ℕ) (f : Family) →
+    Linked k.call.surroundings.links k.call.code i
+    (own_code a0 (name_at_place k.environment x) ++ asking_code is.signature) →
+    AreIn k.call.surroundings p numbers i f →
+    Reach k.call.code c f (services_of p)
+    (c + size_of (own_code a0 (name_at_place k.environment x) ++ asking_code is.signature)) (services_of p)
+    (λ b y. At b (i + size_of (own_code a0 (name_at_place k.environment x) ++ asking_code is.signature))
+    (Known (point_ground k.call.surroundings p h) (services_of p) numbers (λ j. 0) (asking_regs is) b) y)
+asking_comes {k} {x} {n} {numbers} {p} is o h c f l there =
+    let w = k.call.surroundings in
+    let v = services_of p in
+    let place = name_at_place k.environment x in
+    let name = own_code a0 place in
+    let num = number a1 is.signature in
+    let four = small a2 0 ∷ small a3 0 ∷ small a4 0 ∷ small a7 8 ∷ [] in
+    let base = own_base is o in
+    let inside = is.pointer.inside in
+    let n0 = size_append name (num ++ four) in
+    let n1 = size_append num four in
+    let l1 = back_of name (num ++ four) l in
+    let r1 = own_comes {rs = nothing} h c f a0 place (omega (arith, base, inside)) (λ y u. refl)
+    (record { reserved_stay = λ y u. refl; known_stay = λ b y u q. q; set = λ y u. refl })
+    (record { reserved_stay = λ y u. refl; known_stay = λ b y u q. q; set = λ y u. refl })
+    (record { reserved_stay = λ y u. refl; known_stay = λ b y u q. q; set = λ y u. refl })
+    (front_of name (num ++ four) l) (λ b. known_in h (there b) tt) in
+    let r2 = constant_piece (c + size_of name) (reached r1) a1 (pos is.signature) (word_fits is.signature is.number)
+    (record { reserved_stay = λ y u. refl; known_stay = λ b y u q. q; set = λ y u. refl })
+    (front_of num four l1) (reached_holds r1) in
+    let r3 = straight (c + size_of name + size_of num) (reached r2) v v
+    (λ b y. Known (point_ground w p h) v numbers (λ j. 0) (asking_regs is) b y) (back_of num four l1) (omega arith)
+    (λ b. (reached_holds r2 b).pc)
+    (λ b. let o' = (reached_holds r2 b).holds in record {
+      body = record {
+        services = o'.body.services;
+        registers = o'.body.registers;
+        bytes = o'.body.bytes;
+        memory = o'.body.memory;
+      };
+      regs = (
+        small_is _ 8 (zero_is o'.body) (omega arith),
+        (
+          small_is _ 0 (zero_is o'.body) (omega arith),
+          (
+            small_is _ 0 (zero_is o'.body) (omega arith),
+            (
+              small_is _ 0 (zero_is o'.body) (omega arith),
+              (
+                o'.regs.0 ∙ word_is is.signature is.number,
+                (o'.regs.1.0 ∙ ap (λ j. j + place) base, tt),
+              ),
+            ),
+          ),
+        ),
+      );
+    }) in
+    reach_moved (omega (arith, n0, n1)) (omega (arith, n0, n1)) (reach_then r1 (reach_then r2 r3))
+
+-- ---- it lives
+
+-- memory, and where the data stand in it
+abbrev pub located_ground :
+    (w : Surroundings) (p : Point) (name : Name) (at : Base → ℕ) → IsFrame (frame_under w.parts p.control.layers) →
+    Ground
+located_ground w p name at h =
+    ground_at (frame_under w.parts p.control.layers) (upper_top w.parts p.control.layers) h
+    (λ b m. StandsIn w p b m × (place_now (now p m) name ≡ at b))
+
+abbrev pub found_regs : (at : Base → ℕ) → Base → List (ℕ × ℕ)
+found_regs at b = (28, b.at + at b) ∷ []
+
+-- what is found, for each base
+pub record IsFound (k : Block) (p : Point) (numbers : ℕ → ℕ) (h : frame_of k p) (name : Name) (c i : ℕ) (f : Family)
+    (ends : ℕ) : Type 0 where
+  pub at : Base → ℕ
+  pub even : (b : Base) → at b % 4 ≡ 0
+  pub inside : (b : Base) → at b + 4 ≤ memory_size
+  pub reach :
+      Reach k.call.code c f (services_of p) (c + ends) (services_of p)
+      (λ b y. At b (i + ends)
+      (Known (located_ground k.call.surroundings p name at h) (services_of p) numbers (λ j. 0) (found_regs at) b) y)
+
+found_at : (b : Base) (x n : ℕ) → x ≡ n + 0 → n + 4 ≤ memory_size → sum (sum x (word (pos 0))) b.at ≡ b.at + n
+found_at b x n e inside = let v = b.valid.1 in omega (arith, e, inside, v)
+
+pub there_at : (b : Base) (x n : ℕ) → x ≡ b.at + n → n + 4 ≤ memory_size → sum x (word (pos 0)) ≡ b.at + n
+there_at b x n e inside = let v = b.valid.1 in omega (arith, e, inside, v)
+
+-- the service, and the test of its status
+pub living_found :
+    {k : Block} {x n : Spot} {numbers : ℕ → ℕ} {p : Point} {i : ℕ} (is : IsBased k x n) (o : IsAmong k numbers p)
+    (a : PointsAt k x n is p) (l : LivesAt p a.points.name) (h : frame_of k p) (c : ℕ) (f : Family) →
+    Linked k.call.surroundings.links k.call.code i (found_code (name_at_place k.environment x) is.signature) →
+    AreIn k.call.surroundings p numbers i f →
+    IsFound k p numbers h a.points.name c i f (size_of (found_code (name_at_place k.environment x) is.signature))
+living_found {k} {x} {n} {numbers} {p} {i} is o a lives h c f l there =
+    let w = k.call.surroundings in
+    let code = k.call.code in
+    let v = services_of p in
+    let name = a.points.name in
+    let small' = l.small' in
+    let front = own_code a0 (name_at_place k.environment x) in
+    let asks = asking_code is.signature in
+    let last = status_tested ++ addressing_code in
+    let tail = asks ++ (Plain I.Ecall ∷ last) in
+    let n0 = size_append front tail in
+    let n1 = size_append asks (Plain I.Ecall ∷ last) in
+    let n2 = size_append front asks in
+    let l' = subst (Linked w.links code i) (sym (append_assoc front asks (Plain I.Ecall ∷ last))) l in
+    let l1 = back_of (front ++ asks) (Plain I.Ecall ∷ last) l' in
+    let l2 = rest_of (Plain I.Ecall) last l1 in
+    let r1 = asking_comes is o h c f (front_of (front ++ asks) (Plain I.Ecall ∷ last) l') there in
+    let g = reached r1 in
+    let at : Base → ℕ = λ b. place_now (now p (g b).machine.memory) name in
+    let g' = located_ground w p name at h in
+    let layout = laid_out o (omega (arith, small')) in
+    let answer : Base → Answer = λ b. Done v (g b).machine.memory (at b + 0) 0 in
+    let calling : Calling w.links code (i + size_of (front ++ asks)) g answer = record {
+      linked = first_of (Plain I.Ecall) last l1;
+      pc = λ b. (reached_holds r1 b).pc;
+      answers = λ b.
+          let o' = (reached_holds r1 b).holds in
+          let m = (g b).machine.memory in
+          resolve_called code (g b) v (pointer_place is) is.signature o'.body.services (
+            o'.regs.0,
+            o'.regs.1.1.1.1.1.0,
+            o'.regs.1.1.1.1.0,
+            o'.regs.1.1.1.0,
+            o'.regs.1.1.0,
+            o'.regs.1.0,
+          )
+          ∙ ap (λ call'. resolve_served call' (pointer_place is) is.signature 0 0) (call_is w code p m o.image)
+          ∙ resolved_answer is o a lives m o'.body.memory.storage layout;
+    } in
+    let r2 = call_done (c + size_of (front ++ asks)) g v v (λ b. (g b).machine.memory) (λ b. at b + 0) (λ b. 0)
+    (λ b y. Known g' v numbers (λ j. 0) (λ b'. (11, 0) ∷ (10, at b' + 0) ∷ []) b y) (omega arith) calling
+    (λ b. let o' = (reached_holds r1 b).holds in record {
+      body = record {
+        services = refl;
+        registers = o'.body.registers;
+        bytes = o'.body.bytes;
+        memory = (o'.body.memory, refl);
+      };
+      regs = (refl, (refl, tt));
+    }) in
+    let r3 = skip_taken (c + size_of (front ++ asks) + 1) (reached r2) Test.Equal a1 zero_register
+    (JumpTo RaiseError ∷ []) (front_of status_tested addressing_code l2) (reached_holds r2)
+    (λ b. let o' = (reached_holds r2 b).holds in
+    ap (λ u. u == (reached r2 b).machine.registers 0) o'.regs.0 ∙ ap (λ u. 0 == u) (zero_is o'.body)) in
+    let facts : (b : Base) → (at b % 4 ≡ 0) × (at b + 4 ≤ memory_size) = λ b.
+    let o' = (reached_holds r1 b).holds.body in
+    let t = lives.tells (g b).machine.memory o'.memory.storage in
+    let bytes = o'.bytes in
+    let inside = t.2 in
+    (t.1, omega (arith, bytes, inside)) in
+    let r4 = straight (c + size_of (front ++ asks) + 1 + 3) (reached r3) v v
+    (λ b y. Known g' v numbers (λ j. 0) (found_regs at) b y) (back_of status_tested addressing_code l2) (omega arith)
+    (λ b. (reached_holds r3 b).pc)
+    (λ b. let o' = (reached_holds r3 b).holds in (
+      refl,
+      record {
+        body = record {
+          services = o'.body.services;
+          registers = o'.body.registers;
+          bytes = o'.body.bytes;
+          memory = o'.body.memory;
+        };
+        regs = (found_at b ((reached r3 b).machine.registers 10) (at b) o'.regs.1.0 (facts b).1, tt);
+      },
+    )) in
+    record {
+      at = at;
+      even = λ b. (facts b).0;
+      inside = λ b. (facts b).1;
+      reach = reach_moved (omega (arith, n0, n1, n2)) (omega (arith, n0, n1, n2))
+          (reach_then r1 (reach_then r2 (reach_then r3 r4)));
+    }
+
+-- ---- nothing lives there
+
+-- ERROR comes to what it means
+pub missing_ends :
+    {X : Type 0} {k : Setting} {x n : Spot} {numbers : ℕ → ℕ} {p : Point} {i : ℕ} {aims : Aims X}
+    (closed : Closed k.block.call.code aims) (is : IsBased k.block x n) (ends : Ends k) (around : Around)
+    (o : IsAmong k.block numbers p) (a : PointsAt k.block x n is p) (h : frame_of k.block p) (c : ℕ) (f : Family) →
+    Q.named p.state a.points.name based_shape ≡ None → p.control.line ≡ around.line →
+    c + size_of (found_code (name_at_place k.block.environment x) is.signature) + 18 < cost k.block.call.code →
+    Linked k.block.call.surroundings.links k.block.call.code i
+    (found_code (name_at_place k.block.environment x) is.signature) →
+    AreIn k.block.call.surroundings p numbers i f →
+    Comes k.block.call.code c f (services_of p) aims
+    (R.error {R = X} around 101 k.block.call.surroundings.acts p.state)
+missing_ends {k = k'} {x} {n} {numbers} {p} {i} closed is ends around o a h c f none line paid l there =
+    let k = k'.block in
+    let w = k.call.surroundings in
+    let code = k.call.code in
+    let v = services_of p in
+    let small' = l.small' in
+    let front = own_code a0 (name_at_place k.environment x) in
+    let asks = asking_code is.signature in
+    let last = status_tested ++ addressing_code in
+    let tail = asks ++ (Plain I.Ecall ∷ last) in
+    let n0 = size_append front tail in
+    let n1 = size_append asks (Plain I.Ecall ∷ last) in
+    let n2 = size_append front asks in
+    let l' = subst (Linked w.links code i) (sym (append_assoc front asks (Plain I.Ecall ∷ last))) l in
+    let l1 = back_of (front ++ asks) (Plain I.Ecall ∷ last) l' in
+    let l2 = rest_of (Plain I.Ecall) last l1 in
+    let r1 = asking_comes is o h c f (front_of (front ++ asks) (Plain I.Ecall ∷ last) l') there in
+    let g = reached r1 in
+    let layout = laid_out o (omega (arith, small')) in
+    let answer : Base → Answer = λ b. Done v (g b).machine.memory (pointer_place is) 101 in
+    let calling : Calling w.links code (i + size_of (front ++ asks)) g answer = record {
+      linked = first_of (Plain I.Ecall) last l1;
+      pc = λ b. (reached_holds r1 b).pc;
+      answers = λ b.
+          let o' = (reached_holds r1 b).holds in
+          let m = (g b).machine.memory in
+          resolve_called code (g b) v (pointer_place is) is.signature o'.body.services (
+            o'.regs.0,
+            o'.regs.1.1.1.1.1.0,
+            o'.regs.1.1.1.1.0,
+            o'.regs.1.1.1.0,
+            o'.regs.1.1.0,
+            o'.regs.1.0,
+          )
+          ∙ ap (λ call'. resolve_served call' (pointer_place is) is.signature 0 0) (call_is w code p m o.image)
+          ∙ missing_answer is o a m o'.body.memory.storage layout none;
+    } in
+    let r2 = call_done (c + size_of (front ++ asks)) g v v (λ b. (g b).machine.memory) (λ b. pointer_place is)
+    (λ b. 101)
+    (λ b y. Known (point_ground w p h) v numbers (λ j. 0) (coded 101) b y) (omega arith) calling
+    (λ b. let o' = (reached_holds r1 b).holds in record {
+      body = record {
+        services = refl;
+        registers = o'.body.registers;
+        bytes = o'.body.bytes;
+        memory = o'.body.memory;
+      };
+      regs = (refl, tt);
+    }) in
+    let r3 = skip_passed (c + size_of (front ++ asks) + 1) (reached r2) Test.Equal a1 zero_register
+    (JumpTo RaiseError ∷ []) (front_of status_tested addressing_code l2) (reached_holds r2)
+    (λ b. let o' = (reached_holds r2 b).holds in
+    ap (λ u. u == (reached r2 b).machine.registers 0) o'.regs.0 ∙ ap (λ u. 101 == u) (zero_is o'.body)) in
+    let inside = ends.routines.linked.inside in
+    let near = ends.routines.linked.small' in
+    let l3 = front_of status_tested addressing_code l2 in
+    let r4 = jump_piece (c + size_of (front ++ asks) + 1 + 1) (c + size_of (front ++ asks) + 1 + 1 + 2) (reached r3)
+    RaiseError (ends.routines.at + 8) (omega arith) ends.raises (omega (arith, inside, near))
+    (record { reserved_stay = λ y u. refl; known_stay = λ b y u q. q; set = λ y u. refl })
+    (rest_of _ (JumpTo RaiseError ∷ []) l3) (reached_holds r3) in
+    onward closed (reach_then r1 (reach_then r2 (reach_then r3 r4))) (λ f' at'.
+    error_comes closed ends.routines (c + size_of (front ++ asks) + 1 + 1 + 2) f' around 101 h (o.stands, o.image)
+    (omega arith) (omega (arith, paid, n0, n1, n2), ends.acts) line
+    (subst (λ xs. IsSystem (Q.force xs C.Error)) (sym o.later.activations) ends.error) at')
+
+-- ---- the value
+
+-- one that is there is loaded
+value_comes :
+    (k : Block) {numbers : ℕ → ℕ} {p : Point} {i : ℕ} {name : Name} (lives : LivesAt p name) (h : frame_of k p)
+    (at : Base → ℕ) (c : ℕ) (f : Family) → ((b : Base) → (at b % 4 ≡ 0) × (at b + 4 ≤ memory_size)) →
+    Linked k.call.surroundings.links k.call.code i value_loaded →
+    ((b : Base) → At b i (Known (located_ground k.call.surroundings p name at h) (services_of p) numbers (λ j. 0)
+    (found_regs at) b) (f b)) →
+    Reach k.call.code c f (services_of p) (c + size_of value_loaded) (services_of p)
+    (λ b y. At b (i + size_of value_loaded) (Known (point_ground k.call.surroundings p h) (services_of p) numbers
+    (λ j. 0) (valued (word lives.z)) b) y)
+value_comes k {numbers} {p} {i} {name} lives h at c f facts l there =
+    let v = services_of p in
+    straight c f v v (λ b y. Known (point_ground k.call.surroundings p h) v numbers (λ j. 0) (valued (word lives.z)) b y)
+    l (omega arith) (λ b. (there b).pc)
+    (λ b.
+    let o' = (there b).holds in
+    let y = (f b).machine.registers in
+    let m = (f b).machine.memory in
+    let t = lives.tells m o'.body.memory.0.storage in (
+      record {
+        offset = at b;
+        is = there_at b (y 28) (at b) o'.regs.0 (facts b).1;
+        aligned = (facts b).0;
+        inside = (facts b).1;
+      },
+      record {
+        body = record {
+          services = o'.body.services;
+          registers = o'.body.registers;
+          bytes = o'.body.bytes;
+          memory = o'.body.memory.0;
+        };
+        regs = (ap (load 4 m) (sym o'.body.memory.1) ∙ t.0, tt);
+      },
+    ))
+
+-- ---- the whole
+
+-- by what lives there
+read_by :
+    (k : Setting) (x n : Spot) (is : IsBased k.block x n) → Ends k → (p : Point) (numbers : ℕ → ℕ)
+    (taken c index : ℕ) (f : Family) (o : IsAmong k.block numbers p) → p.control.line ≡ k.around.line →
+    Linked k.block.call.surroundings.links k.block.call.code index
+    (number_code k.block.environment (in_registers k.words taken) (Y.NumberIn (through x n))) →
+    c + size_of (number_code k.block.environment (in_registers k.words taken) (Y.NumberIn (through x n))) + k.most
+    ≤ cost k.block.call.code → AreIn k.block.call.surroundings p numbers index f → (a : PointsAt k.block x n is p)
+    (q : Option Generation) → Q.named p.state a.points.name based_shape ≡ q →
+    Comes k.block.call.code c f (services_of p)
+    (before k.block.call.code
+    (number_aims k.block k.labels
+    (behind p numbers taken c index (number_code k.block.environment (in_registers k.words taken)
+    (Y.NumberIn (through x n)))))
+    k.block.call.surroundings.acts (λ d. give (number_in (V.value_in d))))
+    (V.part_designated k.around a.points.name based_shape whole_part [] k.block.call.surroundings.acts p.state)
+unfolding give
+read_by k x n is ends p numbers taken c index f o line l paid there a None none =
+    let e = k.block.environment in
+    let w = k.block.call.surroundings in
+    let code = k.block.call.code in
+    let t = in_registers k.words taken in
+    let coded' = read_coded e t x n is.signature is.pointer.declared is.declared is.table is.own in
+    let size = ap (λ u. size_of u) coded' in
+    let finds = found_code (name_at_place e x) is.signature in
+    let m = size_append finds value_loaded in
+    let y = behind p numbers taken c index (number_code e t (Y.NumberIn (through x n))) in
+    let next' : V.Designated → Meaning ℤ = λ d. give (number_in (V.value_in d)) in
+    let most = ends.most in
+    let rest = behind_found k.around a.points.name in
+    let closed = before_closed w.acts rest (before_closed w.acts next' (number_closed k.block k.labels y)) in
+    subst (λ flow. Comes code c f (services_of p) (before code (number_aims k.block k.labels y) w.acts next') flow)
+    (sym (part_missing k.around p.state a.points.name w.acts none))
+    (comes_on w.acts (R.error {R = Generation} k.around 101 w.acts p.state) rest
+    (missing_ends closed is ends k.around o a (point_frame o.stands o.image) c f none line
+    (omega (arith, paid, most, size, m)) (front_of finds value_loaded (subst (Linked w.links code index) coded' l))
+    there))
+read_by k x n is ends p numbers taken c index f o line l paid there a (Some g) some =
+    let e = k.block.environment in
+    let w = k.block.call.surroundings in
+    let code = k.block.call.code in
+    let t = in_registers k.words taken in
+    let h = point_frame o.stands o.image in
+    let coded' = read_coded e t x n is.signature is.pointer.declared is.declared is.table is.own in
+    let size = ap (λ u. size_of u) coded' in
+    let finds = found_code (name_at_place e x) is.signature in
+    let m = size_append finds value_loaded in
+    let l0 = subst (Linked w.links code index) coded' l in
+    let y = behind p numbers taken c index (number_code e t (Y.NumberIn (through x n))) in
+    let aims = number_aims k.block k.labels y in
+    let next' : V.Designated → Meaning ℤ = λ d. give (number_in (V.value_in d)) in
+    let lives = lives_at p is.signature a.points.name g (f first_base).machine.memory (there first_base).at.storage
+    (o.later.remains.signatures is.signature based_shape is.numbered) some in
+    let found = living_found {numbers = numbers} is o a lives h c f (front_of finds value_loaded l0) there in
+    let r = value_comes k.block lives h found.at (c + size_of finds) (reached found.reach)
+    (λ b. (found.even b, found.inside b)) (back_of finds value_loaded l0) (reached_holds found.reach) in
+    subst (λ flow. Comes code c f (services_of p) (before code aims w.acts next') flow)
+    (sym (part_found k.around p.state a.points.name (based_generation lives.extent lives.values) w.acts lives.named refl))
+    (record {
+      to = subst (λ u. Comes code c f (services_of p) aims (Normal (number_in u) p.state)) (sym lives.value)
+          (record {
+            to = (
+              lives.wide,
+              word_here {x = y} h o (omega arith) refl
+                  (reach_moved (omega (arith, size, m)) (omega (arith, size, m)) (reach_then found.reach r)),
+            );
+          });
+    })
+
+pub based_does :
+    (k : Setting) (x n : Spot) → IsBased k.block x n → Ends k → k.around.program ≡ k.block.around.program →
+    L.Does k 0 (Y.NumberIn (through x n))
+unfolding V.number ◌>>=◌
+based_does k x n is ends same p numbers taken c index f o line registers l paid there =
+    let w = k.block.call.surroundings in
+    let code = k.block.call.code in
+    let t = in_registers k.words taken in
+    let a = points_at x n is o f there in
+    let y = behind p numbers taken c index (number_code k.block.environment t (Y.NumberIn (through x n))) in
+    let aims = number_aims k.block k.labels y in
+    let declared = ap (λ u. declared_variable u (based_of n)) same ∙ is.meant in
+    let next' : V.Designated → Meaning ℤ = λ d. give (number_in (V.value_in d)) in
+    comes_on w.acts (V.designated k.around (through x n) w.acts p.state) next'
+    (subst (λ flow. Comes code c f (services_of p) (before code aims w.acts next') flow)
+    (sym (through_is k.around n w.acts a.points declared))
+    (read_by k x n is ends p numbers taken c index f o line l paid there a
+    (Q.named p.state a.points.name based_shape) refl))

@@ -1,0 +1,46 @@
+-- The worked rows of several variables run at each number of acts.
+use Rattle.std.proofs.Common.{◌*◌, ◌^◌, ◌≤◌, [], length, arith}
+use Rattle.pli_typing.specs.TypedTree as Y
+use Rattle.pli_meaning.specs.Pictures.{first_bytes}
+use Rattle.pli_coding.specs.Assembly.{size_of}
+use Rattle.pli_coding.specs.Images.{code_of, picture_of}
+use Rattle.pli_coding.specs.Linking.{links_of}
+use Rattle.run_steps.proofs.Linking.{linked_length}
+use Rattle.pli_headline.specs.Headline.{FitsMemory, parts}
+use Rattle.pli_headline.proofs.WholeSizes.{first_length}
+use Rattle.variable_runs.specs.Lists.{newest_all}
+use Rattle.variable_runs.specs.Rows.{pair_entry, pair_environment, pair_main, pair_program}
+use Rattle.variable_runs.proofs.Rows.{pair_each, pair_finish, pair_is, pair_variables}
+use Rattle.block_headlines.specs.Headlines.{Layout, Runs}
+
+fits :
+    (program : Y.Program) → size_of (code_of parts program) ≤ 2 ^ 20 →
+    length (picture_of parts program).statics ≤ 3 * 2 ^ 20 → FitsMemory (picture_of parts program)
+fits program small' few =
+    let n = linked_length (links_of (code_of parts program)) 0 (code_of parts program) in
+    record { code_fits = omega (arith, n, small'); statics_fit = few }
+
+pair_fits : FitsMemory (picture_of parts pair_program)
+pair_fits = fits pair_program (omega arith) (omega arith)
+
+abbrev pub pair_layout : Layout
+pair_layout =
+    record {
+      main = pair_main;
+      others = [];
+      environment = pair_environment;
+      entry = pair_entry;
+      end = pair_finish;
+      units = [];
+      serials = 2;
+      made = newest_all parts pair_variables;
+    }
+
+pub pair_program_runs : Runs pair_program pair_layout
+pair_program_runs =
+    record {
+      whole = λ input acts few.
+          pair_is input (first_bytes (picture_of parts pair_program)) acts few
+          (first_length (picture_of parts pair_program) pair_fits);
+      each = λ input acts few b. pair_each input acts few b;
+    }

@@ -1,0 +1,5 @@
+use Rattle.variable_runs.proofs.Known.{known_number, known_own}
+use Rattle.variable_runs.proofs.laws.variables_known.Goals as goal
+
+pub returns : goal.returns
+returns c = record { own = known_own; number = known_number }

@@ -1,0 +1,4 @@
+pub mod Areas
+pub mod Lists
+pub mod Known
+pub mod Rows
