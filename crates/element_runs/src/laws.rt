@@ -1,0 +1,18 @@
+// Laws of the definitions: each function's contract is one law, and calling it does nothing.
+
+ghost use Rattle.element_runs.specs.Laws.{ElementAssignmentsDo, ElementsDo, SubscriptsEnd};
+
+/// An element of an array leaves what it means in a register, at each point of a block.
+pub fn elements_do()
+    ensures { ElementsDo }
+{}
+
+/// A subscript outside its bounds without a unit in force for ERROR ends the run.
+pub fn subscripts_end()
+    ensures { SubscriptsEnd }
+{}
+
+/// An assignment to an element does what it means if its expressions do.
+pub fn element_assignments_do()
+    ensures { ElementAssignmentsDo }
+{}
