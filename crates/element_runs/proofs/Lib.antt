@@ -8,3 +8,4 @@ pub mod ElementPoints
 pub mod Elements
 pub mod AssignedElements
 pub mod Assignments
+pub mod Rows

@@ -1,6 +1,9 @@
 // Laws of the definitions: each function's contract is one law, and calling it does nothing.
 
 ghost use Rattle.element_runs.specs.Laws.{ElementAssignmentsDo, ElementsDo, SubscriptsEnd};
+ghost use Rattle.element_runs.specs.Rows.{PickRan};
+
+use granule_keeper::laws::granules_keep;
 
 /// An element of an array leaves what it means in a register, at each point of a block.
 pub fn elements_do()
@@ -16,3 +19,10 @@ pub fn subscripts_end()
 pub fn element_assignments_do()
     ensures { ElementAssignmentsDo }
 {}
+
+/// A worked row: an element that is doubled in a loop by GOTO, whose subscript a function returns, until it overflows.
+pub fn pick_ran()
+    ensures { PickRan }
+{
+    granules_keep();
+}
