@@ -59,7 +59,8 @@ use Rattle.expression_runs.proofs.VariablePoints.{first_base}
 use Rattle.expression_runs.proofs.Words.{frame_of, known_word, valued}
 use Rattle.element_runs.specs.Arrays.{IsArray, element}
 use Rattle.element_runs.specs.Laws.{IsElementAssignment, element_assigned}
-use Rattle.element_runs.specs.Subscripts.{IsSubscript, SubscriptComes}
+use Rattle.element_runs.specs.Subscripts.{IsConstant, IsSubscript, IsVariable, SubscriptComes}
+use Rattle.element_runs.proofs.Simple.{brought_simple}
 use Rattle.element_runs.proofs.AssignedElements.{Assigning, assigned_among, behind_assigned, services_same}
 use Rattle.element_runs.proofs.AssignedElements.{stands_assigned}
 use Rattle.element_runs.proofs.Bounds.{is_between, place_at}
@@ -67,7 +68,7 @@ use Rattle.element_runs.proofs.ElementCode.{element_code, element_is, kept_code,
 use Rattle.element_runs.proofs.ElementMeaning as N
 use Rattle.element_runs.proofs.ElementMeaning.{assigned_is, assigned_meant, stored_in}
 use Rattle.element_runs.proofs.ElementPoints.{ElementAt, element_at, frame_small, place_is}
-use Rattle.element_runs.proofs.Elements.{Finds, constant_does, found, located_does}
+use Rattle.element_runs.proofs.Elements.{Finds, found, located_does, simple_does}
 use Rattle.element_runs.proofs.SubscriptTests.{Jumps, valued_beside}
 
 -- ---- the store
@@ -249,40 +250,39 @@ puts_waiting k x b is aims z wide need s outside begun subscript waits closed p 
           subst (λ j. IsIn w (behind_assigned q a) after j b' y) (omega (arith, size, both, n1, n2, n3)) u)));
     }))))))
 
--- a constant subscript leaves it in a0
-puts_constant :
+-- a simple subscript leaves it in a0
+puts_simple :
     (k : Setting) (x : Spot) (b : Bounds) (is : IsArray k.block x b) (aims : Aims (Unit {0})) (z : ℤ) →
-    is_of_precision 31 z ≡ true → (need n : ℕ) → n < 2 ^ 31 → SubscriptComes k → IsBegun k.block →
-    Puts k x aims z need (Y.NumberConstant n)
-puts_constant k x b is aims z wide need n few outside begun closed p numbers taken c index f jumps h o line registers l
+    is_of_precision 31 z ≡ true → (need : ℕ) (s : Y.Number) → IsConstant s ⊎ IsVariable k.block s →
+    SubscriptComes k → IsBegun k.block → Puts k x aims z need s
+puts_simple k x b is aims z wide need s simple outside begun closed p numbers taken c index f jumps h o line registers l
     paid at next' =
     let w = k.block.call.surroundings in
     let code = k.block.call.code in
     let e = k.block.environment in
-    let s = Y.NumberConstant n in
     let t = in_registers k.words taken in
-    let same = stored_is e t x b s is.initial is.known.declared in
+    let n = brought_simple k s simple begun p numbers h o index f (λ b'. in_known h o.image.parts (at b')) in
+    let same = stored_is e t x b s is.initial is.known.declared ∙ ap (λ q. kept_code q e t x s) n.simple in
     let size = ap (λ u. size_of u) same in
     let r = reference_code e t (element x s) in
     let last = stores e x in
     let n1 = size_append r last in
     let l' = subst (Linked w.links code index) same l in
-    let found' = element_is e t x b s is.initial is.known.declared in
+    let found' = element_is e t x b s is.initial is.known.declared ∙ ap (λ q. element_code q e t x b s) n.simple in
     let n2 = ap (λ u. size_of u) found' in
     let r' = element_code true e t x b s in
-    let i = pos n in
     subst (Comes code c f (services_of p) aims) (sym (assigned_meant k.around x s z w.acts p.state))
     (comes_on w.acts (V.designated k.around (element x s) w.acts p.state) (λ d. stored_in z d)
-    (constant_does k x b is n few outside begun (before_closed w.acts (λ d. stored_in z d) closed)
-    (valued_beside (word z)) p numbers taken c index f jumps h o line
+    (simple_does k x b is s outside begun (before_closed w.acts (λ d. stored_in z d) closed)
+    (valued_beside (word z)) p numbers taken c index f jumps h o line n
     (subst (Linked w.links code index) found' (front_of r last l')) (omega (arith, paid, size, n1, n2)) at
     (λ between holds el g2 finds.
-    let a = assigning x b i between holds z wide in
+    let a = assigning x b n.z between holds z wide in
     let c3 = c + size_of r' in
-    let reach' = store_reaches k.block x b is h o c3 g2 i between holds el z wide
+    let reach' = store_reaches k.block x b is h o c3 g2 n.z between holds el z wide
     (linked_at (index + size_of r') last (omega (arith, n2)) (back_of r last l')) finds in
     subst (Comes code c3 g2 (services_of p) aims)
-    (sym (assigned_is b holds.serial holds.values i z w.acts p.state))
+    (sym (assigned_is b holds.serial holds.values n.z z w.acts p.state))
     (record {
       to =
           next' (behind_assigned p a) numbers c3 g2 (services_of p) (assigned_among a o) (omega arith)
@@ -297,11 +297,10 @@ pub puts_does :
     (k : Setting) (x : Spot) (b : Bounds) (is : IsArray k.block x b) (aims : Aims (Unit {0})) (z : ℤ) →
     is_of_precision 31 z ≡ true → (need : ℕ) (s : Y.Number) → SubscriptComes k → IsBegun k.block →
     IsSubscript k need s → Puts k x aims z need s
-puts_does k x b is aims z wide need s outside begun (inl waits) =
-    puts_waiting k x b is aims z wide need s outside begun (inl waits) waits.0
-puts_does k x b is aims z wide need s outside begun (inr constant') =
-    subst (λ u. Puts k x aims z need u) (sym constant'.is)
-    (puts_constant k x b is aims z wide need constant'.value constant'.few outside begun)
+puts_does k x b is aims z wide need s outside begun (inl waiting) =
+    puts_waiting k x b is aims z wide need s outside begun (inl waiting) waiting.waits
+puts_does k x b is aims z wide need s outside begun (inr simple) =
+    puts_simple k x b is aims z wide need s simple outside begun
 
 -- ---- the statement
 

@@ -18,7 +18,7 @@ use Rattle.pli_coding.specs.Assembly.{Code, size_of}
 use Rattle.pli_coding.specs.Environments.{Taken, fetch, save}
 use Rattle.pli_coding.specs.Expressions.{number_code, reference_code}
 use Rattle.pli_coding.specs.Instructions.{number}
-use Rattle.pli_coding.specs.Locating.{is_simple}
+use Rattle.pli_coding.specs.Locating.{is_simple, simple_loaded}
 use Rattle.pli_coding.specs.Registers.{a0, u1, u3}
 use Rattle.activation_relation.specs.Layers.{Point, services_of}
 use Rattle.run_steps.specs.Bodies.{Known, with'}
@@ -45,7 +45,7 @@ use Rattle.expression_runs.proofs.Saving.{fetched_reach, held_after, held_among,
 use Rattle.expression_runs.proofs.VariablePoints.{first_base, reaches_by}
 use Rattle.expression_runs.proofs.Words.{frame_of, known_word, number_closed, valued, word_here}
 use Rattle.element_runs.specs.Arrays.{IsArray, element}
-use Rattle.element_runs.specs.Subscripts.{IsConstant, IsSubscript, SubscriptComes}
+use Rattle.element_runs.specs.Subscripts.{IsConstant, IsSubscript, IsVariable, SubscriptComes}
 use Rattle.element_runs.proofs.Addresses.{found_code, found_reach}
 use Rattle.element_runs.proofs.Bounds.{is_between, place_at}
 use Rattle.element_runs.proofs.ElementCode.{behind_given, element_code, element_is, evaluated, given, loaded_is, loads}
@@ -53,6 +53,7 @@ use Rattle.element_runs.proofs.ElementMeaning as N
 use Rattle.element_runs.proofs.ElementMeaning.{designated_element, designated_is, element_meant, number_is, number_meant}
 use Rattle.element_runs.proofs.ElementMeaning.{number_of, numbers_meant, only, only_is}
 use Rattle.element_runs.proofs.ElementPoints.{ElementAt, array_at, element_at, frame_small, held_at, place_is}
+use Rattle.element_runs.proofs.Simple.{Brought, brought_simple}
 use Rattle.element_runs.proofs.SubscriptTests.{Beside, Jumps, nothing_beside, tested_code, tested_does}
 
 -- ---- behind the subscript
@@ -239,46 +240,35 @@ waiting_does k {aims} x b is s need outside begun ev closed p numbers taken c in
     (ev p numbers taken c index f o line (enough_need k taken need registers) (front_of part (put' ++ []) l0)
     (omega (arith, paid, n1, n5)) there)))))
 
--- ---- constants
-
-constant_wide : (n : ℕ) → n < 2 ^ 31 → IsWide (pos n)
-constant_wide n h = grind (arith, nat_tests)
-
-constant_meant : (k : Setting) (n : ℕ) (s : State) →
-    V.number k.around (Y.NumberConstant n) k.block.call.surroundings.acts s ≡ Normal (pos n) s
-unfolding V.number give
-constant_meant k n s = refl
+-- ---- simple subscripts
 
 -- one changes no other register
-pub constant_does :
+pub simple_does :
     (k : Setting) {aims : Aims V.Designated} {ys : Base → List (ℕ × ℕ)} (x : Spot) (b : Bounds)
-    (is : IsArray k.block x b) (n : ℕ) → n < 2 ^ 31 → SubscriptComes k → IsBegun k.block →
+    (is : IsArray k.block x b) (s : Y.Number) → SubscriptComes k → IsBegun k.block →
     Closed k.block.call.code aims → Beside ys → (p : Point) (numbers : ℕ → ℕ) (taken c index : ℕ) (f : Family) →
     Jumps k p.state.world.acts aims → (h : frame_of k.block p) → IsAmong k.block numbers p →
-    p.control.line ≡ k.around.line →
+    p.control.line ≡ k.around.line → (n : Brought k s p numbers h) →
     Linked k.block.call.surroundings.links k.block.call.code index
-    (element_code true k.block.environment (in_registers k.words taken) x b (Y.NumberConstant n)) →
-    c + size_of (element_code true k.block.environment (in_registers k.words taken) x b (Y.NumberConstant n)) + k.most
+    (element_code true k.block.environment (in_registers k.words taken) x b s) →
+    c + size_of (element_code true k.block.environment (in_registers k.words taken) x b s) + k.most
     ≤ cost k.block.call.code →
     ((b' : Base) → At b' index (Known (point_ground k.block.call.surroundings p h) (services_of p) numbers (λ j. 0) ys
     b') (f b')) →
-    (is_between b (pos n) ≡ true → (holds : N.Holds p.state x b) → ElementAt k.block x b is p holds (pos n) →
+    (is_between b n.z ≡ true → (holds : N.Holds p.state x b) → ElementAt k.block x b is p holds n.z →
     (f' : Family) →
     Finds k x b is ys p numbers h
-    (index + size_of (element_code true k.block.environment (in_registers k.words taken) x b (Y.NumberConstant n)))
-    (pos n) f' →
-    aims.done
-    (c + size_of (element_code true k.block.environment (in_registers k.words taken) x b (Y.NumberConstant n))) f'
-    (services_of p) (found b p.state holds (pos n)) p.state) →
+    (index + size_of (element_code true k.block.environment (in_registers k.words taken) x b s)) n.z f' →
+    aims.done (c + size_of (element_code true k.block.environment (in_registers k.words taken) x b s)) f'
+    (services_of p) (found b p.state holds n.z) p.state) →
     Comes k.block.call.code c f (services_of p) aims
-    (V.designated k.around (element x (Y.NumberConstant n)) k.block.call.surroundings.acts p.state)
-constant_does k {aims} {ys} x b is n few outside begun closed beside p numbers taken c index f jumps h o line l paid at
+    (V.designated k.around (element x s) k.block.call.surroundings.acts p.state)
+simple_does k {aims} {ys} x b is s outside begun closed beside p numbers taken c index f jumps h o line n l paid at
     next' =
     let w = k.block.call.surroundings in
     let code = k.block.call.code in
     let e = k.block.environment in
-    let s = Y.NumberConstant n in
-    let part = number u1 n in
+    let part = simple_loaded e u1 s in
     let test = tested_code b ++ [] in
     let last = found_code (x.level == e.level) x.level in
     let n3 = size_append part test in
@@ -287,28 +277,25 @@ constant_does k {aims} {ys} x b is n few outside begun closed beside p numbers t
     let l2 = front_of (part ++ test) last l in
     let i3 = index + size_of part in
     let c3 = c + size_of part in
-    let wide = constant_wide n few in
     let goal = before code aims w.acts (λ js. checks k x js) in
     subst (Comes code c f (services_of p) aims) (sym (element_meant k.around x s w.acts p.state))
     (comes_on w.acts (V.numbers k.around (Y.NumberThen s Y.NoNumber) w.acts p.state) (λ js. checks k x js)
     (subst (Comes code c f (services_of p) goal) (sym (numbers_meant k.around s w.acts p.state))
     (comes_on w.acts (V.number k.around s w.acts p.state) (λ z. only k.around z)
-    (subst (Comes code c f (services_of p) (before code goal w.acts (λ z. only k.around z)))
-    (sym (constant_meant k n p.state))
+    (subst (Comes code c f (services_of p) (before code goal w.acts (λ z. only k.around z))) (sym n.meant)
     (record {
       to =
-          subst (Comes code c f (services_of p) goal) (sym (only_is k.around (pos n) w.acts p.state))
+          subst (Comes code c f (services_of p) goal) (sym (only_is k.around n.z w.acts p.state))
           (record {
             to =
-                onward closed
-                (constant_piece c f u1 (pos n) (word_small (pos n) wide) beside.free1 (front_of part test l2) at)
+                onward closed (n.brings ys c index f beside (front_of part test l2) at)
                 (λ g3 at3.
-                behind_does k x b is outside begun closed jumps h o line beside c3 g3 (pos n) wide
+                behind_does k x b is outside begun closed jumps h o line beside c3 g3 n.z n.wide
                 (back_of part test l2)
                 (linked_at (i3 + size_of test) last (omega (arith, n3)) (back_of (part ++ test) last l))
                 (omega (arith, paid, n3, n4, n6)) at3
                 (λ between holds el f' finds.
-                subst (λ m. aims.done m f' (services_of p) (found b p.state holds (pos n)) p.state)
+                subst (λ m. aims.done m f' (services_of p) (found b p.state holds n.z) p.state)
                 (omega (arith, n3, n4, n6))
                 (next' between holds el f'
                 (λ b'. record {
@@ -355,32 +342,33 @@ located_waiting k aims x b is s need outside begun waits ev closed p numbers tak
     (next' q after h i between among since line' stays holds el f'
     (λ b'. record { pc = (finds b').pc ∙ ap (address b') (omega (arith, size)); holds = (finds b').holds })))
 
-located_constant :
-    (k : Setting) (aims : Aims V.Designated) (x : Spot) (b : Bounds) (is : IsArray k.block x b) (n need : ℕ) → n < 2 ^ 31 → SubscriptComes k →
-    IsBegun k.block → Located k x b is aims need (Y.NumberConstant n)
-located_constant k aims x b is n need few outside begun closed p numbers taken c index f jumps o line registers l paid
+located_simple :
+    (k : Setting) (aims : Aims V.Designated) (x : Spot) (b : Bounds) (is : IsArray k.block x b) (s : Y.Number)
+    (need : ℕ) → IsConstant s ⊎ IsVariable k.block s → SubscriptComes k → IsBegun k.block →
+    Located k x b is aims need s
+located_simple k aims x b is s need simple outside begun closed p numbers taken c index f jumps o line registers l paid
     there next' =
     let w = k.block.call.surroundings in
     let e = k.block.environment in
     let t = in_registers k.words taken in
     let h = point_frame o.stands o.image in
-    let same = element_is e t x b (Y.NumberConstant n) is.initial is.known.declared in
+    let n = brought_simple k s simple begun p numbers h o index f there in
+    let same = element_is e t x b s is.initial is.known.declared ∙ ap (λ q. element_code q e t x b s) n.simple in
     let size = ap (λ u. size_of u) same in
-    constant_does k x b is n few outside begun closed nothing_beside p numbers taken c index f jumps h o line
+    simple_does k x b is s outside begun closed nothing_beside p numbers taken c index f jumps h o line n
     (subst (Linked w.links k.block.call.code index) same l) (omega (arith, paid, size)) (λ b'. known_in h (there b') tt)
     (λ between holds el f' finds.
-    subst (λ m. aims.done m f' (services_of p) (found b p.state holds (pos n)) p.state) (omega (arith, size))
-    (next' p numbers h (pos n) between o (omega arith) refl (λ m less. refl) holds el f'
+    subst (λ m. aims.done m f' (services_of p) (found b p.state holds n.z) p.state) (omega (arith, size))
+    (next' p numbers h n.z between o (omega arith) refl (λ m less. refl) holds el f'
     (λ b'. record { pc = (finds b').pc ∙ ap (address b') (omega (arith, size)); holds = (finds b').holds })))
 
 pub located_does :
-    (k : Setting) (aims : Aims V.Designated) (x : Spot) (b : Bounds) (is : IsArray k.block x b) (s : Y.Number) (need : ℕ) → SubscriptComes k →
-    IsBegun k.block → IsSubscript k need s → Located k x b is aims need s
-located_does k aims x b is s need outside begun (inl waits) =
-    located_waiting k aims x b is s need outside begun waits.0 waits.1
-located_does k aims x b is s need outside begun (inr constant') =
-    subst (λ u. Located k x b is aims need u) (sym constant'.is)
-    (located_constant k aims x b is constant'.value need constant'.few outside begun)
+    (k : Setting) (aims : Aims V.Designated) (x : Spot) (b : Bounds) (is : IsArray k.block x b) (s : Y.Number)
+    (need : ℕ) → SubscriptComes k → IsBegun k.block → IsSubscript k need s → Located k x b is aims need s
+located_does k aims x b is s need outside begun (inl waiting) =
+    located_waiting k aims x b is s need outside begun waiting.waits waiting.does
+located_does k aims x b is s need outside begun (inr simple) =
+    located_simple k aims x b is s need simple outside begun
 
 -- ---- what is loaded
 

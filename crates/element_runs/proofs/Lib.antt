@@ -5,6 +5,7 @@ pub mod Addresses
 pub mod ElementCode
 pub mod ElementMeaning
 pub mod ElementPoints
+pub mod Simple
 pub mod Elements
 pub mod AssignedElements
 pub mod Assignments

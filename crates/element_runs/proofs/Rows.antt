@@ -411,7 +411,7 @@ uncaught input acts line few =
 
 two_is : (input : List ℕ) (acts line need : ℕ) →
     IsSubscript (setting_of (pick_block input acts) (pick_label ∷ []) line 200) need (Y.NumberConstant 2)
-two_is input acts line need = inr (record { value = 2; is = refl; few = omega arith })
+two_is input acts line need = inr (inl (record { value = 2; is = refl; few = omega arith }))
 
 first_is :
     (input : List ℕ) (acts : ℕ) → acts + 1 < 2 ^ 64 → IsBegun (pick_block input acts) →
@@ -516,13 +516,14 @@ again_does input (suc more) few b =
     let over : OverflowComes seven = overflow_ends seven (unraised input (suc more) 7 few) in
     let outside = subscripts_end seven (uncaught input (suc more) 7 few) in
     let is = array_known input (suc more) b in
-    let subscript : IsSubscript seven 0 picked = inl (refl, picked_is input more few b) in
+    let subscript : IsSubscript seven 0 picked = inl (record { waits = refl; does = picked_is input more few b }) in
     assign_does k (pick_label ∷ []) pick_array pick_bounds picked pick_sum 7 again_index left_over 2 0 200
     (again_is input (suc more) few b) outside
     (sum_does seven (Y.NumberIn (element pick_array picked))
-    (Y.NumberIn (element pick_array (Y.NumberConstant 2))) 1 1 over
+    (Y.NumberIn (element pick_array (Y.NumberIn (whole pick_spot)))) 1 1 over
     (element_does seven pick_array pick_bounds picked 0 b is outside subscript)
-    (element_does seven pick_array pick_bounds (Y.NumberConstant 2) 0 b is outside (two_is input (suc more) 7 0)))
+    (element_does seven pick_array pick_bounds (Y.NumberIn (whole pick_spot)) 0 b is outside
+    (inr (inr (record { spot = pick_spot; is = refl; number = pick_number input (suc more) b })))))
     subscript
 
 pub pick_each :

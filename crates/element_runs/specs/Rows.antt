@@ -32,7 +32,7 @@ use Rattle.element_runs.specs.Arrays.{array_declared, element}
 use Rattle.element_runs.specs.Laws.{element_assigned}
 
 -- ---- the program: DECLARE A(3) FIXED BINARY(31), X FIXED BINARY(31); F: PROCEDURE RETURNS(FIXED BINARY(31));
--- RETURN (X); END F; X = 2; A(2) = 536870912; L: A(F()) = A(F()) + A(2); GOTO L;
+-- RETURN (X); END F; X = 2; A(2) = 536870912; L: A(F()) = A(F()) + A(X); GOTO L;
 
 abbrev pub pick_bounds : Bounds
 pick_bounds = record { lower = pos 1; upper = pos 3 }
@@ -57,7 +57,8 @@ pick_begun = element_assigned pick_array (Y.NumberConstant 2) (Y.NumberConstant 
 
 abbrev pub pick_sum : Y.Number
 pick_sum =
-    Y.Calculated Y.Sum (Y.NumberIn (element pick_array picked)) (Y.NumberIn (element pick_array (Y.NumberConstant 2)))
+    Y.Calculated Y.Sum (Y.NumberIn (element pick_array picked))
+    (Y.NumberIn (element pick_array (Y.NumberIn (whole pick_spot))))
 
 abbrev pub pick_again : Y.Stmt
 pick_again = element_assigned pick_array picked pick_sum 7

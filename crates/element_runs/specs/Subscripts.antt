@@ -19,6 +19,7 @@ use Rattle.program_runs.specs.Statements.{Block, IsAmong, JumpsTo}
 use Rattle.expression_runs.specs.Laws as L
 use Rattle.expression_runs.specs.Raises.{Routines}
 use Rattle.expression_runs.specs.Values.{Setting}
+use Rattle.expression_runs.specs.Variables.{IsNumber, Spot, whole}
 
 -- ---- ERROR
 
@@ -52,12 +53,21 @@ pub record IsUncaught (k : Setting) : Type 0 where
 
 -- ---- subscripts
 
--- one that is evaluated and waits does what it means, with so many registers; or it is a constant, which comes into its
--- register by itself
+-- a constant, or a FIXED BINARY(31) variable of the block, comes into its register by itself
 pub record IsConstant (x : Y.Number) : Type 0 where
   pub value : ℕ
   pub is : x ≡ Y.NumberConstant value
   pub few : value < 2 ^ 31
 
+pub record IsVariable (k : Block) (x : Y.Number) : Type 0 where
+  pub spot : Spot
+  pub is : x ≡ Y.NumberIn (whole spot)
+  pub number : IsNumber k spot
+
+-- any other is evaluated and waits: it does what it means, with so many registers
+pub record IsWaiting (k : Setting) (need : ℕ) (x : Y.Number) : Type 0 where
+  pub waits : is_simple k.block.environment x ≡ false
+  pub does : L.Does k need x
+
 abbrev pub IsSubscript : Setting → (need : ℕ) → Y.Number → Type 0
-IsSubscript k need x = ((is_simple k.block.environment x ≡ false) × L.Does k need x) ⊎ IsConstant x
+IsSubscript k need x = IsWaiting k need x ⊎ (IsConstant x ⊎ IsVariable k.block x)
