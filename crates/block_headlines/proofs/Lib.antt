@@ -1,3 +1,4 @@
 pub mod JumpRuns
 pub mod VariableRuns
+pub mod ElementRuns
 pub mod Headlines

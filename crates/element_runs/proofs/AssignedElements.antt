@@ -1,22 +1,21 @@
 -- The point behind an assignment to an element of an array: all that holds at the point before holds there.
-use Rattle.std.proofs.Common.{◌≡◌, ◌≢◌, ◌⊎◌, inl, inr, ℕ, ◌+◌, ◌*◌, ◌^◌, ◌<◌, ◌≤◌, List, [], ◌∷◌, length, Option, None}
+use Rattle.std.proofs.Common.{◌≡◌, ◌≢◌, ◌⊎◌, inl, inr, ℕ, ◌+◌, ◌*◌, ◌≤◌, List, [], ◌∷◌, length, Option, None}
 use Rattle.std.proofs.Common.{Some, Bool, true, false, refl, sym, ap, ◌∙◌, subst, arith}
-use Rattle.std.proofs.lemmas.Bool.{cases_eq, eqb-true}
-use Rattle.std.specs.Prelude.{ℤ, cond, pos, ◌==◌}
-use Rattle.rv_meaning.specs.Machine.{memory_size}
+use Rattle.std.proofs.lemmas.Bool.{cases_eq}
+use Rattle.std.specs.Prelude.{ℤ, cond, ◌==◌}
 use Rattle.rv_meaning.specs.Memory.{store}
 use Rattle.rv_meaning.specs.Words.{word}
-use Rattle.pli_meaning.specs.BasicValues.{BasicNumber, BasicValue, VariableName}
+use Rattle.pli_meaning.specs.BasicValues.{BasicNumber, BasicValue}
 use Rattle.pli_meaning.specs.Contents.{Generation}
 use Rattle.pli_meaning.specs.Evaluating.{Designated}
 use Rattle.pli_meaning.specs.Numbers.{is_of_precision}
 use Rattle.pli_meaning.specs.Placing.{with_element}
-use Rattle.pli_meaning.specs.StorageState.{AreaContents, Living, State, area_of_leaves, generation_at}
+use Rattle.pli_meaning.specs.StorageState.{AreaContents, Living, area_of_leaves}
 use Rattle.pli_meaning.specs.StorageState.{generation_changed}
-use Rattle.pli_meaning.specs.StorageState.{generation_of, heap_serial, living_changed, living_of}
+use Rattle.pli_meaning.specs.StorageState.{generation_of, living_changed, living_of}
 use Rattle.area_keeper.specs.Keeper.{Keeper}
 use Rattle.pli_coding.specs.Frames.{MemoryParts}
-use Rattle.storage_relation.specs.Changes.{IsAssignable, assigned}
+use Rattle.storage_relation.specs.Changes.{IsAssignable}
 use Rattle.storage_relation.specs.Keeping.{StoresNumber}
 use Rattle.storage_relation.specs.Served.{Holds}
 use Rattle.storage_relation.specs.Standing.{Alone, bytes_of, held, holder_by, holder_of}
@@ -34,15 +33,13 @@ use Rattle.pli_typing.specs.Signatures.{Bounds, Fixed}
 use Rattle.run_steps.specs.Engine.{Base}
 use Rattle.storage_relation.proofs.MachineStores.{word_stored}
 use Rattle.activation_relation.specs.Entering.{Later}
-use Rattle.activation_relation.specs.Frames.{FramesStand}
-use Rattle.activation_relation.specs.Layers.{Layer, Point, now, services_of}
+use Rattle.activation_relation.specs.Layers.{Point, now, services_of}
 use Rattle.activation_relation.specs.Owned.{AreOwned, IsPlaceOf}
 use Rattle.activation_relation.specs.Points.{Stands, Surroundings}
 use Rattle.activation_relation.specs.Remaining.{with_assigned}
 use Rattle.activation_relation.proofs.BlockVariables.{stored_stand}
 use Rattle.activation_relation.proofs.Remaining.{remains_assigned}
 use Rattle.activation_relation.proofs.Returning.{later_then}
-use Rattle.block_runs.specs.Machines.{IsImage}
 use Rattle.block_runs.proofs.PointGrounds.{StandsIn}
 use Rattle.program_runs.specs.Statements.{Block, IsAmong}
 use Rattle.element_runs.proofs.Bounds.{is_between, place_at, within_is}

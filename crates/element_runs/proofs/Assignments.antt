@@ -1,40 +1,37 @@
 -- An assignment to an element: its act, its value, its subscript, and the store; the act pays for all of it.
-use Rattle.std.proofs.Common.{◌≡◌, ℕ, suc, ◌+◌, ◌*◌, ◌^◌, ◌<◌, ◌≤◌, ◌⊎◌, inl, inr, List, [], ◌∷◌, ◌++◌, true, false, refl}
+use Rattle.std.proofs.Common.{◌≡◌, ℕ, ◌+◌, ◌*◌, ◌≤◌, ◌⊎◌, inl, inr, List, [], ◌∷◌, ◌++◌, true, false, refl}
 use Rattle.std.proofs.Common.{sym, ap, ◌∙◌, subst, arith}
 use Rattle.std.specs.Prelude.{ℤ, max, pos}
 use Rattle.std.proofs.lemmas.Bool.Decides.{nat_tests}
 use Rattle.std.proofs.Math.Nat.{le-max_left, le-max_right}
 use Rattle.rv_meaning.specs.declared.instr.StoreKind.TheVariants as Store
-use Rattle.rv_meaning.specs.Machine.{value}
 use Rattle.rv_meaning.specs.Memory.{store}
 use Rattle.rv_meaning.specs.Words.{word}
 use Rattle.pli_typing.specs.Signatures.{Bounds}
 use Rattle.pli_typing.specs.TypedTree as Y
 use Rattle.pli_meaning.specs.BasicValues.{BasicNumber, BasicValue}
-use Rattle.pli_meaning.specs.Control.{Label, Meaning, Normal, act, flow_on, give, ◌>>=◌, ◌>>◌}
+use Rattle.pli_meaning.specs.Control.{Label, Meaning, act, give, ◌>>=◌, ◌>>◌}
 use Rattle.pli_meaning.specs.Evaluating as V
 use Rattle.pli_meaning.specs.Executing as M
 use Rattle.pli_meaning.specs.Numbers.{checked, is_of_precision}
 use Rattle.pli_meaning.specs.Raising as R
 use Rattle.pli_meaning.specs.Raising.{at_line}
-use Rattle.pli_meaning.specs.StorageState.{State}
 use Rattle.pli_meaning.specs.World.{counted}
 use Rattle.pli_serving.specs.ServiceState.{Services}
 use Rattle.pli_coding.specs.Allocating.{act_code}
-use Rattle.pli_coding.specs.Assembly.{Code, size_of}
-use Rattle.pli_coding.specs.Environments.{Taken, fetch, none_taken, save, with_number}
+use Rattle.pli_coding.specs.Assembly.{size_of}
+use Rattle.pli_coding.specs.Environments.{fetch, none_taken, save, with_number}
 use Rattle.pli_coding.specs.Expressions.{number_code, reference_code}
 use Rattle.pli_coding.specs.Locating.{is_simple}
-use Rattle.pli_coding.specs.Registers.{a0, held_registers, u3}
+use Rattle.pli_coding.specs.Registers.{a0, u3}
 use Rattle.pli_coding.specs.Storing.{word_stored}
 use Rattle.activation_relation.specs.Layers.{Point, services_of}
-use Rattle.run_steps.specs.Bodies.{Known, with'}
+use Rattle.run_steps.specs.Bodies.{Known}
 use Rattle.run_steps.proofs.Bodies.{narrow_store_into}
 use Rattle.run_steps.specs.Engine.{Base}
 use Rattle.run_steps.specs.Items.{At, Linked}
 use Rattle.run_steps.proofs.Jumps.{back_of, front_of, linked_at}
 use Rattle.run_steps.proofs.Linking.{size_append}
-use Rattle.run_steps.specs.Numbers.{IsWide}
 use Rattle.run_steps.proofs.Numbers.{word_small}
 use Rattle.run_steps.specs.Owing.{owing}
 use Rattle.run_steps.proofs.Owing.{comes_owing, done_owing, owing_closed}
@@ -50,7 +47,7 @@ use Rattle.program_runs.proofs.JumpsOut.{jumps_repaid, jumps_since}
 use Rattle.program_runs.proofs.Statements.{acted_among, goes_here, statement_closed}
 use Rattle.expression_runs.specs.Assignments.{setting_of}
 use Rattle.expression_runs.specs.Laws as L
-use Rattle.expression_runs.specs.Values.{HasRegisters, HasWord, Setting, Stretch, behind, in_registers, number_aims}
+use Rattle.expression_runs.specs.Values.{HasRegisters, Setting, behind, in_registers, number_aims}
 use Rattle.expression_runs.specs.Variables.{Spot, number_place}
 use Rattle.expression_runs.proofs.Assignments.{fit_is}
 use Rattle.expression_runs.proofs.Saving.{fetched_reach, held_after, held_among, held_is_given, next_taken}
@@ -68,7 +65,7 @@ use Rattle.element_runs.proofs.ElementCode.{element_code, element_is, kept_code,
 use Rattle.element_runs.proofs.ElementMeaning as N
 use Rattle.element_runs.proofs.ElementMeaning.{assigned_is, assigned_meant, stored_in}
 use Rattle.element_runs.proofs.ElementPoints.{ElementAt, element_at, frame_small, place_is}
-use Rattle.element_runs.proofs.Elements.{Finds, found, located_does, simple_does}
+use Rattle.element_runs.proofs.Elements.{located_does, simple_does}
 use Rattle.element_runs.proofs.SubscriptTests.{Jumps, valued_beside}
 
 -- ---- the store

@@ -1,6 +1,6 @@
 -- The code that finds an element of an array, loads it, and stores in it.
-use Rattle.std.proofs.Common.{◌≡◌, ℕ, ◌+◌, List, [], ◌∷◌, ◌++◌, Option, Some, Bool, true, false, refl, ap, ◌∙◌}
-use Rattle.std.specs.Prelude.{pos, cond, ◌&&◌, ◌==◌, slice_get, unwrap_or, if◌then◌else◌}
+use Rattle.std.proofs.Common.{◌≡◌, ◌+◌, [], ◌++◌, Option, Some, Bool, true, ap, ◌∙◌}
+use Rattle.std.specs.Prelude.{pos, ◌&&◌, ◌==◌, slice_get, unwrap_or, if◌then◌else◌}
 use Rattle.rv_meaning.specs.declared.instr.Instr.TheVariants as I
 use Rattle.rv_meaning.specs.declared.instr.LoadKind.TheVariants as Load
 use Rattle.rv_meaning.specs.declared.instr.StoreKind.TheVariants as Store
@@ -13,7 +13,7 @@ use Rattle.pli_coding.specs.Expressions.{address_in, number_code, reference_code
 use Rattle.pli_coding.specs.Frames.{automatic_place, has_constant_size}
 use Rattle.pli_coding.specs.Instructions.{displaced}
 use Rattle.pli_coding.specs.Locating.{Address, element_added, found_reached, frame_found, frame_in, is_simple}
-use Rattle.pli_coding.specs.Locating.{leaf_number, leaf_place, loaded, no_leaf, simple_loaded, stored, subscript_given}
+use Rattle.pli_coding.specs.Locating.{leaf_number, leaf_place, loaded, no_leaf, simple_loaded, stored}
 use Rattle.pli_coding.specs.Locating.{subscripts_counted}
 use Rattle.pli_coding.specs.Registers.{a0, u1, u3}
 use Rattle.pli_coding.specs.Storing.{is_near, word_stored}
@@ -111,6 +111,7 @@ stored_is e t x b s initial declared =
     let r = element x s in
     let written = stored (type_in e r) a0 (address_in e r) in
     ap (λ q. if q then reference_code e t r ++ written
-    else save a0 t ++ (reference_code e (with_number t) r ++ (fetch a0 t ++ written))) (near_is e x b s initial declared)
+    else save a0 t ++ (reference_code e (with_number t) r ++ (fetch a0 t ++ written)))
+    (near_is e x b s initial declared)
     ∙ ap (λ c. if is_simple e s && true then reference_code e t r ++ c
     else save a0 t ++ (reference_code e (with_number t) r ++ (fetch a0 t ++ c))) (stored_is' e x b s initial declared)

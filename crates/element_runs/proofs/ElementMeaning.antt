@@ -1,12 +1,12 @@
 -- What an element of an array means at a point of a block: the number that it holds, and the state after an
 -- assignment.
-use Rattle.std.proofs.Common.{◌≡◌, ℕ, List, [], ◌∷◌, Some, None, true, refl, sym, ap, ◌∙◌}
+use Rattle.std.proofs.Common.{◌≡◌, ℕ, List, [], ◌∷◌, Some, None, true, refl, ap, ◌∙◌}
 use Rattle.std.specs.Prelude.{ℤ, pos, cond, take, ◌&&◌}
 use Rattle.pli_typing.specs.Signatures.{Bounds}
 use Rattle.pli_typing.specs.TypedTree as Y
 use Rattle.pli_meaning.specs.BasicValues.{BasicNumber, BasicValue, VariableName}
 use Rattle.pli_meaning.specs.Contents.{Generation, is_within, number_in, same_int, same_shape}
-use Rattle.pli_meaning.specs.Control.{Meaning, Normal, choose, flow_on, give, looked, stored, ◌>>=◌, ◌>>◌}
+use Rattle.pli_meaning.specs.Control.{Meaning, Normal, flow_on, give, looked, stored, ◌>>=◌, ◌>>◌}
 use Rattle.pli_meaning.specs.Evaluating as V
 use Rattle.pli_meaning.specs.Executing as M
 use Rattle.pli_meaning.specs.Placing as P

@@ -1,28 +1,24 @@
 -- An element of an array: its subscript, the test of that, and its address; and what is loaded from there.
-use Rattle.std.proofs.Common.{◌≡◌, ℕ, suc, ◌+◌, ◌*◌, ◌^◌, ◌<◌, ◌≤◌, ◌⊎◌, inl, inr, List, [], ◌∷◌, ◌++◌, Bool, true, false}
+use Rattle.std.proofs.Common.{◌≡◌, ℕ, ◌+◌, ◌*◌, ◌<◌, ◌≤◌, ◌⊎◌, inl, inr, List, [], ◌∷◌, ◌++◌, true, false}
 use Rattle.std.proofs.Common.{refl, sym, ap, ◌∙◌, subst, arith}
 use Rattle.std.specs.Prelude.{ℤ, max, pos, None, ◌==◌}
-use Rattle.std.proofs.lemmas.Bool.Decides.{nat_tests}
 use Rattle.std.proofs.Math.Nat.{le-max_left, le-max_right}
 use Rattle.rv_meaning.specs.declared.instr.LoadKind.TheVariants as Load
-use Rattle.rv_meaning.specs.Memory.{load}
 use Rattle.rv_meaning.specs.Words.{word}
 use Rattle.pli_typing.specs.Signatures.{Bounds}
 use Rattle.pli_typing.specs.TypedTree as Y
-use Rattle.pli_meaning.specs.Control.{Meaning, Normal, flow_on, give}
+use Rattle.pli_meaning.specs.Control.{Meaning, give}
 use Rattle.pli_meaning.specs.Evaluating as V
 use Rattle.pli_meaning.specs.Raising as R
 use Rattle.pli_meaning.specs.StorageState.{State}
-use Rattle.pli_serving.specs.ServiceState.{Services}
-use Rattle.pli_coding.specs.Assembly.{Code, size_of}
-use Rattle.pli_coding.specs.Environments.{Taken, fetch, save}
+use Rattle.pli_coding.specs.Assembly.{size_of}
+use Rattle.pli_coding.specs.Environments.{fetch, save}
 use Rattle.pli_coding.specs.Expressions.{number_code, reference_code}
-use Rattle.pli_coding.specs.Instructions.{number}
 use Rattle.pli_coding.specs.Locating.{is_simple, simple_loaded}
 use Rattle.pli_coding.specs.Registers.{a0, u1, u3}
 use Rattle.activation_relation.specs.Layers.{Point, services_of}
 use Rattle.run_steps.specs.Bodies.{Known, with'}
-use Rattle.run_steps.proofs.Bodies.{constant_piece, narrow_load_from}
+use Rattle.run_steps.proofs.Bodies.{narrow_load_from}
 use Rattle.run_steps.specs.Engine.{Base, address}
 use Rattle.run_steps.specs.Items.{At, Linked}
 use Rattle.run_steps.proofs.Jumps.{back_of, front_of, linked_at}
@@ -38,20 +34,20 @@ use Rattle.block_runs.proofs.PointGrounds.{in_known, known_in, point_frame, poin
 use Rattle.program_runs.specs.Statements.{IsAmong, IsBegun}
 use Rattle.program_runs.proofs.JumpsOut.{jumps_since}
 use Rattle.expression_runs.specs.Laws as L
-use Rattle.expression_runs.specs.Values.{Evaluates, HasRegisters, HasWord, Setting, Stretch, behind, in_registers}
+use Rattle.expression_runs.specs.Values.{HasRegisters, Setting, behind, in_registers}
 use Rattle.expression_runs.specs.Values.{number_aims}
 use Rattle.expression_runs.specs.Variables.{Spot, number_place, variable_of, whole_part}
 use Rattle.expression_runs.proofs.Saving.{fetched_reach, held_after, held_among, held_is_given, held_stays, saved_reach}
 use Rattle.expression_runs.proofs.VariablePoints.{first_base, reaches_by}
-use Rattle.expression_runs.proofs.Words.{frame_of, known_word, number_closed, valued, word_here}
+use Rattle.expression_runs.proofs.Words.{frame_of, known_word, number_closed}
 use Rattle.element_runs.specs.Arrays.{IsArray, element}
 use Rattle.element_runs.specs.Subscripts.{IsConstant, IsSubscript, IsVariable, SubscriptComes}
 use Rattle.element_runs.proofs.Addresses.{found_code, found_reach}
 use Rattle.element_runs.proofs.Bounds.{is_between, place_at}
-use Rattle.element_runs.proofs.ElementCode.{behind_given, element_code, element_is, evaluated, given, loaded_is, loads}
+use Rattle.element_runs.proofs.ElementCode.{behind_given, element_code, element_is, loaded_is, loads}
 use Rattle.element_runs.proofs.ElementMeaning as N
-use Rattle.element_runs.proofs.ElementMeaning.{designated_element, designated_is, element_meant, number_is, number_meant}
-use Rattle.element_runs.proofs.ElementMeaning.{number_of, numbers_meant, only, only_is}
+use Rattle.element_runs.proofs.ElementMeaning.{designated_element, designated_is, element_meant, number_is}
+use Rattle.element_runs.proofs.ElementMeaning.{number_meant, number_of, numbers_meant, only, only_is}
 use Rattle.element_runs.proofs.ElementPoints.{ElementAt, array_at, element_at, frame_small, held_at, place_is}
 use Rattle.element_runs.proofs.Simple.{Brought, brought_simple}
 use Rattle.element_runs.proofs.SubscriptTests.{Beside, Jumps, nothing_beside, tested_code, tested_does}
@@ -84,7 +80,8 @@ pub behind_does :
     (with' 6 (λ b0. word i) ys) b') (f b')) →
     (is_between b i ≡ true → (holds : N.Holds p.state x b) (e : ElementAt k.block x b is p holds i) (f' : Family) →
     Finds k x b is ys p numbers h (index + size_of (behind_given k.block.environment x b)) i f' →
-    aims.done (c + size_of (behind_given k.block.environment x b)) f' (services_of p) (found b p.state holds i) p.state) →
+    aims.done (c + size_of (behind_given k.block.environment x b)) f' (services_of p) (found b p.state holds i)
+    p.state) →
     Comes k.block.call.code c f (services_of p) aims
     (V.variable_designated k.around (variable_of x) None whole_part (i ∷ []) k.block.call.surroundings.acts p.state)
 unfolding give
@@ -134,8 +131,8 @@ enough_one k taken need h =
     (omega (arith, room, most), h.1)
 
 -- what goes on where the element is found, at a point behind its subscript
-abbrev pub Next : (k : Setting) (x : Spot) (b : Bounds) (is : IsArray k.block x b) (aims : Aims V.Designated) (p : Point)
-    (numbers : ℕ → ℕ) (taken end credits : ℕ) → Type 0
+abbrev pub Next : (k : Setting) (x : Spot) (b : Bounds) (is : IsArray k.block x b) (aims : Aims V.Designated)
+    (p : Point) (numbers : ℕ → ℕ) (taken end credits : ℕ) → Type 0
 Next k x b is aims p numbers taken end credits =
     (q : Point) (after : ℕ → ℕ) (h : frame_of k.block q) (i : ℤ) → is_between b i ≡ true → IsAmong k.block after q →
     p.state.world.acts ≤ q.state.world.acts → q.control.line ≡ p.control.line →
@@ -325,8 +322,9 @@ Located k x b is aims need s =
     (V.designated k.around (element x s) k.block.call.surroundings.acts p.state)
 
 located_waiting :
-    (k : Setting) (aims : Aims V.Designated) (x : Spot) (b : Bounds) (is : IsArray k.block x b) (s : Y.Number) (need : ℕ) → SubscriptComes k →
-    IsBegun k.block → is_simple k.block.environment s ≡ false → L.Does k need s → Located k x b is aims need s
+    (k : Setting) (aims : Aims V.Designated) (x : Spot) (b : Bounds) (is : IsArray k.block x b) (s : Y.Number)
+    (need : ℕ) → SubscriptComes k → IsBegun k.block →
+    is_simple k.block.environment s ≡ false → L.Does k need s → Located k x b is aims need s
 located_waiting k aims x b is s need outside begun waits ev closed p numbers taken c index f jumps o line registers l
     paid there next' =
     let w = k.block.call.surroundings in
@@ -392,7 +390,8 @@ element_does k x b s need begun is outside subscript p numbers taken c index f o
     subst (Comes code c f (services_of p) goal) (sym (number_meant k.around x s w.acts p.state))
     (comes_on w.acts (V.designated k.around (element x s) w.acts p.state) (λ d. number_of d)
     (located_does k (before code goal w.acts (λ d. number_of d)) x b is s need outside begun subscript
-    (before_closed w.acts (λ d. number_of d) closed) p numbers taken c index f (λ c' f' v' height label s' q. q) o line registers (front_of r (loads e x) l')
+    (before_closed w.acts (λ d. number_of d) closed) p numbers taken c index f
+    (λ c' f' v' height label s' q. q) o line registers (front_of r (loads e x) l')
     (omega (arith, paid, size, n1)) there
     (λ q after h i between among since line' stays holds el f' finds.
     let base = first_base in

@@ -1,13 +1,13 @@
 -- A subscript outside its bounds where no unit is in force for ERROR: the run ends.
-use Rattle.std.proofs.Common.{◌≡◌, ℕ, ◌+◌, ◌*◌, ◌^◌, ◌<◌, ◌≤◌, List, [], ◌∷◌, refl, sym, subst, arith, lit<}
+use Rattle.std.proofs.Common.{◌≡◌, ℕ, ◌+◌, ◌^◌, ◌<◌, List, [], ◌∷◌, refl, sym, subst, arith, lit<}
 use Rattle.pli_language.specs.declared.condition.Condition.TheVariants as C
 use Rattle.pli_meaning.specs.Control.{Label}
 use Rattle.pli_meaning.specs.StorageState.{force}
-use Rattle.pli_coding.specs.Assembly.{JumpTo, RaiseError, size_of}
+use Rattle.pli_coding.specs.Assembly.{JumpTo, RaiseError}
 use Rattle.pli_coding.specs.Instructions.{small}
 use Rattle.pli_coding.specs.Registers.{a1}
 use Rattle.rv_meaning.specs.Words.{sum}
-use Rattle.activation_relation.specs.Layers.{Point, services_of}
+use Rattle.activation_relation.specs.Layers.{services_of}
 use Rattle.activation_relation.specs.ServiceLaws.{IsSystem}
 use Rattle.run_steps.specs.Bodies.{Known}
 use Rattle.run_steps.proofs.Bodies.{zero_is}

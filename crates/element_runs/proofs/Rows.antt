@@ -1,5 +1,5 @@
 -- The worked row: all that is premised of the program is computed.
-use Rattle.std.proofs.Common.{◌≡◌, ℕ, zero, suc, ◌+◌, ◌*◌, ◌^◌, ◌<◌, List, [], ◌∷◌, ◌++◌, inl, length, map, Some}
+use Rattle.std.proofs.Common.{◌≡◌, ℕ, zero, suc, ◌+◌, ◌^◌, ◌<◌, List, [], ◌∷◌, ◌++◌, inl, length, map, Some}
 use Rattle.std.proofs.Common.{inr, true, false, refl, sym, ap, ◌∙◌, subst, arith}
 use Rattle.std.specs.Prelude.{ℤ}
 use Rattle.pli_types.specs.Templates.{Template}
@@ -40,7 +40,6 @@ use Rattle.run_steps.specs.Reach.{Comes, never}
 use Rattle.program_runs.specs.Calls.{AreMade, Callee, block_at, body_index, left_over}
 use Rattle.program_runs.specs.Procedures.{begin_of, end_of, procedure_code}
 use Rattle.program_runs.specs.Programs.{IsWhole, Whole, main_of}
-use Rattle.program_runs.specs.Rows.{row_head}
 use Rattle.program_runs.specs.Starts.{first_family, image_parts, main_called, no_numbers, start_of}
 use Rattle.program_runs.specs.Starts.{start_point, surroundings_of}
 use Rattle.program_runs.specs.Statements.{Block, Does, EachDoes, IsAmong, IsBegun, StandAt}
@@ -62,8 +61,8 @@ use Rattle.expression_runs.proofs.Operands.{constant_does}
 use Rattle.expression_runs.proofs.Raises.{overflow_ends}
 use Rattle.expression_runs.proofs.Sums.{sum_does}
 use Rattle.expression_runs.proofs.VariablePoints.{variable_does}
-use Rattle.function_runs.specs.FunctionCalls.{IsFunctionCall, called_from}
-use Rattle.function_runs.specs.Functions.{IsFunction, function_block, function_code, function_entry}
+use Rattle.function_runs.specs.FunctionCalls.{called_from}
+use Rattle.function_runs.specs.Functions.{IsFunction, function_block, function_code}
 use Rattle.function_runs.specs.Functions.{function_tail}
 use Rattle.function_runs.proofs.FunctionCalls.{function_does}
 use Rattle.function_runs.proofs.OuterVariables.{function_number}
@@ -76,7 +75,8 @@ use Rattle.element_runs.specs.Laws.{IsElementAssignment}
 use Rattle.element_runs.specs.Rows.{array_made, inner_body, inner_coded, inner_entry, inner_environment}
 use Rattle.element_runs.specs.Rows.{inner_procedure, main_coded, number_made, pick_again, pick_array, pick_back}
 use Rattle.element_runs.specs.Rows.{pick_begun, pick_body, pick_bounds, pick_code, pick_end, pick_entry}
-use Rattle.element_runs.specs.Rows.{pick_environment, pick_first, pick_image, pick_inner, pick_label, pick_last, pick_main}
+use Rattle.element_runs.specs.Rows.{pick_environment, pick_first, pick_image, pick_inner, pick_label, pick_last}
+use Rattle.element_runs.specs.Rows.{pick_main}
 use Rattle.element_runs.specs.Rows.{pick_program, pick_rest, pick_return, pick_spot, pick_sum, picked}
 use Rattle.element_runs.specs.Subscripts.{IsSubscript, IsUncaught}
 use Rattle.element_runs.proofs.Assignments.{assign_does}
@@ -509,7 +509,8 @@ picked_is input more few b =
 again_does :
     (input : List ℕ) (acts : ℕ) → acts + 1 < 2 ^ 64 → IsBegun (pick_block input acts) →
     Does (pick_block input acts) (pick_label ∷ []) pick_again again_index left_over
-again_does input zero few b = none_does (pick_block input zero) (pick_label ∷ []) pick_again again_index left_over b refl
+again_does input zero few b =
+    none_does (pick_block input zero) (pick_label ∷ []) pick_again again_index left_over b refl
 again_does input (suc more) few b =
     let k = pick_block input (suc more) in
     let seven = setting_of k (pick_label ∷ []) 7 200 in
@@ -528,7 +529,8 @@ again_does input (suc more) few b =
 
 pub pick_each :
     (input : List ℕ) (acts : ℕ) → acts + 1 < 2 ^ 64 → IsBegun (pick_block input acts) →
-    EachDoes (pick_block input acts) (pick_label ∷ []) pick_body (body_index (main_of (pick_whole input acts))) left_over
+    EachDoes (pick_block input acts) (pick_label ∷ []) pick_body (body_index (main_of (pick_whole input acts)))
+    left_over
 pick_each input acts few b =
     let k = pick_block input acts in
     let labels = pick_label ∷ [] in (

@@ -1,7 +1,7 @@
 -- Simple subscripts: a constant, or a FIXED BINARY(31) variable of the block, comes into u1, and no other register
 -- changes.
-use Rattle.std.proofs.Common.{◌≡◌, ℕ, ◌+◌, ◌^◌, ◌<◌, ◌≤◌, ◌⊎◌, inl, inr, List, [], ◌++◌, Option, Some, true, refl, sym}
-use Rattle.std.proofs.Common.{ap, ◌∙◌, subst, arith}
+use Rattle.std.proofs.Common.{◌≡◌, ℕ, ◌+◌, ◌^◌, ◌<◌, ◌⊎◌, inl, inr, List, ◌++◌, Option, Some, true, refl, sym}
+use Rattle.std.proofs.Common.{ap, subst, arith}
 use Rattle.std.proofs.lemmas.Bool.Decides.{nat_tests}
 use Rattle.std.specs.Prelude.{ℤ, pos, ◌==◌, slice_get, unwrap_or}
 use Rattle.rv_meaning.specs.declared.instr.Instr.TheVariants as I
@@ -105,7 +105,8 @@ brought_is :
 brought_is e x initial declared =
     ap (λ o. frame_found e x.level u1 ++ loaded (type_by o) u1 (record {
       register = frame_in e x.level u1;
-      displacement = pos (automatic_place e.parts e.program x.block x.level x.index + 16 + leaf_place (declared_in o) 0);
+      displacement =
+          pos (automatic_place e.parts e.program x.block x.level x.index + 16 + leaf_place (declared_in o) 0);
     })) declared
 
 brought_variable :

@@ -1,5 +1,5 @@
 -- The code that tests a subscript against constant bounds: its distance from the lower one is left, or ERROR comes.
-use Rattle.std.proofs.Common.{◌≡◌, ℕ, ◌+◌, ◌^◌, ◌<◌, ◌≤◌, List, [], ◌∷◌, ◌++◌, Bool, true, false, refl, sym, ap, ◌∙◌}
+use Rattle.std.proofs.Common.{◌≡◌, ℕ, ◌+◌, ◌^◌, ◌<◌, ◌≤◌, List, [], ◌++◌, Bool, true, false, refl, sym, ap, ◌∙◌}
 use Rattle.std.proofs.Common.{subst, arith}
 use Rattle.std.specs.Prelude.{ℤ, pos, neg_ℤ, ◌-ℤ◌, cond, not, nat_lt, if◌then◌else◌}
 use Rattle.rv_meaning.specs.declared.instr.BranchTest.TheVariants as Test
@@ -122,7 +122,7 @@ less_by false k h c f b z e is wide beside l at =
 abbrev tested_skip : Code
 tested_skip = skip_where Test.GreaterOrEqualUnsigned u2 u1 (error_raised subscript_code)
 
--- where a flow is left at an unit's jump
+-- where a flow is left by a jump
 abbrev pub Jumps : {X : Type 0} → Setting → (acts : ℕ) → Aims X → Type 0
 Jumps k acts aims =
     (c : ℕ) (f : Family) (v : Services) (height : ℕ) (label : Label) (s : State) →
@@ -197,7 +197,6 @@ tested_does k {p} {numbers} {i} {ys} {aims} outside closed jumps h o line beside
         ∙ ap (λ u. if u then false else true) (between_tested b z is wide)
         ∙ ap (λ u. if not u then false else true) e
         ∙ twice q
-
       where
         twice : (q : Bool) → (if not q then false else true) ≡ q
         twice true = refl

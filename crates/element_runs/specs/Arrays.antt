@@ -1,5 +1,5 @@
 -- Arrays of FIXED BINARY(31) with constant bounds of one dimension, and their elements.
-use Rattle.std.specs.Prelude.{ℕ, ◌^◌, ◌<◌, ◌≤◌, ◌≡◌, List, [], ◌∷◌, None, true, int_le}
+use Rattle.std.specs.Prelude.{◌^◌, ◌≤◌, ◌≡◌, List, [], ◌∷◌, None, true, int_le}
 use Rattle.pli_language.specs.Tree as T
 use Rattle.pli_typing.specs.Signatures.{Bounds, span}
 use Rattle.pli_typing.specs.TypedTree as Y

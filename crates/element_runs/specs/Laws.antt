@@ -1,5 +1,5 @@
 -- The laws of elements of arrays, at the points of a block.
-use Rattle.std.specs.Prelude.{ℕ, suc, ◌+◌, ◌≤◌, List, max}
+use Rattle.std.specs.Prelude.{ℕ, ◌+◌, ◌≤◌, List, max}
 use Rattle.pli_typing.specs.Signatures.{Bounds}
 use Rattle.pli_typing.specs.TypedTree as Y
 use Rattle.pli_meaning.specs.Control.{Label}
