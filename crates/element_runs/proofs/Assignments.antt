@@ -1,8 +1,7 @@
 -- An assignment to an element: its act, its value, its subscript, and the store; the act pays for all of it.
-use Rattle.std.proofs.Common.{◌≡◌, ℕ, ◌+◌, ◌*◌, ◌≤◌, ◌⊎◌, inl, inr, List, [], ◌∷◌, ◌++◌, true, false, refl}
+use Rattle.std.proofs.Common.{◌≡◌, ℕ, ◌+◌, ◌*◌, ◌≤◌, ◌⊎◌, inl, inr, List, [], ◌∷◌, ◌++◌, true, refl}
 use Rattle.std.proofs.Common.{sym, ap, ◌∙◌, subst, arith}
 use Rattle.std.specs.Prelude.{ℤ, max, pos}
-use Rattle.std.proofs.lemmas.Bool.Decides.{nat_tests}
 use Rattle.std.proofs.Math.Nat.{le-max_left, le-max_right}
 use Rattle.rv_meaning.specs.declared.instr.StoreKind.TheVariants as Store
 use Rattle.rv_meaning.specs.Memory.{store}
@@ -22,7 +21,6 @@ use Rattle.pli_coding.specs.Allocating.{act_code}
 use Rattle.pli_coding.specs.Assembly.{size_of}
 use Rattle.pli_coding.specs.Environments.{fetch, none_taken, save, with_number}
 use Rattle.pli_coding.specs.Expressions.{number_code, reference_code}
-use Rattle.pli_coding.specs.Locating.{is_simple}
 use Rattle.pli_coding.specs.Registers.{a0, u3}
 use Rattle.pli_coding.specs.Storing.{word_stored}
 use Rattle.activation_relation.specs.Layers.{Point, services_of}
@@ -56,7 +54,7 @@ use Rattle.expression_runs.proofs.VariablePoints.{first_base}
 use Rattle.expression_runs.proofs.Words.{frame_of, known_word, valued}
 use Rattle.element_runs.specs.Arrays.{IsArray, element}
 use Rattle.element_runs.specs.Laws.{IsElementAssignment, element_assigned}
-use Rattle.element_runs.specs.Subscripts.{IsConstant, IsSubscript, IsVariable, SubscriptComes}
+use Rattle.element_runs.specs.Subscripts.{IsConstant, IsSubscript, IsVariable, IsWaiting, SubscriptComes}
 use Rattle.element_runs.proofs.Simple.{brought_simple}
 use Rattle.element_runs.proofs.AssignedElements.{Assigning, assigned_among, behind_assigned, services_same}
 use Rattle.element_runs.proofs.AssignedElements.{stands_assigned}
@@ -149,7 +147,7 @@ abbrev pub Puts : (k : Setting) (x : Spot) (aims : Aims (Unit {0})) (z : ℤ) (n
 Puts k x aims z need s =
     Closed k.block.call.code aims → (p : Point) (numbers : ℕ → ℕ) (taken c index : ℕ) (f : Family) →
     Jumps k p.state.world.acts aims → (h : frame_of k.block p) → IsAmong k.block numbers p →
-    p.control.line ≡ k.around.line → HasRegisters k taken (need + 2) →
+    p.control.line ≡ k.around.line → HasRegisters k taken need →
     Linked k.block.call.surroundings.links k.block.call.code index
     (word_stored k.block.environment (in_registers k.words taken) (element x s)) →
     c + size_of (word_stored k.block.environment (in_registers k.words taken) (element x s)) + k.most
@@ -162,32 +160,31 @@ Puts k x aims z need s =
     Comes k.block.call.code c f (services_of p) aims
     (M.assigned k.around (element x s) (BasicNumber z) k.block.call.surroundings.acts p.state)
 
-enough_one : (k : Setting) (taken need : ℕ) → HasRegisters k taken (need + 2) → HasRegisters k taken 1
-enough_one k taken need h = let room = h.0 in (omega (arith, room), h.1)
+enough_one :
+    (k : Setting) (taken need first : ℕ) → 1 + max first 1 ≤ need → HasRegisters k taken need → HasRegisters k taken 1
+enough_one k taken need first some h = let room = h.0 in (omega (arith, room, some), h.1)
 
-one_or : (need : ℕ) → max need 1 ≤ need + 1
-one_or need = grind (arith, nat_tests)
-
-enough_more : (k : Setting) (taken need : ℕ) → HasRegisters k taken (need + 2) → HasRegisters k (taken + 1) (max need 1)
-enough_more k taken need h =
-    let room = h.0 in
-    let most = one_or need in
-    (omega (arith, room, most), h.1)
+enough_more :
+    (k : Setting) (taken need first : ℕ) → 1 + max first 1 ≤ need → HasRegisters k taken need →
+    HasRegisters k (taken + 1) (max first 1)
+enough_more k taken need first some h = let room = h.0 in (omega (arith, room, some), h.1)
 
 -- while it waits the subscript is evaluated
 puts_waiting :
     (k : Setting) (x : Spot) (b : Bounds) (is : IsArray k.block x b) (aims : Aims (Unit {0})) (z : ℤ) →
     is_of_precision 31 z ≡ true → (need : ℕ) (s : Y.Number) → SubscriptComes k → IsBegun k.block →
-    IsSubscript k need s → is_simple k.block.environment s ≡ false → Puts k x aims z need s
-puts_waiting k x b is aims z wide need s outside begun subscript waits closed p numbers taken c index f jumps h o line
+    IsWaiting k 1 need s → Puts k x aims z need s
+puts_waiting k x b is aims z wide need s outside begun waiting closed p numbers taken c index f jumps h o line
     registers l paid at next' =
     let w = k.block.call.surroundings in
     let code = k.block.call.code in
     let e = k.block.environment in
     let t = in_registers k.words taken in
-    let same = stored_is e t x b s is.initial is.known.declared ∙ ap (λ q. kept_code q e t x s) waits in
+    let same = stored_is e t x b s is.initial is.known.declared ∙ ap (λ q. kept_code q e t x s) waiting.waits in
     let size = ap (λ u. size_of u) same in
-    let one = enough_one k taken need registers in
+    let one = enough_one k taken need waiting.first waiting.enough registers in
+    let subscript : IsSubscript k 0 (max waiting.first 1) s =
+    inl (record { waits = waiting.waits; first = waiting.first; does = waiting.does; enough = omega arith }) in
     let next = next_taken k.words taken (register_left k taken 1 one (omega arith)) in
     let put' = save a0 t in
     let r = reference_code e (with_number t) (element x s) in
@@ -215,9 +212,9 @@ puts_waiting k x b is aims z wide need s outside begun subscript waits closed p 
     (onward (before_closed w.acts (λ d. stored_in z d) closed)
     (saved_reach k taken 0 h one c f (word z) small' (front_of put' (r ++ (back ++ last)) l') at)
     (λ g1 at1.
-    located_does k (before code aims w.acts (λ d. stored_in z d)) x b is s need outside begun subscript
-    (before_closed w.acts (λ d. stored_in z d) closed) p held (taken + 1) c2 i2 g1 jumps among line
-    (enough_more k taken need registers) lr (omega (arith, paid, size, both, n1, n2, n3))
+    located_does k (before code aims w.acts (λ d. stored_in z d)) x b is s (max waiting.first 1) outside begun
+    subscript (before_closed w.acts (λ d. stored_in z d) closed) p held (taken + 1) c2 i2 g1 jumps among line
+    (enough_more k taken need waiting.first waiting.enough registers) lr (omega (arith, paid, size, both, n1, n2, n3))
     (λ b'. in_known h o.image.parts (at1 b'))
     (λ q after h2 i between among2 since line2 stays holds el g2 finds.
     let a = assigning x b i between holds z wide in
@@ -293,9 +290,9 @@ puts_simple k x b is aims z wide need s simple outside begun closed p numbers ta
 pub puts_does :
     (k : Setting) (x : Spot) (b : Bounds) (is : IsArray k.block x b) (aims : Aims (Unit {0})) (z : ℤ) →
     is_of_precision 31 z ≡ true → (need : ℕ) (s : Y.Number) → SubscriptComes k → IsBegun k.block →
-    IsSubscript k need s → Puts k x aims z need s
+    IsSubscript k 1 need s → Puts k x aims z need s
 puts_does k x b is aims z wide need s outside begun (inl waiting) =
-    puts_waiting k x b is aims z wide need s outside begun (inl waiting) waiting.waits
+    puts_waiting k x b is aims z wide need s outside begun waiting
 puts_does k x b is aims z wide need s outside begun (inr simple) =
     puts_simple k x b is aims z wide need s simple outside begun
 
@@ -313,9 +310,9 @@ most_second m n most h = let least = le-max_right m n in omega (arith, least, h)
 pub assign_does :
     (k : Block) (labels : List Label) (x : Spot) (b : Bounds) (s source : Y.Number)
     (line index left' first second most : ℕ) →
-    IsElementAssignment k x b s source line index (max first (second + 2)) most →
+    IsElementAssignment k x b s source line index (max first second) most →
     SubscriptComes (setting_of k labels line most) → L.Does (setting_of k labels line most) first source →
-    IsSubscript (setting_of k labels line most) second s →
+    IsSubscript (setting_of k labels line most) 1 second s →
     Does k labels (element_assigned x s source line) index left'
 unfolding M.statement V.stored_value ◌>>=◌ ◌>>◌
 assign_does k labels x b s source line index left' first second most h outside ev subscript p numbers c wanted f o paid
@@ -345,8 +342,8 @@ assign_does k labels x b s source line index left' first second most h outside e
     let fit : ℤ → Meaning BasicValue =
     λ z. (R.value_of around' (checked 31 z)) >>= (λ z'. give (BasicNumber z')) in
     let all = h.paid in
-    let room1 = most_first first (second + 2) k.registers h.registers in
-    let room2 = most_second first (second + 2) k.registers h.registers in
+    let room1 = most_first first second k.registers h.registers in
+    let room2 = most_second first second k.registers h.registers in
     comes_owing debt (M.statement k.around stmt w.acts p.state)
     (comes_on w.acts (act counted w.acts p.state) next'
     (act_comes (before_closed w.acts next' closed) line (c + debt) 0 f (o.stands, o.image)

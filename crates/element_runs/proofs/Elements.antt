@@ -14,7 +14,7 @@ use Rattle.pli_meaning.specs.StorageState.{State}
 use Rattle.pli_coding.specs.Assembly.{size_of}
 use Rattle.pli_coding.specs.Environments.{fetch, save}
 use Rattle.pli_coding.specs.Expressions.{number_code, reference_code}
-use Rattle.pli_coding.specs.Locating.{is_simple, simple_loaded}
+use Rattle.pli_coding.specs.Locating.{simple_loaded}
 use Rattle.pli_coding.specs.Registers.{a0, u1, u3}
 use Rattle.activation_relation.specs.Layers.{Point, services_of}
 use Rattle.run_steps.specs.Bodies.{Known, with'}
@@ -41,7 +41,7 @@ use Rattle.expression_runs.proofs.Saving.{fetched_reach, held_after, held_among,
 use Rattle.expression_runs.proofs.VariablePoints.{first_base, reaches_by}
 use Rattle.expression_runs.proofs.Words.{frame_of, known_word, number_closed}
 use Rattle.element_runs.specs.Arrays.{IsArray, element}
-use Rattle.element_runs.specs.Subscripts.{IsConstant, IsSubscript, IsVariable, SubscriptComes}
+use Rattle.element_runs.specs.Subscripts.{IsConstant, IsSubscript, IsVariable, IsWaiting, SubscriptComes}
 use Rattle.element_runs.proofs.Addresses.{found_code, found_reach}
 use Rattle.element_runs.proofs.Bounds.{is_between, place_at}
 use Rattle.element_runs.proofs.ElementCode.{behind_given, element_code, element_is, loaded_is, loads}
@@ -310,7 +310,7 @@ abbrev pub Located : (k : Setting) (x : Spot) (b : Bounds) (is : IsArray k.block
 Located k x b is aims need s =
     Closed k.block.call.code aims → (p : Point) (numbers : ℕ → ℕ) (taken c index : ℕ)
     (f : Family) → Jumps k p.state.world.acts aims → IsAmong k.block numbers p → p.control.line ≡ k.around.line →
-    HasRegisters k taken (max need 1) →
+    HasRegisters k taken need →
     Linked k.block.call.surroundings.links k.block.call.code index
     (reference_code k.block.environment (in_registers k.words taken) (element x s)) →
     c + size_of (reference_code k.block.environment (in_registers k.words taken) (element x s)) + k.most
@@ -321,19 +321,24 @@ Located k x b is aims need s =
     Comes k.block.call.code c f (services_of p) aims
     (V.designated k.around (element x s) k.block.call.surroundings.acts p.state)
 
+enough_first :
+    (k : Setting) (taken need first : ℕ) → 0 + max first 1 ≤ need → HasRegisters k taken need →
+    HasRegisters k taken (max first 1)
+enough_first k taken need first some h = let room = h.0 in (omega (arith, room, some), h.1)
+
 located_waiting :
     (k : Setting) (aims : Aims V.Designated) (x : Spot) (b : Bounds) (is : IsArray k.block x b) (s : Y.Number)
-    (need : ℕ) → SubscriptComes k → IsBegun k.block →
-    is_simple k.block.environment s ≡ false → L.Does k need s → Located k x b is aims need s
-located_waiting k aims x b is s need outside begun waits ev closed p numbers taken c index f jumps o line registers l
+    (need : ℕ) → SubscriptComes k → IsBegun k.block → IsWaiting k 0 need s → Located k x b is aims need s
+located_waiting k aims x b is s need outside begun waiting closed p numbers taken c index f jumps o line registers l
     paid there next' =
     let w = k.block.call.surroundings in
     let e = k.block.environment in
     let t = in_registers k.words taken in
     let same = element_is e t x b s is.initial is.known.declared
-    ∙ ap (λ q. element_code q e t x b s) waits in
+    ∙ ap (λ q. element_code q e t x b s) waiting.waits in
     let size = ap (λ u. size_of u) same in
-    waiting_does k x b is s need outside begun ev closed p numbers taken c index f jumps o line registers
+    waiting_does k x b is s waiting.first outside begun waiting.does closed p numbers taken c index f jumps o line
+    (enough_first k taken need waiting.first waiting.enough registers)
     (subst (Linked w.links k.block.call.code index) same l) (omega (arith, paid, size)) there
     (λ q after h i between among since line' stays holds el f' finds.
     subst (λ n. aims.done n f' (services_of q) (found b q.state holds i) q.state) (omega (arith, size))
@@ -362,9 +367,9 @@ located_simple k aims x b is s need simple outside begun closed p numbers taken 
 
 pub located_does :
     (k : Setting) (aims : Aims V.Designated) (x : Spot) (b : Bounds) (is : IsArray k.block x b) (s : Y.Number)
-    (need : ℕ) → SubscriptComes k → IsBegun k.block → IsSubscript k need s → Located k x b is aims need s
+    (need : ℕ) → SubscriptComes k → IsBegun k.block → IsSubscript k 0 need s → Located k x b is aims need s
 located_does k aims x b is s need outside begun (inl waiting) =
-    located_waiting k aims x b is s need outside begun waiting.waits waiting.does
+    located_waiting k aims x b is s need outside begun waiting
 located_does k aims x b is s need outside begun (inr simple) =
     located_simple k aims x b is s need simple outside begun
 
@@ -372,7 +377,7 @@ located_does k aims x b is s need outside begun (inr simple) =
 
 pub element_does :
     (k : Setting) (x : Spot) (b : Bounds) (s : Y.Number) (need : ℕ) → IsBegun k.block → IsArray k.block x b →
-    SubscriptComes k → IsSubscript k need s → L.Does k (max need 1) (Y.NumberIn (element x s))
+    SubscriptComes k → IsSubscript k 0 need s → L.Does k need (Y.NumberIn (element x s))
 element_does k x b s need begun is outside subscript p numbers taken c index f o line registers l paid there =
     let w = k.block.call.surroundings in
     let code = k.block.call.code in

@@ -9,4 +9,5 @@ pub mod Simple
 pub mod Elements
 pub mod AssignedElements
 pub mod Assignments
+pub mod Outer
 pub mod Rows

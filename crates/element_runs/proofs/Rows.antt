@@ -55,7 +55,7 @@ use Rattle.expression_runs.specs.Assignments.{IsAssignment, setting_of}
 use Rattle.expression_runs.specs.Laws as L
 use Rattle.expression_runs.specs.Raises.{IsUnraised, Routines}
 use Rattle.expression_runs.specs.Values.{OverflowComes}
-use Rattle.expression_runs.specs.Variables.{IsNumber, whole}
+use Rattle.expression_runs.specs.Variables.{IsNumber}
 use Rattle.expression_runs.proofs.Assignments as X
 use Rattle.expression_runs.proofs.Operands.{constant_does}
 use Rattle.expression_runs.proofs.Raises.{overflow_ends}
@@ -65,7 +65,8 @@ use Rattle.function_runs.specs.FunctionCalls.{called_from}
 use Rattle.function_runs.specs.Functions.{IsFunction, function_block, function_code}
 use Rattle.function_runs.specs.Functions.{function_tail}
 use Rattle.function_runs.proofs.FunctionCalls.{function_does}
-use Rattle.function_runs.proofs.OuterVariables.{function_number}
+use Rattle.function_runs.specs.OuterVariables.{IsInside}
+use Rattle.element_runs.proofs.Outer.{function_known, outer_array}
 use Rattle.function_runs.proofs.ReturnValues.{return_does}
 use Rattle.variable_runs.specs.Lists.{AreAll, newest_all}
 use Rattle.variable_runs.proofs.Known.{known_number, known_own}
@@ -74,6 +75,7 @@ use Rattle.element_runs.specs.Arrays.{IsArray, element}
 use Rattle.element_runs.specs.Laws.{IsElementAssignment}
 use Rattle.element_runs.specs.Rows.{array_made, inner_body, inner_coded, inner_entry, inner_environment}
 use Rattle.element_runs.specs.Rows.{inner_procedure, main_coded, number_made, pick_again, pick_array, pick_back}
+use Rattle.element_runs.specs.Rows.{pick_given, pick_next, pick_variable}
 use Rattle.element_runs.specs.Rows.{pick_begun, pick_body, pick_bounds, pick_code, pick_end, pick_entry}
 use Rattle.element_runs.specs.Rows.{pick_environment, pick_first, pick_image, pick_inner, pick_label, pick_last}
 use Rattle.element_runs.specs.Rows.{pick_main}
@@ -364,8 +366,8 @@ inner_each input acts more call p numbers few b o b' =
     let k = inner_block input acts more call p numbers in
     let n = linked_length (links_of pick_code) 0 pick_code in
     let three = setting_of k [] 3 100 in
-    let x = function_number (pick_block input acts) (called_from (pick_callee more) call) pick_spot
-    (record {
+    let inside : IsInside (pick_block input acts) (called_from (pick_callee more) call) pick_array =
+    record {
       begun = b;
       level = refl;
       parent = refl;
@@ -374,8 +376,20 @@ inner_each input acts more call p numbers few b o b' =
       few = omega arith;
       program = refl;
       parts = refl;
-    }) (pick_number input acts b) p numbers o (inner_made input acts more call p numbers o).0 b' in (
-      return_does k [] (Y.NumberIn (whole pick_spot)) 3 _ left_over 0 100
+    } in
+    let made = (inner_made input acts more call p numbers o).0 in
+    let is = outer_array (pick_block input acts) k pick_array pick_bounds
+    (λ d known. function_known (pick_block input acts) (called_from (pick_callee more) call) pick_array d inside known p
+    numbers o made b') (array_known input acts b) in
+    let outside = subscripts_end three
+    (record {
+      routines = routines;
+      place = refl;
+      error = inner_system input acts more call p numbers C.Error o tt;
+      acts = few;
+      most = omega arith;
+    }) in (
+      return_does k [] (Y.NumberIn (element pick_array (Y.NumberConstant 1))) 3 _ left_over 0 100
           (record {
             act = record { line_fits = omega arith; acts = few };
             begun = b';
@@ -391,7 +405,8 @@ inner_each input acts more call p numbers few b o b' =
             statement = front_of (stmt_code inner_environment none_taken pick_return) [] inner_body_linked;
             paid = omega (arith, n);
           })
-          (variable_does three pick_spot b' x),
+          (element_does three pick_array pick_bounds (Y.NumberConstant 1) 0 b' is outside
+          (inr (inl (record { value = 1; is = refl; few = omega arith })))),
       tt,
     )
 
@@ -409,9 +424,14 @@ uncaught :
 uncaught input acts line few =
     record { routines = routines; place = refl; error = tt; acts = few; most = omega arith }
 
-two_is : (input : List ℕ) (acts line need : ℕ) →
-    IsSubscript (setting_of (pick_block input acts) (pick_label ∷ []) line 200) need (Y.NumberConstant 2)
-two_is input acts line need = inr (inl (record { value = 2; is = refl; few = omega arith }))
+one_is : (input : List ℕ) (acts line : ℕ) →
+    IsSubscript (setting_of (pick_block input acts) (pick_label ∷ []) line 200) 1 0 (Y.NumberConstant 1)
+one_is input acts line = inr (inl (record { value = 1; is = refl; few = omega arith }))
+
+variable_is : (input : List ℕ) (acts line taken : ℕ) → IsBegun (pick_block input acts) →
+    IsSubscript (setting_of (pick_block input acts) (pick_label ∷ []) line 200) taken 0 pick_variable
+variable_is input acts line taken b =
+    inr (inr (record { spot = pick_spot; is = refl; number = pick_number input acts b }))
 
 first_is :
     (input : List ℕ) (acts : ℕ) → acts + 1 < 2 ^ 64 → IsBegun (pick_block input acts) →
@@ -429,8 +449,11 @@ first_is input acts few b =
       paid = omega (arith, n);
     }
 
+abbrev given_index : ℕ
+given_index = pick_start + size_of (stmt_code pick_environment none_taken pick_first)
+
 abbrev begun_index : ℕ
-begun_index = pick_start + size_of (stmt_code pick_environment none_taken pick_first)
+begun_index = given_index + size_of (stmt_code pick_environment none_taken pick_given)
 
 abbrev again_index : ℕ
 again_index = begun_index + size_of (stmt_code pick_environment none_taken pick_begun)
@@ -439,10 +462,16 @@ abbrev back_index : ℕ
 back_index = again_index + size_of (stmt_code pick_environment none_taken pick_again)
 
 rest_linked :
-    Linked (links_of pick_code) (linked_code pick_code) begun_index (stmts_code pick_environment none_taken pick_rest)
+    Linked (links_of pick_code) (linked_code pick_code) given_index (stmts_code pick_environment none_taken pick_rest)
 rest_linked =
     back_of (stmt_code pick_environment none_taken pick_first) (stmts_code pick_environment none_taken pick_rest)
     body_linked
+
+next_linked :
+    Linked (links_of pick_code) (linked_code pick_code) begun_index (stmts_code pick_environment none_taken pick_next)
+next_linked =
+    back_of (stmt_code pick_environment none_taken pick_given) (stmts_code pick_environment none_taken pick_next)
+    rest_linked
 
 last_linked :
     Linked (links_of pick_code) (linked_code pick_code) again_index
@@ -450,12 +479,29 @@ last_linked :
 last_linked =
     rest_of _ _
     (back_of (stmt_code pick_environment none_taken pick_begun) (stmts_code pick_environment none_taken pick_last)
-    rest_linked)
+    next_linked)
+
+given_is :
+    (input : List ℕ) (acts : ℕ) → acts + 1 < 2 ^ 64 → IsBegun (pick_block input acts) →
+    IsElementAssignment (pick_block input acts) pick_array pick_bounds (Y.NumberConstant 1) pick_variable 6 given_index
+    0 200
+given_is input acts few b =
+    let n = linked_length (links_of pick_code) 0 pick_code in
+    record {
+      act = record { line_fits = omega arith; acts = few };
+      begun = b;
+      array = array_known input acts b;
+      registers = omega arith;
+      held = omega arith;
+      statement = front_of (stmt_code pick_environment none_taken pick_given)
+          (stmts_code pick_environment none_taken pick_next) rest_linked;
+      paid = omega (arith, n);
+    }
 
 begun_is :
     (input : List ℕ) (acts : ℕ) → acts + 1 < 2 ^ 64 → IsBegun (pick_block input acts) →
-    IsElementAssignment (pick_block input acts) pick_array pick_bounds (Y.NumberConstant 2) (Y.NumberConstant 536870912)
-    6 begun_index 2 200
+    IsElementAssignment (pick_block input acts) pick_array pick_bounds pick_variable (Y.NumberConstant 536870912) 7
+    begun_index 0 200
 begun_is input acts few b =
     let n = linked_length (links_of pick_code) 0 pick_code in
     record {
@@ -465,13 +511,13 @@ begun_is input acts few b =
       registers = omega arith;
       held = omega arith;
       statement = front_of (stmt_code pick_environment none_taken pick_begun)
-          (stmts_code pick_environment none_taken pick_last) rest_linked;
+          (stmts_code pick_environment none_taken pick_last) next_linked;
       paid = omega (arith, n);
     }
 
 again_is :
     (input : List ℕ) (acts : ℕ) → acts + 1 < 2 ^ 64 → IsBegun (pick_block input acts) →
-    IsElementAssignment (pick_block input acts) pick_array pick_bounds picked pick_sum 7 again_index 2 200
+    IsElementAssignment (pick_block input acts) pick_array pick_bounds picked pick_sum 8 again_index 2 200
 again_is input acts few b =
     let n = linked_length (links_of pick_code) 0 pick_code in
     record {
@@ -487,9 +533,9 @@ again_is input acts few b =
 
 picked_is :
     (input : List ℕ) (more : ℕ) → suc more + 1 < 2 ^ 64 → IsBegun (pick_block input (suc more)) →
-    L.Does (setting_of (pick_block input (suc more)) (pick_label ∷ []) 7 200) 0 picked
+    L.Does (setting_of (pick_block input (suc more)) (pick_label ∷ []) 8 200) 0 picked
 picked_is input more few b =
-    function_does (setting_of (pick_block input (suc more)) (pick_label ∷ []) 7 200) (pick_callee more) more
+    function_does (setting_of (pick_block input (suc more)) (pick_label ∷ []) 8 200) (pick_callee more) more
     (record {
       begun = b;
       function = inner_is input (suc more) more few;
@@ -513,19 +559,18 @@ again_does input zero few b =
     none_does (pick_block input zero) (pick_label ∷ []) pick_again again_index left_over b refl
 again_does input (suc more) few b =
     let k = pick_block input (suc more) in
-    let seven = setting_of k (pick_label ∷ []) 7 200 in
-    let over : OverflowComes seven = overflow_ends seven (unraised input (suc more) 7 few) in
-    let outside = subscripts_end seven (uncaught input (suc more) 7 few) in
+    let eight = setting_of k (pick_label ∷ []) 8 200 in
+    let over : OverflowComes eight = overflow_ends eight (unraised input (suc more) 8 few) in
+    let outside = subscripts_end eight (uncaught input (suc more) 8 few) in
     let is = array_known input (suc more) b in
-    let subscript : IsSubscript seven 0 picked = inl (record { waits = refl; does = picked_is input more few b }) in
-    assign_does k (pick_label ∷ []) pick_array pick_bounds picked pick_sum 7 again_index left_over 2 0 200
+    let does = picked_is input more few b in
+    assign_does k (pick_label ∷ []) pick_array pick_bounds picked pick_sum 8 again_index left_over 1 2 200
     (again_is input (suc more) few b) outside
-    (sum_does seven (Y.NumberIn (element pick_array picked))
-    (Y.NumberIn (element pick_array (Y.NumberIn (whole pick_spot)))) 1 1 over
-    (element_does seven pick_array pick_bounds picked 0 b is outside subscript)
-    (element_does seven pick_array pick_bounds (Y.NumberIn (whole pick_spot)) 0 b is outside
-    (inr (inr (record { spot = pick_spot; is = refl; number = pick_number input (suc more) b })))))
-    subscript
+    (sum_does eight (Y.NumberIn (element pick_array picked)) (Y.NumberIn (element pick_array pick_variable)) 1 0 over
+    (element_does eight pick_array pick_bounds picked 1 b is outside
+    (inl (record { waits = refl; first = 0; does = does; enough = omega arith })))
+    (element_does eight pick_array pick_bounds pick_variable 0 b is outside (variable_is input (suc more) 8 0 b)))
+    (inl (record { waits = refl; first = 0; does = does; enough = omega arith }))
 
 pub pick_each :
     (input : List ℕ) (acts : ℕ) → acts + 1 < 2 ^ 64 → IsBegun (pick_block input acts) →
@@ -537,27 +582,32 @@ pick_each input acts few b =
       X.assign_does k labels pick_spot (Y.NumberConstant 2) 5 pick_start left_over 0 200 (first_is input acts few b)
           (constant_does (setting_of k labels 5 200) 2 (omega arith)),
       (
-        assign_does k labels pick_array pick_bounds (Y.NumberConstant 2) (Y.NumberConstant 536870912) 6 begun_index
-            left_over 0 0 200 (begun_is input acts few b)
-            (subscripts_end (setting_of k labels 6 200) (uncaught input acts 6 few))
-            (constant_does (setting_of k labels 6 200) 536870912 (omega arith)) (two_is input acts 6 0),
+        assign_does k labels pick_array pick_bounds (Y.NumberConstant 1) pick_variable 6 given_index left_over 0 0 200
+            (given_is input acts few b) (subscripts_end (setting_of k labels 6 200) (uncaught input acts 6 few))
+            (variable_does (setting_of k labels 6 200) pick_spot b (pick_number input acts b)) (one_is input acts 6),
         (
-          again_does input acts few b,
+          assign_does k labels pick_array pick_bounds pick_variable (Y.NumberConstant 536870912) 7 begun_index left_over
+              0 0 200 (begun_is input acts few b)
+              (subscripts_end (setting_of k labels 7 200) (uncaught input acts 7 few))
+              (constant_does (setting_of k labels 7 200) 536870912 (omega arith)) (variable_is input acts 7 1 b),
           (
-            goto_does k labels pick_label 8 back_index left_over (record { line_fits = omega arith; acts = few })
-                (record {
-                  begun = b;
-                  carried = refl;
-                  level = refl;
-                  block = refl;
-                  at = again_index;
-                  place = refl;
-                  near = omega arith;
-                })
-                (front_of (stmt_code pick_environment none_taken pick_back) []
-                (back_of (stmt_code pick_environment none_taken pick_again)
-                (stmts_code pick_environment none_taken pick_end) last_linked)),
-            tt,
+            again_does input acts few b,
+            (
+              goto_does k labels pick_label 9 back_index left_over (record { line_fits = omega arith; acts = few })
+                  (record {
+                    begun = b;
+                    carried = refl;
+                    level = refl;
+                    block = refl;
+                    at = again_index;
+                    place = refl;
+                    near = omega arith;
+                  })
+                  (front_of (stmt_code pick_environment none_taken pick_back) []
+                  (back_of (stmt_code pick_environment none_taken pick_again)
+                  (stmts_code pick_environment none_taken pick_end) last_linked)),
+              tt,
+            ),
           ),
         ),
       ),
@@ -588,7 +638,10 @@ pick_is input first acts few bytes =
         kind = refl;
         labels = (
           λ label e. absurd (cc e),
-          (λ label e. absurd (cc e), (labels_stand, (λ label e. absurd (cc e), λ label e. absurd (cc e)))),
+          (
+            λ label e. absurd (cc e),
+            (λ label e. absurd (cc e), (labels_stand, (λ label e. absurd (cc e), λ label e. absurd (cc e)))),
+          ),
         );
         acts = few;
       };
@@ -630,12 +683,12 @@ statements = tt
 
 pub pick_ends :
     (input : List ℕ) →
-    M.meaning pick_program input 15
+    M.meaning pick_program input 16
     ≡ Some (record {
-      acts = 15;
+      acts = 16;
       output = [];
       raised = (C.FixedOverflow, 20) ∷ (C.Error, 20) ∷ [];
-      end = E.Error 20 7;
+      end = E.Error 20 8;
     })
 unfolding M.meaning M.run M.entered M.block_run flows values calls statements
 pick_ends input = refl

@@ -20,8 +20,8 @@ use Rattle.element_runs.specs.Subscripts.{IsSubscript, IsUncaught, SubscriptCome
 abbrev pub ElementsDo : Type 0
 ElementsDo =
     (k : Setting) (x : Spot) (b : Bounds) (subscript : Y.Number) (need : ℕ) → IsBegun k.block →
-    IsArray k.block x b → SubscriptComes k → IsSubscript k need subscript →
-    L.Does k (max need 1) (Y.NumberIn (element x subscript))
+    IsArray k.block x b → SubscriptComes k → IsSubscript k 0 need subscript →
+    L.Does k need (Y.NumberIn (element x subscript))
 
 -- without a unit in force a subscript outside its bounds ends the run
 abbrev pub SubscriptsEnd : Type 0
@@ -51,7 +51,7 @@ abbrev pub ElementAssignmentsDo : Type 0
 ElementAssignmentsDo =
     (k : Block) (labels : List Label) (x : Spot) (b : Bounds) (subscript source : Y.Number)
     (line index left' first second most : ℕ) →
-    IsElementAssignment k x b subscript source line index (max first (second + 2)) most →
+    IsElementAssignment k x b subscript source line index (max first second) most →
     SubscriptComes (setting_of k labels line most) → L.Does (setting_of k labels line most) first source →
-    IsSubscript (setting_of k labels line most) second subscript →
+    IsSubscript (setting_of k labels line most) 1 second subscript →
     Does k labels (element_assigned x subscript source line) index left'

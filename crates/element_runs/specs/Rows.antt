@@ -32,7 +32,7 @@ use Rattle.element_runs.specs.Arrays.{array_declared, element}
 use Rattle.element_runs.specs.Laws.{element_assigned}
 
 -- ---- the program: DECLARE A(3) FIXED BINARY(31), X FIXED BINARY(31); F: PROCEDURE RETURNS(FIXED BINARY(31));
--- RETURN (X); END F; X = 2; A(2) = 536870912; L: A(F()) = A(F()) + A(X); GOTO L;
+-- RETURN (A(1)); END F; X = 2; A(1) = X; A(X) = 536870912; L: A(F()) = A(F()) + A(X); GOTO L;
 
 abbrev pub pick_bounds : Bounds
 pick_bounds = record { lower = pos 1; upper = pos 3 }
@@ -52,19 +52,24 @@ picked = Y.NumberFrom (Y.Calling 1 0 Y.NoArgument)
 abbrev pub pick_first : Y.Stmt
 pick_first = assignment pick_spot (Y.NumberConstant 2) 5
 
+abbrev pub pick_variable : Y.Number
+pick_variable = Y.NumberIn (whole pick_spot)
+
+abbrev pub pick_given : Y.Stmt
+pick_given = element_assigned pick_array (Y.NumberConstant 1) pick_variable 6
+
 abbrev pub pick_begun : Y.Stmt
-pick_begun = element_assigned pick_array (Y.NumberConstant 2) (Y.NumberConstant 536870912) 6
+pick_begun = element_assigned pick_array pick_variable (Y.NumberConstant 536870912) 7
 
 abbrev pub pick_sum : Y.Number
 pick_sum =
-    Y.Calculated Y.Sum (Y.NumberIn (element pick_array picked))
-    (Y.NumberIn (element pick_array (Y.NumberIn (whole pick_spot))))
+    Y.Calculated Y.Sum (Y.NumberIn (element pick_array picked)) (Y.NumberIn (element pick_array pick_variable))
 
 abbrev pub pick_again : Y.Stmt
-pick_again = element_assigned pick_array picked pick_sum 7
+pick_again = element_assigned pick_array picked pick_sum 8
 
 abbrev pub pick_back : Y.Stmt
-pick_back = Y.Goto 0 pick_label 8
+pick_back = Y.Goto 0 pick_label 9
 
 abbrev pub pick_end : Y.Stmts
 pick_end = Y.StmtThen [] pick_back (Y.EndOfList [])
@@ -72,14 +77,17 @@ pick_end = Y.StmtThen [] pick_back (Y.EndOfList [])
 abbrev pub pick_last : Y.Stmts
 pick_last = Y.StmtThen (pick_label ∷ []) pick_again pick_end
 
+abbrev pub pick_next : Y.Stmts
+pick_next = Y.StmtThen [] pick_begun pick_last
+
 abbrev pub pick_rest : Y.Stmts
-pick_rest = Y.StmtThen [] pick_begun pick_last
+pick_rest = Y.StmtThen [] pick_given pick_next
 
 abbrev pub pick_body : Y.Stmts
 pick_body = Y.StmtThen [] pick_first pick_rest
 
 abbrev pub pick_return : Y.Stmt
-pick_return = return_of (Y.NumberIn (whole pick_spot)) 3
+pick_return = return_of (Y.NumberIn (element pick_array (Y.NumberConstant 1))) 3
 
 abbrev pub inner_body : Y.Stmts
 inner_body = Y.StmtThen [] pick_return (Y.EndOfList [])
@@ -170,10 +178,10 @@ pub record PickRan : Type 0 where
   -- that ends in the second turn, since 2 ^ 31 has more than 31 bits
   pub ends :
       (input : List ℕ) →
-      meaning pick_program input 15
+      meaning pick_program input 16
       ≡ Some (record {
-        acts = 15;
+        acts = 16;
         output = [];
         raised = (C.FixedOverflow, 20) ∷ (C.Error, 20) ∷ [];
-        end = E.Error 20 7;
+        end = E.Error 20 8;
       })

@@ -1,5 +1,5 @@
 -- Subscripts: what their code needs, and ERROR where one lies outside its bounds.
-use Rattle.std.specs.Prelude.{ℕ, ◌+◌, ◌*◌, ◌^◌, ◌<◌, ◌≤◌, ◌≡◌, ◌⊎◌, List, false}
+use Rattle.std.specs.Prelude.{ℕ, ◌+◌, ◌*◌, ◌^◌, ◌<◌, ◌≤◌, ◌≡◌, ◌⊎◌, List, false, max}
 use Rattle.pli_language.specs.declared.condition.Condition.TheVariants as C
 use Rattle.pli_typing.specs.TypedTree as Y
 use Rattle.pli_meaning.specs.Codes.{subscript_code}
@@ -64,10 +64,12 @@ pub record IsVariable (k : Block) (x : Y.Number) : Type 0 where
   pub is : x ≡ Y.NumberIn (whole spot)
   pub number : IsNumber k spot
 
--- any other is evaluated and waits: it does what it means, with so many registers
-pub record IsWaiting (k : Setting) (need : ℕ) (x : Y.Number) : Type 0 where
+-- any other does what it means, and waits in a register until it is tested; so many hold temporaries before it
+pub record IsWaiting (k : Setting) (taken need : ℕ) (x : Y.Number) : Type 0 where
   pub waits : is_simple k.block.environment x ≡ false
-  pub does : L.Does k need x
+  pub first : ℕ
+  pub does : L.Does k first x
+  pub enough : taken + max first 1 ≤ need
 
-abbrev pub IsSubscript : Setting → (need : ℕ) → Y.Number → Type 0
-IsSubscript k need x = IsWaiting k need x ⊎ (IsConstant x ⊎ IsVariable k.block x)
+abbrev pub IsSubscript : Setting → (taken need : ℕ) → Y.Number → Type 0
+IsSubscript k taken need x = IsWaiting k taken need x ⊎ (IsConstant x ⊎ IsVariable k.block x)

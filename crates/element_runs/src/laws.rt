@@ -1,6 +1,7 @@
 // Laws of the definitions: each function's contract is one law, and calling it does nothing.
 
 ghost use Rattle.element_runs.specs.Laws.{ElementAssignmentsDo, ElementsDo, SubscriptsEnd};
+ghost use Rattle.element_runs.specs.Outer.{OuterKnown};
 ghost use Rattle.element_runs.specs.Rows.{PickRan};
 
 use granule_keeper::laws::granules_keep;
@@ -18,6 +19,11 @@ pub fn subscripts_end()
 /// An assignment to an element does what it means if its expressions do.
 pub fn element_assignments_do()
     ensures { ElementAssignmentsDo }
+{}
+
+/// Variables of a block, arrays among them, are known in the procedures and functions that it declares.
+pub fn outer_known()
+    ensures { OuterKnown }
 {}
 
 /// A worked row: an element that is doubled in a loop by GOTO, whose subscript a function returns, until it overflows.
