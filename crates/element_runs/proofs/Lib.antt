@@ -1,0 +1,13 @@
+pub mod Bounds
+pub mod Outside
+pub mod SubscriptTests
+pub mod Addresses
+pub mod ElementCode
+pub mod ElementMeaning
+pub mod ElementPoints
+pub mod Simple
+pub mod Elements
+pub mod AssignedElements
+pub mod Assignments
+pub mod Outer
+pub mod Rows

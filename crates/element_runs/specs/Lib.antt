@@ -1,0 +1,5 @@
+pub mod Arrays
+pub mod Subscripts
+pub mod Laws
+pub mod Outer
+pub mod Rows

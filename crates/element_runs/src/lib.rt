@@ -1,0 +1,4 @@
+// Elements of arrays, by the relation of activations.
+#![tactic(auto)]
+
+pub mod laws;
