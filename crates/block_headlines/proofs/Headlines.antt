@@ -55,6 +55,7 @@ use Rattle.jump_runs.specs.UnitRows.{flee_program}
 use Rattle.copy_units.specs.Rows.{mute_program}
 use Rattle.variable_runs.specs.Rows.{pair_program}
 use Rattle.element_runs.specs.Rows.{pick_program}
+use Rattle.group_runs.specs.Rows.{group_program}
 use Rattle.unit_runs.specs.BeginRows.{host_entry, host_environment, host_main, host_program, host_units}
 use Rattle.unit_runs.specs.CallRows.{lend_entry, lend_environment, lend_main, lend_procedure, lend_program, lend_units}
 use Rattle.unit_runs.specs.DeepRows.{deep_entry, deep_environment, deep_main, deep_program, deep_units}
@@ -73,6 +74,7 @@ use Rattle.block_headlines.proofs.JumpRuns.{bolt_layout, bolt_program_runs, flee
 use Rattle.block_headlines.proofs.JumpRuns.{mute_layout, mute_program_runs, shed_layout, shed_program_runs}
 use Rattle.block_headlines.proofs.VariableRuns.{pair_layout, pair_program_runs}
 use Rattle.block_headlines.proofs.ElementRuns.{pick_layout, pick_program_runs}
+use Rattle.block_headlines.proofs.GroupRuns.{group_layout, group_program_runs}
 
 -- a program whose run is known at each number of acts, from its first instruction
 record IsKnown (program : Y.Program) (x : Layout) : Type 0 where
@@ -594,4 +596,5 @@ rows_kept laws keeps =
       muting = kept laws keeps mute_program mute_layout mute_program_runs;
       pairing = kept laws keeps pair_program pair_layout pair_program_runs;
       picking = kept laws keeps pick_program pick_layout pick_program_runs;
+      grouping = kept laws keeps group_program group_layout group_program_runs;
     }

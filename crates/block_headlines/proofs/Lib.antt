@@ -1,4 +1,5 @@
 pub mod JumpRuns
 pub mod VariableRuns
 pub mod ElementRuns
+pub mod GroupRuns
 pub mod Headlines

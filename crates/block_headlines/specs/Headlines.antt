@@ -30,6 +30,7 @@ use Rattle.jump_runs.specs.UnitRows.{flee_program}
 use Rattle.copy_units.specs.Rows.{mute_program}
 use Rattle.variable_runs.specs.Rows.{pair_program}
 use Rattle.element_runs.specs.Rows.{pick_program}
+use Rattle.group_runs.specs.Rows.{group_program}
 use Rattle.program_runs.specs.Starts.{no_numbers, start_point, surroundings_of}
 use Rattle.program_runs.specs.Statements.{EachDoes, IsBegun}
 use Rattle.unit_runs.specs.BeginRows.{host_program}
@@ -141,3 +142,4 @@ pub record HeadlinesOfRows : Type 0 where
   pub muting : Headline mute_program (picture_of parts mute_program) (table_of mute_program)
   pub pairing : Headline pair_program (picture_of parts pair_program) (table_of pair_program)
   pub picking : Headline pick_program (picture_of parts pick_program) (table_of pick_program)
+  pub grouping : Headline group_program (picture_of parts group_program) (table_of group_program)

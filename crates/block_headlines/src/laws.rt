@@ -31,7 +31,7 @@ pub fn unit_headlines_kept()
 /// or out of a loop in which its ON stands, or is raised in a procedure that the main procedure calls, or is gone behind
 /// the begin block that has its ON, or has a unit of its own; and three with a label to which a procedure or a function
 /// jumps that it calls, or the unit of such a function; one whose function has a parameter and a unit; one with two
-/// variables; and one that doubles an element of an array, whose subscript a function returns.
+/// variables; one that doubles an element of an array, whose subscript a function returns; and one with a DO group.
 pub fn headlines_of_rows()
     ensures { HeadlinesOfRows }
 {
