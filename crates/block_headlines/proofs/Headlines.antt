@@ -59,6 +59,7 @@ use Rattle.area_runs.specs.Rows.{locate_program}
 use Rattle.text_runs.specs.Rows.{wait_program}
 use Rattle.text_units.specs.Rows.{rise_program}
 use Rattle.element_runs.specs.Rows.{pick_program}
+use Rattle.group_runs.specs.Rows.{group_program}
 use Rattle.unit_runs.specs.BeginRows.{host_entry, host_environment, host_main, host_program, host_units}
 use Rattle.unit_runs.specs.CallRows.{lend_entry, lend_environment, lend_main, lend_procedure, lend_program, lend_units}
 use Rattle.unit_runs.specs.DeepRows.{deep_entry, deep_environment, deep_main, deep_program, deep_units}
@@ -79,6 +80,7 @@ use Rattle.block_headlines.proofs.VariableRuns.{locate_layout, locate_program_ru
 use Rattle.block_headlines.proofs.TextRuns.{drop_layout, drop_program_runs, rise_layout, rise_units_run}
 use Rattle.block_headlines.proofs.TextRuns.{wait_layout, wait_program_runs}
 use Rattle.block_headlines.proofs.ElementRuns.{pick_layout, pick_program_runs}
+use Rattle.block_headlines.proofs.GroupRuns.{group_layout, group_program_runs}
 
 -- a program whose run is known at each number of acts, from its first instruction
 record IsKnown (program : Y.Program) (x : Layout) : Type 0 where
@@ -604,4 +606,5 @@ rows_kept laws keeps =
       pairing = kept laws keeps pair_program pair_layout pair_program_runs;
       locating = kept laws keeps locate_program locate_layout locate_program_runs;
       picking = kept laws keeps pick_program pick_layout pick_program_runs;
+      grouping = kept laws keeps group_program group_layout group_program_runs;
     }

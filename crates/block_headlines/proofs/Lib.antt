@@ -2,4 +2,5 @@ pub mod JumpRuns
 pub mod VariableRuns
 pub mod TextRuns
 pub mod ElementRuns
+pub mod GroupRuns
 pub mod Headlines

@@ -34,6 +34,7 @@ use Rattle.area_runs.specs.Rows.{locate_program}
 use Rattle.text_runs.specs.Rows.{wait_program}
 use Rattle.text_units.specs.Rows.{rise_program}
 use Rattle.element_runs.specs.Rows.{pick_program}
+use Rattle.group_runs.specs.Rows.{group_program}
 use Rattle.program_runs.specs.Starts.{no_numbers, start_point, surroundings_of}
 use Rattle.program_runs.specs.Statements.{EachDoes, IsBegun}
 use Rattle.unit_runs.specs.BeginRows.{host_program}
@@ -149,3 +150,4 @@ pub record HeadlinesOfRows : Type 0 where
   pub pairing : Headline pair_program (picture_of parts pair_program) (table_of pair_program)
   pub locating : Headline locate_program (picture_of parts locate_program) (table_of locate_program)
   pub picking : Headline pick_program (picture_of parts pick_program) (table_of pick_program)
+  pub grouping : Headline group_program (picture_of parts group_program) (table_of group_program)

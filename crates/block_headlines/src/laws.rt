@@ -32,8 +32,8 @@ pub fn unit_headlines_kept()
 /// behind the begin block that has its ON, or has a unit of its own; and three with a label to which a procedure or a
 /// function jumps that it calls, or the unit of such a function; one whose function has a parameter and a unit; three
 /// in which a text waits while a function runs, which jumps away in one of them, or while a unit runs; one with two
-/// variables; one that doubles an element of an array, whose subscript a function returns; and one with a number in an
-/// area, which it doubles by way of a pointer.
+/// variables; one that doubles an element of an array, whose subscript a function returns; one with a number in an
+/// area, which it doubles by way of a pointer; and one with a DO group.
 pub fn headlines_of_rows()
     ensures { HeadlinesOfRows }
 {

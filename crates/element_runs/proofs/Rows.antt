@@ -292,7 +292,7 @@ array_known input acts b =
           (start_point (pick_image input acts)) no_numbers pick_variables array_made pick_array
           (record { high = omega arith; inside = omega arith }) (pick_all input acts) (inl refl)
           (record { declared = refl; index = refl; level = refl; own = refl; place = refl }) b;
-      bounds = record { lower = refl; upper = refl; order = refl; few = omega arith };
+      bounds = record { lower = refl; upper = refl; order = refl };
     }
 
 -- ---- its function

@@ -1,7 +1,7 @@
 -- Arrays of FIXED BINARY(31) with constant bounds of one dimension, and their elements.
-use Rattle.std.specs.Prelude.{◌^◌, ◌≤◌, ◌≡◌, List, [], ◌∷◌, None, true, int_le}
+use Rattle.std.specs.Prelude.{◌≡◌, List, [], ◌∷◌, None, true, int_le}
 use Rattle.pli_language.specs.Tree as T
-use Rattle.pli_typing.specs.Signatures.{Bounds, span}
+use Rattle.pli_typing.specs.Signatures.{Bounds}
 use Rattle.pli_typing.specs.TypedTree as Y
 use Rattle.pli_meaning.specs.Contents.{Shape}
 use Rattle.pli_meaning.specs.DeclaredShapes.{shape_of}
@@ -33,12 +33,11 @@ array_shape b = shape_of [] (array_declared b [])
 abbrev pub element : Spot → Y.Number → Y.Reference
 element x subscript = Y.Referring (variable_of x) Y.NotLocated whole_part (Y.NumberThen subscript Y.NoNumber)
 
--- numbers of 31 bits and a sign, in order, with so few elements that distances fit
+-- numbers of 31 bits and a sign, in order
 pub record IsBounds (b : Bounds) : Type 0 where
   pub lower : IsWide b.lower
   pub upper : IsWide b.upper
   pub order : int_le b.lower b.upper ≡ true
-  pub few : span b ≤ 2 ^ 20
 
 -- an array that the statements of the block know
 pub record IsArray (k : Block) (x : Spot) (b : Bounds) : Type 0 where

@@ -1,0 +1,4 @@
+// DO groups, by the relation of activations.
+#![tactic(auto)]
+
+pub mod laws;
