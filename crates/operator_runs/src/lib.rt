@@ -1,0 +1,3 @@
+// Operators on numbers at the points of a block, by the relation of activations.
+#![tactic(auto)]
+
