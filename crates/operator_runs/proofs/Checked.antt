@@ -1,10 +1,10 @@
 -- A value is tested: it stays where it fits, else FIXEDOVERFLOW is raised, behind which it is cut to 31 bits and a sign.
-use Rattle.std.proofs.Common.{◌≡◌, ℕ, ◌+◌, ◌^◌, ◌<◌, ◌≤◌, List, [], ◌∷◌, Bool, true, false, refl, sym, ap, ◌∙◌}
+use Rattle.std.proofs.Common.{◌≡◌, ℕ, ◌+◌, ◌^◌, ◌<◌, ◌≤◌, Bool, true, false, refl, sym, ◌∙◌}
 use Rattle.std.proofs.Common.{subst, arith}
-use Rattle.std.specs.Prelude.{ℤ, cond, pos}
+use Rattle.std.specs.Prelude.{ℤ, cond}
 use Rattle.rv_meaning.specs.declared.instr.BranchTest.{BranchTest}
 use Rattle.rv_meaning.specs.declared.instr.Register.{Register}
-use Rattle.rv_meaning.specs.Words.{holds_of, sum, word}
+use Rattle.rv_meaning.specs.Words.{holds_of, word}
 use Rattle.pli_language.specs.declared.condition.Condition.TheVariants as C
 use Rattle.pli_meaning.specs.Control.{Meaning, give, ◌>>◌}
 use Rattle.pli_meaning.specs.Numbers.{Gives, Raises, checked, is_of_precision, wrapped}

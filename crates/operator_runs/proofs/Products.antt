@@ -1,6 +1,6 @@
 -- Products, with their overflow.
-use Rattle.std.proofs.Common.{◌≡◌, ℕ, suc, ◌+◌, ◌^◌, ◌<◌, ◌≤◌, List, [], ◌∷◌, Bool, true, false, refl, sym, ap, ◌∙◌}
-use Rattle.std.proofs.Common.{subst, arith}
+use Rattle.std.proofs.Common.{◌≡◌, ℕ, suc, ◌+◌, ◌^◌, ◌<◌, List, [], ◌∷◌, Bool, true, false, refl, sym, ap, ◌∙◌}
+use Rattle.std.proofs.Common.{arith}
 use Rattle.std.specs.Prelude.{ℤ, max, pos, ◌*ℤ◌, ◌==◌}
 use Rattle.rv_meaning.specs.declared.instr.BranchTest.TheVariants as Test
 use Rattle.rv_meaning.specs.declared.instr.RegisterOp.TheVariants as Op
@@ -126,7 +126,7 @@ product_operates k over p numbers taken c index f x y h o line registers' wx wy 
     (λ b.
     let o' = (at' b).holds.regs in
     ap (λ u. u == (f' b).machine.registers 29) o'.1.0 ∙ ap (λ u. upper == u) o'.1.1.0
-        ∙ product_tested (is_of_precision 31 (x *ℤ y)) x y wx wy refl)))
+    ∙ product_tested (is_of_precision 31 (x *ℤ y)) x y wx wy refl)))
 
 pub product_does :
     (k : Setting) (left right : Y.Number) (m n : ℕ) → OverflowComes k → Does k m left → Does k n right →

@@ -3,7 +3,7 @@ use Rattle.std.proofs.Common.{◌≡◌, ℕ, suc, ◌+◌, ◌^◌, ◌<◌, �
 use Rattle.std.proofs.Common.{◌∙◌, subst, arith}
 use Rattle.std.proofs.lemmas.Bool.Decides.{nat_tests}
 use Rattle.std.proofs.lemmas.Int.{ints}
-use Rattle.std.specs.Prelude.{ℤ, cond, if◌then◌else◌, int_div, max, negsuc, pos, ◌==◌}
+use Rattle.std.specs.Prelude.{ℤ, if◌then◌else◌, int_div, max, negsuc, pos, ◌==◌}
 use Rattle.rv_meaning.specs.declared.instr.BranchTest.TheVariants as Test
 use Rattle.rv_meaning.specs.declared.instr.ImmediateOp.TheVariants as Imm
 use Rattle.rv_meaning.specs.declared.instr.RegisterOp.TheVariants as Op
@@ -48,7 +48,7 @@ use Rattle.expression_runs.proofs.Operands.{Operates, both_do}
 use Rattle.expression_runs.proofs.Words.{frame_of, known_word, number_closed, number_further, paired, word_further}
 use Rattle.expression_runs.proofs.Words.{word_here, word_later}
 use Rattle.operator_runs.specs.Divisors.{ZeroDivideComes}
-use Rattle.operator_runs.proofs.Checked.{Cuts, checked_does}
+use Rattle.operator_runs.proofs.Checked.{checked_does}
 
 -- ---- divisors
 
@@ -143,7 +143,7 @@ divisor_does k over p numbers taken c index f x y first rest h o line registers'
         let reach = skip_passed c f Test.NotEqual a0 zero_register raise' test_linked at
         (λ b. let o' = (at b).holds in
         ap (λ u. if u == (f b).machine.registers 0 then false else true) (o'.regs.1.0 ∙ none)
-            ∙ ap (λ u. if 0 == u then false else true) (zero_is o'.body)) in
+        ∙ ap (λ u. if 0 == u then false else true) (zero_is o'.body)) in
         let next' : Unit {0} → Meaning ℤ = λ u. give (pos 0) in
         let flow = R.raised k.around C.ZeroDivide 30 acts p.state in
         let goal = number_aims k.block k.labels whole in
@@ -175,8 +175,8 @@ divisor_does k over p numbers taken c index f x y first rest h o line registers'
         let reach = skip_taken c f Test.NotEqual a0 zero_register raise' test_linked at
         (λ b. let o' = (at b).holds in
         ap (λ u. if u == (f b).machine.registers 0 then false else true) o'.regs.1.0
-            ∙ ap (λ u. if word y == u then false else true) (zero_is o'.body)
-            ∙ ap (λ u. if u then false else true) (other_word y wy e)) in
+        ∙ ap (λ u. if word y == u then false else true) (zero_is o'.body)
+        ∙ ap (λ u. if u then false else true) (other_word y wy e)) in
         subst (λ q. Comes k.block.call.code c f (services_of p) (number_aims k.block k.labels whole)
         (R.value_of k.around (if q then zero_divisor else rest) acts p.state)) (sym e)
         (onward (number_closed k.block k.labels whole) reach
@@ -199,7 +199,7 @@ pub word_wraps : (z : ℤ) → IsWord z → word z ≡ word (wrapped 31 z)
 word_wraps (pos n) h = grind (arith, ints, nat_tests)
 word_wraps (negsuc n) h = grind (arith, ints, nat_tests)
 
-sum_zero : (y x : ℕ) → y ≡ x → x < 2 ^ 32 → sum y (word (pos 0)) ≡ x
+pub sum_zero : (y x : ℕ) → y ≡ x → x < 2 ^ 32 → sum y (word (pos 0)) ≡ x
 sum_zero y x e h = omega (arith, e, h)
 
 -- a quotient in a0 beside what is tested in u3
@@ -237,7 +237,7 @@ whole_does k over p numbers taken c index f x y h o line registers' wx wy other 
     let m = (f b).machine.registers in
     let e : operated Op.Divide (m 6) (m 10) ≡ word z =
     ap (λ u. operated Op.Divide u (m 10)) o'.regs.0 ∙ ap (operated Op.Divide (word x)) o'.regs.1.0
-        ∙ quotient-word x y wx wy other in
+    ∙ quotient-word x y wx wy other in
     record {
       body = record {
         services = o'.body.services;
@@ -274,7 +274,7 @@ whole_does k over p numbers taken c index f x y h o line registers' wx wy other 
     (λ b.
     let o' = (at' b).holds in
     ap (λ u. if (f' b).machine.registers 28 == u then false else true) (zero_is o'.body)
-        ∙ ap is_set o'.regs.1.0 ∙ quotient_tested (is_of_precision 31 z) x y wx wy other refl)))
+    ∙ ap is_set o'.regs.1.0 ∙ quotient_tested (is_of_precision 31 z) x y wx wy other refl)))
 
 quotient_operates :
     (k : Setting) → OverflowComes k → ZeroDivideComes k →

@@ -1,11 +1,8 @@
 -- The worked row: all that is premised of the program is computed.
-use Rattle.std.proofs.Common.{◌≡◌, ℕ, zero, suc, ◌+◌, ◌*◌, ◌^◌, ◌<◌, List, [], ◌∷◌, ◌++◌, inl, length, map, Some, Bool}
-use Rattle.std.proofs.Common.{true, false, refl, sym, ap, ◌∙◌, subst, arith}
-use Rattle.std.proofs.lemmas.Bool.{eqb-true}
-use Rattle.std.specs.Prelude.{ℤ, ◌&&◌, ◌||◌, ◌==◌}
+use Rattle.std.proofs.Common.{◌≡◌, ℕ, suc, ◌+◌, ◌^◌, ◌<◌, List, [], ◌∷◌, ◌++◌, inl, length, map, Some}
+use Rattle.std.proofs.Common.{refl, arith}
 use Rattle.rv_meaning.specs.Machine.{memory_size}
 use Rattle.pli_language.specs.declared.condition.Condition.TheVariants as C
-use Rattle.pli_language.specs.Keywords.{same_bytes}
 use Rattle.pli_typing.specs.TypedTree as Y
 use Rattle.pli_meaning.specs.declared.outcome.End.TheVariants as E
 use Rattle.pli_meaning.specs.Control as F
@@ -21,10 +18,10 @@ use Rattle.area_keeper.specs.KeeperLaws.{Keeps}
 use Rattle.granule_keeper.specs.Granules.{granules}
 use Rattle.pli_serving.specs.Templates.{template_of}
 use Rattle.pli_coding.specs.Allocating.{act_code}
-use Rattle.pli_coding.specs.Assembly.{CallTo, LabelPlace, Mark, ProcedureEntry, ReturnPlace, size_of}
+use Rattle.pli_coding.specs.Assembly.{CallTo, Mark, ProcedureEntry, ReturnPlace, size_of}
 use Rattle.pli_coding.specs.Environments.{none_taken}
 use Rattle.pli_coding.specs.Images.{first_frame, linked_code, raise_code}
-use Rattle.pli_coding.specs.Linking.{Links, links_of, place_of}
+use Rattle.pli_coding.specs.Linking.{links_of}
 use Rattle.pli_coding.specs.SignatureTable.{table_of}
 use Rattle.pli_coding.specs.Statements.{stmt_code, stmts_code}
 use Rattle.storage_relation.specs.Served.{AllDiffer}
@@ -38,7 +35,7 @@ use Rattle.program_runs.specs.Procedures.{begin_of, end_of, procedure_code}
 use Rattle.program_runs.specs.Programs.{IsWhole, Whole, main_of}
 use Rattle.program_runs.specs.Starts.{first_family, image_parts, main_called, no_numbers, start_of}
 use Rattle.program_runs.specs.Starts.{start_point, surroundings_of}
-use Rattle.program_runs.specs.Statements.{AreMarked, Block, EachDoes, IsBegun, StandAt}
+use Rattle.program_runs.specs.Statements.{Block, EachDoes, IsBegun, StandAt}
 use Rattle.program_runs.specs.Variables as D
 use Rattle.program_runs.specs.Variables.{IsOnly, newest_made}
 use Rattle.program_runs.specs.VariableRows as W
@@ -48,8 +45,8 @@ use Rattle.program_runs.proofs.Rows.{is_datum, names_none, none_named}
 use Rattle.program_runs.proofs.VariableProcedures.{one_made}
 use Rattle.program_runs.proofs.VariableRows.{differs_alone, number_valued}
 use Rattle.expression_runs.specs.Assignments.{IsAssignment, setting_of}
-use Rattle.expression_runs.specs.Raises.{IsUnraised, Routines}
-use Rattle.operator_runs.specs.Rows.{SquareRan, square_again, square_back, square_body, square_code, square_coded}
+use Rattle.expression_runs.specs.Raises.{IsUnraised}
+use Rattle.operator_runs.specs.Rows.{square_again, square_back, square_body, square_code, square_coded}
 use Rattle.operator_runs.specs.Rows.{square_end, square_entry, square_environment, square_first, square_image}
 use Rattle.operator_runs.specs.Rows.{square_label, square_main, square_program, square_rest, square_spot, squared}
 use Rattle.expression_runs.specs.Values.{OverflowComes}

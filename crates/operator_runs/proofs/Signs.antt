@@ -1,5 +1,5 @@
 -- Signs and absolute values, with their overflow.
-use Rattle.std.proofs.Common.{◌≡◌, ℕ, suc, ◌+◌, ◌^◌, ◌<◌, ◌≤◌, List, [], ◌∷◌, ◌++◌, Bool, true, false, refl, sym, ap}
+use Rattle.std.proofs.Common.{◌≡◌, ℕ, ◌+◌, ◌^◌, ◌<◌, ◌≤◌, List, [], ◌∷◌, Bool, true, false, refl, sym, ap}
 use Rattle.std.proofs.Common.{◌∙◌, subst, arith}
 use Rattle.std.proofs.Math.Nat.{le-max_left, le-max_right}
 use Rattle.std.proofs.lemmas.Bool.Decides.{nat_tests}
@@ -16,7 +16,7 @@ use Rattle.pli_language.specs.declared.condition.Condition.TheVariants as C
 use Rattle.pli_meaning.specs.Numbers.{Gives, Raises, checked, is_of_precision, sign_applied, wrapped}
 use Rattle.pli_meaning.specs.Operations.{absolute, sign_of}
 use Rattle.pli_meaning.specs.Raising as R
-use Rattle.pli_coding.specs.Arithmetic.{absolute_code, lowest_checked, overflow_raised, sign_code, signed_code}
+use Rattle.pli_coding.specs.Arithmetic.{absolute_code, overflow_raised, sign_code, signed_code}
 use Rattle.pli_coding.specs.Assembly.{size_of}
 use Rattle.pli_coding.specs.Expressions.{number_code}
 use Rattle.pli_coding.specs.Instructions.{lowest_number, registers, shift, skip_where, subtract}
@@ -76,7 +76,7 @@ lowest_does k over p numbers taken c index f z h o line registers' cuts test l p
     (λ b.
     let o' = (at b).holds.regs in
     ap (λ u. if u == (f b).machine.registers 6 then false else true) o'.0
-        ∙ ap (λ u. if word z == u then false else true) o'.1.0 ∙ test)
+    ∙ ap (λ u. if word z == u then false else true) o'.1.0 ∙ test)
 
 -- ---- signs
 

@@ -1,5 +1,5 @@
 -- Operators of one operand.
-use Rattle.std.proofs.Common.{◌≡◌, ℕ, ◌+◌, ◌≤◌, List, [], ◌∷◌, ◌++◌, refl, sym, ap, ◌∙◌, subst, arith}
+use Rattle.std.proofs.Common.{◌≡◌, ℕ, ◌+◌, ◌≤◌, ◌++◌, refl, sym, ◌∙◌, subst, arith}
 use Rattle.std.specs.Prelude.{ℤ}
 use Rattle.rv_meaning.specs.Words.{word}
 use Rattle.pli_meaning.specs.Control.{Meaning, give, ◌>>=◌}
@@ -17,7 +17,6 @@ use Rattle.run_steps.proofs.Reach.{comes_on, onward, stay}
 use Rattle.block_runs.proofs.CallStatements.{comes_map}
 use Rattle.block_runs.proofs.PointGrounds.{point_frame, point_ground}
 use Rattle.program_runs.specs.Statements.{IsAmong}
-use Rattle.program_runs.proofs.JumpsOut.{jumps_since}
 use Rattle.expression_runs.specs.Values.{Evaluates, HasRegisters, Setting, behind, in_registers, number_aims}
 use Rattle.expression_runs.proofs.Words.{frame_of, known_word, number_closed, number_further, valued, word_here}
 

@@ -1,0 +1,3 @@
+// Tests, and statements that are chosen or repeated by them, by the relation of activations.
+#![tactic(auto)]
+
