@@ -1,2 +1,6 @@
 pub mod Operands
 pub mod Bits
+pub mod Chosen
+pub mod Ifs
+pub mod Groups
+pub mod Rows

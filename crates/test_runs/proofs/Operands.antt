@@ -64,9 +64,9 @@ IsBit b = ⊤
 
 -- a bit is a value of that kind
 pub decided_leaves :
-    {k : Setting} {need : ℕ} {part : Taken → Code} {meaning : Meaning Bool} → Decides k need part meaning →
+    (k : Setting) (need : ℕ) (part : Taken → Code) (meaning : Meaning Bool) → Decides k need part meaning →
     Leaves flag IsBit k need part meaning
-decided_leaves {k} {need} {part} {meaning} does p numbers taken c index f o line registers l paid at =
+decided_leaves k need part meaning does p numbers taken c index f o line registers l paid at =
     let x = behind p numbers taken c index (part (in_registers k.words taken)) in
     comes_map (bit_aims k.block k.labels x) (value_aims flag IsBit k.block k.labels x)
     (meaning k.block.call.surroundings.acts p.state)
