@@ -56,6 +56,8 @@ use Rattle.jump_runs.specs.UnitRows.{flee_program}
 use Rattle.copy_units.specs.Rows.{mute_program}
 use Rattle.variable_runs.specs.Rows.{pair_program}
 use Rattle.area_runs.specs.Rows.{locate_program}
+use Rattle.operator_runs.specs.Rows.{square_program}
+use Rattle.test_runs.specs.Rows.{turn_program}
 use Rattle.text_runs.specs.Rows.{wait_program}
 use Rattle.text_units.specs.Rows.{rise_program}
 use Rattle.unit_runs.specs.BeginRows.{host_entry, host_environment, host_main, host_program, host_units}
@@ -74,6 +76,7 @@ use Rattle.unit_runs.proofs.Rows.{mend_does, mend_finish, mend_is}
 use Rattle.block_headlines.specs.Headlines.{HeadlinesOfRows, Layout, Runs, UnitsRun, whole_of}
 use Rattle.block_headlines.proofs.JumpRuns.{bolt_layout, bolt_program_runs, flee_layout, flee_program_runs}
 use Rattle.block_headlines.proofs.JumpRuns.{mute_layout, mute_program_runs, shed_layout, shed_program_runs}
+use Rattle.block_headlines.proofs.OperatorRuns.{square_layout, square_program_runs, turn_layout, turn_program_runs}
 use Rattle.block_headlines.proofs.VariableRuns.{locate_layout, locate_program_runs, pair_layout, pair_program_runs}
 use Rattle.block_headlines.proofs.TextRuns.{drop_layout, drop_program_runs, rise_layout, rise_units_run}
 use Rattle.block_headlines.proofs.TextRuns.{wait_layout, wait_program_runs}
@@ -601,4 +604,6 @@ rows_kept laws keeps =
       muting = kept laws keeps mute_program mute_layout mute_program_runs;
       pairing = kept laws keeps pair_program pair_layout pair_program_runs;
       locating = kept laws keeps locate_program locate_layout locate_program_runs;
+      squaring = kept laws keeps square_program square_layout square_program_runs;
+      turning = kept laws keeps turn_program turn_layout turn_program_runs;
     }

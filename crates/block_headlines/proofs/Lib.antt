@@ -1,4 +1,5 @@
 pub mod JumpRuns
 pub mod VariableRuns
 pub mod TextRuns
+pub mod OperatorRuns
 pub mod Headlines

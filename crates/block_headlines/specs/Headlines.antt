@@ -31,6 +31,8 @@ use Rattle.jump_runs.specs.UnitRows.{flee_program}
 use Rattle.copy_units.specs.Rows.{mute_program}
 use Rattle.variable_runs.specs.Rows.{pair_program}
 use Rattle.area_runs.specs.Rows.{locate_program}
+use Rattle.operator_runs.specs.Rows.{square_program}
+use Rattle.test_runs.specs.Rows.{turn_program}
 use Rattle.text_runs.specs.Rows.{wait_program}
 use Rattle.text_units.specs.Rows.{rise_program}
 use Rattle.program_runs.specs.Starts.{no_numbers, start_point, surroundings_of}
@@ -147,3 +149,5 @@ pub record HeadlinesOfRows : Type 0 where
   pub muting : Headline mute_program (picture_of parts mute_program) (table_of mute_program)
   pub pairing : Headline pair_program (picture_of parts pair_program) (table_of pair_program)
   pub locating : Headline locate_program (picture_of parts locate_program) (table_of locate_program)
+  pub squaring : Headline square_program (picture_of parts square_program) (table_of square_program)
+  pub turning : Headline turn_program (picture_of parts turn_program) (table_of turn_program)

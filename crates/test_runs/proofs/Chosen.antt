@@ -1,5 +1,5 @@
 -- What a bit in a register chooses, and statements that run in other ones.
-use Rattle.std.proofs.Common.{◌≡◌, ℕ, ◌+◌, ◌≤◌, List, [], ◌∷◌, ◌++◌, Bool, true, false, refl, sym, ap, ◌∙◌, subst, arith}
+use Rattle.std.proofs.Common.{◌≡◌, ℕ, ◌+◌, ◌≤◌, List, [], ◌∷◌, Bool, true, false, refl, sym, ap, ◌∙◌, subst, arith}
 use Rattle.std.specs.Prelude.{if◌then◌else◌, ◌==◌}
 use Rattle.rv_meaning.specs.declared.instr.BranchTest.TheVariants as Test
 use Rattle.rv_meaning.specs.Machine.{value}
@@ -15,7 +15,7 @@ use Rattle.run_steps.proofs.Bodies.{zero_is}
 use Rattle.run_steps.specs.Engine.{Base}
 use Rattle.run_steps.specs.Items.{Linked}
 use Rattle.run_steps.specs.Owing.{owing}
-use Rattle.run_steps.proofs.Jumps.{ahead_piece, back_of, front_of, rest_of, skip_passed, skip_taken}
+use Rattle.run_steps.proofs.Jumps.{ahead_piece, front_of, rest_of, skip_passed, skip_taken}
 use Rattle.run_steps.proofs.Linking.{size_append}
 use Rattle.run_steps.proofs.Owing.{done_owing}
 use Rattle.run_steps.specs.Reach.{Aims, Closed, Comes, Family}

@@ -1,5 +1,5 @@
 -- Groups, and DO WHILE: each turn makes an act, so the turns that the meaning allows are enough.
-use Rattle.std.proofs.Common.{◌≡◌, ℕ, zero, suc, ◌+◌, ◌<◌, ◌≤◌, List, [], ◌∷◌, ◌++◌, Bool, refl, sym, ap, ◌∙◌, subst, arith}
+use Rattle.std.proofs.Common.{ℕ, zero, suc, ◌+◌, ◌<◌, ◌≤◌, List, [], ◌∷◌, ◌++◌, Bool, refl, sym, subst, arith}
 use Rattle.pli_typing.specs.TypedTree as Y
 use Rattle.pli_meaning.specs.Control.{Label, Meaning, act, choose, give, repeated_while, stuck, ◌>>=◌, ◌>>◌}
 use Rattle.pli_meaning.specs.Evaluating as V

@@ -1,5 +1,5 @@
 -- IF, with and without ELSE.
-use Rattle.std.proofs.Common.{◌≡◌, ℕ, ◌+◌, ◌≤◌, List, [], ◌∷◌, ◌++◌, Bool, refl, sym, ap, ◌∙◌, subst, arith}
+use Rattle.std.proofs.Common.{ℕ, ◌+◌, List, [], ◌∷◌, ◌++◌, Bool, refl, sym, subst, arith}
 use Rattle.pli_typing.specs.TypedTree as Y
 use Rattle.pli_meaning.specs.Control.{Label, Meaning, act, choose, give, ◌>>=◌, ◌>>◌}
 use Rattle.pli_meaning.specs.Evaluating as V
@@ -11,7 +11,6 @@ use Rattle.pli_coding.specs.Assembly.{JumpAhead, size_of}
 use Rattle.pli_coding.specs.Environments.{none_taken}
 use Rattle.pli_coding.specs.Expressions.{bit_code}
 use Rattle.pli_coding.specs.Statements.{if_met, one_of, stmt_code}
-use Rattle.activation_relation.specs.Layers.{services_of}
 use Rattle.run_steps.specs.Owing.{owing}
 use Rattle.run_steps.proofs.Jumps.{ahead_piece, back_of, front_of}
 use Rattle.run_steps.proofs.Linking.{size_append}

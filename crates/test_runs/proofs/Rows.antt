@@ -1,11 +1,8 @@
 -- The worked row: all that is premised of the program is computed.
-use Rattle.std.proofs.Common.{◌≡◌, ℕ, zero, suc, ◌+◌, ◌*◌, ◌^◌, ◌<◌, List, [], ◌∷◌, ◌++◌, inl, length, map, Some, Bool}
-use Rattle.std.proofs.Common.{true, false, refl, sym, ap, ◌∙◌, subst, arith}
-use Rattle.std.proofs.lemmas.Bool.{eqb-true}
-use Rattle.std.specs.Prelude.{ℤ, ◌&&◌, ◌||◌, ◌==◌}
+use Rattle.std.proofs.Common.{◌≡◌, ℕ, suc, ◌+◌, ◌^◌, ◌<◌, ◌≤◌, List, [], ◌∷◌, ◌++◌, inl, length, map, Some}
+use Rattle.std.proofs.Common.{refl, arith}
 use Rattle.rv_meaning.specs.Machine.{memory_size}
 use Rattle.pli_language.specs.declared.condition.Condition.TheVariants as C
-use Rattle.pli_language.specs.Keywords.{same_bytes}
 use Rattle.pli_typing.specs.TypedTree as Y
 use Rattle.pli_meaning.specs.declared.outcome.End.TheVariants as E
 use Rattle.pli_meaning.specs.Control as F
@@ -21,10 +18,10 @@ use Rattle.area_keeper.specs.KeeperLaws.{Keeps}
 use Rattle.granule_keeper.specs.Granules.{granules}
 use Rattle.pli_serving.specs.Templates.{template_of}
 use Rattle.pli_coding.specs.Allocating.{act_code}
-use Rattle.pli_coding.specs.Assembly.{CallTo, LabelPlace, Mark, ProcedureEntry, ReturnPlace, size_of}
+use Rattle.pli_coding.specs.Assembly.{CallTo, Mark, ProcedureEntry, ReturnPlace, size_of}
 use Rattle.pli_coding.specs.Environments.{none_taken}
 use Rattle.pli_coding.specs.Images.{first_frame, linked_code, raise_code}
-use Rattle.pli_coding.specs.Linking.{Links, links_of, place_of}
+use Rattle.pli_coding.specs.Linking.{links_of}
 use Rattle.pli_coding.specs.SignatureTable.{table_of}
 use Rattle.pli_coding.specs.Statements.{stmt_code, stmts_code}
 use Rattle.storage_relation.specs.Served.{AllDiffer}
@@ -38,19 +35,17 @@ use Rattle.program_runs.specs.Procedures.{begin_of, end_of, procedure_code}
 use Rattle.program_runs.specs.Programs.{IsWhole, Whole, main_of}
 use Rattle.program_runs.specs.Starts.{first_family, image_parts, main_called, no_numbers, start_of}
 use Rattle.program_runs.specs.Starts.{start_point, surroundings_of}
-use Rattle.program_runs.specs.Statements.{AreMarked, Block, EachDoes, IsBegun, StandAt}
+use Rattle.program_runs.specs.Statements.{Block, EachDoes, IsBegun}
 use Rattle.program_runs.specs.Variables as D
 use Rattle.program_runs.specs.Variables.{IsOnly, newest_made}
 use Rattle.program_runs.specs.VariableRows as W
-use Rattle.program_runs.proofs.Gotos.{goto_does}
 use Rattle.program_runs.proofs.Programs.{program_runs}
 use Rattle.program_runs.proofs.Rows.{is_datum, names_none, none_named}
 use Rattle.program_runs.proofs.VariableProcedures.{one_made}
 use Rattle.program_runs.proofs.VariableRows.{differs_alone, number_valued}
 use Rattle.expression_runs.specs.Assignments.{IsAssignment, setting_of}
-use Rattle.expression_runs.specs.Raises.{IsUnraised, Routines}
-use Rattle.test_runs.specs.Choices.{HasTest, IsInner, behind_act, behind_choice, behind_test}
-use Rattle.test_runs.specs.Rows.{TurnRan, below, turn_body, turn_choice, turn_code, turn_coded, turn_end, turn_entry}
+use Rattle.expression_runs.specs.Raises.{IsUnraised}
+use Rattle.test_runs.specs.Rows.{below, turn_body, turn_choice, turn_code, turn_coded, turn_end, turn_entry}
 use Rattle.test_runs.specs.Rows.{turn_environment, turn_first, turn_group, turn_image, turn_last, turn_loop, turn_main}
 use Rattle.test_runs.specs.Rows.{turn_other, turn_program, turn_rest, turn_spot, turn_sum, turn_turns, turn_unit}
 use Rattle.test_runs.specs.Rows.{turn_value}
@@ -64,8 +59,7 @@ use Rattle.pli_coding.specs.Statements.{if_met, one_of, while_met}
 use Rattle.expression_runs.specs.Laws as L
 use Rattle.test_runs.specs.Tests.{Tests}
 use Rattle.expression_runs.specs.Assignments.{assignment}
-use Rattle.expression_runs.specs.Values.{OverflowComes}
-use Rattle.expression_runs.specs.Variables.{IsNumber, whole}
+use Rattle.expression_runs.specs.Variables.{IsNumber}
 use Rattle.expression_runs.proofs.Assignments.{assign_does}
 use Rattle.expression_runs.proofs.Operands.{constant_does}
 use Rattle.expression_runs.proofs.Raises.{overflow_ends}
@@ -323,9 +317,6 @@ assigns input acts line index need source few b low one l paid =
       paid = omega (arith, paid);
     }
 
-none : {links : Links} {index : ℕ} → StandAt links 0 [] index
-none label e = absurd (cc e)
-
 pub turn_each :
     (input : List ℕ) (acts : ℕ) → acts + 1 < 2 ^ 64 → IsBegun (turn_block input acts) →
     EachDoes (turn_block input acts) [] turn_body (body_index (main_of (turn_whole input acts))) left_over
@@ -340,7 +331,7 @@ turn_each input acts few b =
     (sum_of input acts 7 few b) in
     let other' = group_does k [] turn_group 6 other_index left_over (record { line_fits = omega arith; acts = few })
     other_linked
-    (record { begun = b; turns = omega arith; marked = (none, none) })
+    (record { begun = b; turns = omega arith; marked = (λ label e. absurd (cc e), λ label e. absurd (cc e)) })
     (inner', tt) in
     let choice' = one_of_does k [] (below 300000000) turn_unit turn_other 5 choice_index left_over 1 100
     (record {
@@ -350,8 +341,7 @@ turn_each input acts few b =
       statement = choice_linked;
       paid = omega (arith, n);
     })
-    (below_tests input acts 5 300000000 (omega arith) b) unit' other' in
-    (
+    (below_tests input acts 5 300000000 (omega arith) b) unit' other' in (
       assign_does k [] turn_spot (Y.NumberConstant 100000000) 3 turn_start left_over 0 100
           (assigns input acts 3 turn_start 0 (Y.NumberConstant 100000000) few b (omega arith) (omega arith) first_linked
           (omega (arith, n)))
@@ -366,7 +356,7 @@ turn_each input acts few b =
               paid = omega (arith, n);
             })
             (below_tests input acts 4 1000000000 (omega arith) b)
-            (record { begun = b; turns = omega arith; marked = (none, none) })
+            (record { begun = b; turns = omega arith; marked = (λ label e. absurd (cc e), λ label e. absurd (cc e)) })
             (choice', tt),
         (
           assign_does k [] turn_spot turn_sum 8 last_index left_over 1 100
@@ -396,7 +386,7 @@ turn_is input first acts few bytes =
         stands = main_linked;
         end = refl;
         kind = refl;
-        labels = (none, (none, (none, none)));
+        labels = (λ label e. absurd (cc e), (λ label e. absurd (cc e), (λ label e. absurd (cc e), λ label e. absurd (cc e))));
         acts = few;
       };
       room = record { room = omega arith; shallow = refl; parent = tt; idle = refl };
