@@ -1,4 +1,4 @@
--- A value is tested: it stays where it fits, else FIXEDOVERFLOW is raised, behind which it is cut to 31 bits and a sign.
+-- A value is tested: it stays where it fits, else FIXEDOVERFLOW is raised, behind which it is cut to 31 bits and sign.
 use Rattle.std.proofs.Common.{◌≡◌, ℕ, ◌+◌, ◌^◌, ◌<◌, ◌≤◌, Bool, true, false, refl, sym, ◌∙◌}
 use Rattle.std.proofs.Common.{subst, arith}
 use Rattle.std.specs.Prelude.{ℤ, cond}

@@ -56,7 +56,8 @@ added_size = absolute_bits ++ add u2 u2 a0 ∷ []
 abbrev Stand : (k : Setting) → (p : Point) → (numbers : ℕ → ℕ) → frame_of k.block p → (index : ℕ) →
     (Base → List (ℕ × ℕ)) → Family → Type 0
 Stand k p numbers h index known f =
-    (b : Base) → At b index (Known (point_ground k.block.call.surroundings p h) (services_of p) numbers (λ j. 0) known b)
+    (b : Base) → At b index (Known (point_ground k.block.call.surroundings p h) (services_of p) numbers (λ j. 0) known
+    b)
     (f b)
 
 -- a negative remainder gets the divisor's size added

@@ -264,7 +264,8 @@ square_each input acts few b =
           (first_is input acts few b) (constant_does (setting_of k labels 3 100) 46340 (omega arith)),
       (
         assign_does k labels square_spot squared 4 again_index left_over 1 100 (again_is input acts few b)
-            (product_does four (Y.NumberIn (whole square_spot)) (Y.NumberIn (whole square_spot)) 0 0 over operand operand),
+            (product_does four (Y.NumberIn (whole square_spot)) (Y.NumberIn (whole square_spot)) 0 0 over operand
+            operand),
         (
           goto_does k labels square_label 5 back_index left_over (record { line_fits = omega arith; acts = few })
               (record {

@@ -100,7 +100,8 @@ straight_gives k p numbers taken c index f z part h o wide at =
         wide,
         word_here {x = whole} h o (omega arith) refl
             (stay k.block.call.code whole.wanted f (services_of p)
-            (λ b y. At b whole.index (Known (point_ground k.block.call.surroundings p h) (services_of p) numbers (λ j. 0)
+            (λ b y. At b whole.index (Known (point_ground k.block.call.surroundings p h) (services_of p) numbers
+            (λ j. 0)
             (valued (word z)) b) y) at),
       );
     }

@@ -226,7 +226,8 @@ unfolding V.bit
 bits_tests k comparison left right m n el er =
     both_decide flag IsBit flag_small k m n (λ t. bit_code k.block.environment t left)
     (λ t. bit_code k.block.environment t right) (compared_code comparison) (V.bit k.around left)
-    (V.bit k.around right) (λ x y. holds comparison (bit_order x y)) (decided_leaves k m (λ t. bit_code k.block.environment t left) (V.bit k.around left) el)
+    (V.bit k.around right) (λ x y. holds comparison (bit_order x y))
+    (decided_leaves k m (λ t. bit_code k.block.environment t left) (V.bit k.around left) el)
     (decided_leaves k n (λ t. bit_code k.block.environment t right) (V.bit k.around right) er)
     (bits_compare k comparison)
 
@@ -261,7 +262,8 @@ unfolding V.bit
 and_tests k left right m n el er =
     both_decide flag IsBit flag_small k m n (λ t. bit_code k.block.environment t left)
     (λ t. bit_code k.block.environment t right) (combined_code Y.Conjunction ∷ []) (V.bit k.around left)
-    (V.bit k.around right) (λ x y. x && y) (decided_leaves k m (λ t. bit_code k.block.environment t left) (V.bit k.around left) el)
+    (V.bit k.around right) (λ x y. x && y)
+    (decided_leaves k m (λ t. bit_code k.block.environment t left) (V.bit k.around left) el)
     (decided_leaves k n (λ t. bit_code k.block.environment t right) (V.bit k.around right) er) (and_compares k)
 
 or_compares : (k : Setting) → Compares flag IsBit k (combined_code Y.Disjunction ∷ []) (λ x y. x || y)
@@ -293,7 +295,8 @@ unfolding V.bit
 or_tests k left right m n el er =
     both_decide flag IsBit flag_small k m n (λ t. bit_code k.block.environment t left)
     (λ t. bit_code k.block.environment t right) (combined_code Y.Disjunction ∷ []) (V.bit k.around left)
-    (V.bit k.around right) (λ x y. x || y) (decided_leaves k m (λ t. bit_code k.block.environment t left) (V.bit k.around left) el)
+    (V.bit k.around right) (λ x y. x || y)
+    (decided_leaves k m (λ t. bit_code k.block.environment t left) (V.bit k.around left) el)
     (decided_leaves k n (λ t. bit_code k.block.environment t right) (V.bit k.around right) er) (or_compares k)
 
 pub negated_tests : (k : Setting) (operand : Y.Bit) (m : ℕ) → Tests k m operand → Tests k m (Y.Negated operand)

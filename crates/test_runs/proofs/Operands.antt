@@ -91,7 +91,8 @@ leaves_bit k p numbers taken c index f b part h o at =
     record {
       to = word_here {x = whole} h o (omega arith) refl
           (stay k.block.call.code whole.wanted f (services_of p)
-          (λ b0 y. At b0 whole.index (Known (point_ground k.block.call.surroundings p h) (services_of p) numbers (λ j. 0)
+          (λ b0 y. At b0 whole.index (Known (point_ground k.block.call.surroundings p h) (services_of p) numbers
+          (λ j. 0)
           (valued (flag b)) b0) y) at);
     }
 

@@ -386,7 +386,10 @@ turn_is input first acts few bytes =
         stands = main_linked;
         end = refl;
         kind = refl;
-        labels = (λ label e. absurd (cc e), (λ label e. absurd (cc e), (λ label e. absurd (cc e), λ label e. absurd (cc e))));
+        labels = (
+          λ label e. absurd (cc e),
+          (λ label e. absurd (cc e), (λ label e. absurd (cc e), λ label e. absurd (cc e))),
+        );
         acts = few;
       };
       room = record { room = omega arith; shallow = refl; parent = tt; idle = refl };
@@ -412,8 +415,8 @@ unfolding F.give F.◌>>=◌ F.◌>>◌ F.looked F.stored F.act F.finish F.retur
 flows = tt
 
 unfoldable values : Unit {0}
-unfolding V.number V.bit V.designated V.located V.numbers V.variable_designated V.part_designated V.stored_value R.or_error
-    R.demanded R.value_of R.raised R.unit_run R.error R.error_unit_run P.element_stored M.assigned
+unfolding V.number V.bit V.designated V.located V.numbers V.variable_designated V.part_designated V.stored_value
+    R.or_error R.demanded R.value_of R.raised R.unit_run R.error R.error_unit_run P.element_stored M.assigned
 values = tt
 
 unfoldable makings : Unit {0}
