@@ -5,4 +5,5 @@ pub mod Signs
 pub mod Quotients
 pub mod Remainders
 pub mod Divisors
+pub mod Extremes
 pub mod Rows

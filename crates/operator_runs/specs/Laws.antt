@@ -4,6 +4,7 @@ use Rattle.pli_typing.specs.TypedTree as Y
 use Rattle.expression_runs.specs.Laws.{Does}
 use Rattle.expression_runs.specs.Values.{OverflowComes, Setting}
 use Rattle.operator_runs.specs.Divisors.{IsUndivided, ZeroDivideComes}
+use Rattle.operator_runs.specs.Extremes.{AllDo}
 
 -- each does what it means if its operands do, where FIXEDOVERFLOW and ZERODIVIDE come to what they mean
 pub record OperatorsDo : Type 0 where
@@ -29,6 +30,10 @@ pub record OperatorsDo : Type 0 where
   pub absolute :
       (k : Setting) (operand : Y.Number) (m : ℕ) → OverflowComes k → Does k m operand →
       Does k (max m 1) (Y.Absolute operand)
+  -- MAX and MIN
+  pub extreme :
+      (k : Setting) (extremum : Y.Extremum) (first : Y.Number) (more : Y.Numbers) (m n : ℕ) → Does k m first →
+      AllDo k n more → Does k (max m (suc n)) (Y.Extreme extremum first more)
   -- SIGN
   pub sign : (k : Setting) (operand : Y.Number) (m : ℕ) → Does k m operand → Does k m (Y.SignOf operand)
 

@@ -5,7 +5,7 @@ ghost use Rattle.operator_runs.specs.Rows.{SquareRan};
 
 use granule_keeper::laws::granules_keep;
 
-/// Products, quotients, remainders and signs of numbers leave what they mean in a register, at each point of a block.
+/// Products, quotients, remainders, extremes and signs of numbers leave what they mean in a register, at each point.
 pub fn operators_do()
     ensures { OperatorsDo }
 {}

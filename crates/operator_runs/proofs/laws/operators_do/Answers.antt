@@ -1,3 +1,4 @@
+use Rattle.operator_runs.proofs.Extremes.{extreme_does}
 use Rattle.operator_runs.proofs.Products.{product_does}
 use Rattle.operator_runs.proofs.Quotients.{divided_does, quotient_does}
 use Rattle.operator_runs.proofs.Remainders.{modulo_does}
@@ -14,5 +15,6 @@ returns c =
       positive = positive_does;
       negative = negative_does;
       absolute = absolute_does;
+      extreme = extreme_does;
       sign = sign_does;
     }
