@@ -56,6 +56,8 @@ use Rattle.jump_runs.specs.UnitRows.{flee_program}
 use Rattle.copy_units.specs.Rows.{mute_program}
 use Rattle.variable_runs.specs.Rows.{pair_program}
 use Rattle.area_runs.specs.Rows.{locate_program}
+use Rattle.operator_runs.specs.Rows.{square_program}
+use Rattle.test_runs.specs.Rows.{turn_program}
 use Rattle.text_runs.specs.Rows.{wait_program}
 use Rattle.text_units.specs.Rows.{rise_program}
 use Rattle.element_runs.specs.Rows.{pick_program}
@@ -76,6 +78,7 @@ use Rattle.unit_runs.proofs.Rows.{mend_does, mend_finish, mend_is}
 use Rattle.block_headlines.specs.Headlines.{HeadlinesOfRows, Layout, Runs, UnitsRun, whole_of}
 use Rattle.block_headlines.proofs.JumpRuns.{bolt_layout, bolt_program_runs, flee_layout, flee_program_runs}
 use Rattle.block_headlines.proofs.JumpRuns.{mute_layout, mute_program_runs, shed_layout, shed_program_runs}
+use Rattle.block_headlines.proofs.OperatorRuns.{square_layout, square_program_runs, turn_layout, turn_program_runs}
 use Rattle.block_headlines.proofs.VariableRuns.{locate_layout, locate_program_runs, pair_layout, pair_program_runs}
 use Rattle.block_headlines.proofs.TextRuns.{drop_layout, drop_program_runs, rise_layout, rise_units_run}
 use Rattle.block_headlines.proofs.TextRuns.{wait_layout, wait_program_runs}
@@ -607,4 +610,6 @@ rows_kept laws keeps =
       locating = kept laws keeps locate_program locate_layout locate_program_runs;
       picking = kept laws keeps pick_program pick_layout pick_program_runs;
       grouping = kept laws keeps group_program group_layout group_program_runs;
+      squaring = kept laws keeps square_program square_layout square_program_runs;
+      turning = kept laws keeps turn_program turn_layout turn_program_runs;
     }

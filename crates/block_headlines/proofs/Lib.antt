@@ -3,4 +3,5 @@ pub mod VariableRuns
 pub mod TextRuns
 pub mod ElementRuns
 pub mod GroupRuns
+pub mod OperatorRuns
 pub mod Headlines

@@ -15,7 +15,7 @@ use Rattle.area_runs.specs.Rows.{locate_entry, locate_environment, locate_main, 
 use Rattle.area_runs.proofs.Rows.{locate_each, locate_finish, locate_is, locate_variables}
 use Rattle.block_headlines.specs.Headlines.{Layout, Runs}
 
-fits :
+pub fits :
     (program : Y.Program) → size_of (code_of parts program) ≤ 2 ^ 20 →
     length (picture_of parts program).statics ≤ 3 * 2 ^ 20 → FitsMemory (picture_of parts program)
 fits program small' few =

@@ -31,6 +31,8 @@ use Rattle.jump_runs.specs.UnitRows.{flee_program}
 use Rattle.copy_units.specs.Rows.{mute_program}
 use Rattle.variable_runs.specs.Rows.{pair_program}
 use Rattle.area_runs.specs.Rows.{locate_program}
+use Rattle.operator_runs.specs.Rows.{square_program}
+use Rattle.test_runs.specs.Rows.{turn_program}
 use Rattle.text_runs.specs.Rows.{wait_program}
 use Rattle.text_units.specs.Rows.{rise_program}
 use Rattle.element_runs.specs.Rows.{pick_program}
@@ -151,3 +153,5 @@ pub record HeadlinesOfRows : Type 0 where
   pub locating : Headline locate_program (picture_of parts locate_program) (table_of locate_program)
   pub picking : Headline pick_program (picture_of parts pick_program) (table_of pick_program)
   pub grouping : Headline group_program (picture_of parts group_program) (table_of group_program)
+  pub squaring : Headline square_program (picture_of parts square_program) (table_of square_program)
+  pub turning : Headline turn_program (picture_of parts turn_program) (table_of turn_program)

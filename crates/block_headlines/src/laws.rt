@@ -24,16 +24,7 @@ pub fn unit_headlines_kept()
     granules_keep();
 }
 
-/// A main procedure that calls a procedure inside it keeps the headline, and so do one with a variable, one that
-/// doubles it in a loop by GOTO until it overflows, one that passes it to a procedure that does, one that calls a
-/// function, one with begin blocks, of which one assigns its variable and another jumps back out, one that returns out
-/// of two begin blocks, and six with a unit for FIXEDOVERFLOW, which returns into the expression, or jumps out of it,
-/// or out of a loop in which its ON stands, or is raised in a procedure that the main procedure calls, or is gone
-/// behind the begin block that has its ON, or has a unit of its own; and three with a label to which a procedure or a
-/// function jumps that it calls, or the unit of such a function; one whose function has a parameter and a unit; three
-/// in which a text waits while a function runs, which jumps away in one of them, or while a unit runs; one with two
-/// variables; one that doubles an element of an array, whose subscript a function returns; one with a number in an
-/// area, which it doubles by way of a pointer; and one with a DO group.
+/// The programs of all worked rows of the crates below keep the headline.
 pub fn headlines_of_rows()
     ensures { HeadlinesOfRows }
 {

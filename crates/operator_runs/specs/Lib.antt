@@ -1,0 +1,4 @@
+pub mod Divisors
+pub mod Extremes
+pub mod Laws
+pub mod Rows

@@ -1,0 +1,23 @@
+// Laws of the definitions: each function's contract is one law, and calling it does nothing.
+
+ghost use Rattle.operator_runs.specs.Laws.{OperatorsDo, ZeroDivideEnds};
+ghost use Rattle.operator_runs.specs.Rows.{SquareRan};
+
+use granule_keeper::laws::granules_keep;
+
+/// Products, quotients, remainders, extremes and signs of numbers leave what they mean in a register, at each point.
+pub fn operators_do()
+    ensures { OperatorsDo }
+{}
+
+/// ZERODIVIDE without a unit in force ends the run.
+pub fn zero_divide_ends()
+    ensures { ZeroDivideEnds }
+{}
+
+/// A worked row: a variable that is squared in a loop by GOTO, until it overflows.
+pub fn square_ran()
+    ensures { SquareRan }
+{
+    granules_keep();
+}

@@ -1,0 +1,4 @@
+pub mod Tests
+pub mod Laws
+pub mod Choices
+pub mod Rows
