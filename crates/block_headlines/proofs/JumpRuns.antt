@@ -15,7 +15,8 @@ use Rattle.jump_runs.specs.Rows.{bolt_entry, bolt_environment, bolt_main, bolt_p
 use Rattle.jump_runs.specs.UnitRows.{flee_entry, flee_environment, flee_function, flee_main, flee_program, flee_units}
 use Rattle.jump_runs.proofs.FunctionRows.{shed_each, shed_finish, shed_is}
 use Rattle.jump_runs.proofs.Rows.{bolt_each, bolt_finish, bolt_is}
-use Rattle.jump_runs.proofs.UnitRows.{flee_each, flee_finish, flee_is}
+use Rattle.jump_runs.proofs.UnitRowCode.{flee_finish}
+use Rattle.jump_runs.proofs.UnitRows.{flee_each, flee_is}
 use Rattle.copy_units.specs.Rows.{mute_entry, mute_environment, mute_function, mute_main, mute_program, mute_units}
 use Rattle.copy_units.proofs.Rows.{mute_each, mute_finish, mute_is}
 use Rattle.block_headlines.specs.Headlines.{Layout, Runs}

@@ -50,7 +50,6 @@ use Rattle.program_runs.proofs.Statements.{none_does}
 use Rattle.program_runs.proofs.VariableProcedures.{one_made}
 use Rattle.program_runs.proofs.VariableRows.{differs_alone, number_valued}
 use Rattle.expression_runs.specs.Assignments.{IsAssignment, setting_of}
-use Rattle.expression_runs.specs.Laws as L
 use Rattle.expression_runs.specs.Raises.{Routines}
 use Rattle.expression_runs.specs.Values.{OverflowComes, Setting}
 use Rattle.expression_runs.specs.Variables.{IsNumber, whole}

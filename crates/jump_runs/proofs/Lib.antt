@@ -7,4 +7,5 @@ pub mod FunctionLists
 pub mod Functions
 pub mod FunctionRows
 pub mod DropRows
+pub mod UnitRowCode
 pub mod UnitRows

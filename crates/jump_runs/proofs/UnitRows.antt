@@ -21,10 +21,10 @@ use Rattle.area_keeper.specs.KeeperLaws.{Keeps}
 use Rattle.granule_keeper.specs.Granules.{granules}
 use Rattle.pli_serving.specs.Templates.{template_of}
 use Rattle.pli_coding.specs.Allocating.{act_code}
-use Rattle.pli_coding.specs.Assembly.{CallTo, JumpAhead, Mark, OffsetAhead, Plain, ProcedureEntry, ReturnPlace, size_of}
+use Rattle.pli_coding.specs.Assembly.{CallTo, JumpAhead, OffsetAhead, Plain, ProcedureEntry, size_of}
 use Rattle.pli_coding.specs.Environments.{none_taken}
 use Rattle.pli_coding.specs.Frames.{fixed_size, temporary_bytes}
-use Rattle.pli_coding.specs.Images.{first_frame, linked_code, raise_code}
+use Rattle.pli_coding.specs.Images.{first_frame, linked_code}
 use Rattle.pli_coding.specs.Instructions.{small}
 use Rattle.pli_coding.specs.Linking.{links_of}
 use Rattle.pli_coding.specs.Procedures.{no_value}
@@ -38,10 +38,10 @@ use Rattle.activation_relation.specs.Layers.{Point, services_of}
 use Rattle.activation_relation.specs.ServiceLaws.{IsSystem}
 use Rattle.run_steps.specs.Items.{Linked}
 use Rattle.run_steps.proofs.Jumps.{back_of, first_of, front_of, rest_of}
-use Rattle.run_steps.proofs.Linking.{has_items, linked_length}
+use Rattle.run_steps.proofs.Linking.{linked_length}
 use Rattle.run_steps.specs.Reach.{Comes, never}
 use Rattle.program_runs.specs.Calls.{AreMade, Callee, block_at, body_index, left_over}
-use Rattle.program_runs.specs.Procedures.{begin_of, end_of, frame_for, procedure_code}
+use Rattle.program_runs.specs.Procedures.{frame_for}
 use Rattle.program_runs.specs.Programs.{IsWhole, Whole, main_of}
 use Rattle.program_runs.specs.Starts.{first_family, image_parts, main_called, no_numbers, start_of}
 use Rattle.program_runs.specs.Starts.{start_point, surroundings_of}
@@ -51,7 +51,6 @@ use Rattle.program_runs.specs.Variables.{IsOnly, newest_made}
 use Rattle.program_runs.specs.VariableRows as W
 use Rattle.program_runs.proofs.Calls as P
 use Rattle.program_runs.proofs.Programs.{program_runs}
-use Rattle.program_runs.proofs.Rows.{is_datum, names_none, none_named}
 use Rattle.program_runs.proofs.Statements.{none_does, null_does, stop_does}
 use Rattle.program_runs.proofs.VariableProcedures.{one_made}
 use Rattle.program_runs.proofs.VariableRows.{differs_alone, number_valued}
@@ -67,7 +66,7 @@ use Rattle.expression_runs.proofs.Rows.{one_label_stands}
 use Rattle.expression_runs.proofs.Sums.{sum_does}
 use Rattle.expression_runs.proofs.VariablePoints.{variable_does}
 use Rattle.function_runs.specs.FunctionCalls.{called_from}
-use Rattle.function_runs.specs.Functions.{IsFunction, function_code, function_tail}
+use Rattle.function_runs.specs.Functions.{IsFunction}
 use Rattle.function_runs.specs.OuterVariables.{IsInside}
 use Rattle.function_runs.proofs.OuterVariables.{same_ancestor}
 use Rattle.function_runs.proofs.ReturnValues.{return_does}
@@ -87,79 +86,14 @@ use Rattle.jump_runs.specs.Functions.{FunctionDoes, IsFunctionList, function_in}
 use Rattle.jump_runs.specs.UnitRows.{flee_added, flee_again, flee_body, flee_called, flee_code, flee_entry}
 use Rattle.jump_runs.specs.UnitRows.{flee_environment, flee_first, flee_function, flee_image, flee_inner, flee_jump}
 use Rattle.jump_runs.specs.UnitRows.{flee_label, flee_last, flee_main, flee_on, flee_program, flee_rest, flee_return}
-use Rattle.jump_runs.specs.UnitRows.{flee_spot, flee_stop, flee_twice, flee_unit, inner_body, inner_coded, inner_entry}
-use Rattle.jump_runs.specs.UnitRows.{inner_environment, inner_rest, main_coded}
+use Rattle.jump_runs.specs.UnitRows.{flee_spot, flee_stop, flee_twice, flee_unit, inner_body, inner_entry}
+use Rattle.jump_runs.specs.UnitRows.{inner_environment, inner_rest}
 use Rattle.jump_runs.proofs.Errors.{past_system}
 use Rattle.jump_runs.proofs.FunctionLists.{all_ends, system_ends}
 use Rattle.jump_runs.proofs.Functions.{jump_function_does}
 use Rattle.jump_runs.proofs.Numbers.{function_ancestor, function_number}
-
--- ---- its code
-
-flee_linked : Linked (links_of flee_code) (linked_code flee_code) 0 flee_code
-unfolding names_none is_datum
-flee_linked =
-    let n = linked_length (links_of flee_code) 0 flee_code in
-    record {
-      small' = omega (arith, n);
-      inside = omega (arith, n);
-      has = has_items (links_of flee_code) flee_code refl;
-      named = λ d h. absurd (none_named d flee_code refl h);
-    }
-
-start_linked : Linked (links_of flee_code) (linked_code flee_code) 0 (start_of 0)
-start_linked = front_of (start_of 0) (raise_code ++ (main_coded ++ inner_coded)) flee_linked
-
-raise_linked : Linked (links_of flee_code) (linked_code flee_code) (size_of (start_of 0)) raise_code
-raise_linked =
-    front_of raise_code (main_coded ++ inner_coded)
-    (back_of (start_of 0) (raise_code ++ (main_coded ++ inner_coded)) flee_linked)
-
-both_linked : Linked (links_of flee_code) (linked_code flee_code) flee_entry (main_coded ++ inner_coded)
-both_linked =
-    back_of raise_code (main_coded ++ inner_coded)
-    (back_of (start_of 0) (raise_code ++ (main_coded ++ inner_coded)) flee_linked)
-
-main_linked :
-    Linked (links_of flee_code) (linked_code flee_code) flee_entry (procedure_code flee_environment flee_main)
-main_linked =
-    rest_of (Mark (ProcedureEntry 0)) (procedure_code flee_environment flee_main)
-    (front_of main_coded inner_coded both_linked)
-
-inner_linked :
-    Linked (links_of flee_code) (linked_code flee_code) inner_entry (function_code inner_environment flee_inner)
-inner_linked =
-    rest_of (Mark (ProcedureEntry 1)) (function_code inner_environment flee_inner)
-    (back_of main_coded inner_coded both_linked)
-
-abbrev pub flee_start : ℕ
-flee_start = flee_entry + size_of (begin_of flee_main) + size_of flee_main.variables + size_of (act_code 1)
-
-abbrev pub flee_finish : ℕ
-flee_finish = flee_start + size_of (stmts_code flee_environment none_taken flee_body)
-
-body_linked :
-    Linked (links_of flee_code) (linked_code flee_code) flee_start
-    (stmts_code flee_environment none_taken flee_body)
-body_linked =
-    let one = act_code 1 in
-    let body = stmts_code flee_environment none_taken flee_body in
-    let tail = Mark (ReturnPlace 0) ∷ end_of flee_main in
-    let rest = one ++ (body ++ tail) in
-    front_of body tail (back_of one (body ++ tail)
-    (back_of flee_main.variables rest (back_of (begin_of flee_main) (flee_main.variables ++ rest) main_linked)))
-
-inner_body_linked :
-    Linked (links_of flee_code) (linked_code flee_code) flee_on
-    (stmts_code inner_environment none_taken inner_body)
-inner_body_linked =
-    let one = act_code 2 in
-    let body = stmts_code inner_environment none_taken inner_body in
-    let tail = function_tail flee_inner in
-    let rest = one ++ (body ++ tail) in
-    front_of body tail
-    (back_of one (body ++ tail)
-    (back_of flee_inner.variables rest (back_of (begin_of flee_inner) (flee_inner.variables ++ rest) inner_linked)))
+use Rattle.jump_runs.proofs.UnitRowCode.{flee_start, start_linked, raise_linked, main_linked}
+use Rattle.jump_runs.proofs.UnitRowCode.{flee_finish, inner_linked, body_linked, inner_body_linked}
 
 -- ---- the main procedure's variable
 
