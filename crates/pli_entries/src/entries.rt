@@ -1,6 +1,7 @@
 // The stack of entries.
 
-ghost use Rattle.std.specs.Prelude.{◌≡◌, ◌<◌, ◌≤◌, ◌-◌, [], ◌∷◌, length, drop, map, option_map, true, IsSome, MatchResult, Some};
+ghost use Rattle.std.specs.Prelude.{◌≡◌, ◌<◌, ◌≤◌, ◌-◌, [], ◌∷◌, length, drop, map, option_map};
+ghost use Rattle.std.specs.Prelude.{true, IsSome, MatchResult, Some};
 ghost use Rattle.pli_meaning.specs.Stream.{blanks};
 ghost use Rattle.pli_meaning.specs.Texts.{fitted};
 ghost use Rattle.pli_serving.specs.Blocks.{are_texts, top_kept};
@@ -108,7 +109,8 @@ impl Entries {
 
     /// A text of so many blanks comes on top. `Memory` where there is none, and then nothing changed.
     pub fn push_blanks(&mut self, count: u32) -> Result<(), EntryFault>
-        ensures { MatchResult result (λ _. self.new ≡ TextEntry (blanks count) ∷ self.old) (λ e. (e ≡ F.Memory) × (self.new ≡ self.old)) }
+        ensures { MatchResult result (λ _. self.new ≡ TextEntry (blanks count) ∷ self.old)
+            (λ e. (e ≡ F.Memory) × (self.new ≡ self.old)) }
     {
         self.texts.push_blanks(count)?;
         Ok(())

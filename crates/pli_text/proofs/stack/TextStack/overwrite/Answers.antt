@@ -1,4 +1,5 @@
-use Rattle.std.proofs.Common.{◌≡◌, [], ◌+◌, ◌-◌, ◌≤◌, ◌∷◌, ◌++◌, ap, sym, ◌∙◌, length, take, drop, arith, rules, append-nil}
+use Rattle.std.proofs.Common.{◌≡◌, [], ◌+◌, ◌-◌, ◌≤◌, ◌∷◌, ◌++◌, ap, sym, ◌∙◌, length, take, drop}
+use Rattle.std.proofs.Common.{arith, rules, append-nil}
 use Rattle.std.proofs.lemmas.List.{places, with_items_is}
 use Rattle.std.proofs.lemmas.List.{drop_all, drop_at, length-drop, length-take-le, take_all, take_at}
 use Rattle.pli_meaning.specs.Texts.{fitted}
@@ -18,11 +19,15 @@ returns c =
     let over = c.write_over.new.bytes in
     let count = length-pieces ss bytes in
     let newest : (c.len.result - 1) + 1 ≡ length ss = omega (arith, c.requires, ap length c.self.view_is) in
-    let top = top-seen ss bytes c.args.self.now c.self.view_is c.self.invariant.0 _ _ newest c.index-start.ensures in
-    let within = start-within ss bytes c.args.self.now c.self.view_is c.self.invariant.0 _ _ newest c.index-start.ensures in
+    let seen = c.args.self.now in
+    let v = c.self.view_is in
+    let o = c.self.invariant.0 in
+    let top = top-seen ss bytes seen v o _ _ newest c.index-start.ensures in
+    let within = start-within ss bytes seen v o _ _ newest c.index-start.ensures in
     let same = c.deref_mut.ensures.value in
     let inside : x ≤ length all = omega (arith, within, ap length same) in
-    let whole : take (length all - x) (drop x all) ≡ drop x all = take_all (length all - x) (drop x all) (omega (arith, length-drop x all)) in
+    let whole : take (length all - x) (drop x all) ≡ drop x all =
+    take_all (length all - x) (drop x all) (omega (arith, length-drop x all)) in
     let long : length (take (length all - x) (drop x all)) ≡ length (top_of c.args.self.now) =
     ap length whole ∙ ap (λ l. length (drop x l)) same ∙ ap length (sym top) in
     let rest = post_of x (length all - x) all in
