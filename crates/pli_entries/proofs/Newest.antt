@@ -13,5 +13,6 @@ no_text [] e = refl
 no_text (TextEntry t ∷ below) e = cc
 no_text (AggregateEntry ls ∷ below) e = refl
 
-pub top_is : (ts : List (List ℕ)) (held : List Aggregate) (old : List Entry) → Shown 1 ts held old → text_on_top old ≡ Some (top_of ts)
+pub top_is : (ts : List (List ℕ)) (held : List Aggregate) (old : List Entry) → Shown 1 ts held old →
+    text_on_top old ≡ Some (top_of ts)
 top_is ts held old s = ap text_on_top (sym s.is ∙ one_text ts held s.placed (ap (are_texts 1) s.is ∙ s.texts))

@@ -6,4 +6,5 @@ use Rattle.pli_entries.proofs.entries.Entries.push_blanks.Goals as goal
 pub invariant_of-self-2 : goal.invariant_of-self-2
 invariant_of-self-2 c =
     let longer = ap length c.in_ok-push_blanks.ensures in
-    higher (reverse c.self.inside.aggregates.items) (length c.self.inside.texts) (length c.push_blanks.new.self) c.self.invariant (omega (arith, longer))
+    higher (reverse c.self.inside.aggregates.items) (length c.self.inside.texts) (length c.push_blanks.new.self)
+    c.self.invariant (omega (arith, longer))
