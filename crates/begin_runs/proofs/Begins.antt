@@ -110,6 +110,9 @@ ListGoes z =
 pub record IsHere (z : Here) : Type 0 where
   pub begin : IsBegin z.block z.inner z.index z.more
   pub among : IsAmong z.block z.numbers z.point
+
+-- its variables are made, and its labels stand in its code
+pub record IsListed (z : Here) : Type 0 where
   pub made : AreMade z.block z.inner z.index z.point z.numbers
   pub marks :
       AreMarked z.block.call.surroundings.links (environment_of z.block z.inner) z.inner.body
@@ -118,16 +121,16 @@ pub record IsHere (z : Here) : Type 0 where
 
 -- ---- its code
 
-abbrev ending_of : Here → Code
+abbrev pub ending_of : Here → Code
 ending_of z = inner_ending_code (inner_layer z.block.call.surroundings z.point z.numbers z.inner)
 
-abbrev behind_beginning : Here → Code
+abbrev pub behind_beginning : Here → Code
 behind_beginning z = z.inner.variables ++ (list_code z.block z.inner ++ ending_of z)
 
-abbrev whole_code : Here → Code
+abbrev pub whole_code : Here → Code
 whole_code z = inner_code (inner_beginning z.block z.point z.numbers z.inner) ++ behind_beginning z
 
-begin_coded :
+pub begin_coded :
     (z : Here) → IsBegin z.block z.inner z.index z.more →
     stmt_code z.block.environment none_taken (begin_of z.inner) ≡ act_code z.inner.head.line ++ whole_code z
 begin_coded z h =
@@ -142,7 +145,7 @@ begin_coded z h =
     ∙ ap (λ u. act' ++ (move a0 frame_register ∷ u)) (sym (append_assoc (frame x.words) enter (behind_beginning z)))
 
 -- how many words it has, part by part
-whole_size :
+pub whole_size :
     (z : Here) → IsBegin z.block z.inner z.index z.more →
     size_in z.block (begin_of z.inner)
     ≡ size_of (act_code z.inner.head.line)
@@ -186,7 +189,7 @@ newest_frame_at {k} n =
     subst (λ ls. frame_at ls (own_height k) ≡ frame_under parts ls) (sym n.layers)
     (ap (λ q. cond q n.layer.at (frame_at φs (own_height k))) (eq-eqb (own_height k) (suc (length φs)) same))
 
-layer_begins :
+pub layer_begins :
     (z : Here) → IsHere z →
     IsInner z.block.call.surroundings z.point z.numbers (inner_beginning z.block z.point z.numbers z.inner)
 layer_begins z h =
@@ -242,7 +245,7 @@ layer_begins z h =
       lower = refl;
     }
 
-abbrev premises :
+abbrev pub premises :
     (z : Here) → IsHere z →
     I.Premises z.block.call.surroundings z.block.call.code z.point z.numbers
     (inner_beginning z.block z.point z.numbers z.inner)
@@ -250,41 +253,43 @@ premises z h = record { stands = h.among.stands; image = h.among.image; is = lay
 
 -- ---- its first statement
 
-first_among : (z : Here) → IsHere z → IsAmong (own_block z) z.numbers (own_block z).first
-first_among z h =
-    let known = h.made.stands (I.inner_stands (premises z h)) in
+pub first_among : (z : Here) → IsHere z → AreMade z.block z.inner z.index z.point z.numbers →
+    AreFew z.block.call.surroundings (own_block z).first → IsAmong (own_block z) z.numbers (own_block z).first
+first_among z h m few =
+    let known = m.stands (I.inner_stands (premises z h)) in
     record {
       stands = known.0;
       image = known.1;
       later = later_same (own_block z).first;
-      few = h.few;
+      few = few;
       entries = refl;
       others = h.among.others;
       words = h.among.words;
     }
 
-first_begun : (z : Here) → IsHere z → IsBegun (own_block z)
-first_begun z h =
+pub first_begun : (z : Here) → IsHere z → AreMade z.block z.inner z.index z.point z.numbers →
+    AreFew z.block.call.surroundings (own_block z).first → IsBegun (own_block z)
+first_begun z h m few =
     let k = z.block in
     let w = k.call.surroundings in
     let b = h.begin.begun in
-    let o = first_among z h in
-    let same = h.made.acts in
+    let o = first_among z h m few in
+    let same = m.acts in
     let after = h.among.later.acts in
     let first = b.acts in
     record {
-      activation = h.made.activation;
+      activation = m.activation;
       resumes = record {
         stands = o.stands;
-        idle = h.made.idle;
-        changed = h.made.changed;
-        layers = h.made.layers;
-        own = h.made.own;
-        activations = h.made.activations;
+        idle = m.idle;
+        changed = m.changed;
+        layers = m.layers;
+        own = m.own;
+        activations = m.activations;
         more = omega (arith, same);
       };
       acts = omega (arith, same, after, first);
-      remains = h.made.remains (I.inner_stands (premises z h)).0;
+      remains = m.remains (I.inner_stands (premises z h)).0;
       outer = (
         record {
           activation = b.activation;
@@ -308,10 +313,10 @@ closed_popped q φ φs newest =
     by [] = refl
     by (a ∷ as') = refl
 
-abbrev debt_of : Here → ℕ
+abbrev pub debt_of : Here → ℕ
 debt_of z = beginning_size z.block z.point z.numbers z.inner + size_of z.inner.variables + size_of (ending_of z)
 
-abbrev goal_of : Here → (acts wanted : ℕ) → Aims (Unit {0})
+abbrev pub goal_of : Here → (acts wanted : ℕ) → Aims (Unit {0})
 goal_of z acts wanted =
     statement_aims z.block z.labels acts (z.index + size_in z.block (begin_of z.inner)) wanted z.left'
 
@@ -352,7 +357,7 @@ popped_among z h first b numbers q o =
       words = o.words;
     }
 
-begin_ends :
+pub begin_ends :
     (z : Here) (h : IsHere z) (acts wanted c2 : ℕ) → acts ≤ z.point.state.world.acts →
     c2 ≡ beginning_size z.block z.point z.numbers z.inner + size_of z.inner.variables →
     Linked z.block.call.surroundings.links z.block.call.code (end_index z.block z.point z.numbers z.inner z.index)
@@ -406,14 +411,14 @@ begin_ends z h acts wanted c2 since size l c f v s behind =
 
 -- ---- the statement
 
-leaves_by_jump :
+pub leaves_by_jump :
     (z : Here) (acts c : ℕ) (f : Family) (v : Services) (height : ℕ) (label : Label) (s : State) →
     JumpsOut z.block.call.surroundings z.block.call.code (own_block z).outers acts c f v height label (closed s) →
     JumpsTo z.block z.labels acts c f v height label (closed s)
 leaves_by_jump z acts c f v height label s q = record { to = q }
 
 list_goes :
-    (z : Here) (h : IsHere z) (acts wanted c2 : ℕ) (f : Family) → acts ≤ z.point.state.world.acts →
+    (z : Here) (h : IsHere z) (m : IsListed z) (acts wanted c2 : ℕ) (f : Family) → acts ≤ z.point.state.world.acts →
     c2 ≡ beginning_size z.block z.point z.numbers z.inner + size_of z.inner.variables →
     Linked z.block.call.surroundings.links z.block.call.code (list_index z.block z.point z.numbers z.inner z.index)
     (list_code z.block z.inner ++ ending_of z) →
@@ -424,15 +429,15 @@ list_goes :
     (within (owing z.block.call.code (debt_of z) (goal_of z acts wanted)))
     (M.list (at_line z.inner.around z.inner.head.line) z.inner.body z.block.call.surroundings.acts
     (own_block z).first.state)
-list_goes z h acts wanted c2 f since size l goes paid there =
+list_goes z h m acts wanted c2 f since size l goes paid there =
     let k = z.block in
     let i = own_block z in
     let first = i.first.state.world.acts in
-    let o = first_among z h in
-    let b = first_begun z h in
+    let o = first_among z h m.made m.few in
+    let b = first_begun z h m.made m.few in
     let enough = h.begin.enough in
     let turns = ap (λ a. a.turns) h.begin.around in
-    let same = h.made.acts in
+    let same = m.made.acts in
     let after = h.among.later.acts in
     let end = end_index k z.point z.numbers z.inner z.index in
     let owed = owing k.call.code (debt_of z) (goal_of z acts wanted) in
@@ -443,7 +448,7 @@ list_goes z h acts wanted c2 f since size l goes paid there =
     (λ c' f' v' height label s q i0 f0 v0 from. jumps_repaid {k = k} (debt_of z) from
     (jumps_since (omega (arith, since, same)) (leaves_by_jump z first c' f' v' height label s q)))
     (λ c' f' v' r s q i0 f0 v0 from. returns_repaid {k = k} (debt_of z) from (record { to = q.to }))
-    (goes b o (omega (arith, enough, turns, same, after)) h.marks (front_of (list_code k z.inner) (ending_of z) l) c2 f
+    (goes b o (omega (arith, enough, turns, same, after)) m.marks (front_of (list_code k z.inner) (ending_of z) l) c2 f
     paid there)
   where
     fewer :
@@ -455,7 +460,7 @@ list_goes z h acts wanted c2 f since size l goes paid there =
         subst (λ n. GoesBehind (own_block z) n end c2 c' f' v' s) e q
 
 begin_goes :
-    (z : Here) (h : IsHere z) (acts wanted : ℕ) (f : Family) → acts ≤ z.point.state.world.acts →
+    (z : Here) (h : IsHere z) (m : IsListed z) (acts wanted : ℕ) (f : Family) → acts ≤ z.point.state.world.acts →
     Linked z.block.call.surroundings.links z.block.call.code (entry_index z.inner z.index) (whole_code z) →
     ListGoes z → debt_of z + size_of (list_code z.block z.inner) ≤ cost z.block.call.code →
     AreIn z.block.call.surroundings z.point z.numbers (entry_index z.inner z.index) f →
@@ -463,7 +468,7 @@ begin_goes :
     (owing z.block.call.code (debt_of z) (goal_of z acts wanted))
     (behind_act z.block.around z.inner.head z.inner.body z.block.call.surroundings.acts z.point.state)
 unfolding ◌>>◌
-begin_goes z h acts wanted f since l goes paid there =
+begin_goes z h m acts wanted f since l goes paid there =
     let k = z.block in
     let w = k.call.surroundings in
     let x = z.inner in
@@ -486,11 +491,11 @@ begin_goes z h acts wanted f since l goes paid there =
     (front_of (inner_code y) (behind_beginning z) l) there)
     (λ g at.
     subst (λ u. Comes k.call.code size g (services_of start) (within owed) (flow_on w.acts u listed))
-    (sym h.made.means)
-    (onward closed' (h.made.comes size g new
+    (sym m.made.means)
+    (onward closed' (m.made.comes size g new
     (front_of x.variables (list_code k x ++ ending_of z) l1) at)
     (λ g' at'.
-    list_goes z h acts wanted (size + size_of x.variables) g' since (omega arith)
+    list_goes z h m acts wanted (size + size_of x.variables) g' since (omega arith)
     (back_of x.variables (list_code k x ++ ending_of z) l1) goes (omega (arith, paid)) at')))))
 
 pub begin_comes :
@@ -522,7 +527,8 @@ begin_comes k labels x index left' more h made' goes p numbers c wanted f o paid
     let m = made' p' numbers o' later in
     let same = m.0.acts in
     let few = few_made w p (own_block z).first o.few m.0.few (omega (arith, same)) in
-    begin_goes z (record { begin = h; among = o'; made = m.0; marks = m.1; few = few }) acts wanted g (omega arith)
+    begin_goes z (record { begin = h; among = o' }) (record { made = m.0; marks = m.1; few = few }) acts wanted g
+    (omega arith)
     (back_of one (whole_code z) l) (goes p' numbers o' later) (omega (arith, paid, n)) at)))
 
 -- a jump that no list of the block catches leaves it

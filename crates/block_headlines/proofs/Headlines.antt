@@ -14,6 +14,9 @@ use Rattle.pli_coding.specs.SignatureTable.{table_of}
 use Rattle.activation_relation.specs.Layers.{services_of}
 use Rattle.run_steps.specs.Reach.{Comes, never}
 use Rattle.run_steps.proofs.Linking.{linked_length}
+use Rattle.code_marks.specs.CodeMarks.{MarkedOnce}
+use Rattle.storage_relation.specs.ServiceLaws.{TableDiffers}
+use Rattle.program_places.specs.Rows.{turning_program}
 use Rattle.pli_headline.specs.Headline.{FitsMemory, Headline, parts}
 use Rattle.pli_headline.proofs.Promises.{Comes_at, Laws, Works, from_flow, promised}
 use Rattle.pli_headline.proofs.WholeSizes.{first_length}
@@ -61,6 +64,8 @@ use Rattle.test_runs.specs.Rows.{turn_program}
 use Rattle.text_runs.specs.Rows.{wait_program}
 use Rattle.text_units.specs.Rows.{rise_program}
 use Rattle.element_runs.specs.Rows.{pick_program}
+use Rattle.counter_runs.specs.CountRows.{count_program}
+use Rattle.counter_runs.specs.TallyRows.{tally_program}
 use Rattle.group_runs.specs.Rows.{group_program}
 use Rattle.unit_runs.specs.BeginRows.{host_entry, host_environment, host_main, host_program, host_units}
 use Rattle.unit_runs.specs.CallRows.{lend_entry, lend_environment, lend_main, lend_procedure, lend_program, lend_units}
@@ -82,8 +87,10 @@ use Rattle.block_headlines.proofs.OperatorRuns.{square_layout, square_program_ru
 use Rattle.block_headlines.proofs.VariableRuns.{locate_layout, locate_program_runs, pair_layout, pair_program_runs}
 use Rattle.block_headlines.proofs.TextRuns.{drop_layout, drop_program_runs, rise_layout, rise_units_run}
 use Rattle.block_headlines.proofs.TextRuns.{wait_layout, wait_program_runs}
+use Rattle.block_headlines.proofs.CounterRuns.{count_layout, count_program_runs, tally_layout, tally_units_run}
 use Rattle.block_headlines.proofs.ElementRuns.{pick_layout, pick_program_runs}
 use Rattle.block_headlines.proofs.GroupRuns.{group_layout, group_program_runs}
+use Rattle.block_headlines.proofs.PlacedRuns.{turning_layout, turning_program_runs}
 
 -- a program whose run is known at each number of acts, from its first instruction
 record IsKnown (program : Y.Program) (x : Layout) : Type 0 where
@@ -579,8 +586,8 @@ number_runs =
       each = λ input acts few b. number_each input acts few;
     }
 
-pub rows_kept : Laws → Keeps granules → HeadlinesOfRows
-rows_kept laws keeps =
+pub rows_kept : Laws → Keeps granules → MarkedOnce → TableDiffers → HeadlinesOfRows
+rows_kept laws keeps once tables =
     record {
       calling = kept laws keeps row_program row_layout row_runs;
       number = kept laws keeps number_program number_layout number_runs;
@@ -612,4 +619,7 @@ rows_kept laws keeps =
       grouping = kept laws keeps group_program group_layout group_program_runs;
       squaring = kept laws keeps square_program square_layout square_program_runs;
       turning = kept laws keeps turn_program turn_layout turn_program_runs;
+      calling_again = kept laws keeps turning_program turning_layout (turning_program_runs once tables);
+      counting = kept laws keeps count_program count_layout count_program_runs;
+      tallying = unit_kept laws keeps tally_program tally_layout tally_units_run;
     }

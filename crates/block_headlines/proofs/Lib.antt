@@ -1,7 +1,9 @@
+pub mod CounterRuns
 pub mod JumpRuns
 pub mod VariableRuns
 pub mod TextRuns
 pub mod ElementRuns
 pub mod GroupRuns
+pub mod PlacedRuns
 pub mod OperatorRuns
 pub mod Headlines

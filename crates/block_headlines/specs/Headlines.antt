@@ -36,7 +36,10 @@ use Rattle.test_runs.specs.Rows.{turn_program}
 use Rattle.text_runs.specs.Rows.{wait_program}
 use Rattle.text_units.specs.Rows.{rise_program}
 use Rattle.element_runs.specs.Rows.{pick_program}
+use Rattle.counter_runs.specs.CountRows.{count_program}
+use Rattle.counter_runs.specs.TallyRows.{tally_program}
 use Rattle.group_runs.specs.Rows.{group_program}
+use Rattle.program_places.specs.Rows.{turning_program}
 use Rattle.program_runs.specs.Starts.{no_numbers, start_point, surroundings_of}
 use Rattle.program_runs.specs.Statements.{EachDoes, IsBegun}
 use Rattle.unit_runs.specs.BeginRows.{host_program}
@@ -155,3 +158,6 @@ pub record HeadlinesOfRows : Type 0 where
   pub grouping : Headline group_program (picture_of parts group_program) (table_of group_program)
   pub squaring : Headline square_program (picture_of parts square_program) (table_of square_program)
   pub turning : Headline turn_program (picture_of parts turn_program) (table_of turn_program)
+  pub calling_again : Headline turning_program (picture_of parts turning_program) (table_of turning_program)
+  pub counting : Headline count_program (picture_of parts count_program) (table_of count_program)
+  pub tallying : Headline tally_program (picture_of parts tally_program) (table_of tally_program)

@@ -2,8 +2,10 @@
 
 ghost use Rattle.block_headlines.specs.Headlines.{HeadlinesKept, HeadlinesOfRows, UnitHeadlinesKept};
 
+use code_marks::laws::marked_once;
 use granule_keeper::laws::granules_keep;
 use pli_meaning::laws::{storage_acts_allowed, storage_stays};
+use storage_relation::laws::table_differs;
 
 /// A program keeps the headline with the image that pli_coding defines for it if each statement of its main procedure
 /// does what it means, whatever the input and the number of acts that are allowed.
@@ -31,4 +33,6 @@ pub fn headlines_of_rows()
     storage_stays();
     storage_acts_allowed();
     granules_keep();
+    marked_once();
+    table_differs();
 }

@@ -18,16 +18,21 @@ use Rattle.pli_typing.specs.Resolving.{typing_faults, IsMistyped, Resolves, reso
 use Rattle.pli_typing.specs.TypedTree as Y
 use Rattle.pli_meaning.specs.Pictures.{step_cost}
 use Rattle.pli_coding.specs.Images.{image_of, picture_of}
+use Rattle.pli_coding.specs.SignatureTable.{table_of}
 use Rattle.rv_meaning.specs.Encoding.{word_of}
 use Rattle.rv_meaning.specs.Images as Images
 use Rattle.rv_program.specs.Generated.{IsCodeOf}
+use Rattle.well_formed_trees.specs.WellFormed.{AcceptedWellFormed, IsWellFormed}
 use Rattle.pli_headline.specs.ProvedSoFar.{IsProvedSoFar}
-use Rattle.pli_headline.specs.Headline.{parts, FitsMemory, HeadlineSoFar}
+use Rattle.pli_headline.specs.Headline.{parts, FitsMemory, Headline, HeadlineSoFar}
 use Rattle.pli_headline.specs.FirstPathTrees.{IsFirstPath}
 use Rattle.pli_headline.specs.FirstPath.{FirstPathProved, FirstPathSmall}
 use Rattle.small_frames.specs.Small.{AcceptedSmall}
+use Rattle.number_headlines.specs.Headlines.{NumberHeadlinesKept}
+use Rattle.unit_numbers.specs.Headlines.{UnitNumberHeadlinesKept}
 use Rattle.pli_compile.specs.Stacks.{most_fixed_bytes, most_routine_bytes, HasSmallFrames}
 use Rattle.pli_compile.specs.Compiling.{most_words, most_step_cost, FirstPathShort, IsImageFor, IsParsed, IsProgramOf}
+use Rattle.pli_compile.specs.Compiling.{IsProved}
 use Rattle.pli_compile.specs.Compiling.{IsRefused, IsTreeCoded, out_of_memory, no_tokens, no_tree, bad_declarations}
 use Rattle.pli_compile.specs.Compiling.{bad_types, RefusedNever}
 use Rattle.pli_compile.proofs.Measures.{tree_weighs, lines_small, tokens_small}
@@ -80,12 +85,37 @@ small_of {s = s} {tree = tree} small parsed declares (resolves kept) =
     small most_fixed_bytes most_routine_bytes (omega arith) (omega arith) s parsed.tokens tree parsed.read
     parsed.spelled declares kept
 
+-- and it is well formed
+formed_of :
+    {s : List ℕ} {count : ℕ} {tree : T.Tree} {program : Y.Program} → AcceptedWellFormed → IsParsed s count tree →
+    declaring_faults tree ≡ [] → Resolves tree program → IsWellFormed program
+formed_of {s = s} {tree = tree} formed parsed declares (resolves kept) =
+    formed s parsed.tokens tree parsed.read parsed.spelled declares kept
+
+-- what is known of all programs
+pub record Laws : Type 0 where
+  pub so_far : HeadlineSoFar
+  pub numbers : NumberHeadlinesKept
+  pub units : UnitNumberHeadlinesKept
+  pub first_path : FirstPathProved
+  pub small : AcceptedSmall
+  pub well_formed : AcceptedWellFormed
+
+kept_of :
+    Laws → (program : Y.Program) → IsWellFormed program → FitsMemory (picture_of parts program) → IsProved program →
+    Headline program (picture_of parts program) (table_of program)
+kept_of laws program formed fit (inl forms) = laws.so_far program forms fit
+kept_of laws program formed fit (inr (inl numbers)) =
+    laws.numbers program (record { well_formed = formed; numbers = numbers }) fit
+kept_of laws program formed fit (inr (inr units)) =
+    laws.units program (record { well_formed = formed; units = units }) fit
+
 -- the image of a source's tree, where it is short
 pub compiled :
-    {s : List ℕ} {count : ℕ} {tree : T.Tree} {coded image : Images.Image} → HeadlineSoFar → FirstPathProved →
-    AcceptedSmall → IsParsed s count tree → declaring_faults tree ≡ [] → IsTreeCoded tree coded
-    → (image ≡ coded) × (length image.code ≤ most_words count) → IsImageFor s image
-compiled {count = count} {coded = coded} {image = image} headline proved frames parsed declares made is =
+    {s : List ℕ} {count : ℕ} {tree : T.Tree} {coded image : Images.Image} → Laws → IsParsed s count tree →
+    declaring_faults tree ≡ [] → IsTreeCoded tree coded → (image ≡ coded) × (length image.code ≤ most_words count) →
+    IsImageFor s image
+compiled {count = count} {coded = coded} {image = image} laws parsed declares made is =
     let code : IsCodeOf made.0 image = subst (λ (i : Images.Image). IsCodeOf made.0 i) (sym is.0) made.2 in
     let few = is.1 in
     let counted = parsed.counted in
@@ -96,9 +126,10 @@ compiled {count = count} {coded = coded} {image = image} headline proved frames 
       coded = code;
       short = short;
       cheap = costs made.0 image (length parsed.tokens) code short;
-      small = small_of frames parsed declares made.1;
-      keeps = λ h. headline made.0 h (fits made.0 coded made.2 made.3);
-      first_path = λ first. proved_of parsed.read parsed.spelled made.1 proved first;
+      small = small_of laws.small parsed declares made.1;
+      keeps =
+          kept_of laws made.0 (formed_of laws.well_formed parsed declares made.1) (fits made.0 coded made.2 made.3);
+      first_path = λ first. proved_of parsed.read parsed.spelled made.1 laws.first_path first;
     }
 
 -- ---- refusals

@@ -1,5 +1,5 @@
 -- What image a source has, what that image keeps, and why a source without one is refused.
-use Rattle.std.specs.Prelude.{◌≡◌, ◌≢◌, ℕ, ◌+◌, ◌*◌, ◌≤◌, List, [], length}
+use Rattle.std.specs.Prelude.{◌≡◌, ◌≢◌, ◌⊎◌, ℕ, ◌+◌, ◌*◌, ◌≤◌, true, List, [], length}
 use Rattle.pli_language.specs.declared.fault.SourceFault.{SourceFault}
 use Rattle.pli_language.specs.declared.token.Token.{Token}
 use Rattle.pli_language.specs.Tokens.{Tokens, Refuses}
@@ -17,6 +17,8 @@ use Rattle.rv_program.specs.Generated.{IsCodeOf}
 use Rattle.pli_headline.specs.ProvedSoFar.{IsProvedSoFar}
 use Rattle.pli_headline.specs.Headline.{parts, Headline}
 use Rattle.pli_headline.specs.FirstPathTrees.{IsFirstPath}
+use Rattle.number_headlines.specs.Programs.{is_number_program}
+use Rattle.unit_numbers.specs.Programs.{is_unit_program}
 use Rattle.pli_compile.specs.Stacks.{HasSmallFrames}
 
 -- a source has these tokens, which spell a tree that breaks no rule of declarations and none of typing
@@ -54,6 +56,12 @@ most_words tokens = 4000 + 104 * tokens
 abbrev pub most_step_cost : ℕ → ℕ
 most_step_cost tokens = 8002 + 208 * tokens
 
+-- the headline is proved for a program: for its forms, or since it is one of numbers, with procedures and functions or
+-- with on-units
+abbrev pub IsProved : Y.Program → Type 0
+IsProved program =
+    IsProvedSoFar program ⊎ ((is_number_program program ≡ true) ⊎ (is_unit_program program ≡ true))
+
 -- the image of a source: just the code that the definitions have for its program, which is short and makes small frames. Where the headline
 -- is proved for the program, the image keeps it; and so it is for each program of the first path
 pub record IsImageFor (s : List ℕ) (image : Images.Image) : Type 0 where
@@ -63,7 +71,7 @@ pub record IsImageFor (s : List ℕ) (image : Images.Image) : Type 0 where
   pub short : length image.code ≤ most_words (length source.tokens)
   pub cheap : step_cost (picture_of parts program) ≤ most_step_cost (length source.tokens)
   pub small : HasSmallFrames program
-  pub keeps : IsProvedSoFar program → Headline program (picture_of parts program) (table_of program)
+  pub keeps : IsProved program → Headline program (picture_of parts program) (table_of program)
   pub first_path : IsFirstPath source.tree → IsProvedSoFar program
 
 -- ---- refusals

@@ -12,6 +12,7 @@ ghost use Rattle.rv_program.specs.Generated.{IsCodeOf};
 ghost use Rattle.pli_compile.specs.Compiling.{most_words, IsImageFor, IsRefused, IsTreeCoded};
 
 use crate::parsed::parse_source;
+use number_headlines::laws::number_headlines_kept;
 use pli_declare::Scopes;
 use pli_declaring::declare;
 use pli_headline::first_path::first_path_proved;
@@ -24,6 +25,8 @@ use rv_image::image::Image;
 use rv_program::generate::generate;
 use small_frames::laws::accepted_small;
 use std::alloc::Global;
+use unit_numbers::laws::unit_number_headlines_kept;
+use well_formed_trees::laws::accepted_well_formed;
 
 pub(crate) const OUT_OF_MEMORY: SourceFault = SourceFault {
     line: 0,
@@ -88,6 +91,9 @@ pub fn compile(alloc: Global, source: &[u8]) -> Result<Image, SourceFault>
     ensures { MatchResult result (λ image. IsImageFor source.now image) (λ fault. IsRefused source.now fault) }
 {
     headline_so_far();
+    number_headlines_kept();
+    unit_number_headlines_kept();
+    accepted_well_formed();
     first_path_proved();
     accepted_small();
     let parsed = parse_source(alloc, source)?;

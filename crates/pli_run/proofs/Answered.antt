@@ -1,9 +1,10 @@
 -- What a run of a source's image tells.
 use Rattle.std.proofs.Common.{◌≡◌, ◌≢◌, ℕ, ◌+◌, ◌^◌, ◌<◌, List, [], Some, Result, Ok, Err, inl, inr, refl, sym, ap, ◌∙◌}
 use Rattle.std.proofs.Common.{subst, arith}
+use Rattle.std.proofs.lemmas.Bool.{and_parts}
 use Rattle.rv_meaning.specs.Machine.{IsValidBase}
 use Rattle.rv_meaning.specs.Images as Images
-use Rattle.rv_meaning.specs.Tables.{TableSignature}
+use Rattle.rv_meaning.specs.Tables.{AreSignatures, TableSignature}
 use Rattle.pli_typing.specs.TypedTree as Y
 use Rattle.pli_meaning.specs.Pictures.{Picture}
 use Rattle.pli_coding.specs.Images.{picture_of}
@@ -17,10 +18,12 @@ use Rattle.pli_run.specs.Running.{ShowsWithin}
 use Rattle.pli_language.specs.declared.fault.SourceFault.{SourceFault}
 use Rattle.pli_language.specs.declared.fault.SourceKind.TheVariants as SourceKind
 use Rattle.rv_program.specs.Generated.{IsCodeOf}
-use Rattle.pli_headline.specs.ProvedSoFar.{IsProvedSoFar}
 use Rattle.pli_headline.specs.Headline.{parts, Headline, Keeps}
 use Rattle.pli_headline.proofs.PlainTables.{plain_table_fits}
-use Rattle.pli_compile.specs.Compiling.{IsImageFor, IsRefused}
+use Rattle.number_headlines.specs.Programs.{are_all_plain, has_main}
+use Rattle.number_headlines.proofs.Tables.{number_table_fits}
+use Rattle.unit_numbers.specs.Programs.{has_unit_main}
+use Rattle.pli_compile.specs.Compiling.{IsImageFor, IsProved, IsRefused}
 use Rattle.pli_run.specs.Answering.{Answers, AnswersMeant, AnswersWith, IsUncompiledFor, ShowsPart, TellsRun}
 use Rattle.pli_run.proofs.Filing.{pictured, tabled}
 
@@ -37,11 +40,20 @@ own_picture program image made =
       entry_is = sym (ap (λ (i : Images.Image). i.entry) made.image_is);
     }
 
+table_fits : (program : Y.Program) → IsProved program → AreSignatures (table_of program)
+table_fits program (inl forms) = plain_table_fits program forms
+table_fits program (inr (inl numbers)) =
+    number_table_fits program
+    (and_parts (are_all_plain program.variables) (has_main program program.procedures) numbers).0
+table_fits program (inr (inr units)) =
+    number_table_fits program
+    (and_parts (are_all_plain program.variables) (has_unit_main program program.procedures) units).0
+
 -- and so is its table
-own_table : (program : Y.Program) (image : Images.Image) → IsCodeOf program image → IsProvedSoFar program →
+own_table : (program : Y.Program) (image : Images.Image) → IsCodeOf program image → IsProved program →
     IsTabled (table_of program) image
 own_table program image made proved =
-    record { fit = plain_table_fits program proved; spelled = ap (λ (i : Images.Image). i.table) made.image_is }
+    record { fit = table_fits program proved; spelled = ap (λ (i : Images.Image). i.table) made.image_is }
 
 part_means : (program : Y.Program) → Headline program (picture_of parts program) (table_of program) →
     (base : ℕ) (input : List ℕ) (bound acts : ℕ) (output : List ℕ)

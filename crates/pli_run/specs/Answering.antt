@@ -16,9 +16,8 @@ use Rattle.image_runs.specs.Runs.{run_of, shown_by}
 use Rattle.pli_run.specs.Running.{own_output, world_with, IsPicture, IsTabled, Shows}
 use Rattle.pli_run.specs.declared.run.RunFault.{RunFault}
 use Rattle.pli_run.specs.declared.run.RunFault.TheVariants.{Memory, Read, Write, Source}
-use Rattle.pli_headline.specs.ProvedSoFar.{IsProvedSoFar}
 use Rattle.pli_headline.specs.Headline.{parts, Keeps}
-use Rattle.pli_compile.specs.Compiling.{IsImageFor, IsRefused}
+use Rattle.pli_compile.specs.Compiling.{IsImageFor, IsProved, IsRefused}
 
 -- ---- what is shown is what the program means
 
@@ -62,7 +61,7 @@ pub record TellsRun (s input : List ℕ) (base bound : ℕ) (output taken : List
   pub signatures : List TableSignature
   pub tabled : IsTabled signatures image
   pub told : Shows (run_of picture signatures base input) bound output taken ran
-  pub meant : IsProvedSoFar compiled.program → AnswersMeant compiled.program input bound output ran
+  pub meant : IsProved compiled.program → AnswersMeant compiled.program input bound output ran
 
 -- want of memory of the compiler: nothing was done, and nothing shown
 abbrev pub IsUnstarted : (output : List ℕ) → Result Outcome RunFault → Type 0

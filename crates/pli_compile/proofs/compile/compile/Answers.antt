@@ -17,5 +17,13 @@ returns-in_err-coded c =
 pub returns : goal.returns
 returns c =
     let q = c.in_ok-parsed.ensures in
-    compiled c.headline_so_far.ensures c.first_path_proved.ensures c.accepted_small.ensures q
-    c.in_ok-scopes.ensures.accepted c.in_ok-coded.ensures c.in_ok-image.ensures
+    compiled
+    (record {
+      so_far = c.headline_so_far.ensures;
+      numbers = c.number_headlines_kept.ensures;
+      units = c.unit_number_headlines_kept.ensures;
+      first_path = c.first_path_proved.ensures;
+      small = c.accepted_small.ensures;
+      well_formed = c.accepted_well_formed.ensures;
+    })
+    q c.in_ok-scopes.ensures.accepted c.in_ok-coded.ensures c.in_ok-image.ensures

@@ -1,0 +1,15 @@
+pub mod Words
+pub mod Steps
+pub mod Limits
+pub mod Turns
+pub mod Counts
+pub mod Bodies
+pub mod Needs
+pub mod StepConstants
+pub mod Scalars
+pub mod Elements
+pub mod Known
+pub mod CountRows
+pub mod TallyCode
+pub mod TallyRaises
+pub mod TallyRows

@@ -1,0 +1,6 @@
+pub mod Words
+pub mod Counters
+pub mod Counts
+pub mod Laws
+pub mod CountRows
+pub mod TallyRows

@@ -1,0 +1,4 @@
+// Headlines of programs that write.
+#![tactic(auto)]
+
+pub mod laws;

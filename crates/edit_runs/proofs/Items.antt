@@ -1,0 +1,604 @@
+-- A number of PUT EDIT: it is evaluated, and its field is tested and written; and one behind the other.
+use Rattle.std.proofs.Common.{◌≡◌, ℕ, ◌+◌, ◌^◌, ◌<◌, ◌≤◌, List, [], ◌∷◌, ◌++◌, Option, Some, None}
+use Rattle.std.proofs.Common.{true, false, refl, sym, ap, ◌∙◌, subst, arith, lit<}
+use Rattle.std.proofs.lemmas.Bool.Decides.{nat_tests}
+use Rattle.std.proofs.lemmas.Int.{ints}
+use Rattle.std.specs.Prelude.{ℤ, cond, ◌&&◌, ◌==◌}
+use Rattle.rv_meaning.specs.declared.instr.Instr.TheVariants as I
+use Rattle.rv_meaning.specs.declared.instr.BranchTest.TheVariants as Test
+use Rattle.rv_meaning.specs.Words.{signed, word}
+use Rattle.pli_language.specs.Tree as T
+use Rattle.pli_typing.specs.TypedTree as Y
+use Rattle.pli_meaning.specs.Codes.{too_wide_code}
+use Rattle.pli_meaning.specs.Control.{Flow, Label, Meaning, Normal, act, flow_on, give, given, ◌>>=◌, ◌>>◌}
+use Rattle.pli_meaning.specs.Evaluating.{ComputationalNumber}
+use Rattle.pli_meaning.specs.Raising as R
+use Rattle.pli_meaning.specs.Raising.{Around}
+use Rattle.pli_meaning.specs.StorageState.{State}
+use Rattle.pli_meaning.specs.Stream.{fixed_field, with_field}
+use Rattle.pli_meaning.specs.Streaming as P
+use Rattle.pli_meaning.specs.Streaming.{DataFormat, DataItem, FixedItem, FormatItem}
+use Rattle.pli_meaning.specs.World.{written}
+use Rattle.pli_serving.specs.Answers.{Answer, Done}
+use Rattle.pli_serving.specs.Edits as E
+use Rattle.pli_serving.specs.Edits.{NextItem}
+use Rattle.pli_serving.specs.Finding.{Call}
+use Rattle.pli_serving.specs.ServiceState.{EditPlace, Services}
+use Rattle.pli_coding.specs.Assembly.{Code, JumpBack, Plain, size_of}
+use Rattle.pli_coding.specs.Environments.{fetch, none_taken, save}
+use Rattle.pli_coding.specs.Expressions.{number_code}
+use Rattle.pli_coding.specs.Instructions.{choice, service, skip_where, small, tested_service}
+use Rattle.pli_coding.specs.Registers.{a0, a1, a7, held_registers, u1, zero_register}
+use Rattle.pli_coding.specs.Streams as C
+use Rattle.pli_coding.specs.Streams.{by_item, controls_carried_out, has_fixed, has_text, number_written}
+use Rattle.activation_relation.specs.Layers.{Point, services_of}
+use Rattle.activation_relation.specs.Points.{AreOver}
+use Rattle.run_steps.specs.Bodies.{Free, Known}
+use Rattle.run_steps.proofs.Bodies.{zero_is}
+use Rattle.run_steps.specs.Calls.{Calling}
+use Rattle.run_steps.proofs.Calls.{acts, called}
+use Rattle.run_steps.specs.Engine.{Base, address, call_at}
+use Rattle.run_steps.specs.Items.{At, Linked}
+use Rattle.run_steps.proofs.Items.{straight}
+use Rattle.run_steps.proofs.Jumps.{back_of, front_of, linked_at, skip_taken}
+use Rattle.run_steps.proofs.Linking.{size_append}
+use Rattle.run_steps.specs.Numbers.{IsWide}
+use Rattle.run_steps.proofs.Numbers.{word_small}
+use Rattle.run_steps.specs.Reach.{Aims, Closed, Comes, Family, Reach, before, cost, reached}
+use Rattle.run_steps.proofs.Reach.{before_closed, comes_on, onward, reach_map, reach_then, reached_holds, stay}
+use Rattle.run_steps.proofs.Reaching.{reach_moved}
+use Rattle.run_steps.specs.Temporaries.{nothing}
+use Rattle.block_runs.specs.Machines.{IsIn}
+use Rattle.block_runs.proofs.BlockEntries.{small_is}
+use Rattle.block_runs.proofs.PointGrounds.{in_known, point_ground}
+use Rattle.program_runs.specs.Statements.{Block, IsAmong, JumpsTo}
+use Rattle.program_runs.proofs.JumpsOut.{jumps_later, jumps_since}
+use Rattle.expression_runs.specs.Assignments.{setting_of}
+use Rattle.expression_runs.specs.Values.{Setting}
+use Rattle.expression_runs.proofs.Saving.{fetched_reach, held_after, held_among, held_is_given, saved_reach}
+use Rattle.expression_runs.proofs.Words.{frame_of, valued}
+use Rattle.text_runs.specs.Texts.{ErrorComes}
+use Rattle.text_runs.proofs.TextCalls.{Asking, asks, three, told, two}
+use Rattle.text_runs.proofs.Tested.{Place, Tested, tested_comes}
+use Rattle.edit_runs.specs.Edits.{AreFixed, Item, placing, putting, within}
+use Rattle.edit_runs.specs.Writing.{writing}
+use Rattle.edit_runs.proofs.Places.{edits_among, jumps_down, over_place}
+use Rattle.edit_runs.proofs.Writing.{writing_among, writing_comes}
+
+-- ---- the next item
+
+abbrev pub width_of : FormatItem → ℕ
+width_of (DataFormat (FixedItem width)) = width
+width_of x = 0
+
+abbrev pub next_width : (first : ℕ) → (rest : List FormatItem) → ℕ
+next_width first [] = first
+next_width first (x ∷ xs) = width_of x
+
+abbrev pub behind_next : (more rest : List FormatItem) → List FormatItem
+behind_next more [] = more
+behind_next more (x ∷ xs) = xs
+
+abbrev pub whole_of : (first : ℕ) → (more : List FormatItem) → List FormatItem
+whole_of first more = DataFormat (FixedItem first) ∷ more
+
+-- an item is next at the newest place, with what is left of the list behind it
+abbrev pub Finds : List EditPlace → FormatItem → (whole left : List FormatItem) → (below : List EditPlace) → Type 0
+Finds edits item whole left below =
+    (next : NextItem → List EditPlace → Answer) →
+    E.on_next edits next ≡ next (record { item = item; behind = putting whole left }) below
+
+finds_next :
+    (first : ℕ) (more rest : List FormatItem) (edits below : List EditPlace) → AreFixed rest →
+    edits ≡ putting (whole_of first more) rest ∷ below →
+    Finds edits (DataFormat (FixedItem (next_width first rest))) (whole_of first more) (behind_next more rest) below
+finds_next first more [] edits below are e = λ next. ap (λ u. E.on_next u next) e
+finds_next first more (DataFormat (FixedItem width) ∷ rest) edits below are e = λ next. ap (λ u. E.on_next u next) e
+finds_next first more (x ∷ rest) edits below are e = absurd are
+
+next_is :
+    (first : ℕ) (more rest : List FormatItem) (k : ℕ) (s : State) → AreFixed rest →
+    P.next_item P.control_put (whole_of first more) rest k s
+    ≡ Normal (FixedItem (next_width first rest), behind_next more rest) s
+unfolding P.next_item P.controls ◌>>=◌ give given
+next_is first more [] k s are = refl
+next_is first more (DataFormat (FixedItem width) ∷ rest) k s are = refl
+next_is first more (x ∷ rest) k s are = absurd are
+
+left_fixed : (more rest : List FormatItem) → AreFixed more → AreFixed rest → AreFixed (behind_next more rest)
+left_fixed more [] are is = are
+left_fixed more (DataFormat (FixedItem width) ∷ rest) are is = is
+left_fixed more (x ∷ rest) are is = absurd is
+
+signed-word : (z : ℤ) → IsWide z → signed (word z) ≡ z
+signed-word z h = grind (arith, ints, nat_tests)
+
+-- ---- the code of one number
+
+-- what is put, where, and how much a call in it may take to its first act
+pub record Puts : Type 0 where
+  pub block : Block
+  pub labels : List Label
+  pub line : ℕ
+  pub most : ℕ
+  pub need : ℕ
+  pub formats : T.Formats
+  pub first : ℕ
+  pub more : List FormatItem
+
+abbrev pub setting_in : Puts → Setting
+setting_in u = setting_of u.block u.labels u.line u.most
+
+abbrev pub whole_in : Puts → List FormatItem
+whole_in u = whole_of u.first u.more
+
+pub record ArePut (u : Puts) : Type 0 where
+  pub acts : u.block.call.surroundings.acts + 1 < 2 ^ 64
+  pub over : AreOver u.block.first.control.entries u.block.first.control.edits u.block.first.control.layers
+  pub fixed : has_fixed u.formats ≡ true
+  pub text : has_text u.formats ≡ false
+  pub are : AreFixed u.more
+  pub registers : u.need ≤ u.block.registers
+  pub one : 1 ≤ u.block.registers
+  pub held : u.block.registers ≤ held_registers
+  pub error : (place : EditPlace) → ErrorComes (List ℕ) (within place (setting_in u))
+
+abbrev pub number_shown : Code
+number_shown = save a0 none_taken ++ (controls_carried_out ++ (fetch a0 none_taken ++ number_written))
+
+abbrev pub item_code : Puts → Item → Code
+item_code u x = number_code u.block.environment none_taken x.source ++ number_shown
+
+-- lists of F items have no other code
+pub item_coded : (u : Puts) → ArePut u → (x : Item) →
+    C.value_put u.block.environment none_taken u.formats (Y.NumberValue x.precision x.source) ≡ item_code u x
+item_coded u a x =
+    let shows = fetch a0 none_taken ++ number_written in
+    let texts = fetch a0 none_taken ++ (C.as_text x.precision ++ C.text_written) in
+    let rest : Code → Code = λ c. number_code u.block.environment none_taken x.source
+    ++ (save a0 none_taken ++ (controls_carried_out ++ c)) in
+    let both = small u1 1 ∷ choice Test.Equal a0 u1 shows texts in
+    ap (λ q. rest (cond (q && has_text u.formats) both (cond q shows texts))) a.fixed
+    ∙ ap (λ q. rest (cond (true && q) both shows)) a.text
+
+-- ---- a data item is next
+
+one_not_zero : (x y : ℕ) → x ≡ 1 → y ≡ 0 → cond (x == y) false true ≡ true
+one_not_zero x y e e' = ap (λ u. cond (u == y) false true) e ∙ ap (λ u. cond (1 == u) false true) e'
+
+abbrev asked_again : Code
+asked_again = skip_where Test.NotEqual a0 zero_register (JumpBack (size_of (service 35) + 1) ∷ [])
+
+controls_reach :
+    (k : Block) {p : Point} {numbers : ℕ → ℕ} {i : ℕ} (h : frame_of k p) (width : ℕ) (whole left : List FormatItem)
+    (below : List EditPlace) → Finds p.control.edits (DataFormat (FixedItem width)) whole left below → (c : ℕ)
+    (f : Family) → Linked k.call.surroundings.links k.call.code i controls_carried_out →
+    ((b : Base) → At b i (Known (point_ground k.call.surroundings p h) (services_of p) numbers (λ j. 0) nothing b)
+    (f b)) →
+    Reach k.call.code c f (services_of p) (c + 5) (services_of p)
+    (λ b y. At b (i + 5) (Known (point_ground k.call.surroundings p h) (services_of p) numbers (λ j. 0) nothing b) y)
+controls_reach k {p} {numbers} {i} h width whole left below found c f l at =
+    let v = services_of p in
+    let x : Base → ℕ = λ b. (f b).machine.registers 10 in
+    let y : Base → ℕ = λ b. (f b).machine.registers 11 in
+    let z : Base → ℕ = λ b. (f b).machine.registers 12 in
+    let asking : Asking = record {
+      number = 35;
+      x = x;
+      y = y;
+      z = z;
+      first = λ b. 1;
+      second = y;
+      answer = λ call x0 x1 x2. E.control_served call x1;
+    } in
+    let g = point_ground k.call.surroundings p h in
+    let r1 = asks {g' = g} {t = λ j. 0} asking c f
+    (record {
+      small' = lit< tt;
+      serves = λ call r. refl;
+      answers = λ b m.
+          let call = call_at k.call.code v m in
+          found (λ n below'. E.control_carried_out call (y b) n.item n.behind below')
+          ∙ found (λ n below'. Done v m (E.item_number n.behind.direction v.input n.item) (y b));
+      more = omega arith;
+    })
+    (record { reserved = λ b. refl; memory = λ b m is. is }) (front_of (service 35) asked_again l)
+    (λ b. record { pc = (at b).pc; holds = record { body = (at b).holds.body; regs = (refl, (refl, (refl, tt))) } }) in
+    let r2 = skip_taken (c + 2) (reached r1) Test.NotEqual a0 zero_register (JumpBack (size_of (service 35) + 1) ∷ [])
+    (back_of (service 35) asked_again l) (reached_holds r1)
+    (λ b. one_not_zero _ _ (reached_holds r1 b).holds.regs.0 (zero_is (reached_holds r1 b).holds.body)) in
+    reach_moved {i'' = i + 5} (omega arith) (omega arith)
+    (reach_map _ (reach_then r1 r2)
+    (λ b m o. record { pc = o.pc; holds = record { body = o.holds.body; regs = tt } }))
+
+-- ---- its field
+
+-- behind a number: so much of the list is left at the newest place
+pub record HasLeft (u : Puts) (acts index wanted : ℕ) (left : List FormatItem) (c : ℕ) (f : Family) (v : Services)
+    (s : State) : Type 0
+  where
+    pub point : Point
+    pub numbers : ℕ → ℕ
+    pub among : IsAmong (placing (putting (whole_in u) left) u.block) numbers point
+    pub since : acts ≤ point.state.world.acts
+    pub line : point.control.line ≡ u.line
+    pub state : s ≡ point.state
+    pub fixed : AreFixed left
+    pub reach :
+        Reach u.block.call.code c f v wanted (services_of point)
+        (λ b y. IsIn u.block.call.surroundings point numbers index b y)
+
+abbrev pub left_aims : Puts → (acts index wanted : ℕ) → Aims (List FormatItem)
+left_aims u acts index wanted =
+    record {
+      done = λ c f v left s. HasLeft u acts index wanted left c f v s;
+      jumped = λ c f v height label s. JumpsTo u.block u.labels acts c f v height label s;
+      returned = λ c f v r s. ⊥;
+    }
+
+pub left_closed : (u : Puts) (acts index wanted : ℕ) → Closed u.block.call.code (left_aims u acts index wanted)
+left_closed u acts index wanted =
+    record {
+      done = λ r left s o. record {
+        point = o.point;
+        numbers = o.numbers;
+        among = o.among;
+        since = o.since;
+        line = o.line;
+        state = o.state;
+        fixed = o.fixed;
+        reach = reach_then r o.reach;
+      };
+      jumped = λ r height label s o. jumps_later r o;
+      returned = λ r left s o. absurd o;
+    }
+
+-- ---- the same end by another index
+
+moved_flow :
+    (u : Puts) (acts' wanted i j : ℕ) → i ≡ j → {c : ℕ} {f : Family} {v : Services} {flow : Flow (List FormatItem)} →
+    Comes u.block.call.code c f v (left_aims u acts' i wanted) flow →
+    Comes u.block.call.code c f v (left_aims u acts' j wanted) flow
+moved_flow u acts' wanted i j e {c} {f} {v} {flow} o =
+    subst (λ n. Comes u.block.call.code c f v (left_aims u acts' n wanted) flow) e o
+
+moved_aims :
+    (u : Puts) (acts' wanted i j : ℕ) → i ≡ j → (last : Unit {0} → Meaning (List FormatItem)) → {c : ℕ} {f : Family}
+    {v : Services} {flow : Flow (Unit {0})} →
+    Comes u.block.call.code c f v
+    (before u.block.call.code (left_aims u acts' i wanted) u.block.call.surroundings.acts last) flow →
+    Comes u.block.call.code c f v
+    (before u.block.call.code (left_aims u acts' j wanted) u.block.call.surroundings.acts last) flow
+moved_aims u acts' wanted i j e last {c} {f} {v} {flow} o =
+    subst (λ n. Comes u.block.call.code c f v
+    (before u.block.call.code (left_aims u acts' n wanted) u.block.call.surroundings.acts last) flow) e o
+
+-- what service 36 says of a field
+status_answer :
+    (c : Call) (x : ℕ) (v : Services) (field : Option (List ℕ)) → c.services ≡ v →
+    E.field_asked c x field ≡ told v c.memory x too_wide_code (λ t. v) (λ t. x) field
+status_answer c x v None e = ap (λ u. Done u c.memory x too_wide_code) e
+status_answer c x v (Some field) e = ap (λ u. Done u c.memory x 0) e
+
+-- ---- where a number has been evaluated
+
+-- the place, the point, and the number's word, that waits
+pub record Ready : Type 0 where
+  pub rest : List FormatItem
+  pub point : Point
+  pub numbers : ℕ → ℕ
+  pub z : ℤ
+  pub credits : ℕ
+  pub index : ℕ
+  pub family : Family
+
+abbrev pub place_of : Puts → Ready → EditPlace
+place_of u r = putting (whole_in u) r.rest
+
+abbrev pub inner : Puts → Ready → Block
+inner u r = placing (place_of u r) u.block
+
+abbrev pub width_in : Puts → Ready → ℕ
+width_in u r = next_width u.first r.rest
+
+abbrev pub left_in : Puts → Ready → List FormatItem
+left_in u r = behind_next u.more r.rest
+
+abbrev pub next_place : Puts → Ready → EditPlace
+next_place u r = putting (whole_in u) (left_in u r)
+
+abbrev pub places : Puts → Ready → List EditPlace
+places u r = next_place u r ∷ u.block.first.control.edits
+
+pub record IsReady (u : Puts) (r : Ready) (h : frame_of u.block r.point) (rs : Base → List (ℕ × ℕ))
+    (code : Code) : Type 0
+  where
+    pub among : IsAmong (inner u r) r.numbers r.point
+    pub line : r.point.control.line ≡ u.line
+    pub fixed : AreFixed r.rest
+    pub wide : IsWide r.z
+    pub linked : Linked u.block.call.surroundings.links u.block.call.code r.index code
+    pub paid : r.credits + size_of code + u.most ≤ cost u.block.call.code
+    pub there :
+        (b : Base) →
+        At b r.index (Known (point_ground u.block.call.surroundings r.point h) (services_of r.point) r.numbers
+        (λ j. 0) rs b) (r.family b)
+
+-- the point behind the field
+abbrev pub shown_point : Puts → Ready → (field : List ℕ) → Point
+shown_point u r field = writing (with_field field) (places u r) r.point
+
+found_in :
+    (u : Puts) (r : Ready) {h : frame_of u.block r.point} {rs : Base → List (ℕ × ℕ)} {code : Code} →
+    IsReady u r h rs code →
+    Finds r.point.control.edits (DataFormat (FixedItem (width_in u r))) (whole_in u) (left_in u r)
+    u.block.first.control.edits
+found_in u r is =
+    finds_next u.first u.more r.rest r.point.control.edits u.block.first.control.edits is.fixed is.among.later.edits
+
+field_among :
+    (u : Puts) → ArePut u → (r : Ready) {h : frame_of u.block r.point} {rs : Base → List (ℕ × ℕ)} {code : Code} →
+    IsReady u r h rs code → (field : List ℕ) → r.point.state.world.acts < u.block.call.surroundings.acts →
+    IsAmong (placing (next_place u r) u.block) r.numbers (shown_point u r field)
+field_among u a r is field less =
+    let first = u.block.first.control in
+    writing_among (with_field field)
+    (edits_among u.block (place_of u r ∷ first.edits) (places u r) (places u r) is.among refl
+    (over_place (next_place u r) first.entries first.edits first.layers a.over)) less
+
+-- it is written, an act
+field_comes :
+    (u : Puts) → ArePut u → (r : Ready) (h : frame_of u.block r.point) (acts' wanted : ℕ) →
+    IsReady u r h (two (λ b. word r.z) (λ b. 0)) (small a1 1 ∷ service 36) → (field : List ℕ) →
+    fixed_field (width_in u r) r.z ≡ Some field → acts' ≤ r.point.state.world.acts →
+    Comes u.block.call.code r.credits r.family (services_of r.point)
+    (before u.block.call.code (left_aims u acts' (r.index + 3) wanted) u.block.call.surroundings.acts
+    (λ t. give (left_in u r)))
+    (act (written (with_field field)) u.block.call.surroundings.acts r.point.state)
+unfolding give
+field_comes u a r h acts' wanted is field wide since =
+    let w = u.block.call.surroundings in
+    let code = u.block.call.code in
+    let p = r.point in
+    let v = services_of p in
+    let next' : Unit {0} → Meaning (List FormatItem) = λ t. give (left_in u r) in
+    let closed = before_closed w.acts next' (left_closed u acts' (r.index + 3) wanted) in
+    let front = small a1 1 ∷ small a7 36 ∷ [] in
+    let last = Plain I.Ecall ∷ [] in
+    let x = word r.z in
+    let paid = is.paid in
+    let asked : Base → List (ℕ × ℕ) = λ b. (10, x) ∷ (11, 1) ∷ (17, 36) ∷ [] in
+    let r1 = straight r.credits r.family v v
+    (λ b. Known (point_ground w p h) v r.numbers (λ j. 0) asked b) (front_of front last is.linked) (omega arith)
+    (λ b. (is.there b).pc)
+    (λ b. let o = (is.there b).holds in record {
+      body = record {
+        services = o.body.services;
+        registers = o.body.registers;
+        bytes = o.body.bytes;
+        memory = o.body.memory;
+      };
+      regs = (
+        o.regs.0,
+        (small_is _ 1 (zero_is o.body) (omega arith), (small_is _ 36 (zero_is o.body) (omega arith), tt)),
+      );
+    }) in
+    onward closed r1
+    (λ g at.
+    let calling : Calling w.links code (r.index + 2) g
+    (λ b. Done (services_of (shown_point u r field)) (g b).machine.memory x 1) =
+    record {
+      linked = back_of front last is.linked;
+      pc = λ b. (at b).pc;
+      answers = λ b.
+          let o = (at b).holds in
+          let y = (g b).machine.registers in
+          let call = call_at code v (g b).machine.memory in
+          called code (g b) v 36 x 1 (y 12) (y 13) (y 14) (λ c x0 x1 x2 x3 x4. E.fixed_served c x0 x1)
+          o.body.services o.regs.1.1.0 o.regs.0 o.regs.1.0 refl refl refl (λ c y'. refl)
+          ∙ found_in u r is (λ n below. E.fixed_by call x 1 n.behind.direction n.item (n.behind ∷ below))
+          ∙ ap (λ o'. E.number_put call x 1 o' (places u r))
+          (ap (fixed_field (width_in u r)) (signed-word r.z is.wide) ∙ wide)
+          ∙ acts v w.acts _ is.among.stands.allowed a.acts;
+    } in
+    writing_comes closed (record { item = with_field field; edits = places u r; first = x; second = 1 })
+    (r.credits + 2) wanted g h is.among.stands (omega (arith, paid)) at calling
+    (λ f' less at'.
+    record {
+      to = record {
+        point = shown_point u r field;
+        numbers = r.numbers;
+        among = field_among u a r is field less;
+        since = omega (arith, since);
+        line = is.line;
+        state = refl;
+        fixed = left_fixed u.more r.rest a.are is.fixed;
+        reach = stay code wanted f' (services_of (shown_point u r field)) _
+            (λ b. in_known h is.among.image.parts
+            (record { pc = (at' b).pc ∙ ap (address b) (three_more r.index); holds = (at' b).holds }));
+      };
+    }))
+  where
+    three_more : (i : ℕ) → i + 2 + 1 ≡ i + 3
+    three_more i = omega arith
+
+-- ---- the field's width is tested first
+
+-- from the number's word in a0 on
+number_comes :
+    (u : Puts) → ArePut u → (r : Ready) (h : frame_of u.block r.point) (acts' wanted : ℕ) →
+    IsReady u r h (valued (word r.z)) number_written → acts' ≤ r.point.state.world.acts →
+    Comes u.block.call.code r.credits r.family (services_of r.point)
+    (before u.block.call.code (left_aims u acts' (r.index + 9) wanted) u.block.call.surroundings.acts
+    (λ t. give (left_in u r)))
+    (((R.or_error (setting_in u).around too_wide_code (fixed_field (width_in u r) r.z))
+    >>= (λ field. act (written (with_field field)))) u.block.call.surroundings.acts r.point.state)
+unfolding ◌>>=◌
+number_comes u a r h acts' wanted is since =
+    let w = u.block.call.surroundings in
+    let code = u.block.call.code in
+    let p = r.point in
+    let v = services_of p in
+    let x = word r.z in
+    let paid = is.paid in
+    let left' = left_closed u acts' (r.index + 9) wanted in
+    let last : Unit {0} → Meaning (List FormatItem) = λ t. give (left_in u r) in
+    let shows : List ℕ → Meaning (Unit {0}) = λ field. act (written (with_field field)) in
+    let closed = before_closed w.acts shows (before_closed w.acts last left') in
+    let front = small a1 0 ∷ [] in
+    let behind' = small a1 1 ∷ service 36 in
+    let l1 = back_of front (tested_service 36 ++ behind') is.linked in
+    let third : Base → ℕ = λ b. (r.family b).machine.registers 12 in
+    let r1 = straight r.credits r.family v v
+    (λ b. Known (point_ground w p h) v r.numbers (λ j. 0) (three (λ b'. x) (λ b'. 0) third) b)
+    (front_of front (tested_service 36 ++ behind') is.linked) (omega arith) (λ b. (is.there b).pc)
+    (λ b. let o = (is.there b).holds in record {
+      body = record {
+        services = o.body.services;
+        registers = o.body.registers;
+        bytes = o.body.bytes;
+        memory = o.body.memory;
+      };
+      regs = (o.regs.0, (small_is _ 0 (zero_is o.body) (omega arith), (refl, tt)));
+    }) in
+    comes_on w.acts (R.or_error (setting_in u).around too_wide_code (fixed_field (width_in u r) r.z) w.acts p.state)
+    shows
+    (onward closed r1
+    (λ g at.
+    let place : Place = record {
+      entries = [];
+      setting = within (place_of u r) (setting_in u);
+      point = p;
+      numbers = r.numbers;
+      credits = r.credits + 1;
+      index = r.index + 1;
+      family = g;
+    } in
+    let asked : Tested (List ℕ) = record {
+      number = 36;
+      code = too_wide_code;
+      x = λ b. x;
+      y = λ b. 0;
+      z = third;
+      answer = λ call x0 x1 x2. E.fixed_served call x0 x1;
+      outcome = fixed_field (width_in u r) r.z;
+      texts = λ field. p.control.entries;
+      result = λ field b. x;
+    } in
+    tested_comes place asked closed h
+    (record {
+      among = is.among;
+      line = is.line;
+      linked = front_of (tested_service 36) behind' l1;
+      paid = omega (arith, paid);
+      there = at;
+    })
+    (record {
+      small' = lit< tt;
+      coded = lit< tt;
+      some = refl;
+      serves = λ call r'. refl;
+      answers = λ b m.
+          let call = call_at code v m in
+          found_in u r is (λ n below. E.fixed_by call x 0 n.behind.direction n.item (n.behind ∷ below))
+          ∙ status_answer call x v (fixed_field (width_in u r) (signed x)) refl
+          ∙ ap (λ n. told v m x too_wide_code (λ t. v) (λ t. x) (fixed_field (width_in u r) n))
+          (signed-word r.z is.wide);
+    })
+    (a.error (place_of u r))
+    (λ c f v' height label s q. jumps_since since (jumps_down (place_of u r) u.block u.labels q))
+    (λ field g' e at'.
+    let r' : Ready = record {
+      rest = r.rest;
+      point = p;
+      numbers = r.numbers;
+      z = r.z;
+      credits = r.credits + 1 + 5;
+      index = r.index + 6;
+      family = g';
+    } in
+    moved_aims u acts' wanted (r.index + 6 + 3) (r.index + 9) (omega arith) last
+    (field_comes u a r' h acts' wanted
+    (record {
+      among = is.among;
+      line = is.line;
+      fixed = is.fixed;
+      wide = is.wide;
+      linked = linked_at (r.index + 6) behind' (omega arith) (back_of (tested_service 36) behind' l1);
+      paid = omega (arith, paid);
+      there = λ b. record { pc = (at' b).pc ∙ ap (address b) (six r.index); holds = (at' b).holds };
+    })
+    field e since))))
+  where
+    six : (i : ℕ) → i + 1 + 5 ≡ i + 6
+    six i = omega arith
+
+-- ---- one number
+
+-- it has been evaluated, and is in a0
+pub valued_comes :
+    (u : Puts) → ArePut u → (x : Item) (r : Ready) (h : frame_of u.block r.point) (acts' wanted i : ℕ) →
+    IsReady u r h (valued (word r.z)) number_shown → acts' ≤ r.point.state.world.acts →
+    r.index + size_of number_shown ≡ i →
+    Comes u.block.call.code r.credits r.family (services_of r.point) (left_aims u acts' i wanted)
+    (((P.next_item P.control_put (whole_in u) r.rest)
+    >>= (λ next. (P.shown_by (setting_in u).around (ComputationalNumber x.precision r.z) next.0) >> give next.1))
+    u.block.call.surroundings.acts r.point.state)
+unfolding P.shown_by R.or_error ◌>>=◌ ◌>>◌ give
+valued_comes u a x r h acts' wanted i is since end =
+    let w = u.block.call.surroundings in
+    let code = u.block.call.code in
+    let p = r.point in
+    let v = services_of p in
+    let s = within (place_of u r) (setting_in u) in
+    let z = r.z in
+    let small' = word_small z is.wide in
+    let paid = is.paid in
+    let one = a.one in
+    let registers : (0 + 1 ≤ u.block.registers) × (u.block.registers ≤ held_registers) = (omega (arith, one), a.held) in
+    let put' = save a0 none_taken in
+    let back = fetch a0 none_taken in
+    let n1 = size_append put' (controls_carried_out ++ (back ++ number_written)) in
+    let n2 = size_append controls_carried_out (back ++ number_written) in
+    let n3 = size_append back number_written in
+    let l1 = back_of put' (controls_carried_out ++ (back ++ number_written)) is.linked in
+    let l2 = back_of controls_carried_out (back ++ number_written) l1 in
+    let numbers' = held_after r.numbers 0 (word z) in
+    let free : Free nothing 10 = record { reserved_stay = λ y t. refl; known_stay = λ b y t q. q; set = λ y t. refl } in
+    let far : Free nothing 31 = record { reserved_stay = λ y t. refl; known_stay = λ b y t q. q; set = λ y t. refl } in
+    let r1 = saved_reach s 0 0 h registers r.credits r.family (word z) small'
+    (front_of put' (controls_carried_out ++ (back ++ number_written)) is.linked) is.there in
+    let r2 = controls_reach u.block h (width_in u r) (whole_in u) (left_in u r) u.block.first.control.edits
+    (found_in u r is) (r.credits + size_of put') (reached r1)
+    (front_of controls_carried_out (back ++ number_written) l1) (reached_holds r1) in
+    let r3 = fetched_reach s 0 0 h registers (r.credits + size_of put' + 5) (reached r2) a0 (word z) small'
+    (held_is_given r.numbers 0 (word z)) free far (front_of back number_written l2) (reached_holds r2) in
+    let next' : DataItem × List FormatItem → Meaning (List FormatItem) =
+    λ next. (P.shown_by (setting_in u).around (ComputationalNumber x.precision z) next.0) >> give next.1 in
+    let last : Unit {0} → Meaning (List FormatItem) = λ t. give (left_in u r) in
+    let r' : Ready = record {
+      rest = r.rest;
+      point = p;
+      numbers = numbers';
+      z = z;
+      credits = r.credits + size_of put' + 5 + size_of back;
+      index = r.index + size_of put' + 5 + size_of back;
+      family = reached r3;
+    } in
+    subst (Comes code r.credits r.family v (left_aims u acts' i wanted))
+    (sym (ap (λ flow. flow_on w.acts flow next') (next_is u.first u.more r.rest w.acts p.state is.fixed)))
+    (onward (left_closed u acts' i wanted) (reach_then r1 (reach_then r2 r3))
+    (λ g at.
+    moved_flow u acts' wanted (r'.index + 9) i (omega (arith, n1, n2, n3, end))
+    (comes_on w.acts _ last
+    (number_comes u a (record r' { family = g }) h acts' wanted
+    (record {
+      among = held_among s 0 1 (word z) registers (omega arith) small' is.among;
+      line = is.line;
+      fixed = is.fixed;
+      wide = is.wide;
+      linked = back_of back number_written l2;
+      paid = omega (arith, paid, n1, n2, n3);
+      there = at;
+    })
+    since))))

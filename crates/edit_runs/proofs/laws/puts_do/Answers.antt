@@ -1,0 +1,5 @@
+use Rattle.edit_runs.proofs.Puts.{put_does}
+use Rattle.edit_runs.proofs.laws.puts_do.Goals as goal
+
+pub returns : goal.returns
+returns c = put_does

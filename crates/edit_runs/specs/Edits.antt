@@ -1,0 +1,132 @@
+-- PUT EDIT of numbers by F: places in format lists at the points of a block, and where the format list stands.
+use Rattle.std.specs.Prelude.{ℕ, ◌+◌, ◌^◌, ◌<◌, ◌≤◌, ◌≡◌, List, [], ◌∷◌, None, Some, true, false, ⊤}
+use Rattle.pli_language.specs.Tree as T
+use Rattle.pli_typing.specs.TypedTree as Y
+use Rattle.pli_meaning.specs.Control.{Label}
+use Rattle.pli_meaning.specs.Executing.{statement}
+use Rattle.pli_meaning.specs.Streaming.{FormatItem, DataFormat, FixedItem, format_items}
+use Rattle.pli_serving.specs.FormatLists.{formats_at}
+use Rattle.pli_serving.specs.ServiceState.{EditPlace, Putting, Services}
+use Rattle.pli_coding.specs.Assembly.{DataPlace}
+use Rattle.pli_coding.specs.Environments.{none_taken}
+use Rattle.pli_coding.specs.Linking.{place_of}
+use Rattle.pli_coding.specs.Registers.{held_registers}
+use Rattle.pli_coding.specs.Statements.{stmt_code}
+use Rattle.pli_coding.specs.StaticForms.{formats_datum}
+use Rattle.pli_coding.specs.Streams.{has_fixed, has_text}
+use Rattle.activation_relation.specs.Layers.{Point, services_of}
+use Rattle.run_steps.specs.Engine.{Base, call_at}
+use Rattle.run_steps.specs.Items.{Linked}
+use Rattle.run_steps.specs.Reach.{Comes, Family, cost}
+use Rattle.block_runs.specs.Machines.{IsIn}
+use Rattle.program_runs.specs.Calls.{Callee}
+use Rattle.program_runs.specs.Statements.{Block, HasAct, IsAmong, IsBegun, size_in, statement_aims}
+use Rattle.expression_runs.specs.Assignments.{setting_of}
+use Rattle.expression_runs.specs.Laws as L
+use Rattle.expression_runs.specs.Raises.{IsUnraised}
+use Rattle.expression_runs.specs.Values.{Setting}
+use Rattle.expression_runs.specs.Variables.{IsNumber, Spot}
+use Rattle.function_runs.specs.FunctionCalls.{IsFunctionCall}
+use Rattle.text_runs.specs.Texts.{ErrorComes, IsErrorless}
+use Rattle.edit_runs.specs.Writing.{with_edits}
+
+-- ---- places in format lists
+
+-- in a list of PUT, of which so much is left
+abbrev pub putting : (whole rest : List FormatItem) → EditPlace
+putting whole rest = record { direction = Putting; whole = whole; rest = rest }
+
+-- the block, at whose points this place stands above those at its first statement
+abbrev pub placing : EditPlace → Block → Block
+placing place k = record k { first = with_edits (place ∷ k.first.control.edits) k.first }
+
+-- around what is evaluated there, and names no label of the block itself: a jump to one drops the place
+abbrev pub within : EditPlace → Setting → Setting
+within place s = record s { block = placing place s.block; labels = [] }
+
+-- what is known of a block, and around its expressions, is known there
+pub record PlacesWait : Type 0 where
+  pub begun : (k : Block) (place : EditPlace) → IsBegun k → IsBegun (placing place k)
+  pub number : (k : Block) (place : EditPlace) (x : Spot) → IsNumber k x → IsNumber (placing place k) x
+  pub unraised : (s : Setting) (place : EditPlace) → IsUnraised s → IsUnraised (within place s)
+  pub errorless : (s : Setting) (place : EditPlace) → IsErrorless s → IsErrorless (within place s)
+  pub call :
+      (s : Setting) (place : EditPlace) (c : Callee) (more : ℕ) → IsFunctionCall s c more →
+      IsFunctionCall (within place s) c more
+
+-- ---- format lists
+
+-- of F items alone
+abbrev pub AreFixed : List FormatItem → Type 0
+AreFixed [] = ⊤
+AreFixed (DataFormat (FixedItem width) ∷ items) = AreFixed items
+AreFixed (x ∷ items) = ⊥
+
+-- and there is one
+pub record IsFixed (fs : T.Formats) : Type 0 where
+  pub fixed : has_fixed fs ≡ true
+  pub text : has_text fs ≡ false
+  pub first : ℕ
+  pub more : List FormatItem
+  pub items : format_items fs ≡ DataFormat (FixedItem first) ∷ more
+  pub are : AreFixed more
+
+-- service 34 finds the list where code looks for it, whatever else the services know
+pub record HasFormats (k : Block) (fs : T.Formats) (m : List ℕ) : Type 0 where
+  pub near : place_of k.call.surroundings.links (DataPlace (formats_datum fs)) < 2 ^ 32
+  pub read :
+      (v : Services) →
+      formats_at (call_at k.call.code v m) (place_of k.call.surroundings.links (DataPlace (formats_datum fs)))
+      ≡ Some (format_items fs)
+
+-- ---- the statement
+
+-- one of its numbers
+pub record Item : Type 0 where
+  pub precision : ℕ
+  pub source : Y.Number
+
+abbrev pub put_items : List Item → List Y.PutItem
+put_items [] = []
+put_items (x ∷ xs) = Y.PutValue (Y.NumberValue x.precision x.source) ∷ put_items xs
+
+pub record Put : Type 0 where
+  pub first : Item
+  pub more : List Item
+  pub formats : T.Formats
+  pub line : ℕ
+
+abbrev pub put_of : Put → Y.Stmt
+put_of x = Y.Put None (record { items = put_items (x.first ∷ x.more); formats = x.formats } ∷ []) x.line
+
+-- where it stands, how many registers its expressions need, and that one act pays for each of them
+pub record IsPut (k : Block) (labels : List Label) (x : Put) (index need most : ℕ) : Type 0 where
+  pub act : HasAct k x.line
+  pub formats : IsFixed x.formats
+  pub registers : need ≤ k.registers
+  pub one : 1 ≤ k.registers
+  pub held : k.registers ≤ held_registers
+  pub error : (place : EditPlace) → ErrorComes (List ℕ) (within place (setting_of k labels x.line most))
+  pub statement : Linked k.call.surroundings.links k.call.code index (stmt_code k.environment none_taken (put_of x))
+  pub paid : size_in k (put_of x) + most ≤ cost k.call.code
+
+-- wherever the list is, each of its expressions leaves what it means
+abbrev pub ItemsDo : Setting → (need : ℕ) → List Item → Type 0
+ItemsDo s need [] = ⊤
+ItemsDo s need (x ∷ xs) = ((place : EditPlace) → L.Does (within place s) need x.source) × ItemsDo s need xs
+
+-- a statement does what it means at machines in whose memory something stands
+abbrev pub DoesWhere : (List ℕ → Type 0) → Block → List Label → Y.Stmt → (index left' : ℕ) → Type 0
+DoesWhere stands k labels stmt index left' =
+    (p : Point) (numbers : ℕ → ℕ) (credits wanted : ℕ) (f : Family) → IsAmong k numbers p →
+    credits + size_in k stmt ≤ cost k.call.code →
+    ((b : Base) → IsIn k.call.surroundings p numbers index b (f b) × stands (f b).machine.memory) →
+    Comes k.call.code credits f (services_of p)
+    (statement_aims k labels p.state.world.acts (index + size_in k stmt) wanted left')
+    (statement k.around stmt k.call.surroundings.acts p.state)
+
+abbrev pub PutsDo : Type 0
+PutsDo =
+    (k : Block) (labels : List Label) (x : Put) (index left' need most : ℕ) → IsPut k labels x index need most →
+    ItemsDo (setting_of k labels x.line most) need (x.first ∷ x.more) →
+    DoesWhere (HasFormats k x.formats) k labels (put_of x) index left'

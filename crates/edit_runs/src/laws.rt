@@ -1,0 +1,35 @@
+// Laws of the definitions: each function's contract is one law, and calling it does nothing.
+
+ghost use Rattle.edit_runs.specs.Edits.{PlacesWait, PutsDo};
+ghost use Rattle.edit_runs.specs.FormatRows.{NumbersShown};
+ghost use Rattle.edit_runs.specs.SkipRows.{RuledRan};
+ghost use Rattle.edit_runs.specs.Skips.{SkipsDo};
+
+use granule_keeper::laws::granules_keep;
+
+/// PUT SKIP ends lines, as it is meant.
+pub fn skips_do()
+    ensures { SkipsDo }
+{}
+
+/// A worked row: a loop by GOTO that ends two lines in each turn, until its variable overflows.
+pub fn ruled_ran()
+    ensures { RuledRan }
+{
+    granules_keep();
+}
+
+/// What is known of a block, and around its expressions, is known while a place in a format list is in use.
+pub fn places_wait()
+    ensures { PlacesWait }
+{}
+
+/// PUT EDIT of numbers by F does what it means, where the format list stands.
+pub fn puts_do()
+    ensures { PutsDo }
+{}
+
+/// Worked rows: lists of F items, and a program that writes three numbers by one.
+pub fn numbers_shown()
+    ensures { NumbersShown }
+{}

@@ -1,0 +1,10 @@
+pub mod MakingBegins
+pub mod MakingProcedures
+pub mod Signatures
+pub mod Extents
+pub mod Words
+pub mod Placing
+pub mod PlacingCode
+pub mod Both
+pub mod Entered
+pub mod Arrays

@@ -1,0 +1,70 @@
+// Laws of the definitions: each function's contract is one law, and calling it does nothing.
+
+ghost use Rattle.extent_runs.specs.Arrays.{ArraysFilled};
+ghost use Rattle.extent_runs.specs.Both.{ExtentsEvaluated, ExtentsPlaced};
+ghost use Rattle.extent_runs.specs.Entered.{BlocksEntered};
+ghost use Rattle.extent_runs.specs.Extents.{ExtentsDo, ExtentsEnd};
+ghost use Rattle.extent_runs.specs.Making.{MakingBeginsDo, MakingProceduresRun, StraightMakes};
+ghost use Rattle.extent_runs.specs.Placing.{AdjustablesPlaced};
+ghost use Rattle.extent_runs.specs.Signatures.{SignaturesFilled};
+ghost use Rattle.extent_runs.specs.Words.{NumbersWait};
+
+/// A begin block does what it means if the making of its variables does, and then each of its statements.
+pub fn making_begins_do()
+    ensures { MakingBeginsDo }
+{}
+
+/// Variables that straight code makes are made so, too.
+pub fn straight_makes()
+    ensures { StraightMakes }
+{}
+
+/// A procedure comes behind its call if the making of its variables does what it means, and then each statement.
+pub fn making_procedures_run()
+    ensures { MakingProceduresRun }
+{}
+
+/// Service 3 answers at a point with the point that has the signature with one more extent.
+pub fn signatures_filled()
+    ensures { SignaturesFilled }
+{}
+
+/// An upper bound that is evaluated does what it means if its expression does.
+pub fn extents_do()
+    ensures { ExtentsDo }
+{}
+
+/// One below the lower bound ends the run where no unit is in force for ERROR.
+pub fn extents_end()
+    ensures { ExtentsEnd }
+{}
+
+/// The number of the signature waits in a word of the frame, and what is known once the extent is filled in.
+pub fn numbers_wait()
+    ensures { NumbersWait }
+{}
+
+/// A variable whose size the run tells is placed on the lower stack, as it is meant.
+pub fn adjustables_placed()
+    ensures { AdjustablesPlaced }
+{}
+
+/// The extents of a variable are evaluated behind their act, up to both bounds in registers.
+pub fn extents_evaluated()
+    ensures { ExtentsEvaluated }
+{}
+
+/// From there on the variable is made, where the list of the extent's places stands in static data.
+pub fn extents_placed()
+    ensures { ExtentsPlaced }
+{}
+
+/// A block that has been entered has begun where the act of its extents has been made.
+pub fn blocks_entered()
+    ensures { BlocksEntered }
+{}
+
+/// What becomes of an array's template is the shape that the array is meant to have.
+pub fn arrays_filled()
+    ensures { ArraysFilled }
+{}

@@ -1,0 +1,9 @@
+mod Demands
+mod Steps
+mod Ways
+mod Expressions
+mod Stored
+mod Streams
+mod Statements
+mod Blocks
+mod Programs

@@ -1,0 +1,140 @@
+-- A plain well-formed program has what the walk over its runs asks for, and so its meaning is there.
+use Rattle.std.proofs.Common.{◌≡◌, ℕ, zero, suc, ◌≤◌, List, [], ◌∷◌, Option, Some, None, refl, ap, sym}
+use Rattle.std.proofs.Common.{subst}
+use Rattle.std.proofs.Common.{arith}
+use Rattle.std.specs.Prelude.{length, slice_get, unwrap_or}
+use Rattle.pli_meaning.specs.declared.outcome.End.TheVariants as E
+use Rattle.pli_typing.specs.Resolving.{typed_tree}
+use Rattle.pli_typing.specs.TypedTree as Y
+use Rattle.pli_meaning.specs.World.{World}
+use Rattle.pli_meaning.specs.StorageState.{first_state}
+use Rattle.pli_meaning.specs.Control.{Label, Flow, Normal, Jump, Return, Ended, Paused, Stuck}
+use Rattle.pli_meaning.specs.DeclaredShapes as D
+use Rattle.pli_meaning.specs.Executing.{run, meaning, shown, is_own_return}
+use Rattle.well_formed_trees.specs.Every.{Every}
+use Rattle.well_formed_trees.specs.Surroundings.{Around, Table, Returns, NoReturn}
+use Rattle.well_formed_trees.specs.Declarations.{SoundVariables}
+use Rattle.well_formed_trees.specs.WellFormed.{AcceptedWellFormed, IsWellFormed, SoundProcedure, procedure_around}
+use Rattle.well_formed_trees.proofs.Lists.{every_map, every_pair}
+use Rattle.meaning_runs.specs.Plain as P
+use Rattle.meaning_runs.specs.Present.{IsOver, JumpsOut, EndsOrPauses, NeverStuck, MeaningThere, AcceptedMeaningThere}
+use Rattle.meaning_runs.proofs.Demands.{Comes, Jumps, placed}
+use Rattle.meaning_runs.proofs.Ways.{Whole, Declares, FineProcedure}
+use Rattle.meaning_runs.proofs.Blocks.{at_start, run_there}
+
+-- ---- procedures
+
+procedure_is_fine : (p : Y.Program) (g : P.Gotos) (table : Table) (q : Y.Procedure) → SoundProcedure table p q
+    → P.PlainBlock g q.block → FineProcedure p g q
+procedure_is_fine p g table q s h =
+    record {
+      block = record {
+        head = s.head;
+        body = s.body;
+        is = s.is;
+        table = table;
+        blocks = procedure_around s.head s.body s.outer;
+        returning = Returns q.result;
+        statements = s.statements;
+        plain = subst (P.PlainBlock g) s.is h;
+      };
+      own = ap is_own_return s.kind;
+      returning = refl;
+    }
+
+-- ---- variables
+
+declare_sound : (p : Y.Program) (table : Table) (blocks : List Around) (index : ℕ) (ds : List Y.DeclaredVariable)
+    → SoundVariables (placed p table blocks NoReturn) index ds → Every P.PlainVariable ds → Every (Declares p) ds
+declare_sound p table blocks index [] h k = tt
+declare_sound p table blocks index (d ∷ ds) h k = (
+  record {
+    table = table;
+    blocks = blocks;
+    sound = every_map _ _ (λ x e. e.value) d.evaluations h.0.evaluations;
+    plain = k.0;
+  },
+  declare_sound p table blocks (suc index) ds h.1 k.1,
+)
+
+plain_at : (vs : List (List Y.DeclaredVariable)) (n : ℕ) → Every (Every P.PlainVariable) vs
+    → Every P.PlainVariable (unwrap_or (slice_get vs n) [])
+plain_at [] n h = tt
+plain_at (v ∷ vs) zero h = h.0
+plain_at (v ∷ vs) (suc n) h = plain_at vs n h.1
+
+-- what isn't in one list isn't in another that is as long
+none_there : {X Z : Type 0} (xs : List X) (ys : List Z) (n : ℕ) → length xs ≡ length ys → slice_get ys n ≡ None
+    → slice_get xs n ≡ None
+none_there [] ys n e h = refl
+none_there (x ∷ xs) [] n e h = absurd (omega (arith, e))
+none_there (x ∷ xs) (y ∷ ys) zero e h = absurd (cc h)
+none_there (x ∷ xs) (y ∷ ys) (suc n) e h = none_there xs ys n (omega (arith, e)) h
+
+declared_sound : (p : Y.Program) (g : P.Gotos) → IsWellFormed p → P.IsPlain g p → (number : ℕ)
+    → Every (Declares p) (D.variables_of_block p number)
+declared_sound p g h k number = of_entry (slice_get h.table number) refl
+  where
+    of_entry : (o : Option (List Around)) → slice_get h.table number ≡ o
+        → Every (Declares p) (D.variables_of_block p number)
+    of_entry None e =
+        subst (λ o. Every (Declares p) (unwrap_or o [])) (sym (none_there p.variables h.table number h.lists e)) tt
+    of_entry (Some blocks) e =
+        declare_sound p h.table blocks 0 (D.variables_of_block p number) (h.variables number blocks e)
+        (plain_at p.variables number k.variables)
+
+whole_sound : (p : Y.Program) (g : P.Gotos) → IsWellFormed p → P.IsPlain g p → Whole p g
+whole_sound p g h k =
+    record {
+      declares = declared_sound p g h k;
+      procedures =
+          every_map _ (FineProcedure p g) (λ q b. procedure_is_fine p g h.table q b.0 b.1) p.procedures
+          (every_pair (SoundProcedure h.table p) (λ q. P.PlainBlock g q.block) p.procedures h.procedures k.procedures);
+    }
+
+-- ---- the laws
+
+jumps_out : (g : P.Gotos) (height : ℕ) (label : Label) → Jumps g [] [] height label → JumpsOut g
+jumps_out P.AnyGoto height label h = tt
+jumps_out P.OwnGotos height label h = h
+
+ends_or_pauses : (p : Y.Program) (g : P.Gotos) (acts k : ℕ) (f : Flow (Unit {0}))
+    → Comes (at_start p g) (λ r. ⊥) 0 1 acts k f → EndsOrPauses g k f
+ends_or_pauses p g acts k (Normal r s) h = absurd h.1.1.1
+ends_or_pauses p g acts k (Jump height label s) h = jumps_out g height label h.1.1.1
+ends_or_pauses p g acts k (Return v s) h = absurd h.1.1.1
+ends_or_pauses p g acts k (Ended s) h = h
+ends_or_pauses p g acts k (Paused s) h = h
+ends_or_pauses p g acts k Stuck h = absurd h
+
+pub never_stuck : NeverStuck
+never_stuck p g input k h i =
+    ends_or_pauses p g 0 k (run p (suc k) k (first_state input))
+    ((run_there p g (whole_sound p g h i) h.main (suc k) k (omega arith)).comes k (first_state input) (omega arith)
+    (omega arith) (tt, refl))
+
+-- what a flow shows
+record Shows (k : ℕ) (f : Flow (Unit {0})) : Type 0 where
+  world : World
+  is : shown f ≡ Some world
+  few : world.acts ≤ k
+  going_on : world.end ≡ E.Running → world.acts ≡ k
+
+shows : (k : ℕ) (f : Flow (Unit {0})) → EndsOrPauses P.OwnGotos k f → Shows k f
+shows k (Normal r s) h = absurd h
+shows k (Jump height label s) h = absurd h
+shows k (Return v s) h = absurd h
+shows k (Ended s) h =
+    record { world = s.world; is = refl; few = h.0; going_on = λ e. absurd (subst IsOver e h.1) }
+shows k (Paused s) h = record { world = s.world; is = refl; few = omega (arith, h); going_on = λ e. h }
+shows k Stuck h = absurd h
+
+pub meaning_there : MeaningThere
+unfolding meaning
+meaning_there p input k h i =
+    let f = shows k (run p (suc k) k (first_state input)) (never_stuck p P.OwnGotos input k h i) in
+    record { world = f.world; meant = f.is; few = f.few; going_on = f.going_on }
+
+pub accepted_meaning_there : AcceptedWellFormed → AcceptedMeaningThere
+accepted_meaning_there law s tokens tree t p d e h input k =
+    meaning_there (typed_tree tree) input k (law s tokens tree t p d e) h

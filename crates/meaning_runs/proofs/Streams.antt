@@ -1,0 +1,382 @@
+-- GET and PUT without aggregates are there: format lists have a data item, and fields are of kinds that are read.
+use Rattle.std.proofs.Common.{◌≡◌, ℕ, zero, suc, ◌+◌, ℤ, List, [], ◌∷◌, ◌++◌, Option, Some, None, Bool, true, false}
+use Rattle.std.proofs.Common.{◌∙◌, subst, refl, ap, arith}
+use Rattle.std.specs.Prelude.{◌||◌, not, map, take, drop, ⊤, slice_get}
+use Rattle.pli_language.specs.declared.condition.Condition.TheVariants as C
+use Rattle.pli_language.specs.Tree as F
+use Rattle.pli_language.specs.Formats.{Direction, Getting, Putting, formats_move_data, format_moves_data}
+use Rattle.pli_meaning.specs.World.{counted, written}
+use Rattle.pli_typing.specs.TypedTree as Y
+use Rattle.pli_typing.specs.Assigning.{is_read, all_pass, holds_fixed, format_holds_fixed}
+use Rattle.pli_meaning.specs.InputLines.{behind_field}
+use Rattle.pli_meaning.specs.StorageState.{with_input}
+use Rattle.pli_meaning.specs.Control.{Meaning, give, stuck, given}
+use Rattle.pli_meaning.specs.DeclaredShapes as D
+use Rattle.pli_meaning.specs.Evaluating as V
+use Rattle.pli_meaning.specs.Streaming as S
+use Rattle.well_formed_trees.specs.Every.{Every}
+use Rattle.well_formed_trees.specs.Ranges.{IsTimes, IsFormat, AreFormats, IsFormatList}
+use Rattle.well_formed_trees.specs.References.{leaf_left, given_in, IsScalar}
+use Rattle.well_formed_trees.specs.Statements as T
+use Rattle.well_formed_trees.proofs.Lists.{every_both}
+use Rattle.meaning_runs.specs.Plain as P
+use Rattle.meaning_runs.proofs.Demands.{Demand, Anything, There}
+use Rattle.meaning_runs.proofs.Steps.{give_there, bind_there, then_there, looked_there, stored_there, act_there}
+use Rattle.meaning_runs.proofs.Steps.{choose_there, found_there}
+use Rattle.meaning_runs.proofs.Ways.{Ways, demand, around, here, ThereAround}
+use Rattle.meaning_runs.proofs.Expressions.{raised_there, value_of_there, or_error_there, designated_there}
+use Rattle.meaning_runs.proofs.Expressions.{computational_there}
+use Rattle.meaning_runs.proofs.Stored.{element_stored_there}
+
+-- ---- format lists
+
+-- what is so of each data item
+abbrev Goes : (S.DataItem → Type 0) → S.FormatItem → Type 0
+Goes Q (S.DataFormat f) = Q f
+Goes Q (S.ControlFormat c) = ⊤
+
+abbrev HasData : List S.FormatItem → Type 0
+HasData [] = ⊥
+HasData (S.DataFormat f ∷ xs) = ⊤
+HasData (S.ControlFormat c ∷ xs) = HasData xs
+
+has_left : (xs ys : List S.FormatItem) → HasData xs → HasData (xs ++ ys)
+has_left [] ys h = absurd h
+has_left (S.DataFormat f ∷ xs) ys h = tt
+has_left (S.ControlFormat c ∷ xs) ys h = has_left xs ys h
+
+has_right : (xs ys : List S.FormatItem) → HasData ys → HasData (xs ++ ys)
+has_right [] ys h = h
+has_right (S.DataFormat f ∷ xs) ys h = tt
+has_right (S.ControlFormat c ∷ xs) ys h = has_right xs ys h
+
+one_has : (n : ℕ) (xs ys : List S.FormatItem) (t u : Bool) → IsTimes n → (t ≡ true → HasData xs)
+    → (u ≡ true → HasData ys) → (t || u) ≡ true → HasData (S.repeated n xs ++ ys)
+one_has zero xs ys t u i a b e = absurd (omega (arith, i.0))
+one_has (suc n) xs ys true u i a b e =
+    has_left (xs ++ S.repeated n xs) ys (has_left xs (S.repeated n xs) (a refl))
+one_has (suc n) xs ys false u i a b e = has_right (xs ++ S.repeated n xs) ys (b e)
+
+mutual
+  unfolding formats_move_data format_moves_data
+
+  formats_have : (d : Direction) (fs : F.Formats) → AreFormats d fs → formats_move_data fs ≡ true
+      → HasData (S.format_items fs)
+  formats_have d F.NoFormat h e = absurd (cc e)
+  formats_have d (F.FormatThen place repetition first rest) h e =
+      one_has repetition (S.format_item first) (S.format_items rest) (format_moves_data first)
+      (formats_move_data rest) h.0 (format_has d first h.1.0) (formats_have d rest h.1.1) e
+
+  format_has : (d : Direction) (f : F.Format) → IsFormat d f → format_moves_data f ≡ true → HasData (S.format_item f)
+  format_has d (F.FormatList fs) h e = formats_have d fs h.1 e
+  format_has d (F.FixedFormat width) h e = tt
+  format_has d (F.TextFormat width) h e = tt
+  format_has d (F.SpaceFormat n) h e = absurd (cc e)
+  format_has d (F.SkipFormat n) h e = absurd (cc e)
+  format_has d (F.ColumnFormat n) h e = absurd (cc e)
+
+list_has : (d : Direction) (fs : F.Formats) → IsFormatList d fs → HasData (S.format_items fs)
+list_has d fs h = formats_have d fs h.formats_are h.moves_data
+
+all_go : (xs : List S.FormatItem) → Every (Goes Anything) xs
+all_go [] = tt
+all_go (S.DataFormat f ∷ xs) = (tt, all_go xs)
+all_go (S.ControlFormat c ∷ xs) = (tt, all_go xs)
+
+-- what GET goes by: a number only where it is said that there is one, and each text with a width
+abbrev GetsBy : Bool → S.DataItem → Type 0
+GetsBy has_fixed (S.FixedItem width) = has_fixed ≡ true
+GetsBy has_fixed (S.TextItem None) = ⊥
+GetsBy has_fixed (S.TextItem (Some width)) = ⊤
+
+repeated_go : (Q : S.DataItem → Type 0) (n : ℕ) (xs : List S.FormatItem) → Every (Goes Q) xs
+    → Every (Goes Q) (S.repeated n xs)
+repeated_go Q zero xs h = tt
+repeated_go Q (suc n) xs h = every_both (Goes Q) xs (S.repeated n xs) h (repeated_go Q n xs h)
+
+first_true : (a b : Bool) → a ≡ true → (a || b) ≡ true
+first_true true b e = refl
+first_true false b e = absurd (cc e)
+
+second_true : (a b : Bool) → b ≡ true → (a || b) ≡ true
+second_true true b e = refl
+second_true false b e = e
+
+mutual
+  formats_get : (has_fixed : Bool) (fs : F.Formats) → AreFormats Getting fs
+      → (holds_fixed fs ≡ true → has_fixed ≡ true) → Every (Goes (GetsBy has_fixed)) (S.format_items fs)
+  formats_get t F.NoFormat h e = tt
+  formats_get t (F.FormatThen place repetition first rest) h e =
+      every_both (Goes (GetsBy t)) (S.repeated repetition (S.format_item first)) (S.format_items rest)
+      (repeated_go (GetsBy t) repetition (S.format_item first)
+      (format_gets t first h.1.0 (λ x. e (first_true (format_holds_fixed first) (holds_fixed rest) x))))
+      (formats_get t rest h.1.1 (λ x. e (second_true (format_holds_fixed first) (holds_fixed rest) x)))
+
+  format_gets : (has_fixed : Bool) (f : F.Format) → IsFormat Getting f
+      → (format_holds_fixed f ≡ true → has_fixed ≡ true) → Every (Goes (GetsBy has_fixed)) (S.format_item f)
+  format_gets t (F.FormatList fs) h e = formats_get t fs h.1 e
+  format_gets t (F.FixedFormat width) h e = (e refl, tt)
+  format_gets t (F.TextFormat None) h e = absurd h
+  format_gets t (F.TextFormat (Some width)) h e = (tt, tt)
+  format_gets t (F.SpaceFormat n) h e = (tt, tt)
+  format_gets t (F.SkipFormat n) h e = (tt, tt)
+  format_gets t (F.ColumnFormat n) h e = (tt, tt)
+
+-- ---- the next data item
+
+abbrev Next : (S.DataItem → Type 0) → S.DataItem × List S.FormatItem → Type 0
+Next Q x = Q x.0 × Every (Goes Q) x.1
+
+abbrev Taken : (S.DataItem → Type 0) → Option (S.DataItem × List S.FormatItem) → Type 0
+Taken Q None = ⊤
+Taken Q (Some x) = Next Q x
+
+abbrev Found : (S.DataItem → Type 0) → Option (S.DataItem × List S.FormatItem) → Type 0
+Found Q None = ⊥
+Found Q (Some x) = Next Q x
+
+controls_there : {d : Demand} {few : ℕ} (Q : S.DataItem → Type 0) (carried_out : S.ControlItem → Meaning (Unit {0}))
+    (xs : List S.FormatItem) → ((c : S.ControlItem) → There d 0 1 few Anything (carried_out c)) → Every (Goes Q) xs
+    → There d 0 1 few (Taken Q) (S.controls carried_out xs)
+unfolding S.controls
+controls_there Q carried_out [] a h = give_there None tt
+controls_there Q carried_out (S.DataFormat f ∷ xs) a h = give_there (Some (f, xs)) (h.0, h.1)
+controls_there Q carried_out (S.ControlFormat c ∷ xs) a h = then_there (a c) (controls_there Q carried_out xs a h.1)
+
+controls_find : {d : Demand} {few : ℕ} (Q : S.DataItem → Type 0) (carried_out : S.ControlItem → Meaning (Unit {0}))
+    (xs : List S.FormatItem) → ((c : S.ControlItem) → There d 0 1 few Anything (carried_out c)) → Every (Goes Q) xs
+    → HasData xs → There d 0 1 few (Found Q) (S.controls carried_out xs)
+unfolding S.controls
+controls_find Q carried_out [] a h i = absurd i
+controls_find Q carried_out (S.DataFormat f ∷ xs) a h i = give_there (Some (f, xs)) (h.0, h.1)
+controls_find Q carried_out (S.ControlFormat c ∷ xs) a h i = then_there (a c) (controls_find Q carried_out xs a h.1 i)
+
+taken_there : {d : Demand} {few : ℕ} (Q : S.DataItem → Type 0) (o : Option (S.DataItem × List S.FormatItem))
+    (m : Meaning (S.DataItem × List S.FormatItem)) → Taken Q o → There d 0 1 few (Next Q) m
+    → There d 0 1 few (Next Q) (given o give m)
+unfolding given
+taken_there Q None m h a = a
+taken_there Q (Some x) m h a = give_there x h
+
+surely_there : {d : Demand} {few : ℕ} (Q : S.DataItem → Type 0) (o : Option (S.DataItem × List S.FormatItem))
+    → Found Q o → There d 0 1 few (Next Q) (given o give stuck)
+unfolding given
+surely_there Q None h = absurd h
+surely_there Q (Some x) h = give_there x h
+
+next_item_there : {d : Demand} {few : ℕ} (Q : S.DataItem → Type 0) (carried_out : S.ControlItem → Meaning (Unit {0}))
+    (whole rest : List S.FormatItem) → ((c : S.ControlItem) → There d 0 1 few Anything (carried_out c))
+    → Every (Goes Q) whole → HasData whole → Every (Goes Q) rest
+    → There d 0 1 few (Next Q) (S.next_item carried_out whole rest)
+unfolding S.next_item
+next_item_there Q carried_out whole rest a h i j =
+    bind_there (controls_there Q carried_out rest a j) (λ found k. taken_there Q found _ k
+    (bind_there (controls_find Q carried_out whole a h i) (λ again l. surely_there Q again l)))
+
+-- ---- PUT
+
+control_put_there : {d : Demand} {few : ℕ} (c : S.ControlItem) → There d 0 1 few Anything (S.control_put c)
+unfolding S.control_put
+control_put_there c = act_there (written (S.control_written c)) (λ v. refl)
+
+shown_by_there : (v : V.Computational) (f : S.DataItem) → ThereAround Anything (λ a. S.shown_by a v f)
+unfolding S.shown_by
+shown_by_there v (S.FixedItem width) w =
+    bind_there (or_error_there _ _ w) (λ z k. bind_there (or_error_there _ _ w) (λ field j. act_there _ (λ u. refl)))
+shown_by_there v (S.TextItem None) w = act_there _ (λ u. refl)
+shown_by_there v (S.TextItem (Some width)) w = act_there _ (λ u. refl)
+
+item_put_there : (whole rest : List S.FormatItem) (x : Y.PutItem) (w : Ways) → HasData whole
+    → T.SoundPutItem (here w) x → P.PlainPutItem x
+    → There (demand w) 0 1 w.left Anything (S.item_put (around w) whole rest x)
+unfolding S.item_put
+item_put_there whole rest (Y.PutValue e) w i h p =
+    bind_there (computational_there e w h p) (λ v k. bind_there
+    (next_item_there Anything S.control_put whole rest control_put_there (all_go whole) i (all_go rest))
+    (λ next j. then_there (shown_by_there v next.0 w) (give_there next.1 tt)))
+item_put_there whole rest (Y.PutAggregate r) w i h p = absurd p
+
+items_put_there : (whole rest : List S.FormatItem) (xs : List Y.PutItem) (w : Ways) → HasData whole
+    → Every (T.SoundPutItem (here w)) xs → Every P.PlainPutItem xs
+    → There (demand w) 0 1 w.left Anything (S.items_put (around w) whole rest xs)
+unfolding S.items_put
+items_put_there whole rest [] w i h p = give_there tt tt
+items_put_there whole rest (x ∷ xs) w i h p =
+    bind_there (item_put_there whole rest x w i h.0 p.0) (λ rest' k. items_put_there whole rest' xs w i h.1 p.1)
+
+pairs_put_there : (xs : List Y.PutPair) (w : Ways) → Every (T.SoundPutPair (here w)) xs → Every P.PlainPutPair xs
+    → There (demand w) 0 1 w.left Anything (S.pairs_put (around w) xs)
+unfolding S.pairs_put
+pairs_put_there [] w h p = give_there tt tt
+pairs_put_there (x ∷ xs) w h p =
+    then_there (items_put_there (S.format_items x.formats) (S.format_items x.formats) x.items w
+    (list_has Putting x.formats h.0.0) h.0.1 p.0) (pairs_put_there xs w h.1 p.1)
+
+pub put_there : (skip : Option ℕ) (xs : List Y.PutPair) (w : Ways) → Every (T.SoundPutPair (here w)) xs
+    → Every P.PlainPutPair xs → There (demand w) 0 1 w.left Anything (S.put (around w) skip xs)
+unfolding S.put
+put_there None xs w h p = pairs_put_there xs w h p
+put_there (Some n) xs w h p = then_there (control_put_there (S.SkipItem n)) (pairs_put_there xs w h p)
+
+-- ---- GET
+
+control_got_there : {d : Demand} {few : ℕ} (c : S.ControlItem) → There d 0 1 few Anything (S.control_got c)
+unfolding S.control_got
+control_got_there c =
+    then_there (act_there counted (λ v. refl)) (stored_there (with_input (S.control_read c)) (λ s k. k))
+
+field_taken_there : (width : ℕ) → ThereAround Anything (λ a. S.field_taken a width)
+unfolding S.field_taken
+field_taken_there width w =
+    bind_there looked_there (λ s k. choose_there _ (then_there (act_there counted (λ v. refl)) (then_there
+    (stored_there (with_input (behind_field width)) (λ t j. j)) (give_there _ tt)))
+    (then_there (raised_there C.Endfile _ w) (give_there None tt)))
+
+-- a number is taken only where it is said that there is one
+abbrev FieldFits : Bool → S.Field → Type 0
+FieldFits has_fixed (S.NumberField z) = has_fixed ≡ true
+FieldFits has_fixed (S.TextField t) = ⊤
+
+abbrev FieldFitsIf : Bool → Option S.Field → Type 0
+FieldFitsIf has_fixed None = ⊤
+FieldFitsIf has_fixed (Some f) = FieldFits has_fixed f
+
+number_got_there : (has_fixed : Bool) (t : Option (List ℕ)) (w : Ways) → has_fixed ≡ true
+    → There (demand w) 0 1 w.left (FieldFitsIf has_fixed) (S.number_got (around w) t)
+unfolding S.number_got
+number_got_there g None w e = give_there None tt
+number_got_there g (Some t) w e = bind_there (or_error_there _ _ w) (λ z k. give_there (Some (S.NumberField z)) e)
+
+text_fits : (has_fixed : Bool) (t : Option (List ℕ)) → FieldFitsIf has_fixed (S.text_got t)
+text_fits g None = tt
+text_fits g (Some t) = tt
+
+field_got_there : (has_fixed : Bool) (f : S.DataItem) (w : Ways) → GetsBy has_fixed f
+    → There (demand w) 0 1 w.left (FieldFitsIf has_fixed) (S.field_got (around w) f)
+unfolding S.field_got
+field_got_there g (S.FixedItem width) w e = bind_there (field_taken_there width w) (λ t k. number_got_there g t w e)
+field_got_there g (S.TextItem (Some width)) w e =
+    bind_there (field_taken_there width w) (λ t k. give_there (S.text_got t) (text_fits g t))
+field_got_there g (S.TextItem None) w e = absurd e
+
+number_kept_there : (precision : ℕ) (z : ℤ) → ThereAround Anything (λ a. S.number_kept a precision z)
+unfolding S.number_kept
+number_kept_there precision z w = bind_there (value_of_there _ w) (λ y k. give_there _ tt)
+
+not_both : (t : Bool) → not t ≡ true → t ≡ true → ⊥
+not_both true e f = cc e
+not_both false e f = cc f
+
+field_converted_there : (has_fixed : Bool) (t : Y.LeafType) (f : S.Field) (w : Ways) → is_read has_fixed t ≡ true
+    → FieldFits has_fixed f
+    → There (demand w) 0 1 w.left Anything (S.field_converted (around w) (D.kind_of [] t) f)
+unfolding S.field_converted
+field_converted_there g (Y.FixedLeaf p) (S.NumberField z) w e i = number_kept_there p z w
+field_converted_there g (Y.FixedLeaf p) (S.TextField t) w e i =
+    bind_there (or_error_there _ _ w) (λ z k. number_kept_there p z w)
+field_converted_there g (Y.CharacterLeaf n) (S.NumberField z) w e i = give_there _ tt
+field_converted_there g (Y.CharacterLeaf n) (S.TextField t) w e i = give_there _ tt
+field_converted_there g (Y.VaryingLeaf n) (S.NumberField z) w e i = give_there _ tt
+field_converted_there g (Y.VaryingLeaf n) (S.TextField t) w e i = give_there _ tt
+field_converted_there g Y.BitLeaf (S.NumberField z) w e i = absurd (not_both g e i)
+field_converted_there g Y.BitLeaf (S.TextField t) w e i = bind_there (or_error_there _ _ w) (λ b k. give_there _ tt)
+field_converted_there g Y.PointerLeaf f w e i = absurd (cc e)
+field_converted_there g (Y.OffsetLeaf area) f w e i = absurd (cc e)
+field_converted_there g (Y.AreaLeaf n) f w e i = absurd (cc e)
+
+-- the one leaf of a scalar passes the test that all leaves pass
+one_passes : (test : Y.LeafType → Bool) (n i : ℕ) (ls : List Y.Leaf) (leaf : Y.Leaf) → slice_get ls i ≡ Some leaf
+    → all_pass test (map (leaf_left n) (take 1 (drop i ls))) ≡ true → test leaf.type ≡ true
+one_passes test n i [] leaf e h = absurd (cc e)
+one_passes test n zero (l ∷ ls) leaf e h =
+    let same : l ≡ leaf = cc e in subst (λ x. test x.type ≡ true) same (by_test (test l.type) h)
+  where
+    by_test : (t : Bool) → not (not t || false) ≡ true → t ≡ true
+    by_test true e = refl
+    by_test false e = absurd (cc e)
+one_passes test n (suc i) (l ∷ ls) leaf e h = one_passes test n i ls leaf e h
+
+scalar_read : (has_fixed : Bool) (w : Ways) (r : Y.Reference) (type : Y.LeafType) (s : IsScalar (here w) type r)
+    → T.PassesTest (here w) (is_read has_fixed) r → is_read has_fixed s.leaf.type ≡ true
+scalar_read g w (Y.Referring v locator part subscripts) type s h =
+    let same : h.0.d ≡ s.designates.d = cc (h.0.declared.found, s.designates.declared.found) in
+    one_passes (is_read g) (given_in subscripts) part.first s.designates.d.leaves s.leaf s.one.leaf_is
+    (subst (λ c. all_pass (is_read g) (map (leaf_left (given_in subscripts)) (take c
+    (drop part.first s.designates.d.leaves))) ≡ true) s.one.one
+    (subst (λ d. all_pass (is_read g) (map (leaf_left (given_in subscripts)) (take part.count
+    (drop part.first d.leaves))) ≡ true) same h.1))
+
+scalar_got_there : (has_fixed : Bool) (r : Y.Reference) (f : S.Field) (w : Ways)
+    → T.SoundGetItem (here w) has_fixed (Y.GetScalar r) → P.PlainReference r → FieldFits has_fixed f
+    → There (demand w) 0 1 w.left Anything (S.scalar_got (around w) r f)
+unfolding S.scalar_got
+scalar_got_there g (Y.Referring v locator part subscripts) f w h p i =
+    let s = h.0.1 in
+    found_there _ s.leaf.type _ _
+    (ap (S.type_of_first part) s.designates.declared.found ∙ ap S.type_of_leaf s.one.leaf_is)
+    (bind_there (field_converted_there g s.leaf.type f w
+    (scalar_read g w (Y.Referring v locator part subscripts) h.0.0 s h.1.0) i)
+    (λ y k. bind_there (designated_there (Y.Referring v locator part subscripts) w h.1.1 p)
+    (λ d j. element_stored_there d y)))
+
+-- the rest of a format list, where the input lasted
+abbrev RestIf : Bool → Option (List S.FormatItem) → Type 0
+RestIf has_fixed None = ⊤
+RestIf has_fixed (Some xs) = Every (Goes (GetsBy has_fixed)) xs
+
+scalar_if_got_there : (has_fixed : Bool) (r : Y.Reference) (rest : List S.FormatItem) (f : Option S.Field) (w : Ways)
+    → T.SoundGetItem (here w) has_fixed (Y.GetScalar r) → P.PlainReference r → FieldFitsIf has_fixed f
+    → Every (Goes (GetsBy has_fixed)) rest
+    → There (demand w) 0 1 w.left (RestIf has_fixed) (S.scalar_if_got (around w) r rest f)
+unfolding S.scalar_if_got
+scalar_if_got_there g r rest None w h p i j = give_there None tt
+scalar_if_got_there g r rest (Some f) w h p i j =
+    then_there (scalar_got_there g r f w h p i) (give_there (Some rest) j)
+
+-- a format list by which GET may go
+record GetList (has_fixed : Bool) (whole : List S.FormatItem) : Type 0 where
+  gets : Every (Goes (GetsBy has_fixed)) whole
+  has : HasData whole
+
+item_got_there : (has_fixed : Bool) (whole rest : List S.FormatItem) (x : Y.GetItem) (w : Ways)
+    → GetList has_fixed whole → Every (Goes (GetsBy has_fixed)) rest → T.SoundGetItem (here w) has_fixed x
+    → P.PlainGetItem x → There (demand w) 0 1 w.left (RestIf has_fixed) (S.item_got (around w) whole rest x)
+unfolding S.item_got
+item_got_there g whole rest (Y.GetScalar r) w l j h p =
+    bind_there (next_item_there (GetsBy g) S.control_got whole rest control_got_there l.gets l.has j)
+    (λ next k. bind_there (field_got_there g next.0 w k.0) (λ f i. scalar_if_got_there g r next.1 f w h p i k.1))
+item_got_there g whole rest (Y.GetAggregate r) w l j h p = absurd p
+
+-- further items, where the input lasted
+more_got_there : {d : Demand} {few : ℕ} (has_fixed : Bool) (rest : Option (List S.FormatItem))
+    (next : List S.FormatItem → Meaning Bool) → RestIf has_fixed rest
+    → ((r : List S.FormatItem) → Every (Goes (GetsBy has_fixed)) r → There d 0 1 few Anything (next r))
+    → There d 0 1 few Anything (given rest next (give false))
+unfolding given
+more_got_there g None next h a = give_there false tt
+more_got_there g (Some rest) next h a = a rest h
+
+items_got_there : (has_fixed : Bool) (whole rest : List S.FormatItem) (xs : List Y.GetItem) (w : Ways)
+    → GetList has_fixed whole → Every (Goes (GetsBy has_fixed)) rest → Every (T.SoundGetItem (here w) has_fixed) xs
+    → Every P.PlainGetItem xs → There (demand w) 0 1 w.left Anything (S.items_got (around w) whole rest xs)
+unfolding S.items_got
+items_got_there g whole rest [] w l j h p = give_there true tt
+items_got_there g whole rest (x ∷ xs) w l j h p =
+    bind_there (item_got_there g whole rest x w l j h.0 p.0) (λ rest' k. more_got_there g rest' _ k
+    (λ r i. items_got_there g whole r xs w l i h.1 p.1))
+
+pairs_got_there : (xs : List Y.GetPair) (w : Ways) → Every (T.SoundGetPair (here w)) xs → Every P.PlainGetPair xs
+    → There (demand w) 0 1 w.left Anything (S.pairs_got (around w) xs)
+unfolding S.pairs_got
+pairs_got_there [] w h p = give_there tt tt
+pairs_got_there (x ∷ xs) w h p =
+    let gets = formats_get (holds_fixed x.formats) x.formats h.0.0.formats_are (λ e. e) in
+    bind_there (items_got_there (holds_fixed x.formats) (S.format_items x.formats) (S.format_items x.formats) x.items w
+    (record { gets = gets; has = list_has Getting x.formats h.0.0 }) gets h.0.1 p.0)
+    (λ lasted k. choose_there lasted (pairs_got_there xs w h.1 p.1) (give_there tt tt))
+
+pub get_there : (skip : Option ℕ) (xs : List Y.GetPair) (w : Ways) → Every (T.SoundGetPair (here w)) xs
+    → Every P.PlainGetPair xs → There (demand w) 0 1 w.left Anything (S.get (around w) skip xs)
+unfolding S.get
+get_there None xs w h p = pairs_got_there xs w h p
+get_there (Some n) xs w h p = then_there (control_got_there (S.SkipItem n)) (pairs_got_there xs w h p)

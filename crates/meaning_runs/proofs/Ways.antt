@@ -1,0 +1,263 @@
+-- What stands around a part of a run: a program all of whose procedures and variables are sound and plain, a place in
+-- it, and how blocks are entered.
+use Rattle.std.proofs.Common.{◌∙◌, ◌≡◌, ℕ, zero, suc, ◌+◌, ◌<◌, ◌≤◌, List, [], ◌∷◌, Option, Some, None, Bool, true}
+use Rattle.std.proofs.Common.{false}
+use Rattle.std.proofs.Common.{refl, ap}
+use Rattle.std.proofs.Common.{sym, subst, arith}
+use Rattle.std.specs.Prelude.{◌==◌, cond, ⊤, length, slice_get, is_some}
+use Rattle.pli_typing.specs.TypedTree as Y
+use Rattle.pli_meaning.specs.BasicValues.{Name, NullName, VariableName, BasedName, BasicValue}
+use Rattle.pli_meaning.specs.Contents.{Shape, Generation, Placed, changed_at}
+use Rattle.pli_meaning.specs.StorageState.{State, Binding, Activation, with_area, with_generation, area_changed}
+use Rattle.pli_meaning.specs.StorageState.{living_changed, heap_serial, offsets_of}
+use Rattle.pli_meaning.specs.Control.{Meaning}
+use Rattle.pli_meaning.specs.Raising.{Around, Enter, Entry, unit_entered}
+use Rattle.pli_meaning.specs.DeclaredShapes as D
+use Rattle.pli_meaning.specs.Making as K
+use Rattle.pli_meaning.specs.Placing as A
+use Rattle.pli_meaning.specs.Executing.{is_own_return}
+use Rattle.well_formed_trees.specs.Every.{Every}
+use Rattle.well_formed_trees.specs.Surroundings.{Table, Where, Returning, Returns, NoReturn}
+use Rattle.well_formed_trees.specs.Surroundings as W
+use Rattle.well_formed_trees.specs.Expressions.{SoundNumber}
+use Rattle.meaning_runs.specs.Plain.{Gotos, PlainVariable}
+use Rattle.meaning_runs.proofs.Demands.{Bearing, skeleton, placed, SoundBlock, SoundUnit, HasUnits, Demand, Kept}
+use Rattle.meaning_runs.proofs.Demands.{There}
+use Rattle.meaning_runs.proofs.Demands.{IsThere, Answered}
+use Rattle.meaning_runs.proofs.Steps.{Passes, fewer_left}
+
+-- ---- a whole program
+
+-- what is evaluated for a variable's extents is sound, where it is declared, and plain
+pub record Declares (p : Y.Program) (d : Y.DeclaredVariable) : Type 0 where
+  pub table : Table
+  pub blocks : List W.Around
+  pub sound : Every (λ x. SoundNumber (placed p table blocks NoReturn) x.value) d.evaluations
+  pub plain : PlainVariable d
+
+pub record FineProcedure (p : Y.Program) (g : Gotos) (q : Y.Procedure) : Type 0 where
+  pub block : SoundBlock p g q.block
+  pub own : is_own_return block.head.kind ≡ true
+  pub returning : block.returning ≡ Returns q.result
+
+pub record Whole (p : Y.Program) (g : Gotos) : Type 0 where
+  pub declares : (block : ℕ) → Every (Declares p) (D.variables_of_block p block)
+  pub procedures : Every (FineProcedure p g) p.procedures
+
+-- ---- blocks that are entered
+
+-- a function has a value
+abbrev pub Expected : (is_function : Bool) → Option BasicValue → Type 0
+Expected false v = ⊤
+Expected true v = IsThere v
+
+pub record SoundEntry (p : Y.Program) (g : Gotos) (answers : Option Returning) (e : Entry) : Type 0 where
+  pub block : SoundBlock p g e.block
+  pub passes :
+      Passes (is_own_return block.head.kind) (Expected e.is_function) (Some block.returning) answers
+  pub counts : length e.arguments ≡ length e.parameters
+
+pub unit_entry : (p : Y.Program) (g : Gotos) (answers : Option Returning) (b : Y.Block) (a : Activation) (code : ℕ)
+    → SoundUnit p g b → SoundEntry p g answers (unit_entered b a code)
+unit_entry p g answers b a code u =
+    record {
+      block = u.block;
+      passes =
+          subst (λ own. Passes own (Expected false) (Some u.block.returning) answers) (sym u.own) (λ v h. tt);
+      counts = refl;
+    }
+
+result_expected : (type : Option Y.LeafType) (v : Option BasicValue) → Answered (Returns type) v
+    → Expected (is_some type) v
+result_expected None v h = tt
+result_expected (Some t) v h = h
+
+pub procedure_passes : (p : Y.Program) (g : Gotos) (answers : Option Returning) (q : Y.Procedure)
+    (f : FineProcedure p g q)
+    → Passes (is_own_return f.block.head.kind) (Expected (is_some q.result)) (Some f.block.returning) answers
+procedure_passes p g answers q f =
+    subst (λ own. Passes own (Expected (is_some q.result)) (Some f.block.returning) answers) (sym f.own)
+    (λ v h. result_expected q.result v (subst (λ r. Answered r v) f.returning h))
+
+-- ---- what stands around
+
+pub record Ways : Type 0 where
+  pub program : Y.Program
+  pub goto : Gotos
+  pub bearing : Bearing
+  pub whole : Whole program goto
+  pub table : Table
+  pub blocks : List W.Around
+  pub returning : Returning
+  pub line : ℕ
+  pub enter : Enter
+  pub turns : ℕ
+  pub left : ℕ
+  pub keeps : (outer : Bearing) (e : Entry) → SoundEntry program goto outer.answers e
+      → There (record { program = program; goto = goto; bearing = outer }) 0 1 left (Expected e.is_function) (enter e)
+  pub few : left < turns
+
+abbrev pub demand : Ways → Demand
+demand w = record { program = w.program; goto = w.goto; bearing = w.bearing }
+
+abbrev pub around : Ways → Around
+around w = record { program = w.program; enter = w.enter; turns = w.turns; line = w.line }
+
+abbrev pub here : Ways → Where
+here w = placed w.program w.table w.blocks w.returning
+
+abbrev pub on_line : ℕ → Ways → Ways
+on_line line w =
+    record {
+      program = w.program;
+      goto = w.goto;
+      bearing = w.bearing;
+      whole = w.whole;
+      table = w.table;
+      blocks = w.blocks;
+      returning = w.returning;
+      line = line;
+      enter = w.enter;
+      turns = w.turns;
+      left = w.left;
+      keeps = w.keeps;
+      few = w.few;
+    }
+
+-- at another place of the program
+abbrev pub elsewhere : Table → List W.Around → Ways → Ways
+elsewhere table blocks w =
+    record {
+      program = w.program;
+      goto = w.goto;
+      bearing = w.bearing;
+      whole = w.whole;
+      table = table;
+      blocks = blocks;
+      returning = NoReturn;
+      line = w.line;
+      enter = w.enter;
+      turns = w.turns;
+      left = w.left;
+      keeps = w.keeps;
+      few = w.few;
+    }
+
+-- where fewer acts are left
+abbrev pub smaller : (w : Ways) (c : ℕ) → c ≤ w.left → Ways
+smaller w c r =
+    record {
+      program = w.program;
+      goto = w.goto;
+      bearing = w.bearing;
+      whole = w.whole;
+      table = w.table;
+      blocks = w.blocks;
+      returning = w.returning;
+      line = w.line;
+      enter = w.enter;
+      turns = w.turns;
+      left = c;
+      keeps = λ outer e s. fewer_left c w.left r (w.keeps outer e s);
+      few = omega (arith, r, w.few);
+    }
+
+-- a part is there, whatever stands around it
+abbrev pub ThereAround : {R : Type 0} → (after : R → Type 0) → (Around → Meaning R) → Type 0
+ThereAround after f = (w : Ways) → There (demand w) 0 1 w.left after (f (around w))
+
+-- ---- declarations and procedures that are there
+
+pub every_at : {X : Type 0} (P : X → Type 0) (xs : List X) (n : ℕ) (x : X) → Every P xs → slice_get xs n ≡ Some x → P x
+every_at P [] n x h e = absurd (cc e)
+every_at P (y ∷ ys) zero x h e = let same : y ≡ x = cc e in subst P same h.0
+every_at P (y ∷ ys) (suc n) x h e = every_at P ys n x h.1 e
+
+pub declared_there : (p : Y.Program) (g : Gotos) → Whole p g → (v : Y.Variable) (d : Y.DeclaredVariable)
+    → D.declared_variable p v ≡ Some d → Declares p d
+declared_there p g whole v d e =
+    every_at (Declares p) (D.variables_of_block p v.block) v.index d (whole.declares v.block) e
+
+pub procedures_same : (n : ℕ) (ps : List Y.Procedure) → D.procedure_numbered n ps ≡ W.procedure_numbered n ps
+procedures_same n [] = refl
+procedures_same n (p ∷ ps) =
+    of_block p.block (D.procedure_numbered n ps) (W.procedure_numbered n ps) (procedures_same n ps)
+  where
+    of_block : (b : Y.Block) (x y : Option Y.Procedure) → x ≡ y
+        → cond ((D.head_of b).number == n) (Some p) x ≡ cond ((W.head_of b).number == n) (Some p) y
+    of_block (Y.BlockOf head body) x y e = ap (cond (head.number == n) (Some p)) e
+
+pub procedure_fine : (F : Y.Procedure → Type 0) (n : ℕ) (ps : List Y.Procedure) (q : Y.Procedure) → Every F ps
+    → W.procedure_numbered n ps ≡ Some q → F q
+procedure_fine F n [] q h e = absurd (cc e)
+procedure_fine F n (p ∷ ps) q h e =
+    by_test ((W.head_of p.block).number == n) (W.procedure_numbered n ps) (procedure_fine F n ps q h.1) e
+  where
+    by_test : (t : Bool) (o : Option Y.Procedure) → (o ≡ Some q → F q) → cond t (Some p) o ≡ Some q → F q
+    by_test true o further e = let same : p ≡ q = cc e in subst F same h.0
+    by_test false o further e = further e
+
+-- ---- changes of a state that keep its on-units
+
+either_kept : (d : Demand) (t : Bool) (a b : State) → Kept d a → Kept d b → Kept d (cond t a b)
+either_kept d true a b x y = x
+either_kept d false a b x y = y
+
+pub area_kept : (d : Demand) (serial : ℕ) (change : List Placed → List Placed) (s : State) → Kept d s
+    → Kept d (with_area serial change s)
+area_kept d serial change s h =
+    either_kept d (serial == heap_serial) (record s { heap = change s.heap })
+    (record s { living = living_changed serial (area_changed change) s.living }) h h
+
+pub generation_kept : (d : Demand) (n : Name) (change : Generation → Generation) (s : State) → Kept d s
+    → Kept d (with_generation n change s)
+generation_kept d NullName change s h = h
+generation_kept d (VariableName serial) change s h = h
+generation_kept d (BasedName area offset) change s h = area_kept d area (changed_at offset change) s h
+
+binding_kept : (p : Y.Program) (g : Gotos) (b : Binding) (as' : List Activation) → HasUnits p g as'
+    → HasUnits p g (K.with_binding b as')
+binding_kept p g b [] h = tt
+binding_kept p g b (a ∷ as') h = h
+
+binding_heights : (b : Binding) (as' : List Activation) → skeleton (K.with_binding b as') ≡ skeleton as'
+binding_heights b [] = refl
+binding_heights b (a ∷ as') = refl
+
+pub bound_kept : (d : Demand) (variable : ℕ) (n : Name) (shape : Shape) (s : State)
+    → Kept d s → Kept d (K.bound variable n shape s)
+bound_kept d variable n shape s h =
+    let b : Binding = record { variable = variable; name = n; shape = shape } in
+    (binding_kept d.program d.goto b s.activations h.0, binding_heights b s.activations ∙ h.1)
+
+pub variable_kept : (d : Demand) (variable : ℕ) (g : Generation) (s : State) → Kept d s
+    → Kept d (K.with_variable variable g s)
+variable_kept d variable g s h = bound_kept d variable (VariableName (s.serials + 1)) g.shape (K.with_living g s) h
+
+pub freed_kept : (d : Demand) (v : Y.Variable) (s : State) → Kept d s → Kept d (A.controlled_freed v s)
+freed_kept d v s h = of_stack (offsets_of s.controlled v.block v.index)
+  where
+    of_stack : (os : List ℕ) → Kept d (A.without_newest_of v os s)
+    of_stack [] = h
+    of_stack (o ∷ os) = h
+
+static_kept : (d : Demand) (block variable : ℕ) (v : Y.DeclaredVariable) (class : Y.StorageClass) (s : State)
+    → Kept d s → Kept d (K.static_made block variable v class s)
+static_kept d block variable v Y.AutomaticClass s h = h
+static_kept d block variable v Y.ParameterClass s h = h
+static_kept d block variable v Y.StaticClass s h = h
+static_kept d block variable v Y.BasedClass s h = h
+static_kept d block variable v Y.ControlledClass s h = h
+
+block_kept : (d : Demand) (block variable : ℕ) (vs : List Y.DeclaredVariable) (s : State) → Kept d s
+    → Kept d (K.statics_of_block block variable vs s)
+block_kept d block variable [] s h = h
+block_kept d block variable (v ∷ vs) s h =
+    block_kept d block (variable + 1) vs (K.static_made block variable v v.class s)
+    (static_kept d block variable v v.class s h)
+
+pub statics_kept : (d : Demand) (block : ℕ) (vs : List (List Y.DeclaredVariable)) (s : State) → Kept d s
+    → Kept d (K.statics_from block vs s)
+statics_kept d block [] s h = h
+statics_kept d block (v ∷ vs) s h =
+    statics_kept d (block + 1) vs (K.statics_of_block block 0 v s) (block_kept d block 0 v s h)

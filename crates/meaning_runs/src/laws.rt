@@ -1,0 +1,22 @@
+// Laws of the meaning of programs: each function's contract is one law, and calling it does nothing.
+
+ghost use Rattle.meaning_runs.specs.Present.{NeverStuck, MeaningThere, AcceptedMeaningThere};
+
+use well_formed_trees::laws::accepted_well_formed;
+
+/// A run of a plain well-formed program is never stuck: it ends, pauses, or jumps to a label that no list has.
+pub fn never_stuck()
+    ensures { NeverStuck }
+{}
+
+/// A plain well-formed program, each of whose GOTO stays in its own block, has a meaning at every number of acts.
+pub fn meaning_there()
+    ensures { MeaningThere }
+{}
+
+/// So has each accepted source whose typed tree is plain, with such GOTO alone.
+pub fn accepted_meaning_there()
+    ensures { AcceptedMeaningThere }
+{
+    accepted_well_formed();
+}

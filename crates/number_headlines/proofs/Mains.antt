@@ -1,0 +1,292 @@
+-- The main procedure of a program of the class where it begins: its variables are made, and there is room for more.
+use Rattle.std.proofs.Common.{◌≡◌, ℕ, ◌+◌, ◌≤◌, List, [], ◌∷◌, ◌++◌, Option, None, Some}
+use Rattle.std.proofs.Common.{true, false}
+use Rattle.std.proofs.Common.{length, refl, sym, ap, ◌∙◌, subst, arith}
+use Rattle.std.specs.Prelude.{◌&&◌, ◌==◌, ◌||◌, Bool, nat_le}
+use Rattle.std.proofs.lemmas.Bool.{and_parts, eqb-true, leb-true}
+use Rattle.pli_language.specs.declared.condition.Condition.{Condition}
+use Rattle.pli_typing.specs.TypedTree as Y
+use Rattle.pli_meaning.specs.DeclaredShapes.{declared_variable, head_of, variables_of_block}
+use Rattle.pli_meaning.specs.Executing.{labels_in}
+use Rattle.pli_meaning.specs.Making.{with_binding}
+use Rattle.pli_meaning.specs.StorageState.{Activation, BlockUnit, OnUnit, SystemUnit, force, first_unit, unit_for}
+use Rattle.pli_meaning.specs.StorageState.{Binding}
+use Rattle.pli_coding.specs.Frames.{MemoryParts, fixed_size, parameters_in}
+use Rattle.pli_coding.specs.Images.{linked_code, place_of_head}
+use Rattle.pli_coding.specs.Registers.{held_registers}
+use Rattle.activation_relation.specs.Chains.{HasParent}
+use Rattle.activation_relation.specs.Layers.{Layer, Point}
+use Rattle.activation_relation.specs.ServiceLaws.{IsSystem}
+use Rattle.program_places.specs.Programs.{IsLoadable, IsMain, Run, code_for, environment_for, image_for}
+use Rattle.program_places.specs.Programs.{procedure_for, whole_for}
+use Rattle.program_places.specs.Programs as Placed
+use Rattle.program_places.proofs.Found.{known}
+use Rattle.program_places.proofs.Starts.{main_found}
+use Rattle.program_runs.specs.Calls.{Callee, begun_at, block_at}
+use Rattle.program_runs.specs.Procedures.{HasRoom, layer_for}
+use Rattle.program_runs.specs.Programs.{main_of}
+use Rattle.program_runs.specs.Starts.{image_parts, no_numbers, start_point, surroundings_of}
+use Rattle.program_runs.specs.Statements.{Block, IsBegun}
+use Rattle.program_runs.specs.Variables.{Declared}
+use Rattle.expression_runs.specs.Variables.{IsNumber, Spot, variable_of}
+use Rattle.activation_relation.specs.Points.{Surroundings}
+use Rattle.variable_runs.specs.Lists.{AreAll, all_made, behind_made, layer_behind, newest_all}
+use Rattle.well_formed_trees.specs.WellFormed.{HasMain}
+use Rattle.number_runs.specs.Numbers.{has_none, is_known, is_place, is_plain_if}
+use Rattle.number_runs.specs.Statements.{are_statements, statements_need}
+use Rattle.number_runs.specs.Variables.{HasWords, HaveRoom, IsOwnWord, words_in}
+use Rattle.number_runs.proofs.Takes.{words_none}
+use Rattle.number_runs.proofs.Words.{all_words, own_word, room_fewer}
+use Rattle.number_runs.proofs.Variables.{fixed_is}
+use Rattle.number_headlines.specs.Programs.{are_all_plain, body_of, has_main, has_result, is_body, main_scope}
+use Rattle.number_headlines.specs.Programs.{most_words}
+use Rattle.number_headlines.proofs.Tables.{block_plain, has_table}
+
+-- ---- no unit comes with variables
+
+bound_system :
+    (b : Binding) (as' : List Activation) (c : Condition) → IsSystem (force as' c) →
+    IsSystem (force (with_binding b as') c)
+bound_system b [] c h = h
+bound_system b (a ∷ as') c h = same (unit_for a.units c) h
+  where
+    same :
+        (o : Option OnUnit) → IsSystem (first_unit a o (force as' c)) →
+        IsSystem (first_unit (record a { bindings = b ∷ a.bindings }) o (force as' c))
+    same None h = h
+    same (Some SystemUnit) h = tt
+    same (Some (BlockUnit unit)) h = absurd h
+
+pub made_system :
+    (memory : MemoryParts) (φ : Layer) (xs : List Declared) (p : Point) (c : Condition) →
+    IsSystem (force p.state.activations c) → IsSystem (force (all_made memory φ xs p).state.activations c)
+made_system memory φ [] p c h = h
+made_system memory φ (x ∷ xs) p c h =
+    made_system memory (layer_behind memory (p.state.serials + 1) φ x) xs (behind_made memory φ x p) c
+    (bound_system _ p.state.activations c h)
+
+-- ---- the main procedure
+
+none_of : {A : Type 0} (xs : List A) → has_none xs ≡ true → xs ≡ []
+none_of [] h = refl
+none_of (x ∷ xs) h = absurd (cc h)
+
+abbrev pub result_of : (valued : Bool) → Option Y.LeafType
+result_of false = None
+result_of true = Some (Y.FixedLeaf 31)
+
+pub result_is : (valued : Bool) (t : Option Y.LeafType) → has_result valued t ≡ true → t ≡ result_of valued
+result_is false None h = refl
+result_is false (Some t) h = absurd (cc h)
+result_is true None h = absurd (cc h)
+result_is true (Some t) h = ap (λ u. Some u) (fixed_is t h)
+
+block_is : (b : Y.Block) → b ≡ Y.BlockOf (head_of b) (body_of b)
+block_is (Y.BlockOf head body) = refl
+
+pub procedure_is :
+    (valued : Bool) (p : Y.Procedure) → has_none p.parameters ≡ true → has_result valued p.result ≡ true →
+    p ≡ record { block = Y.BlockOf (head_of p.block) (body_of p.block); parameters = []; result = result_of valued }
+procedure_is valued p h g =
+    let head = head_of p.block in
+    let body = body_of p.block in
+    ap (λ x. record p { block = x }) (block_is p.block)
+    ∙ ap (λ x. record p { block = Y.BlockOf head body; parameters = x }) (none_of p.parameters h)
+    ∙ ap (λ (x : Option Y.LeafType).
+    let q : Y.Procedure = record { block = Y.BlockOf head body; parameters = []; result = x } in q)
+    (result_is valued p.result g)
+
+-- its program, with what the class says of it
+pub record Main (program : Y.Program) : Type 0 where
+  pub head : Y.BlockHead
+  pub body : Y.Stmts
+  pub others : List Y.Procedure
+  pub main : IsMain program (record { head = head; body = body; others = others })
+  pub plain : are_all_plain program.variables ≡ true
+  pub loadable : IsLoadable program
+  pub statements : are_statements (main_scope program head) false (labels_in body ++ []) body ≡ true
+  pub fits : statements_need body ≤ held_registers
+
+-- as it is placed
+abbrev pub placed : {program : Y.Program} → Main program → Placed.Main
+placed m = record { head = m.head; body = m.body; others = m.others }
+
+pub main_is :
+    (program : Y.Program) (ps : List Y.Procedure) → program.procedures ≡ ps →
+    are_all_plain program.variables ≡ true → IsLoadable program → has_main program ps ≡ true → Main program
+main_is program [] e plain load h = absurd (cc h)
+main_is program (p ∷ ps) e plain load h =
+    let head = head_of p.block in
+    let body = body_of p.block in
+    let inner = is_body (main_scope program head) false body in
+    let a = and_parts (has_none p.parameters) (has_result false p.result && inner) h in
+    let b = and_parts (has_result false p.result) inner a.1 in
+    let c = and_parts (are_statements (main_scope program head) false (labels_in body ++ []) body)
+    (nat_le (statements_need body) held_registers) b.1 in
+    record {
+      head = head;
+      body = body;
+      others = ps;
+      main = e ∙ ap (λ x. x ∷ ps) (procedure_is false p a.0 b.0);
+      plain = plain;
+      loadable = load;
+      statements = c.0;
+      fits = leb-true (statements_need body) held_registers c.1;
+    }
+
+-- ---- in a run
+
+abbrev pub run_for : (input : List ℕ) → (acts : ℕ) → Run
+run_for input acts = record { units = []; input = input; acts = acts; serials = most_words }
+
+abbrev pub made_for : Y.Program → Y.BlockHead → Point → Point
+made_for program head = newest_all image_parts (words_in (environment_for program head))
+
+abbrev pub surroundings_for : Y.Program → (input : List ℕ) → (acts : ℕ) → Surroundings
+surroundings_for program input acts = surroundings_of (image_for program (run_for input acts))
+
+abbrev pub start_for : Y.Program → (input : List ℕ) → (acts : ℕ) → Point
+start_for program input acts = start_point (image_for program (run_for input acts))
+
+abbrev pub main_for : {program : Y.Program} → Main program → (input : List ℕ) → (acts : ℕ) → Callee
+main_for {program} m input acts =
+    main_of (whole_for program (placed m) (run_for input acts) (made_for program m.head))
+
+pub level_of : {program : Y.Program} (m : Main program) → m.head.level ≡ 0
+level_of {program} m = (subst HasMain m.main m.loadable.well_formed.main).0
+
+no_words : {program : Y.Program} (m : Main program) → (procedure_for program m.head m.body).words ≡ 0
+no_words {program} m =
+    let plain = block_plain program.variables m.head.number m.plain in
+    words_none (main_scope program m.head) false (environment_for program m.head) m.head.number m.body plain.0
+    m.statements m.fits
+
+parented : (level parent : ℕ) → level ≡ 0 → HasParent level parent []
+parented level parent e = subst (λ n. HasParent n parent []) (sym e) tt
+
+pub main_room :
+    {program : Y.Program} (m : Main program) (input : List ℕ) (acts : ℕ) →
+    HasRoom (surroundings_for program input acts)
+    (start_for program input acts) (procedure_for program m.head m.body)
+    (main_for m input acts).calling
+main_room {program} m input acts =
+    let words = no_words m in
+    let level = level_of m in
+    record {
+      room = omega (arith, words, level);
+      shallow = refl;
+      parent = parented m.head.level 0 level;
+      idle = refl;
+    }
+
+-- what stays free behind the main procedure's variables: the variables of one block more, and its frame
+abbrev pub spare : ℕ
+spare = most_words + 16
+
+abbrev pub main_layer : {program : Y.Program} → Main program → (input : List ℕ) → (acts : ℕ) → Layer
+main_layer {program} m input acts =
+    layer_for (surroundings_for program input acts)
+    (start_for program input acts) no_numbers (procedure_for program m.head m.body)
+    (main_for m input acts).calling
+
+abbrev pub main_begun : {program : Y.Program} → Main program → (input : List ℕ) → (acts : ℕ) → Point
+main_begun {program} m input acts =
+    begun_at (surroundings_for program input acts)
+    (main_for m input acts)
+    (start_for program input acts) no_numbers
+
+pub main_spare :
+    {program : Y.Program} (m : Main program) (input : List ℕ) (acts : ℕ) →
+    HaveRoom (surroundings_for program input acts) (main_begun m input acts)
+    (main_layer m input acts) [] (fixed_size m.head.level 0)
+    (length (variables_of_block program m.head.number) + spare)
+main_spare {program} m input acts =
+    let words = no_words m in
+    let level = level_of m in
+    let few = (block_plain program.variables m.head.number m.plain).1 in
+    let code = m.loadable.fits in
+    record {
+      newest = refl;
+      here = refl;
+      even = omega (arith, words, level);
+      counted = omega (arith, level, few);
+      fits = omega (arith, words, level, few);
+      low = omega (arith, code);
+      limit = omega (arith, few);
+    }
+
+pub main_words :
+    {program : Y.Program} (m : Main program) (input : List ℕ) (acts : ℕ) →
+    HasWords (surroundings_for program input acts)
+    (main_for m input acts)
+    (start_for program input acts) no_numbers
+main_words {program} m input acts =
+    let found = main_found program (placed m) m.main in
+    let kind = (known program m.head m.body None m.loadable.well_formed found).kind in
+    let plain = block_plain program.variables m.head.number m.plain in
+    let table = has_table program m.head.number m.plain in
+    let n = length (variables_of_block program m.head.number) in
+    record {
+      kind = kind;
+      code = refl;
+      block = refl;
+      level = refl;
+      program = refl;
+      parts = refl;
+      bare = ap parameters_in found;
+      made = refl;
+      plain = plain.0;
+      few = plain.1;
+      small = table.small;
+      shape = table.shape;
+      room = room_fewer (surroundings_for program input acts) (main_begun m input acts)
+          (main_layer m input acts) [] (fixed_size m.head.level 0) n (n + spare) (omega arith)
+          (main_spare m input acts);
+    }
+
+pub main_all :
+    {program : Y.Program} (m : Main program) (input : List ℕ) (acts : ℕ) →
+    AreAll (surroundings_for program input acts)
+    (main_for m input acts)
+    (start_for program input acts) no_numbers (words_in (environment_for program m.head))
+main_all {program} m input acts =
+    all_words (surroundings_for program input acts)
+    (main_for m input acts)
+    (start_for program input acts) no_numbers (main_words m input acts)
+
+abbrev pub block_for : {program : Y.Program} → Main program → (input : List ℕ) → (acts : ℕ) → Block
+block_for {program} m input acts =
+    block_at (surroundings_for program input acts) (linked_code (code_for program))
+    (main_for m input acts)
+    (start_for program input acts) no_numbers
+
+pub own_known :
+    {program : Y.Program} (m : Main program) (input : List ℕ) (acts : ℕ) (x : Spot) →
+    is_known (main_scope program m.head) x ≡ true →
+    IsOwnWord (main_for m input acts) x
+own_known {program} m input acts x h =
+    let plain = is_plain_if (declared_variable program (variable_of x)) in
+    let a = and_parts (is_place x (place_of_head m.head) || false) plain h in
+    let b = and_parts (x.block == m.head.number) (x.level == m.head.level)
+    (one (is_place x (place_of_head m.head)) a.0) in
+    record {
+      block = eqb-true x.block m.head.number b.0;
+      level = eqb-true x.level m.head.level b.1;
+      plain = a.1;
+    }
+  where
+    one : (q : Bool) → (q || false) ≡ true → q ≡ true
+    one true e = refl
+    one false e = absurd (cc e)
+
+abbrev pub most_for : Y.Program → ℕ
+most_for program = length (linked_code (code_for program)) + 2
+
+-- each variable that the main procedure may name is a number of its block
+pub main_number :
+    {program : Y.Program} (m : Main program) (input : List ℕ) (acts : ℕ) (x : Spot) →
+    IsOwnWord (main_for m input acts) x → IsBegun (block_for m input acts) → IsNumber (block_for m input acts) x
+main_number {program} m input acts x own b =
+    own_word (surroundings_for program input acts) (linked_code (code_for program)) (main_for m input acts)
+    (start_for program input acts) (start_for program input acts) no_numbers x
+    (record { high = omega arith; inside = omega arith }) (main_words m input acts, main_all m input acts) own b

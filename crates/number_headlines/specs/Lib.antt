@@ -1,0 +1,4 @@
+pub mod Programs
+pub mod Headlines
+pub mod Rows
+pub mod CallRows

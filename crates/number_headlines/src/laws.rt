@@ -1,0 +1,32 @@
+// Laws of the definitions: each function's contract is one law, and calling it does nothing.
+
+ghost use Rattle.number_headlines.specs.CallRows.{CallingKept};
+ghost use Rattle.number_headlines.specs.Headlines.{NumberHeadlinesKept};
+ghost use Rattle.number_headlines.specs.Rows.{TotalKept};
+
+use block_headlines::laws::headlines_kept;
+use code_marks::laws::marked_once;
+use storage_relation::laws::table_differs;
+
+/// Each well-formed program of the class keeps the headline, if its image fits memory.
+pub fn number_headlines_kept()
+    ensures { NumberHeadlinesKept }
+{
+    marked_once();
+    table_differs();
+    headlines_kept();
+}
+
+/// A worked row: a loop with a choice, a program of the class.
+pub fn total_kept()
+    ensures { TotalKept }
+{
+    number_headlines_kept();
+}
+
+/// A worked row with calls: the same loop, in which a procedure and a function of the main procedure are called.
+pub fn calling_kept()
+    ensures { CallingKept }
+{
+    number_headlines_kept();
+}

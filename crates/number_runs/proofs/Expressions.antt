@@ -1,0 +1,140 @@
+-- Numbers and tests of the class: each leaves what it means, by the law of its form.
+use Rattle.std.proofs.Common.{◌≡◌, ℕ, ◌^◌, ◌≤◌, true, sym, subst, arith}
+use Rattle.std.specs.Prelude.{◌&&◌, ◌==◌, max, suc}
+use Rattle.std.proofs.lemmas.Bool.{and_parts, eqb-true, ltb-true}
+use Rattle.pli_typing.specs.TypedTree as Y
+use Rattle.expression_runs.specs.Laws.{Does}
+use Rattle.expression_runs.specs.Values.{Setting}
+use Rattle.expression_runs.proofs.Operands.{constant_does}
+use Rattle.expression_runs.proofs.Sums.{difference_does, sum_does}
+use Rattle.expression_runs.proofs.VariablePoints.{variable_does}
+use Rattle.operator_runs.specs.Extremes.{AllDo}
+use Rattle.operator_runs.proofs.Extremes.{extreme_does}
+use Rattle.operator_runs.proofs.Products.{product_does}
+use Rattle.operator_runs.proofs.Quotients.{divided_does, quotient_does}
+use Rattle.operator_runs.proofs.Remainders.{modulo_does}
+use Rattle.operator_runs.proofs.Signs.{absolute_does, negative_does, positive_does, sign_does}
+use Rattle.test_runs.specs.Tests.{Tests}
+use Rattle.test_runs.proofs.Bits.{and_tests, bits_tests, constant_tests, negated_tests, numbers_tests, or_tests}
+use Rattle.number_runs.specs.Knowledge.{KnowsNumbers}
+use Rattle.number_runs.specs.Numbers.{Scope, are_numbers, is_number, is_test, number_needs, numbers_need}
+use Rattle.number_runs.specs.Numbers.{test_needs}
+use Rattle.number_runs.proofs.Variables.{variable_is}
+
+-- with more registers, too
+more_registers : (k : Setting) (m n : ℕ) (x : Y.Number) → m ≤ n → Does k m x → Does k n x
+more_registers k m n x few does p numbers taken c index f o line room l paid there =
+    let enough = room.0 in
+    does p numbers taken c index f o line (omega (arith, enough, few), room.1) l paid there
+
+all_with_more : (k : Setting) (m n : ℕ) (xs : Y.Numbers) → m ≤ n → AllDo k m xs → AllDo k n xs
+all_with_more k m n Y.NoNumber few does = tt
+all_with_more k m n (Y.NumberThen first rest) few does =
+    (more_registers k m n first few does.0, all_with_more k m n rest few does.1)
+
+signed_does :
+    (s : Scope) (k : Setting) (sign : Y.Sign) (x : Y.Number) (n : ℕ) → KnowsNumbers s k → Does k n x →
+    Does k (max n 1) (Y.Signed sign x)
+signed_does s k Y.Positive x n h does =
+    more_registers k n (max n 1) (Y.Signed Y.Positive x) (omega arith) (positive_does k x n does)
+signed_does s k Y.Negative x n h does = negative_does k x n h.overflow does
+
+calculated_does :
+    (s : Scope) (k : Setting) (operator : Y.ArithmeticOperator) (left right : Y.Number) (m n : ℕ) →
+    KnowsNumbers s k → Does k m left → Does k n right → Does k (max m (suc n)) (Y.Calculated operator left right)
+calculated_does s k Y.Sum left right m n h l r = sum_does k left right m n h.overflow l r
+calculated_does s k Y.Difference left right m n h l r = difference_does k left right m n h.overflow l r
+calculated_does s k Y.Product left right m n h l r = product_does k left right m n h.overflow l r
+calculated_does s k Y.Quotient left right m n h l r = quotient_does k left right m n h.overflow h.divisor l r
+
+called_does :
+    (s : Scope) (k : Setting) (c : Y.Call) → KnowsNumbers s k → is_number s (Y.NumberFrom c) ≡ true →
+    Does k 0 (Y.NumberFrom c)
+called_does s k (Y.Calling number level Y.NoArgument) h is =
+    let a = and_parts (level == s.level) (s.is_function number) is in
+    subst (λ n. Does k 0 (Y.NumberFrom (Y.Calling number n Y.NoArgument))) (sym (eqb-true level s.level a.0))
+    (h.functions number a.1)
+called_does s k (Y.Calling number level (Y.ArgumentThen first rest)) h is = absurd (cc is)
+
+mutual
+  pub number_does :
+      (s : Scope) (k : Setting) (x : Y.Number) → KnowsNumbers s k → is_number s x ≡ true → Does k (number_needs x) x
+  number_does s k (Y.NumberConstant n) h is = constant_does k n (ltb-true n (2 ^ 31) is)
+  number_does s k (Y.NumberIn r) h is =
+      let v = variable_is s r is in
+      subst (λ r'. Does k 0 (Y.NumberIn r')) (sym v.is) (variable_does k v.spot h.begun (h.variables v.spot v.known))
+  number_does s k (Y.NumberFrom c) h is = called_does s k c h is
+  number_does s k (Y.Signed sign x) h is =
+      signed_does s k sign x (number_needs x) h (number_does s k x h is)
+  number_does s k (Y.Calculated operator left right) h is =
+      let a = and_parts (is_number s left) (is_number s right) is in
+      calculated_does s k operator left right (number_needs left) (number_needs right) h (number_does s k left h a.0)
+      (number_does s k right h a.1)
+  number_does s k (Y.Absolute x) h is = absolute_does k x (number_needs x) h.overflow (number_does s k x h is)
+  number_does s k (Y.SignOf x) h is = sign_does k x (number_needs x) (number_does s k x h is)
+  number_does s k (Y.Extreme extremum first more) h is =
+      let a = and_parts (is_number s first) (are_numbers s more) is in
+      extreme_does k extremum first more (number_needs first) (numbers_need more) (number_does s k first h a.0)
+      (numbers_do s k more h a.1)
+  number_does s k (Y.Modulo left right) h is =
+      let a = and_parts (is_number s left) (is_number s right) is in
+      modulo_does k left right (number_needs left) (number_needs right) h.divisor (number_does s k left h a.0)
+      (number_does s k right h a.1)
+  number_does s k (Y.Divided precision left right) h is =
+      let a = and_parts (precision == 31) (is_number s left && is_number s right) is in
+      let b = and_parts (is_number s left) (is_number s right) a.1 in
+      subst (λ n. Does k (max (number_needs left) (suc (number_needs right))) (Y.Divided n left right))
+      (sym (eqb-true precision 31 a.0))
+      (divided_does k left right (number_needs left) (number_needs right) h.overflow h.divisor
+      (number_does s k left h b.0) (number_does s k right h b.1))
+  number_does s k (Y.NumberOfText x) h is = absurd (cc is)
+  number_does s k (Y.NumberOfBit x) h is = absurd (cc is)
+  number_does s k (Y.LengthOf x) h is = absurd (cc is)
+  number_does s k (Y.IndexOf x y) h is = absurd (cc is)
+  number_does s k (Y.VerifyOf x y) h is = absurd (cc is)
+  number_does s k (Y.LowerBound r n) h is = absurd (cc is)
+  number_does s k (Y.UpperBound r n) h is = absurd (cc is)
+  number_does s k (Y.ElementsOf r n) h is = absurd (cc is)
+  number_does s k (Y.AllocationsOf v) h is = absurd (cc is)
+  number_does s k Y.OnCode h is = absurd (cc is)
+
+  numbers_do :
+      (s : Scope) (k : Setting) (xs : Y.Numbers) → KnowsNumbers s k → are_numbers s xs ≡ true →
+      AllDo k (numbers_need xs) xs
+  numbers_do s k Y.NoNumber h is = tt
+  numbers_do s k (Y.NumberThen first rest) h is =
+      let a = and_parts (is_number s first) (are_numbers s rest) is in
+      let m = number_needs first in
+      let n = numbers_need rest in (
+        more_registers k m (max m n) first (omega arith) (number_does s k first h a.0),
+        all_with_more k n (max m n) rest (omega arith) (numbers_do s k rest h a.1),
+      )
+
+combined_tests :
+    (k : Setting) (operator : Y.BitOperator) (left right : Y.Bit) (m n : ℕ) → Tests k m left → Tests k n right →
+    Tests k (max m (suc n)) (Y.Combined operator left right)
+combined_tests k Y.Conjunction left right m n l r = and_tests k left right m n l r
+combined_tests k Y.Disjunction left right m n l r = or_tests k left right m n l r
+
+pub test_does :
+    (s : Scope) (k : Setting) (x : Y.Bit) → KnowsNumbers s k → is_test s x ≡ true → Tests k (test_needs x) x
+test_does s k (Y.BitConstant b) h is = constant_tests k b
+test_does s k (Y.Negated x) h is = negated_tests k x (test_needs x) (test_does s k x h is)
+test_does s k (Y.Combined operator left right) h is =
+    let a = and_parts (is_test s left) (is_test s right) is in
+    combined_tests k operator left right (test_needs left) (test_needs right) (test_does s k left h a.0)
+    (test_does s k right h a.1)
+test_does s k (Y.NumbersCompared comparison left right) h is =
+    let a = and_parts (is_number s left) (is_number s right) is in
+    numbers_tests k comparison left right (number_needs left) (number_needs right) (number_does s k left h a.0)
+    (number_does s k right h a.1)
+test_does s k (Y.BitsCompared comparison left right) h is =
+    let a = and_parts (is_test s left) (is_test s right) is in
+    bits_tests k comparison left right (test_needs left) (test_needs right) (test_does s k left h a.0)
+    (test_does s k right h a.1)
+test_does s k (Y.BitIn r) h is = absurd (cc is)
+test_does s k (Y.BitFrom c) h is = absurd (cc is)
+test_does s k (Y.BitOfText x) h is = absurd (cc is)
+test_does s k (Y.TextsCompared comparison left right) h is = absurd (cc is)
+test_does s k (Y.PointersCompared equal left right) h is = absurd (cc is)
+test_does s k (Y.OffsetsCompared equal left right) h is = absurd (cc is)

@@ -1,0 +1,27 @@
+-- Labels of a block's lists: those of a list and of the lists around it stand in the code.
+use Rattle.std.proofs.Common.{◌≡◌, ◌⊎◌, ℕ, List, ◌++◌, true, inl, inr, sym, ◌∙◌}
+use Rattle.std.proofs.lemmas.Bool.{or_cases}
+use Rattle.std.proofs.lemmas.List.Folds.{list_any-append}
+use Rattle.pli_language.specs.Keywords.{same_bytes}
+use Rattle.pli_typing.specs.TypedTree as Y
+use Rattle.pli_meaning.specs.Control.{Label, is_among}
+use Rattle.pli_meaning.specs.Executing.{labels_in}
+use Rattle.pli_coding.specs.Environments.{none_taken}
+use Rattle.program_places.specs.Laws.{IsLabel}
+use Rattle.program_places.proofs.Labels.{label_of}
+use Rattle.program_runs.specs.Statements.{Block}
+use Rattle.number_runs.specs.Knowledge.{ArePlaced, AreStanding}
+
+pub placed_with :
+    (k : Block) (body : Y.Stmts) (index : ℕ) (labels : List Label) → AreStanding k body index →
+    ArePlaced k.call.surroundings.links k.environment.block labels →
+    ArePlaced k.call.surroundings.links k.environment.block (labels_in body ++ labels)
+placed_with k body index labels at placed label among =
+    by (or_cases (is_among label (labels_in body)) (is_among label labels)
+    (sym (list_any-append (same_bytes label) (labels_in body) labels) ∙ among))
+  where
+    by :
+        (is_among label (labels_in body) ≡ true) ⊎ (is_among label labels ≡ true) →
+        IsLabel k.call.surroundings.links k.environment.block label
+    by (inl h) = label_of k.call.surroundings.links k.call.code index k.environment none_taken body at label h
+    by (inr h) = placed label h

@@ -1,0 +1,6 @@
+pub mod Variables
+pub mod Words
+pub mod Takes
+pub mod Expressions
+pub mod Labels
+pub mod Statements

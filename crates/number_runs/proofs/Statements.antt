@@ -1,0 +1,429 @@
+-- Statements of the class: each does what it means, by the law of its form.
+use Rattle.std.proofs.Common.{◌≡◌, ℕ, ◌+◌, ◌^◌, ◌≤◌, List, [], ◌∷◌, ◌++◌, true, false, refl, sym, ap}
+use Rattle.std.proofs.Common.{◌∙◌, subst, arith}
+use Rattle.std.specs.Prelude.{◌&&◌, ◌==◌, Bool, not}
+use Rattle.std.proofs.lemmas.Bool.{and_parts, eqb-true, ltb-true}
+use Rattle.pli_typing.specs.TypedTree as Y
+use Rattle.pli_meaning.specs.Control.{Label, is_among}
+use Rattle.pli_meaning.specs.Executing.{labels_in}
+use Rattle.pli_coding.specs.Allocating.{act_code}
+use Rattle.pli_coding.specs.Assembly.{JumpAhead, JumpBack, size_of}
+use Rattle.pli_coding.specs.Environments.{none_taken}
+use Rattle.pli_coding.specs.Expressions.{bit_code}
+use Rattle.pli_coding.specs.Statements.{if_met, marked, one_of, stmt_code, stmts_code, while_met}
+use Rattle.run_steps.specs.Items.{Linked}
+use Rattle.run_steps.specs.Reach.{cost}
+use Rattle.run_steps.proofs.Linking.{size_append}
+use Rattle.program_places.specs.Placed.{Placed}
+use Rattle.program_places.proofs.Labels.{are_marked}
+use Rattle.program_places.proofs.Marks.{placed_back, placed_front}
+use Rattle.program_runs.specs.Statements.{AreMarked, Block, Does, EachDoes, HasAct, size_in}
+use Rattle.program_runs.proofs.Gotos.{goto_does}
+use Rattle.program_runs.proofs.Statements.{null_does, return_does, stop_does}
+use Rattle.expression_runs.specs.Assignments.{assignment, setting_of}
+use Rattle.expression_runs.specs.Variables.{whole}
+use Rattle.expression_runs.proofs.Assignments.{assign_does}
+use Rattle.expression_runs.proofs.Raises.{overflow_ends}
+use Rattle.operator_runs.proofs.Divisors.{zero_divide_ends}
+use Rattle.group_runs.specs.Groups.{list_index}
+use Rattle.group_runs.proofs.Groups.{group_does}
+use Rattle.function_runs.specs.Returns.{return_of}
+use Rattle.function_runs.proofs.ReturnValues as W
+use Rattle.test_runs.specs.Choices.{HasTest, behind_act, behind_choice, behind_test, body_index}
+use Rattle.test_runs.proofs.Chosen.{met_size, past}
+use Rattle.test_runs.proofs.Ifs.{met_does, one_of_does}
+use Rattle.test_runs.proofs.Loops.{loop_does}
+use Rattle.number_runs.specs.Knowledge.{ArePlaced, AreStanding, IsReady, KnowsNumbers, Standing}
+use Rattle.number_runs.specs.Numbers.{Scope, is_fixed, is_number, is_test, is_variable, number_needs}
+use Rattle.number_runs.specs.Numbers.{test_needs}
+use Rattle.number_runs.specs.Statements.{are_statements, is_line, is_statement, is_stored, statement_needs}
+use Rattle.number_runs.specs.Statements.{statements_need, stored_needs}
+use Rattle.number_runs.proofs.Expressions.{number_does, test_does}
+use Rattle.number_runs.proofs.Labels.{placed_with}
+use Rattle.number_runs.proofs.Variables.{fixed_is, variable_is}
+
+-- a block, with all that is known around its statements
+pub record Home : Type 0 where
+  pub scope : Scope
+  pub valued : Bool
+  pub block : Block
+  pub most : ℕ
+  pub left' : ℕ
+  pub ready : IsReady scope valued block most left'
+
+-- ---- what the laws of single forms ask for
+
+act_of : (h : Home) (line : ℕ) → is_line line ≡ true → HasAct h.block line
+act_of h line is = record { line_fits = ltb-true line (2 ^ 31) is; acts = h.ready.acts }
+
+paid_for :
+    (h : Home) (stmt : Y.Stmt) (index : ℕ) →
+    Linked h.block.call.surroundings.links h.block.call.code index (stmt_code h.block.environment none_taken stmt) →
+    size_in h.block stmt + h.most ≤ cost h.block.call.code
+paid_for h stmt index l = let inside = l.inside in let room = h.ready.room in omega (arith, inside, room)
+
+knows : (h : Home) (labels : List Label) (line : ℕ) → KnowsNumbers h.scope (setting_of h.block labels line h.most)
+knows h labels line =
+    let r = h.ready in
+    let k = setting_of h.block labels line h.most in
+    record {
+      begun = r.begun;
+      overflow = overflow_ends k (record {
+        routines = r.unraised.routines;
+        overflow = r.unraised.overflow;
+        error = r.unraised.error;
+        acts = r.acts;
+        most = r.few;
+      });
+      divisor = zero_divide_ends k (record {
+        routines = r.unraised.routines;
+        divisor = r.unraised.divisor;
+        error = r.unraised.error;
+        acts = r.acts;
+        most = r.few;
+      });
+      variables = r.variables;
+      functions = λ n is. r.calls.functions labels line n is;
+    }
+
+has_test :
+    (h : Home) (stmt : Y.Stmt) (condition : Y.Bit) (line index : ℕ) → is_line line ≡ true →
+    test_needs condition ≤ h.block.registers →
+    Linked h.block.call.surroundings.links h.block.call.code index (stmt_code h.block.environment none_taken stmt) →
+    HasTest h.block stmt line index (test_needs condition) h.most
+has_test h stmt condition line index is fits l =
+    record {
+      act = act_of h line is;
+      registers = fits;
+      held = h.ready.held;
+      statement = l;
+      paid = paid_for h stmt index l;
+    }
+
+-- ---- numbers that are stored
+
+record Storing (s : Scope) (x : Y.Stored) : Type 0 where
+  number : Y.Number
+  is : x ≡ Y.StoredNumber 31 number
+  known : is_number s number ≡ true
+  needs : stored_needs x ≡ number_needs number
+
+storing : (s : Scope) (x : Y.Stored) → is_stored s x ≡ true → Storing s x
+storing s (Y.StoredNumber precision x) h =
+    let a = and_parts (precision == 31) (is_number s x) h in
+    record { number = x; is = ap (λ n. Y.StoredNumber n x) (eqb-true precision 31 a.0); known = a.1; needs = refl }
+storing s (Y.StoredText x) h = absurd (cc h)
+storing s (Y.StoredBit x) h = absurd (cc h)
+storing s (Y.StoredPointer x) h = absurd (cc h)
+storing s (Y.StoredOffset x) h = absurd (cc h)
+
+abbrev Coded : Home → List Label → Y.Stmt → (index : ℕ) → Type 0
+Coded h labels stmt index =
+    Linked h.block.call.surroundings.links h.block.call.code index (stmt_code h.block.environment none_taken stmt) →
+    Does h.block labels stmt index h.left'
+
+assigned_does :
+    (h : Home) (labels : List Label) (target : Y.Reference) (source : Y.Stored) (line index : ℕ) →
+    is_line line ≡ true → is_variable h.scope target ≡ true → is_stored h.scope source ≡ true →
+    stored_needs source ≤ h.block.registers → Coded h labels (Y.Assign target source line) index
+assigned_does h labels target source line index is one two fits =
+    let v = variable_is h.scope target one in
+    let x = storing h.scope source two in
+    let need = number_needs x.number in
+    let needs = x.needs in
+    let stmt = assignment v.spot x.number line in
+    subst (λ t. Coded h labels (Y.Assign t source line) index) (sym v.is)
+    (subst (λ q. Coded h labels (Y.Assign (whole v.spot) q line) index) (sym x.is)
+    (λ l. assign_does h.block labels v.spot x.number line index h.left' need h.most
+    (record {
+      act = act_of h line is;
+      begun = h.ready.begun;
+      number = h.ready.variables v.spot v.known;
+      registers = omega (arith, fits, needs);
+      held = h.ready.held;
+      statement = l;
+      paid = paid_for h stmt index l;
+    })
+    (number_does h.scope (setting_of h.block labels line h.most) x.number (knows h labels line) x.known)))
+
+returned_does :
+    (h : Home) (labels : List Label) (type : Y.LeafType) (source : Y.Stored) (line index : ℕ) →
+    is_line line ≡ true → h.valued ≡ true → is_fixed type ≡ true → is_stored h.scope source ≡ true →
+    stored_needs source ≤ h.block.registers → Coded h labels (Y.ReturnValue type source line) index
+returned_does h labels type source line index is valued one two fits =
+    let x = storing h.scope source two in
+    let need = number_needs x.number in
+    let needs = x.needs in
+    let stmt = return_of x.number line in
+    let v = h.ready.values valued in
+    subst (λ t. Coded h labels (Y.ReturnValue t source line) index) (sym (fixed_is type one))
+    (subst (λ q. Coded h labels (Y.ReturnValue (Y.FixedLeaf 31) q line) index) (sym x.is)
+    (λ l. W.return_does h.block labels x.number line index h.left' need h.most
+    (record {
+      act = act_of h line is;
+      begun = h.ready.begun;
+      owner = v.owner;
+      end = v.end;
+      near = v.near;
+      enough = v.enough;
+      function = v.function;
+      registers = omega (arith, fits, needs);
+      held = h.ready.held;
+      kind = v.kind;
+      saved = v.saved;
+      statement = l;
+      paid = paid_for h stmt index l;
+    })
+    (number_does h.scope (setting_of h.block labels line h.most) x.number (knows h labels line) x.known)))
+
+-- ---- jumps and calls
+
+jumps_does :
+    (h : Home) (labels : List Label) (level : ℕ) (label : Label) (line index : ℕ) →
+    ArePlaced h.block.call.surroundings.links h.block.environment.block labels → is_line line ≡ true →
+    (level == h.scope.level) ≡ true → is_among label labels ≡ true → Coded h labels (Y.Goto level label line) index
+jumps_does h labels level label line index placed is same among =
+    let r = h.ready in
+    let at = placed label among in
+    subst (λ n. Coded h labels (Y.Goto n label line) index) (r.level ∙ sym (eqb-true level h.scope.level same))
+    (λ l. goto_does h.block labels label line index h.left' (act_of h line is)
+    (record {
+      begun = r.begun;
+      carried = among;
+      level = r.own;
+      block = r.block;
+      at = at.at;
+      place = at.place;
+      near = at.near;
+    })
+    l)
+
+calls_does :
+    (h : Home) (labels : List Label) (number level line index : ℕ) → is_line line ≡ true →
+    (level == h.scope.level) ≡ true → h.scope.is_procedure number ≡ true →
+    Coded h labels (Y.CallProcedure (Y.Calling number level Y.NoArgument) line) index
+calls_does h labels number level line index is same known =
+    subst (λ n. Coded h labels (Y.CallProcedure (Y.Calling number n Y.NoArgument) line) index)
+    (sym (eqb-true level h.scope.level same))
+    (λ l. h.ready.calls.procedures labels number line index known (ltb-true line (2 ^ 31) is) l)
+
+not_true : (q : Bool) → not q ≡ true → q ≡ false
+not_true true h = absurd (cc h)
+not_true false h = refl
+
+-- ---- parts of choices and loops
+
+unit_stands :
+    (h : Home) (condition : Y.Bit) (unit : Y.Stmt) (line index : ℕ) →
+    Standing h.block (Y.If condition unit line) index →
+    Standing h.block unit (behind_test h.block condition (behind_act line index))
+unit_stands h condition unit line index at =
+    let one = act_code line in
+    let test = bit_code h.block.environment none_taken condition in
+    let part = stmt_code h.block.environment none_taken unit in
+    placed_back (past part) part (placed_back test (if_met part) (placed_back one (test ++ if_met part) at))
+
+first_stands :
+    (h : Home) (condition : Y.Bit) (unit otherwise : Y.Stmt) (line index : ℕ) →
+    Standing h.block (Y.IfElse condition unit otherwise line) index →
+    Standing h.block unit (behind_test h.block condition (behind_act line index))
+first_stands h condition unit otherwise line index at =
+    let one = act_code line in
+    let test = bit_code h.block.environment none_taken condition in
+    let first = stmt_code h.block.environment none_taken unit in
+    let second = stmt_code h.block.environment none_taken otherwise in
+    let jump = JumpAhead (size_of second) ∷ [] in
+    let part = first ++ jump in
+    let both = one_of first second in
+    placed_front first jump
+    (placed_back (past part) part
+    (placed_front (if_met part) second (placed_back test both (placed_back one (test ++ both) at))))
+
+second_stands :
+    (h : Home) (condition : Y.Bit) (unit otherwise : Y.Stmt) (line index : ℕ) →
+    Standing h.block (Y.IfElse condition unit otherwise line) index →
+    Standing h.block otherwise (behind_choice h.block unit (behind_test h.block condition (behind_act line index)))
+second_stands h condition unit otherwise line index at =
+    let one = act_code line in
+    let test = bit_code h.block.environment none_taken condition in
+    let first = stmt_code h.block.environment none_taken unit in
+    let second = stmt_code h.block.environment none_taken otherwise in
+    let jump = JumpAhead (size_of second) ∷ [] in
+    let part = first ++ jump in
+    let both = one_of first second in
+    let n0 = met_size part in
+    let n1 = size_append first jump in
+    subst (λ i. Placed h.block.call.surroundings.links h.block.call.code i second) (omega (arith, n0, n1))
+    (placed_back (if_met part) second (placed_back test both (placed_back one (test ++ both) at)))
+
+group_stands :
+    (h : Home) (body : Y.Stmts) (line index : ℕ) → Standing h.block (Y.Do body line) index →
+    AreStanding h.block body (list_index line index)
+group_stands h body line index at = placed_back (act_code line) (stmts_code h.block.environment none_taken body) at
+
+turns_stand :
+    (h : Home) (condition : Y.Bit) (body : Y.Stmts) (line index : ℕ) →
+    Standing h.block (Y.DoWhile condition body line) index →
+    AreStanding h.block body (body_index h.block condition line index)
+turns_stand h condition body line index at =
+    let one = act_code line in
+    let bit = bit_code h.block.environment none_taken condition in
+    let test = one ++ bit in
+    let all = stmts_code h.block.environment none_taken body in
+    let jump = JumpBack (size_of test + (3 + size_of all)) ∷ [] in
+    let part = all ++ jump in
+    let n0 = size_append one bit in
+    subst (λ i. Placed h.block.call.surroundings.links h.block.call.code i all) (omega (arith, n0))
+    (placed_front all jump
+    (placed_back (past part) part (placed_back test (if_met part) (placed_back one (while_met test all) at))))
+
+marked_in :
+    (h : Home) (body : Y.Stmts) (index : ℕ) → AreStanding h.block body index →
+    AreMarked h.block.call.surroundings.links h.block.environment body index
+marked_in h body index at =
+    are_marked h.block.call.surroundings.links h.block.call.code index h.block.environment body at
+
+abbrev PlacedIn : Home → List Label → Type 0
+PlacedIn h labels = ArePlaced h.block.call.surroundings.links h.block.environment.block labels
+
+-- ---- all forms
+
+mutual
+  pub statement_does :
+      (h : Home) (labels : List Label) (stmt : Y.Stmt) (index : ℕ) → PlacedIn h labels →
+      is_statement h.scope h.valued labels stmt ≡ true → statement_needs stmt ≤ h.block.registers →
+      Standing h.block stmt index → Does h.block labels stmt index h.left'
+  statement_does h labels (Y.Null line) index placed is fits at =
+      null_does h.block line index h.left' (act_of h line is) at.linked labels
+  statement_does h labels (Y.Assign target source line) index placed is fits at =
+      let a = and_parts (is_line line) (is_variable h.scope target && is_stored h.scope source) is in
+      let b = and_parts (is_variable h.scope target) (is_stored h.scope source) a.1 in
+      assigned_does h labels target source line index a.0 b.0 b.1 fits at.linked
+  statement_does h labels (Y.If condition unit line) index placed is fits at =
+      let inner = is_statement h.scope h.valued labels unit in
+      let a = and_parts (is_line line) (is_test h.scope condition && inner) is in
+      let b = and_parts (is_test h.scope condition) inner a.1 in
+      met_does h.block labels condition unit line index h.left' (test_needs condition) h.most
+      (has_test h (Y.If condition unit line) condition line index a.0 (omega (arith, fits)) at.linked)
+      (test_does h.scope (setting_of h.block labels line h.most) condition (knows h labels line) b.0)
+      (statement_does h labels unit (behind_test h.block condition (behind_act line index)) placed b.1
+      (omega (arith, fits)) (unit_stands h condition unit line index at))
+  statement_does h labels (Y.IfElse condition unit otherwise line) index placed is fits at =
+      let first = is_statement h.scope h.valued labels unit in
+      let second = is_statement h.scope h.valued labels otherwise in
+      let a = and_parts (is_line line) (is_test h.scope condition && (first && second)) is in
+      let b = and_parts (is_test h.scope condition) (first && second) a.1 in
+      let c = and_parts first second b.1 in
+      let chosen = behind_test h.block condition (behind_act line index) in
+      one_of_does h.block labels condition unit otherwise line index h.left' (test_needs condition) h.most
+      (has_test h (Y.IfElse condition unit otherwise line) condition line index a.0 (omega (arith, fits)) at.linked)
+      (test_does h.scope (setting_of h.block labels line h.most) condition (knows h labels line) b.0)
+      (statement_does h labels unit chosen placed c.0 (omega (arith, fits))
+      (first_stands h condition unit otherwise line index at))
+      (statement_does h labels otherwise (behind_choice h.block unit chosen) placed c.1 (omega (arith, fits))
+      (second_stands h condition unit otherwise line index at))
+  statement_does h labels (Y.Do body line) index placed is fits at =
+      let inner = are_statements h.scope h.valued (labels_in body ++ labels) body in
+      let a = and_parts (is_line line) inner is in
+      let in' = group_stands h body line index at in
+      let turns = h.ready.turns in
+      group_does h.block labels body line index h.left'
+      (record {
+        act = act_of h line a.0;
+        begun = h.ready.begun;
+        statement = at.linked;
+        marks = marked_in h body (list_index line index) in';
+        turns = omega (arith, turns);
+      })
+      (statements_do h (labels_in body ++ labels) body (list_index line index)
+      (placed_with h.block body (list_index line index) labels in' placed) a.1 fits in')
+  statement_does h labels (Y.DoWhile condition body line) index placed is fits at =
+      let inner = are_statements h.scope h.valued (labels_in body ++ labels) body in
+      let a = and_parts (is_line line) (is_test h.scope condition && inner) is in
+      let b = and_parts (is_test h.scope condition) inner a.1 in
+      let i = body_index h.block condition line index in
+      let in' = turns_stand h condition body line index at in
+      loop_does h.block labels condition body line index h.left' (test_needs condition) h.most
+      (has_test h (Y.DoWhile condition body line) condition line index a.0 (omega (arith, fits)) at.linked)
+      (test_does h.scope (setting_of h.block labels line h.most) condition (knows h labels line) b.0)
+      (record { begun = h.ready.begun; turns = h.ready.turns; marked = marked_in h body i in' })
+      (statements_do h (labels_in body ++ labels) body i (placed_with h.block body i labels in' placed) b.1
+      (omega (arith, fits)) in')
+  statement_does h labels (Y.CallProcedure (Y.Calling number level Y.NoArgument) line) index placed is fits at =
+      let known = h.scope.is_procedure number in
+      let a = and_parts (is_line line) ((level == h.scope.level) && known) is in
+      let b = and_parts (level == h.scope.level) known a.1 in
+      calls_does h labels number level line index a.0 b.0 b.1 at.linked
+  statement_does h labels (Y.CallProcedure (Y.Calling number level (Y.ArgumentThen first rest)) line) index placed is
+      fits at =
+      absurd (cc is)
+  statement_does h labels (Y.Return line) index placed is fits at =
+      let a = and_parts (is_line line) (not h.valued) is in
+      return_does h.block line index h.left' (act_of h line a.0) (h.ready.returns (not_true h.valued a.1)) at.linked
+      labels
+  statement_does h labels (Y.ReturnValue type source line) index placed is fits at =
+      let rest = is_fixed type && is_stored h.scope source in
+      let a = and_parts (is_line line) (h.valued && rest) is in
+      let b = and_parts h.valued rest a.1 in
+      let c = and_parts (is_fixed type) (is_stored h.scope source) b.1 in
+      returned_does h labels type source line index a.0 b.0 c.0 c.1 fits at.linked
+  statement_does h labels (Y.Goto level label line) index placed is fits at =
+      let a = and_parts (is_line line) ((level == h.scope.level) && is_among label labels) is in
+      let b = and_parts (level == h.scope.level) (is_among label labels) a.1 in
+      jumps_does h labels level label line index placed a.0 b.0 b.1 at.linked
+  statement_does h labels (Y.Stop line) index placed is fits at =
+      stop_does h.block line index h.left' (act_of h line is) at.linked labels
+  statement_does h labels (Y.AssignElements target source line) index placed is fits at = absurd (cc is)
+  statement_does h labels (Y.AssignAggregate target source line) index placed is fits at = absurd (cc is)
+  statement_does h labels (Y.AssignArea target source line) index placed is fits at = absurd (cc is)
+  statement_does h labels (Y.EmptyArea target line) index placed is fits at = absurd (cc is)
+  statement_does h labels (Y.DoOnce variable start condition body line) index placed is fits at = absurd (cc is)
+  statement_does h labels (Y.DoCount counter start limit step condition body line) index placed is fits at =
+      absurd (cc is)
+  statement_does h labels (Y.Begin block) index placed is fits at = absurd (cc is)
+  statement_does h labels (Y.OnSystem condition line) index placed is fits at = absurd (cc is)
+  statement_does h labels (Y.OnUnit condition unit line) index placed is fits at = absurd (cc is)
+  statement_does h labels (Y.Signal condition line) index placed is fits at = absurd (cc is)
+  statement_does h labels (Y.Revert condition line) index placed is fits at = absurd (cc is)
+  statement_does h labels (Y.Allocate all line) index placed is fits at = absurd (cc is)
+  statement_does h labels (Y.Free all line) index placed is fits at = absurd (cc is)
+  statement_does h labels (Y.Get skip pairs line) index placed is fits at = absurd (cc is)
+  statement_does h labels (Y.Put skip pairs line) index placed is fits at = absurd (cc is)
+
+  pub statements_do :
+      (h : Home) (labels : List Label) (body : Y.Stmts) (index : ℕ) → PlacedIn h labels →
+      are_statements h.scope h.valued labels body ≡ true → statements_need body ≤ h.block.registers →
+      AreStanding h.block body index → EachDoes h.block labels body index h.left'
+  statements_do h labels (Y.EndOfList own) index placed is fits at = tt
+  statements_do h labels (Y.StmtThen own first rest) index placed is fits at =
+      let e = h.block.environment in
+      let one = stmt_code e none_taken first in
+      let more = stmts_code e none_taken rest in
+      let at' = placed_back (marked e.block own) (one ++ more) at in
+      let first' = is_statement h.scope h.valued labels first in
+      let a = and_parts first' (are_statements h.scope h.valued labels rest) is in (
+        statement_does h labels first (index + size_of (marked e.block own)) placed a.0 (omega (arith, fits))
+            (placed_front one more at'),
+        statements_do h labels rest (index + size_of (marked e.block own) + size_of one) placed a.1
+            (omega (arith, fits))
+            (placed_back one more at'),
+      )
+
+-- ---- whole bodies
+
+pub body_does :
+    (s : Scope) (valued : Bool) (k : Block) (body : Y.Stmts) (index most left' : ℕ) →
+    IsReady s valued k most left' → are_statements s valued (labels_in body ++ []) body ≡ true →
+    statements_need body ≤ k.registers → AreStanding k body index →
+    EachDoes k (labels_in body ++ []) body index left'
+body_does s valued k body index most left' ready is fits at =
+    let h : Home =
+    record { scope = s; valued = valued; block = k; most = most; left' = left'; ready = ready } in
+    statements_do h (labels_in body ++ []) body index
+    (placed_with k body index [] at (λ label among. absurd (cc among))) is fits at
+
+pub body_marked :
+    (k : Block) (body : Y.Stmts) (index : ℕ) → AreStanding k body index →
+    AreMarked k.call.surroundings.links k.environment body index
+body_marked k body index at =
+    are_marked k.call.surroundings.links k.call.code index k.environment body at

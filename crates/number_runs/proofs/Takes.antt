@@ -1,0 +1,314 @@
+-- What the temporaries of the class take: as many registers as its expressions need, and no words of the frame.
+use Rattle.std.proofs.Common.{◌≡◌, ℕ, suc, ◌+◌, ◌<◌, ◌≤◌, List, [], ◌∷◌, ◌++◌, true, refl, sym, ap, ◌∙◌, subst}
+use Rattle.std.proofs.Common.{arith}
+use Rattle.std.specs.Prelude.{◌&&◌, ◌==◌, Bool, max, if◌then◌else◌}
+use Rattle.std.proofs.lemmas.Bool.{and_parts, lt-ltb}
+use Rattle.pli_typing.specs.TypedTree as Y
+use Rattle.pli_meaning.specs.Control.{Label}
+use Rattle.pli_meaning.specs.DeclaredShapes.{variables_of_block}
+use Rattle.pli_meaning.specs.Executing.{labels_in}
+use Rattle.pli_coding.specs.Entries.{variable_takes, variables_take}
+use Rattle.pli_coding.specs.Environments.{Environment, Taken, most_taken, none_taken, with_number, with_words}
+use Rattle.pli_coding.specs.Registers.{held_registers}
+use Rattle.pli_coding.specs.Statements.{block_held, block_takes, block_words, stmt_takes, stmts_take}
+use Rattle.pli_coding.specs.Storing.{assigned_takes}
+use Rattle.pli_coding.specs.Temporaries.{bit_takes, number_takes, numbers_take, reference_takes, stored_takes}
+use Rattle.expression_runs.specs.Variables.{Spot, whole}
+use Rattle.number_runs.specs.Numbers.{Scope, are_numbers, is_number, is_test, is_variable, number_needs, numbers_need}
+use Rattle.number_runs.specs.Numbers.{is_fixed, is_plain, test_needs}
+use Rattle.number_runs.specs.Statements.{are_statements, is_line, is_statement, is_stored, statement_needs}
+use Rattle.number_runs.specs.Statements.{statements_need, stored_needs}
+use Rattle.number_runs.specs.Variables.{are_plain}
+use Rattle.number_runs.proofs.Variables.{plain_is, variable_is}
+
+-- as many registers more as are needed, at least, and no words
+pub record Takes (need : ℕ) (t taken : Taken) : Type 0 where
+  pub registers : t.registers + need ≤ taken.registers
+  pub words : taken.words ≡ t.words
+
+abbrev one_more : Taken → Taken
+one_more t = record t { registers = t.registers + 1 }
+
+next_number : (t : Taken) → t.registers < held_registers → with_number t ≡ one_more t
+next_number t less =
+    ap (λ q. if q then one_more t else with_words 1 t) (lt-ltb t.registers held_registers less)
+
+takes_none : (t : Taken) → Takes 0 t t
+takes_none t = record { registers = omega arith; words = refl }
+
+-- one value waits while another is computed
+takes_both :
+    (m n : ℕ) (t a b : Taken) → Takes m t a → Takes n (one_more t) b → Takes (max m (suc n)) t (most_taken a b)
+takes_both m n t a b x y =
+    let p = x.registers in
+    let q = y.registers in
+    let u = x.words in
+    let v = y.words in
+    record { registers = omega (arith, p, q); words = omega (arith, u, v) }
+
+takes_either : (m n : ℕ) (t a b : Taken) → Takes m t a → Takes n t b → Takes (max m n) t (most_taken a b)
+takes_either m n t a b x y =
+    let p = x.registers in
+    let q = y.registers in
+    let u = x.words in
+    let v = y.words in
+    record { registers = omega (arith, p, q); words = omega (arith, u, v) }
+
+-- with one number more that waits
+takes_signed : (n : ℕ) (t a : Taken) → t.registers < held_registers → Takes n t a →
+    Takes (max n 1) t (most_taken (with_number t) a)
+takes_signed n t a less x =
+    let p = x.registers in
+    let u = x.words in
+    subst (λ t'. Takes (max n 1) t (most_taken t' a)) (sym (next_number t less))
+    (record { registers = omega (arith, p); words = omega (arith, u) })
+
+whole_takes : (t : Taken) (x : Spot) → Takes 0 t (reference_takes t (whole x))
+whole_takes t x = record { registers = omega arith; words = omega arith }
+
+variable_takes_none :
+    (s : Scope) (r : Y.Reference) (t : Taken) → is_variable s r ≡ true → Takes 0 t (reference_takes t r)
+variable_takes_none s r t h =
+    let v = variable_is s r h in
+    subst (λ q. Takes 0 t (reference_takes t q)) (sym v.is) (whole_takes t v.spot)
+
+called_takes :
+    (s : Scope) (c : Y.Call) (t : Taken) → is_number s (Y.NumberFrom c) ≡ true →
+    Takes 0 t (number_takes t (Y.NumberFrom c))
+called_takes s (Y.Calling number level Y.NoArgument) t h = record { registers = omega arith; words = omega arith }
+called_takes s (Y.Calling number level (Y.ArgumentThen first rest)) t h = absurd (cc h)
+
+abbrev Fits : (t : Taken) → (need : ℕ) → Type 0
+Fits t need = t.registers + need ≤ held_registers
+
+-- a value waits while another is computed with what is taken then
+takes_two :
+    (m n : ℕ) (t a : Taken) (take : Taken → Taken) → Fits t (max m (suc n)) → Takes m t a →
+    Takes n (one_more t) (take (one_more t)) → Takes (max m (suc n)) t (most_taken a (take (with_number t)))
+takes_two m n t a take fits x y =
+    subst (λ t'. Takes (max m (suc n)) t (most_taken a (take t'))) (sym (next_number t (omega (arith, fits))))
+    (takes_both m n t a (take (one_more t)) x y)
+
+mutual
+  pub number_taken :
+      (s : Scope) (x : Y.Number) (t : Taken) → is_number s x ≡ true → Fits t (number_needs x) →
+      Takes (number_needs x) t (number_takes t x)
+  number_taken s (Y.NumberConstant n) t h fits = takes_none t
+  number_taken s (Y.NumberIn r) t h fits = variable_takes_none s r t h
+  number_taken s (Y.NumberFrom c) t h fits = called_takes s c t h
+  number_taken s (Y.Signed sign x) t h fits =
+      takes_signed (number_needs x) t (number_takes t x) (omega (arith, fits))
+      (number_taken s x t h (omega (arith, fits)))
+  number_taken s (Y.Calculated operator left right) t h fits =
+      let a = and_parts (is_number s left) (is_number s right) h in
+      takes_two (number_needs left) (number_needs right) t (number_takes t left) (λ u. number_takes u right) fits
+      (number_taken s left t a.0 (omega (arith, fits))) (number_taken s right (one_more t) a.1 (omega (arith, fits)))
+  number_taken s (Y.Absolute x) t h fits =
+      takes_signed (number_needs x) t (number_takes t x) (omega (arith, fits))
+      (number_taken s x t h (omega (arith, fits)))
+  number_taken s (Y.SignOf x) t h fits = number_taken s x t h fits
+  number_taken s (Y.Extreme extremum first more) t h fits =
+      let a = and_parts (is_number s first) (are_numbers s more) h in
+      takes_two (number_needs first) (numbers_need more) t (number_takes t first) (λ u. numbers_take u more) fits
+      (number_taken s first t a.0 (omega (arith, fits))) (numbers_taken s more (one_more t) a.1 (omega (arith, fits)))
+  number_taken s (Y.Modulo left right) t h fits =
+      let a = and_parts (is_number s left) (is_number s right) h in
+      takes_two (number_needs left) (number_needs right) t (number_takes t left) (λ u. number_takes u right) fits
+      (number_taken s left t a.0 (omega (arith, fits))) (number_taken s right (one_more t) a.1 (omega (arith, fits)))
+  number_taken s (Y.Divided precision left right) t h fits =
+      let b = and_parts (precision == 31) (is_number s left && is_number s right) h in
+      let a = and_parts (is_number s left) (is_number s right) b.1 in
+      takes_two (number_needs left) (number_needs right) t (number_takes t left) (λ u. number_takes u right) fits
+      (number_taken s left t a.0 (omega (arith, fits))) (number_taken s right (one_more t) a.1 (omega (arith, fits)))
+  number_taken s (Y.NumberOfText x) t h fits = absurd (cc h)
+  number_taken s (Y.NumberOfBit x) t h fits = absurd (cc h)
+  number_taken s (Y.LengthOf x) t h fits = absurd (cc h)
+  number_taken s (Y.IndexOf x y) t h fits = absurd (cc h)
+  number_taken s (Y.VerifyOf x y) t h fits = absurd (cc h)
+  number_taken s (Y.LowerBound r n) t h fits = absurd (cc h)
+  number_taken s (Y.UpperBound r n) t h fits = absurd (cc h)
+  number_taken s (Y.ElementsOf r n) t h fits = absurd (cc h)
+  number_taken s (Y.AllocationsOf v) t h fits = absurd (cc h)
+  number_taken s Y.OnCode t h fits = absurd (cc h)
+
+  numbers_taken :
+      (s : Scope) (xs : Y.Numbers) (t : Taken) → are_numbers s xs ≡ true → Fits t (numbers_need xs) →
+      Takes (numbers_need xs) t (numbers_take t xs)
+  numbers_taken s Y.NoNumber t h fits = takes_none t
+  numbers_taken s (Y.NumberThen first rest) t h fits =
+      let a = and_parts (is_number s first) (are_numbers s rest) h in
+      takes_either (number_needs first) (numbers_need rest) t (number_takes t first) (numbers_take t rest)
+      (number_taken s first t a.0 (omega (arith, fits))) (numbers_taken s rest t a.1 (omega (arith, fits)))
+
+-- ---- tests
+
+pub test_taken :
+    (s : Scope) (x : Y.Bit) (t : Taken) → is_test s x ≡ true → Fits t (test_needs x) →
+    Takes (test_needs x) t (bit_takes t x)
+test_taken s (Y.BitConstant b) t h fits = takes_none t
+test_taken s (Y.Negated x) t h fits = test_taken s x t h fits
+test_taken s (Y.Combined operator left right) t h fits =
+    let a = and_parts (is_test s left) (is_test s right) h in
+    takes_two (test_needs left) (test_needs right) t (bit_takes t left) (λ u. bit_takes u right) fits
+    (test_taken s left t a.0 (omega (arith, fits))) (test_taken s right (one_more t) a.1 (omega (arith, fits)))
+test_taken s (Y.NumbersCompared comparison left right) t h fits =
+    let a = and_parts (is_number s left) (is_number s right) h in
+    takes_two (number_needs left) (number_needs right) t (number_takes t left) (λ u. number_takes u right) fits
+    (number_taken s left t a.0 (omega (arith, fits))) (number_taken s right (one_more t) a.1 (omega (arith, fits)))
+test_taken s (Y.BitsCompared comparison left right) t h fits =
+    let a = and_parts (is_test s left) (is_test s right) h in
+    takes_two (test_needs left) (test_needs right) t (bit_takes t left) (λ u. bit_takes u right) fits
+    (test_taken s left t a.0 (omega (arith, fits))) (test_taken s right (one_more t) a.1 (omega (arith, fits)))
+test_taken s (Y.BitIn r) t h fits = absurd (cc h)
+test_taken s (Y.BitFrom c) t h fits = absurd (cc h)
+test_taken s (Y.BitOfText x) t h fits = absurd (cc h)
+test_taken s (Y.TextsCompared comparison left right) t h fits = absurd (cc h)
+test_taken s (Y.PointersCompared equal left right) t h fits = absurd (cc h)
+test_taken s (Y.OffsetsCompared equal left right) t h fits = absurd (cc h)
+
+-- ---- statements, where nothing is taken yet
+
+stored_taken :
+    (s : Scope) (x : Y.Stored) → is_stored s x ≡ true → stored_needs x ≤ held_registers →
+    Takes (stored_needs x) none_taken (stored_takes none_taken x)
+stored_taken s (Y.StoredNumber precision x) h fits =
+    let a = and_parts (precision == 31) (is_number s x) h in
+    let n = number_taken s x none_taken a.1 (omega (arith, fits)) in
+    let p = n.registers in
+    let u = n.words in
+    record { registers = omega (arith, p); words = omega (arith, u) }
+stored_taken s (Y.StoredText x) h fits = absurd (cc h)
+stored_taken s (Y.StoredBit x) h fits = absurd (cc h)
+stored_taken s (Y.StoredPointer x) h fits = absurd (cc h)
+stored_taken s (Y.StoredOffset x) h fits = absurd (cc h)
+
+assigned_taken :
+    (s : Scope) (target : Y.Reference) (source : Y.Stored) → is_variable s target ≡ true → is_stored s source ≡ true →
+    stored_needs source ≤ held_registers →
+    Takes (stored_needs source) none_taken (assigned_takes none_taken target source)
+assigned_taken s target (Y.StoredNumber precision x) h g fits =
+    let a = variable_takes_none s target (with_number none_taken) h in
+    let b = stored_taken s (Y.StoredNumber precision x) g fits in
+    let p = b.registers in
+    let u = a.words in
+    let v = b.words in
+    record { registers = omega (arith, p); words = omega (arith, u, v) }
+assigned_taken s target (Y.StoredText x) h g fits = absurd (cc g)
+assigned_taken s target (Y.StoredBit x) h g fits = absurd (cc g)
+assigned_taken s target (Y.StoredPointer x) h g fits = absurd (cc g)
+assigned_taken s target (Y.StoredOffset x) h g fits = absurd (cc g)
+
+mutual
+  statement_taken :
+      (s : Scope) (valued : Bool) (labels : List Label) (x : Y.Stmt) → is_statement s valued labels x ≡ true →
+      statement_needs x ≤ held_registers → Takes (statement_needs x) none_taken (stmt_takes none_taken x)
+  statement_taken s valued labels (Y.Null line) h fits = takes_none none_taken
+  statement_taken s valued labels (Y.Assign target source line) h fits =
+      let a = and_parts (is_line line) (is_variable s target && is_stored s source) h in
+      let b = and_parts (is_variable s target) (is_stored s source) a.1 in
+      assigned_taken s target source b.0 b.1 fits
+  statement_taken s valued labels (Y.If condition unit line) h fits =
+      let inner = is_statement s valued labels unit in
+      let a = and_parts (is_line line) (is_test s condition && inner) h in
+      let b = and_parts (is_test s condition) inner a.1 in
+      takes_either (test_needs condition) (statement_needs unit) none_taken (bit_takes none_taken condition)
+      (stmt_takes none_taken unit) (test_taken s condition none_taken b.0 (omega (arith, fits)))
+      (statement_taken s valued labels unit b.1 (omega (arith, fits)))
+  statement_taken s valued labels (Y.IfElse condition unit otherwise line) h fits =
+      let first = is_statement s valued labels unit in
+      let second = is_statement s valued labels otherwise in
+      let a = and_parts (is_line line) (is_test s condition && (first && second)) h in
+      let b = and_parts (is_test s condition) (first && second) a.1 in
+      let c = and_parts first second b.1 in
+      takes_either (test_needs condition) (max (statement_needs unit) (statement_needs otherwise)) none_taken
+      (bit_takes none_taken condition) (most_taken (stmt_takes none_taken unit) (stmt_takes none_taken otherwise))
+      (test_taken s condition none_taken b.0 (omega (arith, fits)))
+      (takes_either (statement_needs unit) (statement_needs otherwise) none_taken (stmt_takes none_taken unit)
+      (stmt_takes none_taken otherwise)
+      (statement_taken s valued labels unit c.0 (omega (arith, fits)))
+      (statement_taken s valued labels otherwise c.1 (omega (arith, fits))))
+  statement_taken s valued labels (Y.Do body line) h fits =
+      let a = and_parts (is_line line) (are_statements s valued (labels_in body ++ labels) body) h in
+      statements_taken s valued (labels_in body ++ labels) body a.1 fits
+  statement_taken s valued labels (Y.DoWhile condition body line) h fits =
+      let inner = are_statements s valued (labels_in body ++ labels) body in
+      let a = and_parts (is_line line) (is_test s condition && inner) h in
+      let b = and_parts (is_test s condition) inner a.1 in
+      takes_either (test_needs condition) (statements_need body) none_taken (bit_takes none_taken condition)
+      (stmts_take none_taken body) (test_taken s condition none_taken b.0 (omega (arith, fits)))
+      (statements_taken s valued (labels_in body ++ labels) body b.1 (omega (arith, fits)))
+  statement_taken s valued labels (Y.CallProcedure (Y.Calling number level Y.NoArgument) line) h fits =
+      record { registers = omega arith; words = omega arith }
+  statement_taken s valued labels (Y.CallProcedure (Y.Calling number level (Y.ArgumentThen first rest)) line) h fits =
+      absurd (cc h)
+  statement_taken s valued labels (Y.Return line) h fits = takes_none none_taken
+  statement_taken s valued labels (Y.ReturnValue type source line) h fits =
+      let rest = is_fixed type && is_stored s source in
+      let a = and_parts (is_line line) (valued && rest) h in
+      let b = and_parts valued rest a.1 in
+      stored_taken s source (and_parts (is_fixed type) (is_stored s source) b.1).1 fits
+  statement_taken s valued labels (Y.Goto level label line) h fits = takes_none none_taken
+  statement_taken s valued labels (Y.Stop line) h fits = takes_none none_taken
+  statement_taken s valued labels (Y.AssignElements target source line) h fits = absurd (cc h)
+  statement_taken s valued labels (Y.AssignAggregate target source line) h fits = absurd (cc h)
+  statement_taken s valued labels (Y.AssignArea target source line) h fits = absurd (cc h)
+  statement_taken s valued labels (Y.EmptyArea target line) h fits = absurd (cc h)
+  statement_taken s valued labels (Y.DoOnce variable start condition body line) h fits = absurd (cc h)
+  statement_taken s valued labels (Y.DoCount counter start limit step condition body line) h fits = absurd (cc h)
+  statement_taken s valued labels (Y.Begin block) h fits = absurd (cc h)
+  statement_taken s valued labels (Y.OnSystem condition line) h fits = absurd (cc h)
+  statement_taken s valued labels (Y.OnUnit condition unit line) h fits = absurd (cc h)
+  statement_taken s valued labels (Y.Signal condition line) h fits = absurd (cc h)
+  statement_taken s valued labels (Y.Revert condition line) h fits = absurd (cc h)
+  statement_taken s valued labels (Y.Allocate all line) h fits = absurd (cc h)
+  statement_taken s valued labels (Y.Free all line) h fits = absurd (cc h)
+  statement_taken s valued labels (Y.Get skip pairs line) h fits = absurd (cc h)
+  statement_taken s valued labels (Y.Put skip pairs line) h fits = absurd (cc h)
+
+  statements_taken :
+      (s : Scope) (valued : Bool) (labels : List Label) (xs : Y.Stmts) → are_statements s valued labels xs ≡ true →
+      statements_need xs ≤ held_registers → Takes (statements_need xs) none_taken (stmts_take none_taken xs)
+  statements_taken s valued labels (Y.EndOfList own) h fits = takes_none none_taken
+  statements_taken s valued labels (Y.StmtThen own first rest) h fits =
+      let a = and_parts (is_statement s valued labels first) (are_statements s valued labels rest) h in
+      takes_either (statement_needs first) (statements_need rest) none_taken (stmt_takes none_taken first)
+      (stmts_take none_taken rest) (statement_taken s valued labels first a.0 (omega (arith, fits)))
+      (statements_taken s valued labels rest a.1 (omega (arith, fits)))
+
+-- ---- blocks
+
+plain_takes : (ds : List Y.DeclaredVariable) → are_plain ds ≡ true → variables_take ds ≡ none_taken
+plain_takes [] h = refl
+plain_takes (d ∷ ds) h =
+    let a = and_parts (is_plain d) (are_plain ds) h in
+    ap (λ d'. most_taken (variable_takes d') (variables_take ds)) (plain_is d a.0)
+    ∙ ap (λ t. most_taken none_taken t) (plain_takes ds a.1)
+
+pub block_taken :
+    (s : Scope) (valued : Bool) (program : Y.Program) (block : ℕ) (body : Y.Stmts) →
+    are_plain (variables_of_block program block) ≡ true →
+    are_statements s valued (labels_in body ++ []) body ≡ true → statements_need body ≤ held_registers →
+    Takes (statements_need body) none_taken (block_takes program block body)
+block_taken s valued program block body plain h fits =
+    subst (λ t. Takes (statements_need body) none_taken (most_taken t (stmts_take none_taken body)))
+    (sym (plain_takes (variables_of_block program block) plain))
+    (subst (λ n. Takes n none_taken (most_taken none_taken (stmts_take none_taken body))) (omega arith)
+    (takes_either 0 (statements_need body) none_taken none_taken (stmts_take none_taken body) (takes_none none_taken)
+    (statements_taken s valued (labels_in body ++ []) body h fits)))
+
+pub words_none :
+    (s : Scope) (valued : Bool) (e : Environment) (block : ℕ) (body : Y.Stmts) →
+    are_plain (variables_of_block e.program block) ≡ true →
+    are_statements s valued (labels_in body ++ []) body ≡ true → statements_need body ≤ held_registers →
+    block_words e block body ≡ 0
+words_none s valued e block body plain h fits =
+    (block_taken s valued e.program block body plain h fits).words
+
+pub registers_held :
+    (s : Scope) (valued : Bool) (e : Environment) (block : ℕ) (body : Y.Stmts) →
+    are_plain (variables_of_block e.program block) ≡ true →
+    are_statements s valued (labels_in body ++ []) body ≡ true → statements_need body ≤ held_registers →
+    statements_need body ≤ block_held e block body
+registers_held s valued e block body plain h fits =
+    let n = (block_taken s valued e.program block body plain h fits).registers in
+    omega (arith, n, fits)

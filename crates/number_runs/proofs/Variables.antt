@@ -1,0 +1,106 @@
+-- Variables that the class admits: references to all of one, and what is declared.
+use Rattle.std.proofs.Common.{◌≡◌, ℕ, List, [], ◌∷◌, Option, None, Some, true, refl, ap, ◌∙◌}
+use Rattle.std.specs.Prelude.{◌&&◌, ◌==◌}
+use Rattle.std.proofs.lemmas.Bool.{and_parts, eqb-true}
+use Rattle.pli_typing.specs.TypedTree as Y
+use Rattle.expression_runs.specs.Variables.{Spot, number_declared, number_leaf, variable_of, whole, whole_part}
+use Rattle.number_runs.specs.Numbers.{Scope, has_none, is_absent, is_automatic, is_fixed, is_known, is_one_word}
+use Rattle.number_runs.specs.Numbers.{is_plain, is_scalar, is_variable, is_word, spot_of}
+
+-- ---- references
+
+automatic_is : (c : Y.StorageClass) → is_automatic c ≡ true → c ≡ Y.AutomaticClass
+automatic_is Y.AutomaticClass h = refl
+automatic_is Y.ParameterClass h = absurd (cc h)
+automatic_is Y.StaticClass h = absurd (cc h)
+automatic_is Y.BasedClass h = absurd (cc h)
+automatic_is Y.ControlledClass h = absurd (cc h)
+
+-- all of a variable that is known
+pub record IsWhole (s : Scope) (r : Y.Reference) : Type 0 where
+  pub spot : Spot
+  pub is : r ≡ whole spot
+  pub known : is_known s spot ≡ true
+
+pub variable_is : (s : Scope) (r : Y.Reference) → is_variable s r ≡ true → IsWhole s r
+variable_is s (Y.Referring v Y.NotLocated part Y.NoNumber) h =
+    let known = is_known s (spot_of v) in
+    let a = and_parts (is_automatic v.class) ((part.first == 0) && ((part.count == 1) && known)) h in
+    let b = and_parts (part.first == 0) ((part.count == 1) && known) a.1 in
+    let c = and_parts (part.count == 1) known b.1 in
+    let first = eqb-true part.first 0 b.0 in
+    let count = eqb-true part.count 1 c.0 in
+    let all : part ≡ whole_part =
+    ap (λ n. record part { first = n }) first ∙ ap (λ (n : ℕ). let p : Y.Part = record { first = 0; count = n } in p)
+    count in
+    record {
+      spot = spot_of v;
+      is =
+          ap (λ k. Y.Referring (record v { class = k }) Y.NotLocated part Y.NoNumber) (automatic_is v.class a.0)
+          ∙ ap (λ p. Y.Referring (variable_of (spot_of v)) Y.NotLocated p Y.NoNumber) all;
+      known = c.1;
+    }
+variable_is s (Y.Referring v Y.NotLocated part (Y.NumberThen first rest)) h = absurd (cc h)
+variable_is s (Y.Referring v (Y.LocatedBy p) part subscripts) h = absurd (cc h)
+
+-- ---- declarations
+
+pub fixed_is : (t : Y.LeafType) → is_fixed t ≡ true → t ≡ Y.FixedLeaf 31
+fixed_is (Y.FixedLeaf precision) h = ap Y.FixedLeaf (eqb-true precision 31 h)
+fixed_is (Y.CharacterLeaf size) h = absurd (cc h)
+fixed_is (Y.VaryingLeaf size) h = absurd (cc h)
+fixed_is Y.BitLeaf h = absurd (cc h)
+fixed_is Y.PointerLeaf h = absurd (cc h)
+fixed_is (Y.OffsetLeaf area) h = absurd (cc h)
+fixed_is (Y.AreaLeaf size) h = absurd (cc h)
+
+none_is : {A : Type 0} (xs : List A) → has_none xs ≡ true → xs ≡ []
+none_is [] h = refl
+none_is (x ∷ xs) h = absurd (cc h)
+
+absent_is : {A : Type 0} (x : Option A) → is_absent x ≡ true → x ≡ None
+absent_is None h = refl
+absent_is (Some x) h = absurd (cc h)
+
+word_is : (l : Y.Leaf) → is_word l ≡ true → l ≡ number_leaf []
+word_is l h =
+    let a = and_parts (is_fixed l.type) (has_none l.bounds && has_none l.initial) h in
+    let b = and_parts (has_none l.bounds) (has_none l.initial) a.1 in
+    ap (λ t. record l { type = t }) (fixed_is l.type a.0)
+    ∙ ap (λ bs. let l' : Y.Leaf = record { type = Y.FixedLeaf 31; bounds = bs; initial = l.initial } in l')
+    (none_is l.bounds b.0)
+    ∙ ap number_leaf (none_is l.initial b.1)
+
+leaves_are : (ls : List Y.Leaf) → is_one_word ls ≡ true → ls ≡ number_leaf [] ∷ []
+leaves_are [] h = absurd (cc h)
+leaves_are (l ∷ []) h = ap (λ l'. l' ∷ []) (word_is l h)
+leaves_are (l ∷ m ∷ ls) h = absurd (cc h)
+
+abbrev plain_members : List Y.Member
+plain_members = (number_declared []).members
+
+scalar_is : (ms : List Y.Member) → is_scalar ms ≡ true → ms ≡ plain_members
+scalar_is [] h = absurd (cc h)
+scalar_is (m ∷ []) h =
+    let a = and_parts (m.depth == 0) (m.dimensions == 0) h in
+    ap (λ n. record m { depth = n } ∷ []) (eqb-true m.depth 0 a.0)
+    ∙ ap (λ n. let m' : Y.Member = record { depth = 0; dimensions = n } in m' ∷ []) (eqb-true m.dimensions 0 a.1)
+scalar_is (m ∷ l ∷ ms) h = absurd (cc h)
+
+pub plain_is : (d : Y.DeclaredVariable) → is_plain d ≡ true → d ≡ number_declared []
+plain_is d h =
+    let one = is_one_word d.leaves in
+    let absent = is_absent d.refer in
+    let last = has_none d.evaluations in
+    let a = and_parts (is_automatic d.class) (is_scalar d.members && (one && (absent && last))) h in
+    let b = and_parts (is_scalar d.members) (one && (absent && last)) a.1 in
+    let c = and_parts one (absent && last) b.1 in
+    let e = and_parts absent last c.1 in
+    ap (λ k. record d { class = k }) (automatic_is d.class a.0)
+    ∙ ap (λ ms. record d { class = Y.AutomaticClass; members = ms }) (scalar_is d.members b.0)
+    ∙ ap (λ ls. record d { class = Y.AutomaticClass; members = plain_members; leaves = ls }) (leaves_are d.leaves c.0)
+    ∙ ap (λ r.
+    let d' : Y.DeclaredVariable = record (number_declared []) { refer = r; evaluations = d.evaluations } in d')
+    (absent_is d.refer e.0)
+    ∙ ap (λ es. let d' : Y.DeclaredVariable = record (number_declared []) { evaluations = es } in d')
+    (none_is d.evaluations e.1)

@@ -1,0 +1,49 @@
+-- The laws of such blocks: each expression leaves what it means, and each statement does what it means.
+use Rattle.std.specs.Prelude.{ℕ, ◌≤◌, ◌≡◌, ◌++◌, Bool, true, []}
+use Rattle.pli_typing.specs.TypedTree as Y
+use Rattle.pli_meaning.specs.DeclaredShapes.{variables_of_block}
+use Rattle.pli_meaning.specs.Executing.{labels_in}
+use Rattle.pli_coding.specs.Environments.{Environment}
+use Rattle.pli_coding.specs.Registers.{held_registers}
+use Rattle.pli_coding.specs.Statements.{block_held, block_words}
+use Rattle.program_runs.specs.Statements.{AreMarked, Block, EachDoes}
+use Rattle.expression_runs.specs.Laws as L
+use Rattle.expression_runs.specs.Values.{Setting}
+use Rattle.test_runs.specs.Tests.{Tests}
+use Rattle.number_runs.specs.Knowledge.{AreStanding, IsReady, KnowsNumbers}
+use Rattle.number_runs.specs.Numbers.{Scope, is_number, is_test, number_needs, test_needs}
+use Rattle.number_runs.specs.Statements.{are_statements, statements_need}
+use Rattle.number_runs.specs.Variables.{are_plain}
+
+pub record ExpressionsDo : Type 0 where
+  pub numbers :
+      (s : Scope) (k : Setting) (x : Y.Number) → KnowsNumbers s k → is_number s x ≡ true →
+      L.Does k (number_needs x) x
+  pub tests :
+      (s : Scope) (k : Setting) (x : Y.Bit) → KnowsNumbers s k → is_test s x ≡ true → Tests k (test_needs x) x
+
+pub record BodiesDo : Type 0 where
+  -- each statement of the body does what it means
+  pub each :
+      (s : Scope) (valued : Bool) (k : Block) (body : Y.Stmts) (index most left' : ℕ) →
+      IsReady s valued k most left' → are_statements s valued (labels_in body ++ []) body ≡ true →
+      statements_need body ≤ k.registers → AreStanding k body index →
+      EachDoes k (labels_in body ++ []) body index left'
+  -- and its labels stand where its statements do
+  pub marked :
+      (k : Block) (body : Y.Stmts) (index : ℕ) → AreStanding k body index →
+      AreMarked k.call.surroundings.links k.environment body index
+
+-- a block whose variables and statements are these, and whose temporaries fit registers: they take no words of its
+-- frame, and no register that it doesn't save
+pub record TemporariesFit : Type 0 where
+  pub words :
+      (s : Scope) (valued : Bool) (e : Environment) (block : ℕ) (body : Y.Stmts) →
+      are_plain (variables_of_block e.program block) ≡ true →
+      are_statements s valued (labels_in body ++ []) body ≡ true → statements_need body ≤ held_registers →
+      block_words e block body ≡ 0
+  pub registers :
+      (s : Scope) (valued : Bool) (e : Environment) (block : ℕ) (body : Y.Stmts) →
+      are_plain (variables_of_block e.program block) ≡ true →
+      are_statements s valued (labels_in body ++ []) body ≡ true → statements_need body ≤ held_registers →
+      statements_need body ≤ block_held e block body

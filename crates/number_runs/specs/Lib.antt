@@ -1,0 +1,5 @@
+pub mod Numbers
+pub mod Statements
+pub mod Knowledge
+pub mod Variables
+pub mod Laws

@@ -1,0 +1,130 @@
+-- Expressions of FIXED BINARY(31) numbers and tests of them, as a class that is computed from typed trees.
+use Rattle.std.specs.Prelude.{ℕ, suc, ◌^◌, ◌==◌, ◌&&◌, Bool, true, false, List, [], ◌∷◌, max, nat_lt, Option, None}
+use Rattle.std.specs.Prelude.{Some}
+use Rattle.std.specs.List.{list_any}
+use Rattle.pli_typing.specs.TypedTree as Y
+use Rattle.pli_meaning.specs.DeclaredShapes.{declared_variable}
+use Rattle.pli_coding.specs.Environments.{BlockPlace}
+use Rattle.expression_runs.specs.Variables.{Spot, variable_of}
+
+-- ---- what an expression may name
+
+-- the program, the level of the block whose expressions these are, the blocks whose variables they may name, and by
+-- their numbers the functions and the procedures without parameters that it may call
+pub record Scope : Type 0 where
+  pub program : Y.Program
+  pub level : ℕ
+  pub blocks : List BlockPlace
+  pub is_function : ℕ → Bool
+  pub is_procedure : ℕ → Bool
+
+-- ---- variables
+
+-- one of level 1 that is no structure
+abbrev pub is_scalar : List Y.Member → Bool
+is_scalar (m ∷ []) = (m.depth == 0) && (m.dimensions == 0)
+is_scalar _ = false
+
+abbrev pub is_fixed : Y.LeafType → Bool
+is_fixed (Y.FixedLeaf precision) = precision == 31
+is_fixed _ = false
+
+abbrev pub has_none : {A : Type 0} → List A → Bool
+has_none [] = true
+has_none (x ∷ xs) = false
+
+abbrev pub is_word : Y.Leaf → Bool
+is_word l = is_fixed l.type && (has_none l.bounds && has_none l.initial)
+
+abbrev pub is_one_word : List Y.Leaf → Bool
+is_one_word (l ∷ []) = is_word l
+is_one_word _ = false
+
+abbrev pub is_automatic : Y.StorageClass → Bool
+is_automatic Y.AutomaticClass = true
+is_automatic _ = false
+
+abbrev pub is_absent : {A : Type 0} → Option A → Bool
+is_absent None = true
+is_absent (Some x) = false
+
+-- AUTOMATIC FIXED BINARY(31), a scalar without INITIAL
+abbrev pub is_plain : Y.DeclaredVariable → Bool
+is_plain d =
+    is_automatic d.class
+    && (is_scalar d.members && (is_one_word d.leaves && (is_absent d.refer && has_none d.evaluations)))
+
+abbrev pub is_plain_if : Option Y.DeclaredVariable → Bool
+is_plain_if None = false
+is_plain_if (Some d) = is_plain d
+
+abbrev pub is_place : Spot → BlockPlace → Bool
+is_place x b = (x.block == b.number) && (x.level == b.level)
+
+-- such a variable of one of these blocks
+abbrev pub is_known : Scope → Spot → Bool
+is_known s x = list_any (is_place x) s.blocks && is_plain_if (declared_variable s.program (variable_of x))
+
+abbrev pub spot_of : Y.Variable → Spot
+spot_of v = record { block = v.block; level = v.level; index = v.index }
+
+-- all of one
+abbrev pub is_variable : Scope → Y.Reference → Bool
+is_variable s (Y.Referring v Y.NotLocated part Y.NoNumber) =
+    is_automatic v.class && ((part.first == 0) && ((part.count == 1) && is_known s (spot_of v)))
+is_variable s _ = false
+
+-- ---- numbers
+
+abbrev mutual
+  pub is_number : Scope → Y.Number → Bool
+  is_number s (Y.NumberConstant n) = nat_lt n (2 ^ 31)
+  is_number s (Y.NumberIn r) = is_variable s r
+  is_number s (Y.NumberFrom (Y.Calling number level Y.NoArgument)) = (level == s.level) && s.is_function number
+  is_number s (Y.Signed sign x) = is_number s x
+  is_number s (Y.Calculated operator left right) = is_number s left && is_number s right
+  is_number s (Y.Absolute x) = is_number s x
+  is_number s (Y.SignOf x) = is_number s x
+  is_number s (Y.Extreme extremum first more) = is_number s first && are_numbers s more
+  is_number s (Y.Modulo dividend divisor) = is_number s dividend && is_number s divisor
+  is_number s (Y.Divided precision dividend divisor) =
+      (precision == 31) && (is_number s dividend && is_number s divisor)
+  is_number s _ = false
+
+  pub are_numbers : Scope → Y.Numbers → Bool
+  are_numbers s Y.NoNumber = true
+  are_numbers s (Y.NumberThen first rest) = is_number s first && are_numbers s rest
+
+-- how many registers its temporaries need
+abbrev mutual
+  pub number_needs : Y.Number → ℕ
+  number_needs (Y.Signed sign x) = max (number_needs x) 1
+  number_needs (Y.Calculated operator left right) = max (number_needs left) (suc (number_needs right))
+  number_needs (Y.Absolute x) = max (number_needs x) 1
+  number_needs (Y.SignOf x) = number_needs x
+  number_needs (Y.Extreme extremum first more) = max (number_needs first) (suc (numbers_need more))
+  number_needs (Y.Modulo dividend divisor) = max (number_needs dividend) (suc (number_needs divisor))
+  number_needs (Y.Divided precision dividend divisor) = max (number_needs dividend) (suc (number_needs divisor))
+  number_needs _ = 0
+
+  -- one at a time
+  pub numbers_need : Y.Numbers → ℕ
+  numbers_need Y.NoNumber = 0
+  numbers_need (Y.NumberThen first rest) = max (number_needs first) (numbers_need rest)
+
+-- ---- tests
+
+abbrev pub is_test : Scope → Y.Bit → Bool
+is_test s (Y.BitConstant b) = true
+is_test s (Y.Negated x) = is_test s x
+is_test s (Y.Combined operator left right) = is_test s left && is_test s right
+is_test s (Y.NumbersCompared comparison left right) = is_number s left && is_number s right
+is_test s (Y.BitsCompared comparison left right) = is_test s left && is_test s right
+is_test s _ = false
+
+abbrev pub test_needs : Y.Bit → ℕ
+test_needs (Y.Negated x) = test_needs x
+test_needs (Y.Combined operator left right) = max (test_needs left) (suc (test_needs right))
+test_needs (Y.NumbersCompared comparison left right) = max (number_needs left) (suc (number_needs right))
+test_needs (Y.BitsCompared comparison left right) = max (test_needs left) (suc (test_needs right))
+test_needs _ = 0

@@ -1,0 +1,66 @@
+-- Statements over such numbers, as a class that is computed from typed trees.
+use Rattle.std.specs.Prelude.{ℕ, ◌^◌, ◌==◌, ◌&&◌, ◌++◌, Bool, true, false, List, max, nat_lt, not}
+use Rattle.pli_typing.specs.TypedTree as Y
+use Rattle.pli_meaning.specs.Control.{Label, is_among}
+use Rattle.pli_meaning.specs.Executing.{labels_in}
+use Rattle.number_runs.specs.Numbers.{Scope, is_fixed, is_number, is_test, is_variable, number_needs}
+use Rattle.number_runs.specs.Numbers.{test_needs}
+
+-- a line fits a register
+abbrev pub is_line : ℕ → Bool
+is_line line = nat_lt line (2 ^ 31)
+
+-- a number on its way into a variable
+abbrev pub is_stored : Scope → Y.Stored → Bool
+is_stored s (Y.StoredNumber precision x) = (precision == 31) && is_number s x
+is_stored s _ = false
+
+abbrev pub stored_needs : Y.Stored → ℕ
+stored_needs (Y.StoredNumber precision x) = number_needs x
+stored_needs _ = 0
+
+-- in a block that returns a number or none; a GOTO may name these labels, those of the lists around it in its block
+abbrev mutual
+  pub is_statement : Scope → (valued : Bool) → List Label → Y.Stmt → Bool
+  is_statement s valued labels (Y.Null line) = is_line line
+  is_statement s valued labels (Y.Assign target source line) =
+      is_line line && (is_variable s target && is_stored s source)
+  is_statement s valued labels (Y.If condition unit line) =
+      is_line line && (is_test s condition && is_statement s valued labels unit)
+  is_statement s valued labels (Y.IfElse condition unit otherwise line) =
+      is_line line
+      && (is_test s condition && (is_statement s valued labels unit && is_statement s valued labels otherwise))
+  is_statement s valued labels (Y.Do body line) =
+      is_line line && are_statements s valued (labels_in body ++ labels) body
+  is_statement s valued labels (Y.DoWhile condition body line) =
+      is_line line && (is_test s condition && are_statements s valued (labels_in body ++ labels) body)
+  is_statement s valued labels (Y.CallProcedure (Y.Calling number level Y.NoArgument) line) =
+      is_line line && ((level == s.level) && s.is_procedure number)
+  is_statement s valued labels (Y.Return line) = is_line line && not valued
+  is_statement s valued labels (Y.ReturnValue type source line) =
+      is_line line && (valued && (is_fixed type && is_stored s source))
+  is_statement s valued labels (Y.Goto level label line) =
+      is_line line && ((level == s.level) && is_among label labels)
+  is_statement s valued labels (Y.Stop line) = is_line line
+  is_statement s valued labels _ = false
+
+  pub are_statements : Scope → (valued : Bool) → List Label → Y.Stmts → Bool
+  are_statements s valued labels (Y.EndOfList own) = true
+  are_statements s valued labels (Y.StmtThen own first rest) =
+      is_statement s valued labels first && are_statements s valued labels rest
+
+-- how many registers their temporaries need
+abbrev mutual
+  pub statement_needs : Y.Stmt → ℕ
+  statement_needs (Y.Assign target source line) = stored_needs source
+  statement_needs (Y.If condition unit line) = max (test_needs condition) (statement_needs unit)
+  statement_needs (Y.IfElse condition unit otherwise line) =
+      max (test_needs condition) (max (statement_needs unit) (statement_needs otherwise))
+  statement_needs (Y.Do body line) = statements_need body
+  statement_needs (Y.DoWhile condition body line) = max (test_needs condition) (statements_need body)
+  statement_needs (Y.ReturnValue type source line) = stored_needs source
+  statement_needs _ = 0
+
+  pub statements_need : Y.Stmts → ℕ
+  statements_need (Y.EndOfList own) = 0
+  statements_need (Y.StmtThen own first rest) = max (statement_needs first) (statements_need rest)

@@ -1,0 +1,15 @@
+pub mod Marks
+pub mod Labels
+pub mod Found
+pub mod Procedures
+pub mod Blocks
+pub mod Callees
+pub mod Functions
+pub mod Starts
+pub mod Memory
+pub mod WellFormedRow
+pub mod Rows
+pub mod Inner
+pub mod Outermost
+pub mod Calls
+pub mod Tables

@@ -1,0 +1,6 @@
+pub mod Placed
+pub mod Programs
+pub mod Laws
+pub mod Rows
+pub mod Inner
+pub mod Tables

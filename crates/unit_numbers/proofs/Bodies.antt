@@ -1,0 +1,278 @@
+-- The list of the main procedure comes to its end: each of its statements does what it means, whatever units it has by
+-- then.
+use Rattle.std.proofs.Common.{◌≡◌, inl, inr, ℕ, zero, suc, ◌+◌, ◌^◌, ◌<◌, ◌≤◌, List, [], ◌∷◌, ◌++◌, Option}
+use Rattle.std.proofs.Common.{Some, None, true, false, refl, arith}
+use Rattle.std.proofs.lemmas.Bool.{and_parts}
+use Rattle.pli_language.specs.declared.condition.Condition.TheVariants as C
+use Rattle.pli_typing.specs.TypedTree as Y
+use Rattle.pli_meaning.specs.Control.{Label}
+use Rattle.pli_meaning.specs.Executing.{labels_in}
+use Rattle.pli_coding.specs.Assembly.{size_of}
+use Rattle.pli_coding.specs.Environments.{none_taken}
+use Rattle.pli_coding.specs.Images.{linked_code}
+use Rattle.pli_coding.specs.Statements.{marked, stmt_code, stmts_code}
+use Rattle.code_marks.specs.CodeMarks.{MarkedOnce}
+use Rattle.program_places.specs.Programs.{body_for, code_for, environment_for, links_for}
+use Rattle.program_places.proofs.Blocks.{own_block}
+use Rattle.program_places.proofs.Callees.{end_is}
+use Rattle.program_places.proofs.Labels.{are_marked, label_of}
+use Rattle.program_places.proofs.Marks.{placed_back, placed_front}
+use Rattle.program_places.proofs.Procedures.{body_placed, raise_routines}
+use Rattle.program_places.proofs.Starts.{main_found}
+use Rattle.program_runs.specs.Calls.{left_over}
+use Rattle.program_runs.specs.Starts.{image_parts}
+use Rattle.program_runs.specs.Statements.{Does, IsBegun}
+use Rattle.program_runs.proofs.Statements.{none_does}
+use Rattle.expression_runs.specs.Values.{OverflowComes}
+use Rattle.expression_runs.proofs.Raises.{overflow_ends}
+use Rattle.operator_runs.proofs.Divisors.{zero_divide_ends}
+use Rattle.number_runs.specs.Knowledge.{AreStanding, KnowsNumbers, Standing}
+use Rattle.number_runs.specs.Statements.{is_statement, statement_needs, statements_need}
+use Rattle.number_runs.specs.Variables.{words_in}
+use Rattle.number_runs.proofs.Expressions.{number_does, test_does}
+use Rattle.number_headlines.proofs.Mains.{made_system}
+use Rattle.unit_runs.specs.Bodies.{BodyDoes}
+use Rattle.unit_runs.specs.Changing.{AllDo, IsPast, Past, StandsIn, StepDoes, after}
+use Rattle.unit_runs.specs.Establishing.{IsOn, OnUnit, on_of}
+use Rattle.unit_runs.proofs.Changing.{begun_after, changing_ends}
+use Rattle.unit_runs.proofs.OwnRaises.{past_numbers}
+use Rattle.unit_numbers.specs.Programs.{are_steps, is_step, is_step_with}
+use Rattle.unit_numbers.specs.Units.{own_scope, unit_in}
+use Rattle.unit_numbers.proofs.Forces.{AreOverflow, past_system}
+use Rattle.unit_numbers.proofs.Mains.{Main, block_for, main_held, main_number, most_for, own_known, placed}
+use Rattle.unit_numbers.proofs.Places.{on_placed}
+use Rattle.unit_numbers.proofs.Raises.{IsUnitOf, overflow_with, past_setting}
+use Rattle.unit_numbers.proofs.Statements.{Home, Includes, statement_does}
+use Rattle.unit_numbers.proofs.Takes.{unit_found}
+use Rattle.unit_numbers.proofs.Units.{unit_is}
+
+abbrev start_of : {program : Y.Program} → Main program → ℕ
+start_of {program} m = body_for program m.head m.body
+
+-- ---- the units that it has by then
+
+list_placed :
+    MarkedOnce → {program : Y.Program} (m : Main program) (input : List ℕ) (acts : ℕ) →
+    AreStanding (block_for m input acts) m.body (start_of m)
+list_placed once {program} m input acts =
+    body_placed once program m.head m.body None m.loadable (main_found program (placed m) m.main)
+
+unit_stands :
+    MarkedOnce → {program : Y.Program} (m : Main program) (input : List ℕ) (acts : ℕ) (e : OnUnit × ℕ) →
+    StandsIn (block_for m input acts) m.body (start_of m) e → IsUnitOf m input acts e.0 e.1
+unit_stands once {program} m input acts e there =
+    on_placed program m.head (labels_in m.body) (block_for m input acts) m.body (start_of m) e m.steps
+    (list_placed once m input acts) there
+
+past_overflow :
+    MarkedOnce → {program : Y.Program} (m : Main program) (input : List ℕ) (acts : ℕ) (past : Past) →
+    IsPast (block_for m input acts) m.body (start_of m) past → AreOverflow past
+past_overflow once m input acts [] known = tt
+past_overflow once {program} m input acts (e ∷ past) known = (
+  (unit_is program m.head (labels_in m.body) e.0 (unit_stands once m input acts e known.1).is).condition,
+  past_overflow once m input acts past known.2,
+)
+
+-- ---- raises
+
+overflow_known :
+    MarkedOnce → {program : Y.Program} (m : Main program) (input : List ℕ) (more : ℕ) (past : Past)
+    (labels : List Label) (line : ℕ) → suc more + 1 < 2 ^ 64 → IsBegun (block_for m input (suc more)) →
+    Includes (labels_in m.body) labels →
+    IsPast (block_for m input (suc more)) m.body (start_of m) past →
+    OverflowComes (past_setting m input (suc more) past labels line)
+overflow_known once {program} m input more [] labels line few b includes known =
+    let routines = raise_routines once program m.loadable in
+    let inside = routines.linked.inside in
+    let xs = words_in (environment_for program m.head) in
+    overflow_ends (past_setting m input (suc more) [] labels line)
+    (record {
+      routines = routines;
+      overflow = made_system image_parts _ xs _ C.FixedOverflow tt;
+      error = made_system image_parts _ xs _ C.Error tt;
+      acts = few;
+      most = omega (arith, inside);
+    })
+overflow_known once m input more (e ∷ past) labels line few b includes known =
+    overflow_with once m input more past labels line e.1 e.0 few b includes
+    (unit_stands once m input (suc more) e known.1) known
+
+knows :
+    MarkedOnce → {program : Y.Program} (m : Main program) (input : List ℕ) (more : ℕ) (past : Past)
+    (labels : List Label) (line : ℕ) → suc more + 1 < 2 ^ 64 → IsBegun (block_for m input (suc more)) →
+    Includes (labels_in m.body) labels →
+    IsPast (block_for m input (suc more)) m.body (start_of m) past →
+    KnowsNumbers (own_scope program m.head m.head.level) (past_setting m input (suc more) past labels line)
+knows once {program} m input more past labels line few b includes known =
+    let k = block_for m input (suc more) in
+    let routines = raise_routines once program m.loadable in
+    let inside = routines.linked.inside in
+    let xs = words_in (environment_for program m.head) in
+    let all = past_overflow once m input (suc more) past known in
+    record {
+      begun = begun_after k m.body (start_of m) past b known;
+      overflow = overflow_known once m input more past labels line few b includes known;
+      divisor = zero_divide_ends (past_setting m input (suc more) past labels line) (record {
+        routines = routines;
+        divisor = past_system C.ZeroDivide past k.first refl all (made_system image_parts _ xs _ C.ZeroDivide tt);
+        error = past_system C.Error past k.first refl all (made_system image_parts _ xs _ C.Error tt);
+        acts = few;
+        most = omega (arith, inside);
+      });
+      variables = λ x h. past_numbers k past x (main_number m input (suc more) x (own_known m input (suc more) x h) b);
+      functions = λ n h. absurd (cc h);
+    }
+
+-- ---- its statements
+
+main_home :
+    MarkedOnce → {program : Y.Program} (m : Main program) (input : List ℕ) (more : ℕ) (past : Past) →
+    suc more + 1 < 2 ^ 64 → IsBegun (block_for m input (suc more)) →
+    IsPast (block_for m input (suc more)) m.body (start_of m) past → Home
+main_home once {program} m input more past few b known =
+    let k = block_for m input (suc more) in
+    let s = own_scope program m.head m.head.level in
+    let found = main_found program (placed m) m.main in
+    let end = end_is once program m.head m.body m.loadable found in
+    let b' = begun_after k m.body (start_of m) past b known in
+    record {
+      scope = s;
+      still = false;
+      block = after k past;
+      most = most_for program;
+      left' = left_over;
+      outermost = labels_in m.body;
+      begun = b';
+      acts = few;
+      turns = omega arith;
+      held = omega arith;
+      room = omega arith;
+      variables = λ x h. past_numbers k past x (main_number m input (suc more) x (own_known m input (suc more) x h) b);
+      numbers = λ labels line x includes is still.
+          number_does s (past_setting m input (suc more) past labels line) x
+          (knows once m input more past labels line few b includes known) is;
+      tests = λ labels line x includes is still.
+          test_does s (past_setting m input (suc more) past labels line) x
+          (knows once m input more past labels line few b includes known) is;
+      alone = λ n. refl;
+      home = λ e. record {
+        level = refl;
+        own = refl;
+        block = own_block program m.head m.body None found;
+        returns = record {
+          owner = refl;
+          end = end.place;
+          near = end.near;
+          enough = omega arith;
+          function = refl;
+          begun = b';
+          kind = refl;
+          registers = omega arith;
+        };
+      };
+    }
+
+main_does :
+    MarkedOnce → {program : Y.Program} (m : Main program) (input : List ℕ) (acts : ℕ) → acts + 1 < 2 ^ 64 →
+    IsBegun (block_for m input acts) → (stmt : Y.Stmt) (index : ℕ) →
+    is_statement (own_scope program m.head m.head.level) false (labels_in m.body) stmt ≡ true →
+    statement_needs stmt ≤ statements_need m.body → Standing (block_for m input acts) stmt index → (past : Past) →
+    IsPast (block_for m input acts) m.body (start_of m) past →
+    Does (after (block_for m input acts) past) (labels_in m.body) stmt index left_over
+unfolding main_home
+main_does once m input zero few b stmt index is fits at past known =
+    let k = block_for m input zero in
+    none_does (after k past) (labels_in m.body) stmt index left_over (begun_after k m.body (start_of m) past b known)
+    refl
+main_does once {program} m input (suc more) few b stmt index is fits at past known =
+    let held = main_held m in
+    statement_does (main_home once m input more past few b known) (labels_in m.body) (labels_in m.body) stmt index
+    (record {
+      includes = λ label among. among;
+      to = inl (
+        refl,
+        (
+          refl,
+          λ label among.
+              label_of (links_for program) (linked_code (code_for program)) (start_of m)
+              (environment_for program m.head) none_taken m.body (list_placed once m input (suc more)) label among,
+        ),
+      );
+    })
+    is (omega (arith, fits, held)) (λ e. absurd (cc e)) at
+
+-- ---- the list
+
+is_on :
+    MarkedOnce → {program : Y.Program} (m : Main program) (input : List ℕ) (acts : ℕ) → acts + 1 < 2 ^ 64 →
+    IsBegun (block_for m input acts) → (x : OnUnit) (index : ℕ) → IsUnitOf m input acts x index → (past : Past) →
+    IsPast (block_for m input acts) m.body (start_of m) past → IsOn (after (block_for m input acts) past) x index
+is_on once {program} m input acts few b x index h past known =
+    record {
+      act = record { line_fits = (unit_is program m.head (labels_in m.body) x h.is).line; acts = few };
+      begun = begun_after (block_for m input acts) m.body (start_of m) past b known;
+      statement = h.placed.linked;
+      place = h.stands;
+    }
+
+step_does :
+    MarkedOnce → {program : Y.Program} (m : Main program) (input : List ℕ) (acts : ℕ) → acts + 1 < 2 ^ 64 →
+    IsBegun (block_for m input acts) → (stmt : Y.Stmt) (index : ℕ) →
+    is_step program m.head (labels_in m.body) stmt ≡ true → statement_needs stmt ≤ statements_need m.body →
+    Standing (block_for m input acts) stmt index →
+    ((x : OnUnit) → stmt ≡ on_of x → IsUnitOf m input acts x index) →
+    StepDoes (block_for m input acts) m.body (start_of m) stmt index left_over
+step_does once {program} m input acts few b stmt index is fits at units = by (unit_in stmt) refl is
+  where
+    by :
+        (o : Option OnUnit) → unit_in stmt ≡ o → is_step_with program m.head (labels_in m.body) o stmt ≡ true →
+        StepDoes (block_for m input acts) m.body (start_of m) stmt index left_over
+    by None e is = inr (λ past known. main_does once m input acts few b stmt index is fits at past known)
+    by (Some x) e is =
+        let same = unit_found stmt x e in
+        inl (x, same, λ past known. is_on once m input acts few b x index (units x same) past known)
+
+all_do :
+    MarkedOnce → {program : Y.Program} (m : Main program) (input : List ℕ) (acts : ℕ) → acts + 1 < 2 ^ 64 →
+    IsBegun (block_for m input acts) → (rest : Y.Stmts) (index : ℕ) →
+    are_steps program m.head (labels_in m.body) rest ≡ true → statements_need rest ≤ statements_need m.body →
+    AreStanding (block_for m input acts) rest index →
+    ((e : OnUnit × ℕ) → StandsIn (block_for m input acts) rest index e →
+    StandsIn (block_for m input acts) m.body (start_of m) e) →
+    AllDo (block_for m input acts) m.body (start_of m) rest index left_over
+all_do once m input acts few b (Y.EndOfList own) index is fits at there = tt
+all_do once {program} m input acts few b (Y.StmtThen own first rest) index is fits at there =
+    let e = environment_for program m.head in
+    let one = stmt_code e none_taken first in
+    let more = stmts_code e none_taken rest in
+    let at' = placed_back (marked e.block own) (one ++ more) at in
+    let here = index + size_of (marked e.block own) in
+    let labels = labels_in m.body in
+    let a = and_parts (is_step program m.head labels first) (are_steps program m.head labels rest) is in (
+      step_does once m input acts few b first here a.0 (omega (arith, fits)) (placed_front one more at')
+          (λ x same. unit_stands once m input acts (x, here) (there (x, here) (inl (same, refl)))),
+      all_do once m input acts few b rest (here + size_of one) a.1 (omega (arith, fits)) (placed_back one more at')
+          (λ z h. there z (inr h)),
+    )
+
+pub main_ends :
+    MarkedOnce → {program : Y.Program} (m : Main program) (input : List ℕ) (acts : ℕ) → acts + 1 < 2 ^ 64 →
+    IsBegun (block_for m input acts) → BodyDoes (block_for m input acts) m.body (start_of m) left_over
+main_ends once {program} m input acts few b =
+    let k = block_for m input acts in
+    let at = list_placed once m input acts in
+    let first = b.acts in
+    changing_ends k m.body (start_of m) left_over
+    (record {
+      begun = b;
+      linked = at.linked;
+      end = refl;
+      function = refl;
+      kind = refl;
+      registers = omega arith;
+      outers = refl;
+      enough = omega (arith, first);
+    })
+    (are_marked (links_for program) (linked_code (code_for program)) (start_of m) (environment_for program m.head)
+    m.body at)
+    (all_do once m input acts few b m.body (start_of m) m.steps (omega arith) at (λ e h. h))

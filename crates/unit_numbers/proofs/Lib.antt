@@ -1,0 +1,12 @@
+pub mod Takes
+pub mod Still
+pub mod Statements
+pub mod Places
+pub mod Mains
+pub mod Forces
+pub mod Units
+pub mod Outer
+pub mod Raises
+pub mod Bodies
+pub mod Kept
+pub mod Rows

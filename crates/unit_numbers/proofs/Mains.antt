@@ -1,0 +1,301 @@
+-- The main procedure of a program of the class where it begins: its variables are made, and there is room for a unit.
+use Rattle.std.proofs.Common.{◌≡◌, ℕ, ◌+◌, ◌*◌, ◌≤◌, List, [], ◌∷◌, None, true, false}
+use Rattle.std.proofs.Common.{length, refl, sym, ap, ◌∙◌, subst, arith}
+use Rattle.std.specs.Prelude.{◌&&◌, ◌==◌, ◌||◌, Bool, nat_le}
+use Rattle.std.proofs.lemmas.Bool.{and_parts, eqb-true, leb-true}
+use Rattle.pli_typing.specs.TypedTree as Y
+use Rattle.pli_meaning.specs.BasicValues.{VariableName}
+use Rattle.pli_meaning.specs.DeclaredShapes.{declared_variable, head_of, variables_of_block}
+use Rattle.pli_meaning.specs.Executing.{labels_in}
+use Rattle.pli_meaning.specs.Making.{with_binding}
+use Rattle.pli_meaning.specs.StorageState.{Activation, Binding}
+use Rattle.pli_coding.specs.Frames.{fixed_size, parameters_in}
+use Rattle.pli_coding.specs.Images.{linked_code, place_of_head}
+use Rattle.pli_coding.specs.Locating.{table_number}
+use Rattle.pli_coding.specs.Registers.{held_registers}
+use Rattle.pli_coding.specs.Statements.{block_held}
+use Rattle.activation_relation.specs.Chains.{HasParent, UnitPlaces}
+use Rattle.activation_relation.specs.Layers.{Layer, Point}
+use Rattle.activation_relation.specs.Points.{Surroundings}
+use Rattle.program_places.specs.Programs.{IsLoadable, IsMain, Run, body_for, code_for, environment_for, image_for}
+use Rattle.program_places.specs.Programs.{procedure_for, whole_for}
+use Rattle.program_places.specs.Programs as Placed
+use Rattle.program_places.proofs.Found.{known}
+use Rattle.program_places.proofs.Starts.{main_found}
+use Rattle.program_runs.specs.Calls.{Callee, begun_at, block_at}
+use Rattle.program_runs.specs.Procedures.{HasRoom, layer_for}
+use Rattle.program_runs.specs.Programs.{main_of}
+use Rattle.program_runs.specs.Starts.{image_parts, no_numbers, start_point, surroundings_of}
+use Rattle.program_runs.specs.Statements.{Block, IsBegun}
+use Rattle.program_runs.specs.Variables.{Declared, generation_for}
+use Rattle.expression_runs.specs.Variables.{IsNumber, Spot, number_declared, variable_of}
+use Rattle.variable_runs.specs.Lists.{AreAll, all_made, behind_made, layer_after, layer_behind}
+use Rattle.well_formed_trees.specs.WellFormed.{HasMain}
+use Rattle.number_runs.specs.Numbers.{has_none, is_known, is_place, is_plain_if}
+use Rattle.number_runs.specs.Statements.{statements_need}
+use Rattle.number_runs.specs.Variables.{HasWords, HaveRoom, IsOwnWord, words_in}
+use Rattle.number_runs.proofs.Words.{all_words, own_word, room_behind, room_fewer}
+use Rattle.number_headlines.specs.Programs.{are_all_plain, body_of, has_result, most_words}
+use Rattle.number_headlines.proofs.Mains.{made_for, procedure_is, spare}
+use Rattle.number_headlines.proofs.Tables.{block_plain, has_table}
+use Rattle.unit_numbers.specs.Programs.{are_apart, are_steps, has_unit_main, is_unit_body}
+use Rattle.unit_numbers.specs.Units.{own_scope}
+use Rattle.unit_numbers.proofs.Places.{units_of}
+use Rattle.unit_numbers.proofs.Takes.{behind_variables, steps_taken}
+
+-- its program, with what the class says of it
+pub record Main (program : Y.Program) : Type 0 where
+  pub head : Y.BlockHead
+  pub body : Y.Stmts
+  pub others : List Y.Procedure
+  pub main : IsMain program (record { head = head; body = body; others = others })
+  pub plain : are_all_plain program.variables ≡ true
+  pub loadable : IsLoadable program
+  pub steps : are_steps program head (labels_in body) body ≡ true
+  pub apart : are_apart body ≡ true
+  pub fits : statements_need body ≤ held_registers
+
+-- as it is placed
+abbrev pub placed : {program : Y.Program} → Main program → Placed.Main
+placed m = record { head = m.head; body = m.body; others = m.others }
+
+pub main_is :
+    (program : Y.Program) (ps : List Y.Procedure) → program.procedures ≡ ps →
+    are_all_plain program.variables ≡ true → IsLoadable program → has_unit_main program ps ≡ true → Main program
+main_is program [] e plain load h = absurd (cc h)
+main_is program (p ∷ ps) e plain load h =
+    let head = head_of p.block in
+    let body = body_of p.block in
+    let inner = is_unit_body program head body in
+    let fits = nat_le (statements_need body) held_registers in
+    let a = and_parts (has_none p.parameters) (has_result false p.result && inner) h in
+    let b = and_parts (has_result false p.result) inner a.1 in
+    let c = and_parts (are_steps program head (labels_in body) body) (are_apart body && fits) b.1 in
+    let d = and_parts (are_apart body) fits c.1 in
+    record {
+      head = head;
+      body = body;
+      others = ps;
+      main = e ∙ ap (λ x. x ∷ ps) (procedure_is false p a.0 b.0);
+      plain = plain;
+      loadable = load;
+      steps = c.0;
+      apart = d.0;
+      fits = leb-true (statements_need body) held_registers d.1;
+    }
+
+-- ---- in a run
+
+-- with the units of its main procedure
+abbrev pub units_for : {program : Y.Program} → Main program → UnitPlaces
+units_for {program} m = units_of (environment_for program m.head) m.body (body_for program m.head m.body)
+
+abbrev pub run_for : {program : Y.Program} → Main program → (input : List ℕ) → (acts : ℕ) → Run
+run_for m input acts = record { units = units_for m; input = input; acts = acts; serials = most_words }
+
+abbrev pub surroundings_for : {program : Y.Program} → Main program → (input : List ℕ) → (acts : ℕ) → Surroundings
+surroundings_for {program} m input acts = surroundings_of (image_for program (run_for m input acts))
+
+abbrev pub start_for : {program : Y.Program} → Main program → (input : List ℕ) → (acts : ℕ) → Point
+start_for {program} m input acts = start_point (image_for program (run_for m input acts))
+
+abbrev pub main_for : {program : Y.Program} → Main program → (input : List ℕ) → (acts : ℕ) → Callee
+main_for {program} m input acts =
+    main_of (whole_for program (placed m) (run_for m input acts) (made_for program m.head))
+
+pub level_of : {program : Y.Program} (m : Main program) → m.head.level ≡ 0
+level_of {program} m = (subst HasMain m.main m.loadable.well_formed.main).0
+
+no_words : {program : Y.Program} (m : Main program) → (procedure_for program m.head m.body).words ≡ 0
+no_words {program} m =
+    let plain = block_plain program.variables m.head.number m.plain in
+    (behind_variables (own_scope program m.head m.head.level) program m.head.number (statements_need m.body) m.body
+    plain.0 (steps_taken program m.head (labels_in m.body) m.body m.steps m.fits)).words
+
+-- it saves as many registers as they take
+pub main_held :
+    {program : Y.Program} (m : Main program) →
+    statements_need m.body ≤ block_held (environment_for program m.head) m.head.number m.body
+main_held {program} m =
+    let plain = block_plain program.variables m.head.number m.plain in
+    let s = own_scope program m.head m.head.level in
+    let n = (behind_variables s program m.head.number (statements_need m.body) m.body plain.0
+    (steps_taken program m.head (labels_in m.body) m.body m.steps m.fits)).registers in
+    let fits = m.fits in
+    omega (arith, n, fits)
+
+parented : (level parent : ℕ) → level ≡ 0 → HasParent level parent []
+parented level parent e = subst (λ n. HasParent n parent []) (sym e) tt
+
+pub main_room :
+    {program : Y.Program} (m : Main program) (input : List ℕ) (acts : ℕ) →
+    HasRoom (surroundings_for m input acts)
+    (start_for m input acts) (procedure_for program m.head m.body)
+    (main_for m input acts).calling
+main_room {program} m input acts =
+    let words = no_words m in
+    let level = level_of m in
+    record {
+      room = omega (arith, words, level);
+      shallow = refl;
+      parent = parented m.head.level 0 level;
+      idle = refl;
+    }
+
+abbrev pub main_layer : {program : Y.Program} → Main program → (input : List ℕ) → (acts : ℕ) → Layer
+main_layer {program} m input acts =
+    layer_for (surroundings_for m input acts)
+    (start_for m input acts) no_numbers (procedure_for program m.head m.body)
+    (main_for m input acts).calling
+
+abbrev pub main_begun : {program : Y.Program} → Main program → (input : List ℕ) → (acts : ℕ) → Point
+main_begun {program} m input acts =
+    begun_at (surroundings_for m input acts)
+    (main_for m input acts)
+    (start_for m input acts) no_numbers
+
+pub main_spare :
+    {program : Y.Program} (m : Main program) (input : List ℕ) (acts : ℕ) →
+    HaveRoom (surroundings_for m input acts) (main_begun m input acts)
+    (main_layer m input acts) [] (fixed_size m.head.level 0)
+    (length (variables_of_block program m.head.number) + spare)
+main_spare {program} m input acts =
+    let words = no_words m in
+    let level = level_of m in
+    let few = (block_plain program.variables m.head.number m.plain).1 in
+    let code = m.loadable.fits in
+    record {
+      newest = refl;
+      here = refl;
+      even = omega (arith, words, level);
+      counted = omega (arith, level, few);
+      fits = omega (arith, words, level, few);
+      low = omega (arith, code);
+      limit = omega (arith, few);
+    }
+
+pub main_words :
+    {program : Y.Program} (m : Main program) (input : List ℕ) (acts : ℕ) →
+    HasWords (surroundings_for m input acts)
+    (main_for m input acts)
+    (start_for m input acts) no_numbers
+main_words {program} m input acts =
+    let found = main_found program (placed m) m.main in
+    let kind = (known program m.head m.body None m.loadable.well_formed found).kind in
+    let plain = block_plain program.variables m.head.number m.plain in
+    let table = has_table program m.head.number m.plain in
+    let n = length (variables_of_block program m.head.number) in
+    record {
+      kind = kind;
+      code = refl;
+      block = refl;
+      level = refl;
+      program = refl;
+      parts = refl;
+      bare = ap parameters_in found;
+      made = refl;
+      plain = plain.0;
+      few = plain.1;
+      small = table.small;
+      shape = table.shape;
+      room = room_fewer (surroundings_for m input acts) (main_begun m input acts)
+          (main_layer m input acts) [] (fixed_size m.head.level 0) n (n + spare) (omega arith)
+          (main_spare m input acts);
+    }
+
+pub main_all :
+    {program : Y.Program} (m : Main program) (input : List ℕ) (acts : ℕ) →
+    AreAll (surroundings_for m input acts)
+    (main_for m input acts)
+    (start_for m input acts) no_numbers (words_in (environment_for program m.head))
+main_all {program} m input acts =
+    all_words (surroundings_for m input acts)
+    (main_for m input acts)
+    (start_for m input acts) no_numbers (main_words m input acts)
+
+abbrev pub block_for : {program : Y.Program} → Main program → (input : List ℕ) → (acts : ℕ) → Block
+block_for {program} m input acts =
+    block_at (surroundings_for m input acts) (linked_code (code_for program))
+    (main_for m input acts)
+    (start_for m input acts) no_numbers
+
+pub own_known :
+    {program : Y.Program} (m : Main program) (input : List ℕ) (acts : ℕ) (x : Spot) →
+    is_known (own_scope program m.head m.head.level) x ≡ true →
+    IsOwnWord (main_for m input acts) x
+own_known {program} m input acts x h =
+    let plain = is_plain_if (declared_variable program (variable_of x)) in
+    let a = and_parts (is_place x (place_of_head m.head) || false) plain h in
+    let b = and_parts (x.block == m.head.number) (x.level == m.head.level)
+    (one (is_place x (place_of_head m.head)) a.0) in
+    record {
+      block = eqb-true x.block m.head.number b.0;
+      level = eqb-true x.level m.head.level b.1;
+      plain = a.1;
+    }
+  where
+    one : (q : Bool) → (q || false) ≡ true → q ≡ true
+    one true e = refl
+    one false e = absurd (cc e)
+
+abbrev pub most_for : Y.Program → ℕ
+most_for program = length (linked_code (code_for program)) + 2
+
+-- each variable that the main procedure may name is a number of its block
+pub main_number :
+    {program : Y.Program} (m : Main program) (input : List ℕ) (acts : ℕ) (x : Spot) →
+    IsOwnWord (main_for m input acts) x → IsBegun (block_for m input acts) → IsNumber (block_for m input acts) x
+main_number {program} m input acts x own b =
+    own_word (surroundings_for m input acts) (linked_code (code_for program)) (main_for m input acts)
+    (start_for m input acts) (start_for m input acts) no_numbers x
+    (record { high = omega arith; inside = omega arith }) (main_words m input acts, main_all m input acts) own b
+
+-- ---- where units are raised in it
+
+-- the one activation, with the variables that it has by then
+abbrev pub lone : (level : ℕ) → List Binding → List Activation
+lone level bindings =
+    record { height = 1; level = level; parent = 0; oncode = 0; bindings = bindings; units = [] } ∷ []
+
+pub record Lone (level : ℕ) (as' : List Activation) : Type 0 where
+  pub bindings : List Binding
+  pub is : as' ≡ lone level bindings
+
+made_lone :
+    (level : ℕ) (φ : Layer) (xs : List Declared) (p : Point) → Lone level p.state.activations →
+    Lone level (all_made image_parts φ xs p).state.activations
+made_lone level φ [] p h = h
+made_lone level φ (x ∷ xs) p h =
+    let b : Binding = record {
+      variable = x.index;
+      name = VariableName (p.state.serials + 1);
+      shape = (generation_for x).shape;
+    } in
+    made_lone level (layer_behind image_parts (p.state.serials + 1) φ x) xs (behind_made image_parts φ x p)
+    (record { bindings = b ∷ h.bindings; is = ap (λ as'. with_binding b as') h.is })
+
+pub main_lone :
+    {program : Y.Program} (m : Main program) (input : List ℕ) (acts : ℕ) →
+    Lone m.head.level (block_for m input acts).first.state.activations
+main_lone {program} m input acts =
+    made_lone m.head.level (main_layer m input acts) (words_in (environment_for program m.head))
+    (main_begun m input acts)
+    (record { bindings = []; is = refl })
+
+-- the layer behind its variables, with what stays free
+abbrev pub layer_behind_all : {program : Y.Program} → Main program → (input : List ℕ) → (acts : ℕ) → Layer
+layer_behind_all {program} m input acts =
+    layer_after image_parts ((main_begun m input acts).state.serials + 1) (main_layer m input acts)
+    (words_in (environment_for program m.head))
+
+pub free :
+    {program : Y.Program} (m : Main program) (input : List ℕ) (acts : ℕ) →
+    HaveRoom (surroundings_for m input acts)
+    (all_made image_parts (main_layer m input acts) (words_in (environment_for program m.head))
+    (main_begun m input acts))
+    (layer_behind_all m input acts) []
+    (fixed_size m.head.level 0 + 32 * length (variables_of_block program m.head.number)) spare
+free {program} m input acts =
+    room_behind (surroundings_for m input acts) (main_begun m input acts) (main_layer m input acts) []
+    (table_number (environment_for program m.head) (number_declared [])) (fixed_size m.head.level 0) 0 spare
+    (variables_of_block program m.head.number) (main_spare m input acts)

@@ -1,0 +1,101 @@
+-- What a jump out of a unit finds of the main procedure: its stacks, its frame's end and the registers that it saves.
+use Rattle.std.proofs.Common.{◌≡◌, ℕ, ◌+◌, ◌*◌, ◌≤◌, List, [], ◌∷◌, length}
+use Rattle.std.proofs.Common.{true, refl, ap, ◌∙◌, arith}
+use Rattle.std.specs.Prelude.{min}
+use Rattle.std.proofs.Common.{Some, None}
+use Rattle.std.specs.Prelude.{cond}
+use Rattle.std.proofs.lemmas.Bool.{and_parts, eq-eqb}
+use Rattle.pli_typing.specs.TypedTree as Y
+use Rattle.pli_meaning.specs.Control.{Label, is_among}
+use Rattle.pli_meaning.specs.DeclaredShapes.{variables_of_block}
+use Rattle.pli_meaning.specs.Executing.{labels_in}
+use Rattle.pli_meaning.specs.StorageState.{Activation, Binding, ancestor, height_of, newest_height}
+use Rattle.pli_coding.specs.Frames.{MemoryParts, fixed_size, frame_bytes, frame_end, last_place, parameters_of_block}
+use Rattle.pli_coding.specs.Frames.{variable_place}
+use Rattle.pli_coding.specs.Registers.{held_registers}
+use Rattle.pli_coding.specs.Statements.{block_held, stmts_held}
+use Rattle.activation_relation.specs.Frames.{frame_under, upper_top}
+use Rattle.activation_relation.specs.Layers.{Layer, Point}
+use Rattle.program_places.specs.Programs.{environment_for}
+use Rattle.program_runs.specs.Starts.{image_parts}
+use Rattle.program_runs.specs.Variables.{Declared}
+use Rattle.variable_runs.specs.Lists.{all_made, behind_made, layer_behind}
+use Rattle.number_runs.specs.Numbers.{is_plain}
+use Rattle.number_runs.specs.Variables.{are_plain}
+use Rattle.number_runs.proofs.Variables.{plain_is}
+use Rattle.number_headlines.proofs.Tables.{block_plain}
+use Rattle.unit_numbers.proofs.Mains.{Main, block_for, free, lone, main_spare, main_words}
+
+-- ---- its activation
+
+pub lone_own :
+    (level : ℕ) (bs : List Binding) →
+    height_of (ancestor (lone level bs) (newest_height (lone level bs)) level) ≡ 1
+lone_own level bs = ap (λ q. height_of (cond q (Some one) None)) (eq-eqb level level refl)
+  where
+    one : Activation
+    one = record { height = 1; level = level; parent = 0; oncode = 0; bindings = bs; units = [] }
+
+-- ---- stacks, while variables are made
+
+pub record HasStacks (p q : Point) : Type 0 where
+  pub entries : q.control.entries ≡ p.control.entries
+  pub edits : q.control.edits ≡ p.control.edits
+
+pub made_stacks :
+    (φ : Layer) (xs : List Declared) (p : Point) → HasStacks p (all_made image_parts φ xs p)
+made_stacks φ [] p = record { entries = refl; edits = refl }
+made_stacks φ (x ∷ xs) p =
+    let h = made_stacks (layer_behind image_parts (p.state.serials + 1) φ x) xs (behind_made image_parts φ x p) in
+    record { entries = h.entries; edits = h.edits }
+
+-- ---- where its frame ends
+
+end_place :
+    (parts : MemoryParts) (at : ℕ) (ds : List Y.DeclaredVariable) → are_plain ds ≡ true →
+    at + 32 * length ds ≤ last_place → variable_place parts at ds (length ds) ≡ at + 32 * length ds
+end_place parts at [] h fits = omega arith
+end_place parts at (d ∷ ds) h fits =
+    let a = and_parts (is_plain d) (are_plain ds) h in
+    let next' : min last_place (at + frame_bytes parts d) ≡ at + 32 =
+    ap (λ d'. min last_place (at + frame_bytes parts d')) (plain_is d a.0) ∙ omega (arith, fits) in
+    let rest = end_place parts (at + 32) ds a.1 (omega (arith, fits)) in
+    ap (λ n. variable_place parts n ds (length ds)) next' ∙ rest ∙ omega arith
+
+pub main_top :
+    {program : Y.Program} (m : Main program) (input : List ℕ) (acts : ℕ) →
+    upper_top image_parts (block_for m input acts).first.control.layers
+    ≡ frame_under image_parts (block_for m input acts).first.control.layers
+    + frame_end image_parts program m.head.number m.head.level
+main_top {program} m input acts =
+    let f = free m input acts in
+    let ds = variables_of_block program m.head.number in
+    let first = fixed_size m.head.level 0 in
+    let top = ap (λ ls. upper_top image_parts ls) f.newest in
+    let frame = ap (λ ls. frame_under image_parts ls) f.newest in
+    let here = f.here in
+    let counted = (main_spare m input acts).counted in
+    let plain = (block_plain program.variables m.head.number m.plain).0 in
+    let start : fixed_size m.head.level (length (parameters_of_block program m.head.number)) ≡ first =
+    ap (λ (ns : List ℕ). fixed_size m.head.level (length ns)) (main_words m input acts).bare in
+    let end : frame_end image_parts program m.head.number m.head.level ≡ first + 32 * length ds =
+    ap (λ n. variable_place image_parts n ds (length ds)) start
+    ∙ end_place image_parts first ds plain (omega (arith, counted)) in
+    omega (arith, top, frame, here, end)
+
+-- ---- the registers that it saves: all of them where its list has a label
+
+labels_saved :
+    (program : Y.Program) (label : Label) (body : Y.Stmts) → is_among label (labels_in body) ≡ true →
+    held_registers ≤ stmts_held program body
+labels_saved program label (Y.EndOfList []) e = absurd (cc e)
+labels_saved program label (Y.EndOfList (l ∷ ls)) e = omega arith
+labels_saved program label (Y.StmtThen [] first rest) e =
+    let h = labels_saved program label rest e in
+    omega (arith, h)
+labels_saved program label (Y.StmtThen (l ∷ ls) first rest) e = omega arith
+
+pub main_saves :
+    {program : Y.Program} (m : Main program) (label : Label) → is_among label (labels_in m.body) ≡ true →
+    held_registers ≤ block_held (environment_for program m.head) m.head.number m.body
+main_saves {program} m label e = let h = labels_saved program label m.body e in omega (arith, h)

@@ -1,0 +1,99 @@
+-- A unit of the main procedure: what the class says of it, and what of its frame.
+use Rattle.std.proofs.Common.{◌≡◌, ◌⊎◌, inl, inr, ◌^◌, ◌<◌, ◌≤◌, List, [], ◌∷◌, true, false, refl}
+use Rattle.std.proofs.Common.{ap, ◌∙◌}
+use Rattle.std.specs.Prelude.{◌&&◌, ◌==◌, nat_le}
+use Rattle.std.proofs.lemmas.Bool.{and_parts, eqb-true, leb-true, ltb-true}
+use Rattle.pli_language.specs.declared.condition.Condition.{Condition}
+use Rattle.pli_language.specs.declared.condition.Condition.TheVariants as C
+use Rattle.pli_typing.specs.TypedTree as Y
+use Rattle.pli_meaning.specs.Control.{Label}
+use Rattle.pli_meaning.specs.DeclaredShapes.{variables_of_block}
+use Rattle.pli_meaning.specs.Executing.{labels_in}
+use Rattle.pli_coding.specs.Entries.{variables_made}
+use Rattle.pli_coding.specs.Environments.{Environment}
+use Rattle.pli_coding.specs.Registers.{held_registers}
+use Rattle.pli_coding.specs.Statements.{unit_environment, unit_variables}
+use Rattle.unit_runs.specs.Establishing.{OnUnit}
+use Rattle.number_runs.specs.Numbers.{has_none}
+use Rattle.number_runs.specs.Statements.{are_statements, is_line, statements_need}
+use Rattle.unit_numbers.specs.Units.{are_still, is_bare, is_overflow, is_unit, is_unit_list, own_scope}
+
+abbrev pub IsBare : Y.Program → Y.BlockHead → Type 0
+IsBare program head =
+    (head.kind ≡ Y.SimpleUnit)
+    ⊎ ((head.kind ≡ Y.UnitBlock) × (variables_of_block program head.number ≡ []))
+
+pub record Unit' (program : Y.Program) (main : Y.BlockHead) (labels : List Label) (x : OnUnit) : Type 0 where
+  pub condition : x.condition ≡ C.FixedOverflow
+  pub line : x.line < 2 ^ 31
+  pub begins : x.head.line < 2 ^ 31
+  pub level : x.head.level ≡ 1
+  pub later : main.number ≤ x.head.number
+  pub bare : IsBare program x.head
+  pub statements : are_statements (own_scope program main main.level) false labels x.body ≡ true
+  pub fits : statements_need x.body ≤ held_registers
+  pub unlabelled : labels_in x.body ≡ []
+  pub still : are_still x.body ≡ true
+
+overflow_is : (c : Condition) → is_overflow c ≡ true → c ≡ C.FixedOverflow
+overflow_is C.FixedOverflow h = refl
+overflow_is C.Area h = absurd (cc h)
+overflow_is C.ZeroDivide h = absurd (cc h)
+overflow_is C.Endfile h = absurd (cc h)
+overflow_is C.Error h = absurd (cc h)
+
+pub none_of : {A : Type 0} (xs : List A) → has_none xs ≡ true → xs ≡ []
+none_of [] h = refl
+none_of (x ∷ xs) h = absurd (cc h)
+
+bare_is :
+    (program : Y.Program) (head : Y.BlockHead) (kind : Y.BlockKind) → head.kind ≡ kind →
+    is_bare program head kind ≡ true → IsBare program head
+bare_is program head Y.SimpleUnit e h = inl e
+bare_is program head Y.UnitBlock e h = inr (e, none_of (variables_of_block program head.number) h)
+bare_is program head Y.BeginBlock e h = absurd (cc h)
+bare_is program head Y.ProcedureBlock e h = absurd (cc h)
+
+pub unit_is :
+    (program : Y.Program) (main : Y.BlockHead) (labels : List Label) (x : OnUnit) →
+    is_unit program main labels x ≡ true → Unit' program main labels x
+unit_is program main labels x h =
+    let s = own_scope program main main.level in
+    let fits = nat_le (statements_need x.body) held_registers in
+    let bare = is_bare program x.head x.head.kind in
+    let none = has_none (labels_in x.body) in
+    let five = bare && is_unit_list program main labels x.body in
+    let four = nat_le main.number x.head.number && five in
+    let three = (x.head.level == 1) && four in
+    let two = is_line x.head.line && three in
+    let a = and_parts (is_overflow x.condition) (is_line x.line && two) h in
+    let b = and_parts (is_line x.line) two a.1 in
+    let c = and_parts (is_line x.head.line) three b.1 in
+    let d = and_parts (x.head.level == 1) four c.1 in
+    let e = and_parts (nat_le main.number x.head.number) five d.1 in
+    let f = and_parts bare (is_unit_list program main labels x.body) e.1 in
+    let g = and_parts (are_statements s false labels x.body) (fits && (none && are_still x.body)) f.1 in
+    let i = and_parts fits (none && are_still x.body) g.1 in
+    let j = and_parts none (are_still x.body) i.1 in
+    record {
+      condition = overflow_is x.condition a.0;
+      line = ltb-true x.line (2 ^ 31) b.0;
+      begins = ltb-true x.head.line (2 ^ 31) c.0;
+      level = eqb-true x.head.level 1 d.0;
+      later = leb-true main.number x.head.number e.0;
+      bare = bare_is program x.head x.head.kind refl f.0;
+      statements = g.0;
+      fits = leb-true (statements_need x.body) held_registers i.0;
+      unlabelled = none_of (labels_in x.body) j.0;
+      still = j.1;
+    }
+
+-- it makes no variables
+pub none_coded :
+    (program : Y.Program) (e : Environment) (head : Y.BlockHead) → e.program ≡ program → IsBare program head →
+    unit_variables (unit_environment head e) head head.kind ≡ []
+none_coded program e head same (inl is) = ap (λ kind. unit_variables (unit_environment head e) head kind) is
+none_coded program e head same (inr is) =
+    ap (λ kind. unit_variables (unit_environment head e) head kind) is.0
+    ∙ ap (λ vs. variables_made (unit_environment head e) head.line 0 vs)
+    (ap (λ p. variables_of_block p head.number) same ∙ is.1)

@@ -1,0 +1,24 @@
+// Laws of the definitions: each function's contract is one law, and calling it does nothing.
+
+ghost use Rattle.unit_numbers.specs.Headlines.{UnitNumberHeadlinesKept};
+ghost use Rattle.unit_numbers.specs.Rows.{HealKept};
+
+use block_headlines::laws::unit_headlines_kept;
+use code_marks::laws::marked_once;
+use storage_relation::laws::table_differs;
+
+/// Each well-formed program of the class keeps the headline, if its image fits memory.
+pub fn unit_number_headlines_kept()
+    ensures { UnitNumberHeadlinesKept }
+{
+    marked_once();
+    table_differs();
+    unit_headlines_kept();
+}
+
+/// A worked row: a unit sets the variable whose sum overflows, a program of the class.
+pub fn heal_kept()
+    ensures { HealKept }
+{
+    unit_number_headlines_kept();
+}
