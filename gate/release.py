@@ -28,6 +28,12 @@ def release(crates, folder):
     os.chmod(os.path.join(folder, "pli"), 0o755)
 
 
+def stand_in(crates):
+    """Writes into release/ that its program stands in for one of today's sources; the status."""
+    replace(os.path.join(place.HERE, "release", "stands_in.sha256"), sources_of(crates))
+    return 0
+
+
 def is_released(crates):
     """Whether release/, where it is there, holds just what the sources make, or a program of earlier sources that
     says that it stands in for just these."""
