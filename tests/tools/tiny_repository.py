@@ -1,6 +1,5 @@
 """A tiny repository for tests/gate: six crates of a few lines each, the repository's own `check`, and a stub of rt."""
 
-import hashlib
 import os
 import re
 import shlex
@@ -143,11 +142,6 @@ class Repository:
         text = Path(self.top, name).read_text()
         assert old in text, f"{name} has no {old}"
         self.write(name, text.replace(old, new))
-
-    def sums(self):
-        """The sums that the program of release/ has its sources by, as those sources are now."""
-        files = [it.split()[1] for it in Path(self.top, "release", "sources.sha256").read_text().splitlines()]
-        return "".join(f"{hashlib.sha256(Path(self.top, it).read_bytes()).hexdigest()}  {it}\n" for it in files)
 
     def flip(self, name):
         """Changes the first byte of a file of the cache, in a file of its own: others may be links to the old one."""
