@@ -148,6 +148,7 @@ valued_ready once {program} m i input more call {p} {numbers} o b =
         functions = λ labels line n h. absurd (cc h);
         procedures = λ labels n line index h. absurd (cc h);
       };
+      puts = λ e. absurd (cc e);
       few = omega (arith, inside);
       room = omega arith;
       returns = λ e. absurd (cc e);

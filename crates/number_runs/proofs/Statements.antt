@@ -36,10 +36,12 @@ use Rattle.test_runs.proofs.Loops.{loop_does}
 use Rattle.number_runs.specs.Knowledge.{ArePlaced, AreStanding, IsReady, KnowsNumbers, Standing}
 use Rattle.number_runs.specs.Numbers.{Scope, is_fixed, is_number, is_test, is_variable, number_needs}
 use Rattle.number_runs.specs.Numbers.{test_needs}
+use Rattle.number_runs.specs.Puts.{is_put}
 use Rattle.number_runs.specs.Statements.{are_statements, is_line, is_statement, is_stored, statement_needs}
 use Rattle.number_runs.specs.Statements.{statements_need, stored_needs}
 use Rattle.number_runs.proofs.Expressions.{number_does, test_does}
 use Rattle.number_runs.proofs.Labels.{placed_with}
+use Rattle.number_runs.proofs.Puts.{put_statement_does}
 use Rattle.number_runs.proofs.Variables.{fixed_is, variable_is}
 
 -- a block, with all that is known around its statements
@@ -388,7 +390,17 @@ mutual
   statement_does h labels (Y.Allocate all line) index placed is fits at = absurd (cc is)
   statement_does h labels (Y.Free all line) index placed is fits at = absurd (cc is)
   statement_does h labels (Y.Get skip pairs line) index placed is fits at = absurd (cc is)
-  statement_does h labels (Y.Put skip pairs line) index placed is fits at = absurd (cc is)
+  statement_does h labels (Y.Put skip pairs line) index placed is fits at =
+      let a = and_parts (is_line line) (is_put h.scope skip pairs) is in
+      put_statement_does h.scope h.block labels skip pairs line index h.left' h.most a.1
+      (record {
+        act = act_of h line a.0;
+        registers = fits;
+        held = h.ready.held;
+        statement = at.linked;
+        paid = paid_for h (Y.Put skip pairs line) index at.linked;
+        knows = h.ready.puts;
+      })
 
   pub statements_do :
       (h : Home) (labels : List Label) (body : Y.Stmts) (index : ℕ) → PlacedIn h labels →

@@ -1,18 +1,22 @@
 -- What is known around the expressions and the statements of such a block.
 use Rattle.std.specs.Prelude.{ℕ, ◌+◌, ◌*◌, ◌^◌, ◌<◌, ◌≤◌, ◌≡◌, Bool, false, true, List, length, Some}
 use Rattle.pli_language.specs.declared.condition.Condition.TheVariants as C
+use Rattle.pli_language.specs.Tree as T
 use Rattle.pli_typing.specs.Signatures.{Fixed}
 use Rattle.pli_typing.specs.TypedTree as Y
 use Rattle.pli_meaning.specs.Control.{Label, is_among}
 use Rattle.pli_meaning.specs.StorageState.{force}
+use Rattle.pli_serving.specs.ServiceState.{EditPlace}
 use Rattle.pli_coding.specs.Assembly.{ReturnPlace}
 use Rattle.pli_coding.specs.Environments.{BlockOwner, block_around, none_taken}
 use Rattle.pli_coding.specs.Frames.{result}
 use Rattle.pli_coding.specs.Linking.{Links, place_of}
 use Rattle.pli_coding.specs.Registers.{held_registers}
 use Rattle.pli_coding.specs.Statements.{stmt_code, stmts_code}
+use Rattle.pli_coding.specs.StaticForms.{formats_datum}
 use Rattle.activation_relation.specs.Landing.{is_begin}
 use Rattle.activation_relation.specs.ServiceLaws.{IsSystem}
+use Rattle.run_steps.specs.DataNamed.{IsPlaced}
 use Rattle.run_steps.specs.Engine.{most_code}
 use Rattle.run_steps.specs.Items.{Linked}
 use Rattle.program_runs.specs.Statements.{Block, Does, IsBegun, IsOwn}
@@ -22,9 +26,12 @@ use Rattle.expression_runs.specs.Raises.{Routines}
 use Rattle.expression_runs.specs.Values.{OverflowComes, Setting}
 use Rattle.expression_runs.specs.Variables.{IsNumber, Spot}
 use Rattle.operator_runs.specs.Divisors.{ZeroDivideComes}
+use Rattle.text_runs.specs.Texts.{ErrorComes}
+use Rattle.edit_runs.specs.Edits.{KnowsFormats, within}
 use Rattle.program_places.specs.Laws.{IsLabel}
 use Rattle.program_places.specs.Placed.{Placed}
 use Rattle.number_runs.specs.Numbers.{Scope, is_known}
+use Rattle.number_runs.specs.Puts.{is_fixed_list, without_calls}
 
 -- ---- around expressions
 
@@ -39,6 +46,19 @@ pub record KnowsNumbers (s : Scope) (k : Setting) : Type 0 where
   pub divisor : ZeroDivideComes k
   pub variables : (x : Spot) → is_known s x ≡ true → IsNumber k.block x
   pub functions : (n : ℕ) → s.is_function n ≡ true → L.Does k 0 (call_number s n)
+
+-- around what is written it is known while a place in a format list is in use; an ERROR there comes to what it means;
+-- and each list that static data have is known
+pub record KnowsPuts (s : Scope) (k : Block) (most : ℕ) : Type 0 where
+  pub numbers :
+      (place : EditPlace) (labels : List Label) (line : ℕ) →
+      KnowsNumbers (without_calls s) (within place (setting_of k labels line most))
+  pub error :
+      (place : EditPlace) (labels : List Label) (line : ℕ) →
+      ErrorComes (List ℕ) (within place (setting_of k labels line most))
+  pub lists :
+      (fs : T.Formats) → is_fixed_list fs ≡ true →
+      IsPlaced (formats_datum fs) k.call.surroundings.links.data' → KnowsFormats k fs
 
 -- ---- around statements
 
@@ -102,6 +122,7 @@ pub record IsReady (s : Scope) (valued : Bool) (k : Block) (most left' : ℕ) : 
   pub unraised : IsUnraised k
   pub variables : (x : Spot) → is_known s x ≡ true → IsNumber k x
   pub calls : KnowsCalls s k most left'
+  pub puts : s.puts ≡ true → KnowsPuts s k most
   -- an act pays for a statement and for what a call in it needs
   pub few : 18 < most
   pub room : most ≤ length k.call.code + 2
