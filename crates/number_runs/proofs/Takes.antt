@@ -17,8 +17,8 @@ use Rattle.pli_coding.specs.Temporaries.{bit_takes, number_takes, numbers_take, 
 use Rattle.expression_runs.specs.Variables.{Spot, whole}
 use Rattle.number_runs.specs.Numbers.{Scope, are_numbers, is_number, is_test, is_variable, number_needs, numbers_need}
 use Rattle.number_runs.specs.Numbers.{is_fixed, is_plain, test_needs}
-use Rattle.number_runs.specs.Puts.{are_put_items, is_fixed_list, is_put, is_put_item, is_put_list, put_item_needs}
-use Rattle.number_runs.specs.Puts.{put_items_need, put_needs, without_calls}
+use Rattle.number_runs.specs.Puts.{are_put_items, is_fixed_list, is_put, is_put_item, is_put_list}
+use Rattle.number_runs.specs.Puts.{put_item_needs, put_items_need, put_needs, without_calls}
 use Rattle.number_runs.specs.Statements.{are_statements, is_line, is_statement, is_stored, statement_needs}
 use Rattle.number_runs.specs.Statements.{statements_need, stored_needs}
 use Rattle.number_runs.specs.Variables.{are_plain}
