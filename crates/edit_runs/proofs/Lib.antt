@@ -1,7 +1,6 @@
 pub mod Writing
 pub mod Skips
 pub mod Places
-pub mod Acts
 pub mod Items
 pub mod Puts
 pub mod SkipRows

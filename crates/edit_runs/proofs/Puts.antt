@@ -33,7 +33,8 @@ use Rattle.run_steps.specs.Bodies.{Known}
 use Rattle.run_steps.proofs.Bodies.{zero_is}
 use Rattle.run_steps.specs.Calls.{Calling}
 use Rattle.run_steps.proofs.Calls.{call_done, called}
-use Rattle.run_steps.specs.Engine.{Base, call_at}
+use Rattle.image_runs.specs.Runs.{Whole}
+use Rattle.run_steps.specs.Engine.{Base, address, call_at}
 use Rattle.run_steps.specs.Items.{At, Linked}
 use Rattle.run_steps.proofs.Items.{straight}
 use Rattle.run_steps.proofs.Jumps.{back_of, front_of}
@@ -46,9 +47,10 @@ use Rattle.run_steps.proofs.Reaching.{reach_moved}
 use Rattle.run_steps.specs.Temporaries.{nothing}
 use Rattle.block_runs.specs.Machines.{AreIn, acted}
 use Rattle.block_runs.proofs.BlockEntries.{small_is}
+use Rattle.block_runs.proofs.PointActs.{act_comes}
 use Rattle.block_runs.proofs.CallStatements.{comes_map}
 use Rattle.block_runs.proofs.PointGrounds.{in_known, known_in, point_frame, point_ground}
-use Rattle.program_runs.specs.Statements.{Block, IsAmong, JumpsTo, size_in, statement_aims}
+use Rattle.program_runs.specs.Statements.{Block, Does, IsAmong, JumpsTo, size_in, statement_aims}
 use Rattle.program_runs.proofs.JumpsOut.{jumps_later, jumps_repaid, jumps_since}
 use Rattle.program_runs.proofs.Statements.{acted_among, goes_here, statement_closed}
 use Rattle.program_runs.proofs.Waiting.{over_first}
@@ -57,10 +59,9 @@ use Rattle.expression_runs.specs.Assignments.{setting_of}
 use Rattle.expression_runs.specs.Values.{behind, number_aims}
 use Rattle.expression_runs.proofs.Words.{frame_of, known_word}
 use Rattle.text_runs.proofs.TextCalls.{Asking, asks}
-use Rattle.edit_runs.specs.Edits.{AreFixed, DoesWhere, HasFormats, IsPut, Item, ItemsDo, Put, placing, put_items}
+use Rattle.edit_runs.specs.Edits.{AreFixed, IsPut, Item, ItemsDo, KnowsFormats, Put, placing, put_items}
 use Rattle.edit_runs.specs.Edits.{put_of, putting, within}
 use Rattle.edit_runs.specs.Writing.{with_edits}
-use Rattle.edit_runs.proofs.Acts.{act_told, moved_at, told_ground}
 use Rattle.edit_runs.proofs.Items.{ArePut, HasLeft, Puts, item_code, item_coded, left_aims, left_closed}
 use Rattle.edit_runs.proofs.Items.{number_shown, setting_in, valued_comes, whole_in}
 use Rattle.edit_runs.proofs.Places.{edits_among, edits_in, jumps_down, over_place}
@@ -260,14 +261,12 @@ begun_point fs p = with_edits (putting (format_items fs) (format_items fs) ∷ p
 
 begin_reach :
     (k : Block) (fs : T.Formats) {p : Point} {numbers : ℕ → ℕ} {i : ℕ} (h : frame_of k p) (c : ℕ) (f : Family) →
-    Linked k.call.surroundings.links k.call.code i (edit_begun fs 1) →
-    ((b : Base) →
-    At b i (Known (told_ground k.call.surroundings p h (HasFormats k fs)) (services_of p) numbers (λ j. 0) nothing b)
-    (f b)) →
+    Linked k.call.surroundings.links k.call.code i (edit_begun fs 1) → KnowsFormats k fs → IsAmong k numbers p →
+    AreIn k.call.surroundings p numbers i f →
     Reach k.call.code c f (services_of p) (c + 5) (services_of (begun_point fs p))
     (λ b y. At b (i + 5) (Known (point_ground k.call.surroundings (begun_point fs p) h) (services_of (begun_point fs p))
     numbers (λ j. 0) nothing b) y)
-begin_reach k fs {p} {numbers} {i} h c f l at =
+begin_reach k fs {p} {numbers} {i} h c f l knows among there =
     let w = k.call.surroundings in
     let code = k.call.code in
     let place = place_of w.links (DataPlace (formats_datum fs)) in
@@ -276,12 +275,13 @@ begin_reach k fs {p} {numbers} {i} h c f l at =
     let v' = services_of q in
     let front = OffsetOf a0 (DataPlace (formats_datum fs)) ∷ small a1 1 ∷ small a7 34 ∷ [] in
     let last = Plain I.Ecall ∷ [] in
-    let told = HasFormats k fs in
+    let at : (b : Base) → At b i (Known (point_ground w p h) v numbers (λ j. 0) nothing b) (f b) =
+    λ b. known_in h (there b) tt in
     let asked : Base → List (ℕ × ℕ) = λ b. (10, place) ∷ (11, 1) ∷ (17, 34) ∷ [] in
-    let r1 = straight c f v v (λ b. Known (told_ground w p h told) v numbers (λ j. 0) asked b) (front_of front last l)
+    let r1 = straight c f v v (λ b. Known (point_ground w p h) v numbers (λ j. 0) asked b) (front_of front last l)
     (omega arith) (λ b. (at b).pc)
     (λ b. let o = (at b).holds in let z = zero_is o.body in (
-      o.body.memory.1.near,
+      (knows p numbers (f b).machine.memory among o.body.memory.storage).near,
       refl,
       record {
         body = record {
@@ -305,7 +305,7 @@ begin_reach k fs {p} {numbers} {i} h c f l at =
           let call = call_at code v (g b).machine.memory in
           called code (g b) v 34 place 1 (x 12) (x 13) (x 14) (λ c' x0 x1 x2 x3 x4. E.edit_begin_served c' x0 x1)
           o.body.services o.regs.1.1.0 o.regs.0 o.regs.1.0 refl refl refl (λ c' y. refl)
-          ∙ ap (λ o'. or_bad o' (E.edit_begun call place 1 Putting)) (o.body.memory.1.read v);
+          ∙ ap (λ o'. or_bad o' (E.edit_begun call place 1 Putting)) ((knows p numbers (g b).machine.memory among o.body.memory.storage).read v);
     } in
     reach_moved {i'' = i + 5} (omega arith) (omega arith)
     (reach_then r1
@@ -317,7 +317,7 @@ begin_reach k fs {p} {numbers} {i} h c f l at =
         services = refl;
         registers = o.registers;
         bytes = o.bytes;
-        memory = edits_in (putting (format_items fs) (format_items fs) ∷ p.control.edits) o.memory.0;
+        memory = edits_in (putting (format_items fs) (format_items fs) ∷ p.control.edits) o.memory;
       };
       regs = tt;
     })))
@@ -355,6 +355,9 @@ end_reach k {p} {numbers} h place below e c f l there =
     (λ b. known_in h (there b) (refl, (refl, (refl, tt))))
 
 -- ---- the statement
+
+moved_at : {P : Whole → Type 0} {n j : ℕ} (b : Base) (y : Whole) → n ≡ j → At b n P y → At b j P y
+moved_at b y e o = record { pc = o.pc ∙ ap (address b) e; holds = o.holds }
 
 abbrev puts_of : Block → List Label → (x : Put) → (need most first : ℕ) → (more : List FormatItem) → Puts
 puts_of k labels x need most first more =
@@ -397,8 +400,7 @@ ended_goes u left' acts' i j wanted {c} {f} {p} {numbers} rest over' o since few
 
 pub put_does :
     (k : Block) (labels : List Label) (x : Put) (index left' need most : ℕ) → IsPut k labels x index need most →
-    ItemsDo (setting_of k labels x.line most) need (x.first ∷ x.more) →
-    DoesWhere (HasFormats k x.formats) k labels (put_of x) index left'
+    ItemsDo (setting_of k labels x.line most) need (x.first ∷ x.more) → Does k labels (put_of x) index left'
 unfolding M.statement P.put P.pairs_put ◌>>◌ ◌>>=◌ give
 put_does k labels x index left' need most is does p numbers c wanted f o paid there =
     let w = k.call.surroundings in
@@ -442,12 +444,12 @@ put_does k labels x index left' need most is does p numbers c wanted f o paid th
     } in
     comes_owing debt (M.statement k.around (put_of x) w.acts p.state)
     (comes_on w.acts (act counted w.acts p.state) next1
-    (act_told {told = HasFormats k fs} (before_closed w.acts next1 closed) line (c + debt) 0 f h (o.stands, o.image)
+    (act_comes (before_closed w.acts next1 closed) line (c + debt) 0 f (o.stands, o.image)
     (is.act.line_fits, is.act.acts, omega (arith, paid, n0, n1, n2, n3)) (front_of one (pair ++ []) is.statement) there
     (λ g less at.
     let q = acted line p in
     let o' = acted_among line o less in
-    let r = begin_reach k fs h 0 g (front_of begun (items ++ edit_ended) l1) at in
+    let r = begin_reach k fs h 0 g (front_of begun (items ++ edit_ended) l1) is.known o' at in
     let whole = format_items fs in
     let place = putting whole whole in
     let q1 = begun_point fs q in

@@ -3,7 +3,6 @@ use Rattle.std.specs.Prelude.{ℕ, ◌+◌, ◌^◌, ◌<◌, ◌≤◌, ◌≡�
 use Rattle.pli_language.specs.Tree as T
 use Rattle.pli_typing.specs.TypedTree as Y
 use Rattle.pli_meaning.specs.Control.{Label}
-use Rattle.pli_meaning.specs.Executing.{statement}
 use Rattle.pli_meaning.specs.Streaming.{FormatItem, DataFormat, FixedItem, format_items}
 use Rattle.pli_serving.specs.FormatLists.{formats_at}
 use Rattle.pli_serving.specs.ServiceState.{EditPlace, Putting, Services}
@@ -14,13 +13,13 @@ use Rattle.pli_coding.specs.Registers.{held_registers}
 use Rattle.pli_coding.specs.Statements.{stmt_code}
 use Rattle.pli_coding.specs.StaticForms.{formats_datum}
 use Rattle.pli_coding.specs.Streams.{has_fixed, has_text}
-use Rattle.activation_relation.specs.Layers.{Point, services_of}
-use Rattle.run_steps.specs.Engine.{Base, call_at}
+use Rattle.storage_relation.specs.Served.{Holds}
+use Rattle.activation_relation.specs.Layers.{Point, now}
+use Rattle.run_steps.specs.Engine.{call_at}
 use Rattle.run_steps.specs.Items.{Linked}
-use Rattle.run_steps.specs.Reach.{Comes, Family, cost}
-use Rattle.block_runs.specs.Machines.{IsIn}
+use Rattle.run_steps.specs.Reach.{cost}
 use Rattle.program_runs.specs.Calls.{Callee}
-use Rattle.program_runs.specs.Statements.{Block, HasAct, IsAmong, IsBegun, size_in, statement_aims}
+use Rattle.program_runs.specs.Statements.{Block, Does, HasAct, IsAmong, IsBegun, size_in}
 use Rattle.expression_runs.specs.Assignments.{setting_of}
 use Rattle.expression_runs.specs.Laws as L
 use Rattle.expression_runs.specs.Raises.{IsUnraised}
@@ -79,6 +78,11 @@ pub record HasFormats (k : Block) (fs : T.Formats) (m : List ℕ) : Type 0 where
       formats_at (call_at k.call.code v m) (place_of k.call.surroundings.links (DataPlace (formats_datum fs)))
       ≡ Some (format_items fs)
 
+-- the block knows the list: at each of its points, memory has it where the code of its statements looks for it
+abbrev pub KnowsFormats : Block → T.Formats → Type 0
+KnowsFormats k fs =
+    (p : Point) (numbers : ℕ → ℕ) (m : List ℕ) → IsAmong k numbers p → Holds (now p m) → HasFormats k fs m
+
 -- ---- the statement
 
 -- one of its numbers
@@ -103,6 +107,7 @@ put_of x = Y.Put None (record { items = put_items (x.first ∷ x.more); formats 
 pub record IsPut (k : Block) (labels : List Label) (x : Put) (index need most : ℕ) : Type 0 where
   pub act : HasAct k x.line
   pub formats : IsFixed x.formats
+  pub known : KnowsFormats k x.formats
   pub registers : need ≤ k.registers
   pub one : 1 ≤ k.registers
   pub held : k.registers ≤ held_registers
@@ -115,18 +120,7 @@ abbrev pub ItemsDo : Setting → (need : ℕ) → List Item → Type 0
 ItemsDo s need [] = ⊤
 ItemsDo s need (x ∷ xs) = ((place : EditPlace) → L.Does (within place s) need x.source) × ItemsDo s need xs
 
--- a statement does what it means at machines in whose memory something stands
-abbrev pub DoesWhere : (List ℕ → Type 0) → Block → List Label → Y.Stmt → (index left' : ℕ) → Type 0
-DoesWhere stands k labels stmt index left' =
-    (p : Point) (numbers : ℕ → ℕ) (credits wanted : ℕ) (f : Family) → IsAmong k numbers p →
-    credits + size_in k stmt ≤ cost k.call.code →
-    ((b : Base) → IsIn k.call.surroundings p numbers index b (f b) × stands (f b).machine.memory) →
-    Comes k.call.code credits f (services_of p)
-    (statement_aims k labels p.state.world.acts (index + size_in k stmt) wanted left')
-    (statement k.around stmt k.call.surroundings.acts p.state)
-
 abbrev pub PutsDo : Type 0
 PutsDo =
     (k : Block) (labels : List Label) (x : Put) (index left' need most : ℕ) → IsPut k labels x index need most →
-    ItemsDo (setting_of k labels x.line most) need (x.first ∷ x.more) →
-    DoesWhere (HasFormats k x.formats) k labels (put_of x) index left'
+    ItemsDo (setting_of k labels x.line most) need (x.first ∷ x.more) → Does k labels (put_of x) index left'

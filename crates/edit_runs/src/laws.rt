@@ -24,7 +24,7 @@ pub fn places_wait()
     ensures { PlacesWait }
 {}
 
-/// PUT EDIT of numbers by F does what it means, where the format list stands.
+/// PUT EDIT of numbers by F does what it means, in a block that knows the format list.
 pub fn puts_do()
     ensures { PutsDo }
 {}

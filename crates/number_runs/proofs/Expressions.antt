@@ -22,7 +22,7 @@ use Rattle.number_runs.specs.Numbers.{test_needs}
 use Rattle.number_runs.proofs.Variables.{variable_is}
 
 -- with more registers, too
-more_registers : (k : Setting) (m n : ℕ) (x : Y.Number) → m ≤ n → Does k m x → Does k n x
+pub more_registers : (k : Setting) (m n : ℕ) (x : Y.Number) → m ≤ n → Does k m x → Does k n x
 more_registers k m n x few does p numbers taken c index f o line room l paid there =
     let enough = room.0 in
     does p numbers taken c index f o line (omega (arith, enough, few), room.1) l paid there

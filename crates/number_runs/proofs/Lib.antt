@@ -2,5 +2,6 @@ pub mod Variables
 pub mod Words
 pub mod Takes
 pub mod Expressions
+pub mod Puts
 pub mod Labels
 pub mod Statements

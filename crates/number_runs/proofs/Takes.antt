@@ -1,7 +1,7 @@
 -- What the temporaries of the class take: as many registers as its expressions need, and no words of the frame.
 use Rattle.std.proofs.Common.{◌≡◌, ℕ, suc, ◌+◌, ◌<◌, ◌≤◌, List, [], ◌∷◌, ◌++◌, true, refl, sym, ap, ◌∙◌, subst}
-use Rattle.std.proofs.Common.{arith}
-use Rattle.std.specs.Prelude.{◌&&◌, ◌==◌, Bool, max, if◌then◌else◌}
+use Rattle.std.proofs.Common.{arith, None, Some}
+use Rattle.std.specs.Prelude.{◌&&◌, ◌==◌, Bool, max, Option, if◌then◌else◌}
 use Rattle.std.proofs.lemmas.Bool.{and_parts, lt-ltb}
 use Rattle.pli_typing.specs.TypedTree as Y
 use Rattle.pli_meaning.specs.Control.{Label}
@@ -12,10 +12,13 @@ use Rattle.pli_coding.specs.Environments.{Environment, Taken, most_taken, none_t
 use Rattle.pli_coding.specs.Registers.{held_registers}
 use Rattle.pli_coding.specs.Statements.{block_held, block_takes, block_words, stmt_takes, stmts_take}
 use Rattle.pli_coding.specs.Storing.{assigned_takes}
+use Rattle.pli_coding.specs.Streams.{put_item_takes, put_items_take, put_takes}
 use Rattle.pli_coding.specs.Temporaries.{bit_takes, number_takes, numbers_take, reference_takes, stored_takes}
 use Rattle.expression_runs.specs.Variables.{Spot, whole}
 use Rattle.number_runs.specs.Numbers.{Scope, are_numbers, is_number, is_test, is_variable, number_needs, numbers_need}
 use Rattle.number_runs.specs.Numbers.{is_fixed, is_plain, test_needs}
+use Rattle.number_runs.specs.Puts.{are_put_items, is_fixed_list, is_put, is_put_item, is_put_list}
+use Rattle.number_runs.specs.Puts.{put_item_needs, put_items_need, put_needs, without_calls}
 use Rattle.number_runs.specs.Statements.{are_statements, is_line, is_statement, is_stored, statement_needs}
 use Rattle.number_runs.specs.Statements.{statements_need, stored_needs}
 use Rattle.number_runs.specs.Variables.{are_plain}
@@ -198,6 +201,49 @@ assigned_taken s target (Y.StoredBit x) h g fits = absurd (cc g)
 assigned_taken s target (Y.StoredPointer x) h g fits = absurd (cc g)
 assigned_taken s target (Y.StoredOffset x) h g fits = absurd (cc g)
 
+put_item_taken :
+    (s : Scope) (i : Y.PutItem) → is_put_item s i ≡ true → put_item_needs i ≤ held_registers →
+    Takes (put_item_needs i) none_taken (put_item_takes none_taken i)
+put_item_taken s (Y.PutValue (Y.NumberValue precision x)) h fits =
+    takes_signed (number_needs x) none_taken (number_takes none_taken x) (omega arith)
+    (number_taken (without_calls s) x none_taken h (omega (arith, fits)))
+put_item_taken s (Y.PutValue (Y.TextValue x)) h fits = absurd (cc h)
+put_item_taken s (Y.PutValue (Y.BitValue x)) h fits = absurd (cc h)
+put_item_taken s (Y.PutValue (Y.PointerValue x)) h fits = absurd (cc h)
+put_item_taken s (Y.PutValue (Y.OffsetValue area x)) h fits = absurd (cc h)
+put_item_taken s (Y.PutValue Y.NullValue) h fits = absurd (cc h)
+put_item_taken s (Y.PutAggregate r) h fits = absurd (cc h)
+
+put_items_taken :
+    (s : Scope) (is : List Y.PutItem) → are_put_items s is ≡ true → put_items_need is ≤ held_registers →
+    Takes (put_items_need is) none_taken (put_items_take none_taken is)
+put_items_taken s [] h fits = takes_none none_taken
+put_items_taken s (i ∷ is) h fits =
+    let a = and_parts (is_put_item s i) (are_put_items s is) h in
+    takes_either (put_item_needs i) (put_items_need is) none_taken (put_item_takes none_taken i)
+    (put_items_take none_taken is) (put_item_taken s i a.0 (omega (arith, fits)))
+    (put_items_taken s is a.1 (omega (arith, fits)))
+
+put_list_taken :
+    (s : Scope) (is : List Y.PutItem) → is_put_list s is ≡ true → put_items_need is ≤ held_registers →
+    Takes (put_items_need is) none_taken (put_items_take none_taken is)
+put_list_taken s [] h fits = absurd (cc h)
+put_list_taken s (i ∷ is) h fits = put_items_taken s (i ∷ is) h fits
+
+put_taken :
+    (s : Scope) (skip : Option ℕ) (pairs : List Y.PutPair) → is_put s skip pairs ≡ true →
+    put_needs pairs ≤ held_registers → Takes (put_needs pairs) none_taken (put_takes none_taken pairs)
+put_taken s None [] h fits = absurd (cc h)
+put_taken s None (p ∷ []) h fits =
+    let a = and_parts s.puts (is_put_list s p.items && is_fixed_list p.formats) h in
+    takes_either (put_items_need p.items) 0 none_taken (put_items_take none_taken p.items) none_taken
+    (put_list_taken s p.items (and_parts (is_put_list s p.items) (is_fixed_list p.formats) a.1).0
+    (omega (arith, fits)))
+    (takes_none none_taken)
+put_taken s None (p ∷ q ∷ ps) h fits = absurd (cc h)
+put_taken s (Some lines) [] h fits = takes_none none_taken
+put_taken s (Some lines) (p ∷ ps) h fits = absurd (cc h)
+
 mutual
   statement_taken :
       (s : Scope) (valued : Bool) (labels : List Label) (x : Y.Stmt) → is_statement s valued labels x ≡ true →
@@ -263,7 +309,8 @@ mutual
   statement_taken s valued labels (Y.Allocate all line) h fits = absurd (cc h)
   statement_taken s valued labels (Y.Free all line) h fits = absurd (cc h)
   statement_taken s valued labels (Y.Get skip pairs line) h fits = absurd (cc h)
-  statement_taken s valued labels (Y.Put skip pairs line) h fits = absurd (cc h)
+  statement_taken s valued labels (Y.Put skip pairs line) h fits =
+      put_taken s skip pairs (and_parts (is_line line) (is_put s skip pairs) h).1 fits
 
   statements_taken :
       (s : Scope) (valued : Bool) (labels : List Label) (xs : Y.Stmts) → are_statements s valued labels xs ≡ true →

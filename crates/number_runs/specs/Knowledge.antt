@@ -1,18 +1,22 @@
 -- What is known around the expressions and the statements of such a block.
 use Rattle.std.specs.Prelude.{ℕ, ◌+◌, ◌*◌, ◌^◌, ◌<◌, ◌≤◌, ◌≡◌, Bool, false, true, List, length, Some}
 use Rattle.pli_language.specs.declared.condition.Condition.TheVariants as C
+use Rattle.pli_language.specs.Tree as T
 use Rattle.pli_typing.specs.Signatures.{Fixed}
 use Rattle.pli_typing.specs.TypedTree as Y
 use Rattle.pli_meaning.specs.Control.{Label, is_among}
 use Rattle.pli_meaning.specs.StorageState.{force}
+use Rattle.pli_serving.specs.ServiceState.{EditPlace}
 use Rattle.pli_coding.specs.Assembly.{ReturnPlace}
 use Rattle.pli_coding.specs.Environments.{BlockOwner, block_around, none_taken}
 use Rattle.pli_coding.specs.Frames.{result}
 use Rattle.pli_coding.specs.Linking.{Links, place_of}
 use Rattle.pli_coding.specs.Registers.{held_registers}
 use Rattle.pli_coding.specs.Statements.{stmt_code, stmts_code}
+use Rattle.pli_coding.specs.StaticForms.{formats_datum}
 use Rattle.activation_relation.specs.Landing.{is_begin}
 use Rattle.activation_relation.specs.ServiceLaws.{IsSystem}
+use Rattle.run_steps.specs.DataNamed.{IsPlaced}
 use Rattle.run_steps.specs.Engine.{most_code}
 use Rattle.run_steps.specs.Items.{Linked}
 use Rattle.program_runs.specs.Statements.{Block, Does, IsBegun, IsOwn}
@@ -22,9 +26,12 @@ use Rattle.expression_runs.specs.Raises.{Routines}
 use Rattle.expression_runs.specs.Values.{OverflowComes, Setting}
 use Rattle.expression_runs.specs.Variables.{IsNumber, Spot}
 use Rattle.operator_runs.specs.Divisors.{ZeroDivideComes}
+use Rattle.text_runs.specs.Texts.{ErrorComes}
+use Rattle.edit_runs.specs.Edits.{KnowsFormats, within}
 use Rattle.program_places.specs.Laws.{IsLabel}
 use Rattle.program_places.specs.Placed.{Placed}
 use Rattle.number_runs.specs.Numbers.{Scope, is_known}
+use Rattle.number_runs.specs.Puts.{is_fixed_list, without_calls}
 
 -- ---- around expressions
 
@@ -39,6 +46,19 @@ pub record KnowsNumbers (s : Scope) (k : Setting) : Type 0 where
   pub divisor : ZeroDivideComes k
   pub variables : (x : Spot) → is_known s x ≡ true → IsNumber k.block x
   pub functions : (n : ℕ) → s.is_function n ≡ true → L.Does k 0 (call_number s n)
+
+-- around what is written it is known while a place in a format list is in use; an ERROR there comes to what it means;
+-- and each list that static data have is known
+pub record KnowsPuts (s : Scope) (k : Block) (most : ℕ) : Type 0 where
+  pub numbers :
+      (place : EditPlace) (labels : List Label) (line : ℕ) →
+      KnowsNumbers (without_calls s) (within place (setting_of k labels line most))
+  pub error :
+      (place : EditPlace) (labels : List Label) (line : ℕ) →
+      ErrorComes (List ℕ) (within place (setting_of k labels line most))
+  pub lists :
+      (fs : T.Formats) → is_fixed_list fs ≡ true →
+      IsPlaced (formats_datum fs) k.call.surroundings.links.data' → KnowsFormats k fs
 
 -- ---- around statements
 
@@ -68,29 +88,48 @@ pub record IsValued (k : Block) (left' : ℕ) : Type 0 where
   pub saved : k.registers ≤ k.call.beginning.layer.saved
 
 -- no unit is in force for the conditions that numbers raise
-pub record IsUnraised (k : Block) : Type 0 where
+pub record IsUnraised (k : Block) (most : ℕ) : Type 0 where
   pub routines : Routines k.call.surroundings.links k.call.code
   pub overflow : IsSystem (force k.first.state.activations C.FixedOverflow)
   pub divisor : IsSystem (force k.first.state.activations C.ZeroDivide)
   pub error : IsSystem (force k.first.state.activations C.Error)
+  pub acts : k.call.surroundings.acts + 1 < 2 ^ 64
+  -- an act pays for what ends the run
+  pub few : 18 < most
+
+-- each list in a block carries the labels of the block's own list, too
+abbrev pub Includes : (own labels : List Label) → Type 0
+Includes own labels = (label : Label) → is_among label own ≡ true → is_among label labels ≡ true
+
+-- the lists around a statement have these labels
+pub record AreAround (k : Block) (own labels : List Label) : Type 0 where
+  pub at : ArePlaced k.call.surroundings.links k.environment.block labels
+  pub includes : Includes own labels
+
+-- raises in its statements come to what they mean, also where a unit goes on at a label of the block's own list
+pub record KnowsRaises (k : Block) (own : List Label) (most : ℕ) : Type 0 where
+  pub overflow :
+      (labels : List Label) (line : ℕ) → Includes own labels → OverflowComes (setting_of k labels line most)
+  pub divisor :
+      (labels : List Label) (line : ℕ) → Includes own labels → ZeroDivideComes (setting_of k labels line most)
 
 abbrev pub call_statement : Scope → (number line : ℕ) → Y.Stmt
 call_statement s n line = Y.CallProcedure (Y.Calling n s.level Y.NoArgument) line
 
 -- the calls that its statements may hold do what they mean; so many instructions come at most between a call in an
 -- expression and the first act of what is called
-pub record KnowsCalls (s : Scope) (k : Block) (most left' : ℕ) : Type 0 where
+pub record KnowsCalls (s : Scope) (k : Block) (own : List Label) (most left' : ℕ) : Type 0 where
   pub functions :
-      (labels : List Label) (line n : ℕ) → s.is_function n ≡ true →
+      (labels : List Label) (line n : ℕ) → Includes own labels → s.is_function n ≡ true →
       L.Does (setting_of k labels line most) 0 (call_number s n)
   pub procedures :
-      (labels : List Label) (n line index : ℕ) → s.is_procedure n ≡ true → line < 2 ^ 31 →
+      (labels : List Label) (n line index : ℕ) → Includes own labels → s.is_procedure n ≡ true → line < 2 ^ 31 →
       Linked k.call.surroundings.links k.call.code index
       (stmt_code k.environment none_taken (call_statement s n line)) →
       Does k labels (call_statement s n line) index left'
 
--- a procedure's or a function's own block
-pub record IsReady (s : Scope) (valued : Bool) (k : Block) (most left' : ℕ) : Type 0 where
+-- a procedure's or a function's own block, whose own list has these labels
+pub record IsReady (s : Scope) (valued : Bool) (k : Block) (labels : List Label) (most left' : ℕ) : Type 0 where
   pub begun : IsBegun k
   pub level : k.environment.level ≡ s.level
   pub own : k.environment.level ≡ k.call.beginning.layer.level
@@ -99,11 +138,11 @@ pub record IsReady (s : Scope) (valued : Bool) (k : Block) (most left' : ℕ) : 
   pub acts : k.call.surroundings.acts + 1 < 2 ^ 64
   pub turns : k.call.surroundings.acts ≤ k.around.turns
   pub held : k.registers ≤ held_registers
-  pub unraised : IsUnraised k
+  pub raises : KnowsRaises k labels most
   pub variables : (x : Spot) → is_known s x ≡ true → IsNumber k x
-  pub calls : KnowsCalls s k most left'
+  pub calls : KnowsCalls s k labels most left'
+  pub puts : s.puts ≡ true → KnowsPuts s k most
   -- an act pays for a statement and for what a call in it needs
-  pub few : 18 < most
   pub room : most ≤ length k.call.code + 2
   pub returns : valued ≡ false → IsOwn k left'
   pub values : valued ≡ true → IsValued k left'

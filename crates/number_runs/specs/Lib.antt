@@ -1,4 +1,5 @@
 pub mod Numbers
+pub mod Puts
 pub mod Statements
 pub mod Knowledge
 pub mod Variables

@@ -5,6 +5,7 @@ use Rattle.pli_meaning.specs.Control.{Label, is_among}
 use Rattle.pli_meaning.specs.Executing.{labels_in}
 use Rattle.number_runs.specs.Numbers.{Scope, is_fixed, is_number, is_test, is_variable, number_needs}
 use Rattle.number_runs.specs.Numbers.{test_needs}
+use Rattle.number_runs.specs.Puts.{is_put, put_needs}
 
 -- a line fits a register
 abbrev pub is_line : ℕ → Bool
@@ -42,6 +43,7 @@ abbrev mutual
   is_statement s valued labels (Y.Goto level label line) =
       is_line line && ((level == s.level) && is_among label labels)
   is_statement s valued labels (Y.Stop line) = is_line line
+  is_statement s valued labels (Y.Put skip pairs line) = is_line line && is_put s skip pairs
   is_statement s valued labels _ = false
 
   pub are_statements : Scope → (valued : Bool) → List Label → Y.Stmts → Bool
@@ -59,6 +61,7 @@ abbrev mutual
   statement_needs (Y.Do body line) = statements_need body
   statement_needs (Y.DoWhile condition body line) = max (test_needs condition) (statements_need body)
   statement_needs (Y.ReturnValue type source line) = stored_needs source
+  statement_needs (Y.Put skip pairs line) = put_needs pairs
   statement_needs _ = 0
 
   pub statements_need : Y.Stmts → ℕ

@@ -35,12 +35,14 @@ use Rattle.test_runs.specs.Tests.{Tests}
 use Rattle.test_runs.proofs.Chosen.{met_size, past}
 use Rattle.test_runs.proofs.Ifs.{met_does, one_of_does}
 use Rattle.test_runs.proofs.Loops.{loop_does}
-use Rattle.number_runs.specs.Knowledge.{ArePlaced, AreStanding, Standing}
+use Rattle.number_runs.specs.Knowledge.{ArePlaced, AreStanding, KnowsPuts, Standing}
 use Rattle.number_runs.specs.Numbers.{Scope, has_none, is_known, is_number, is_test, is_variable, number_needs}
 use Rattle.number_runs.specs.Numbers.{test_needs}
+use Rattle.number_runs.specs.Puts.{is_put}
 use Rattle.number_runs.specs.Statements.{are_statements, is_line, is_statement, is_stored, statement_needs}
 use Rattle.number_runs.specs.Statements.{statements_need, stored_needs}
 use Rattle.number_runs.proofs.Labels.{placed_with}
+use Rattle.number_runs.proofs.Puts.{put_statement_does}
 use Rattle.number_runs.proofs.Variables.{variable_is}
 use Rattle.unit_numbers.proofs.Units.{none_of}
 use Rattle.unit_numbers.specs.Units.{are_still, is_still, is_still_source, is_still_statement, is_still_test}
@@ -79,6 +81,7 @@ pub record Home : Type 0 where
       (still ≡ true → is_still_test x ≡ true) →
       Tests (setting_of block labels line most) (test_needs x) x
   pub alone : (n : ℕ) → scope.is_procedure n ≡ false
+  pub puts : scope.puts ≡ true → KnowsPuts scope block most
   pub home : still ≡ false → IsHome scope block left'
 
 -- ---- what the laws of single forms ask for
@@ -423,7 +426,17 @@ mutual
   statement_does h named labels (Y.Allocate all line) index to is fits still at = absurd (cc is)
   statement_does h named labels (Y.Free all line) index to is fits still at = absurd (cc is)
   statement_does h named labels (Y.Get skip pairs line) index to is fits still at = absurd (cc is)
-  statement_does h named labels (Y.Put skip pairs line) index to is fits still at = absurd (cc is)
+  statement_does h named labels (Y.Put skip pairs line) index to is fits still at =
+      let a = and_parts (is_line line) (is_put h.scope skip pairs) is in
+      put_statement_does h.scope h.block labels skip pairs line index h.left' h.most a.1
+      (record {
+        act = act_of h line a.0;
+        registers = fits;
+        held = h.held;
+        statement = at.linked;
+        paid = paid_for h (Y.Put skip pairs line) index at.linked;
+        knows = h.puts;
+      })
 
   pub statements_do :
       (h : Home) (named labels : List Label) (body : Y.Stmts) (index : ℕ) → Jumps h named labels →

@@ -22,6 +22,7 @@ own_scope program main level =
       blocks = place_of_head main ∷ [];
       is_function = λ n. false;
       is_procedure = λ n. false;
+      puts = false;
     }
 
 -- ---- what raises nothing: constants and variables, tests of them, and statements over them; groups have no labels

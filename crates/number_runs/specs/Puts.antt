@@ -1,0 +1,63 @@
+-- PUT SKIP, and PUT EDIT of numbers by F items, as classes that are computed from typed trees.
+use Rattle.std.specs.Prelude.{ℕ, ◌&&◌, Bool, true, false, List, [], ◌∷◌, max, Option, None, Some}
+use Rattle.pli_language.specs.Formats.{is_times, is_width}
+use Rattle.pli_language.specs.Tree as T
+use Rattle.pli_typing.specs.TypedTree as Y
+use Rattle.number_runs.specs.Numbers.{Scope, is_number, number_needs}
+
+-- ---- format lists
+
+abbrev pub is_fixed_item : T.Format → Bool
+is_fixed_item (T.FixedFormat width) = is_width width
+is_fixed_item _ = false
+
+abbrev pub are_fixed_items : T.Formats → Bool
+are_fixed_items T.NoFormat = true
+are_fixed_items (T.FormatThen place repetition first rest) =
+    is_times repetition && (is_fixed_item first && are_fixed_items rest)
+
+-- F items, one at least, each as often as the language lets it stand and as wide
+abbrev pub is_fixed_list : T.Formats → Bool
+is_fixed_list T.NoFormat = false
+is_fixed_list (T.FormatThen place repetition first rest) =
+    are_fixed_items (T.FormatThen place repetition first rest)
+
+-- ---- data lists
+
+-- what is written calls no function: it is evaluated while a place in a format list is in use
+abbrev pub without_calls : Scope → Scope
+without_calls s = record s { is_function = λ n. false }
+
+abbrev pub is_put_item : Scope → Y.PutItem → Bool
+is_put_item s (Y.PutValue (Y.NumberValue precision x)) = is_number (without_calls s) x
+is_put_item s _ = false
+
+abbrev pub are_put_items : Scope → List Y.PutItem → Bool
+are_put_items s [] = true
+are_put_items s (i ∷ is) = is_put_item s i && are_put_items s is
+
+-- numbers, one at least
+abbrev pub is_put_list : Scope → List Y.PutItem → Bool
+is_put_list s [] = false
+is_put_list s (i ∷ is) = are_put_items s (i ∷ is)
+
+-- ---- the statement
+
+-- lines are ended in any scope; numbers are written, by one list, where the scope lets its statements do so
+abbrev pub is_put : Scope → (skip : Option ℕ) → List Y.PutPair → Bool
+is_put s (Some lines) [] = is_times lines
+is_put s None (p ∷ []) = s.puts && (is_put_list s p.items && is_fixed_list p.formats)
+is_put s _ _ = false
+
+-- how many registers its temporaries need: each number waits in one while its format item is looked for
+abbrev pub put_item_needs : Y.PutItem → ℕ
+put_item_needs (Y.PutValue (Y.NumberValue precision x)) = max (number_needs x) 1
+put_item_needs _ = 0
+
+abbrev pub put_items_need : List Y.PutItem → ℕ
+put_items_need [] = 0
+put_items_need (i ∷ is) = max (put_item_needs i) (put_items_need is)
+
+abbrev pub put_needs : List Y.PutPair → ℕ
+put_needs [] = 0
+put_needs (p ∷ ps) = max (put_items_need p.items) (put_needs ps)
