@@ -7,6 +7,7 @@ use Rattle.pli_coding.specs.Environments.{Environment}
 use Rattle.pli_coding.specs.Images.{code_of, linked_code, picture_of}
 use Rattle.pli_coding.specs.Linking.{links_of}
 use Rattle.pli_coding.specs.SignatureTable.{table_of}
+use Rattle.storage_relation.specs.Versions.{no_constants}
 use Rattle.activation_relation.specs.Chains.{UnitPlaces}
 use Rattle.activation_relation.specs.Layers.{Point}
 use Rattle.pli_headline.specs.Headline.{Headline, parts}
@@ -72,6 +73,7 @@ whole_of program x input acts =
         links = links_of (code_of parts program);
         units = x.units;
         signatures = map template_of (table_of program);
+        constants = no_constants;
         input = input;
         acts = acts;
         serials = x.serials;

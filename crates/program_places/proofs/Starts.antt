@@ -91,6 +91,7 @@ start_stands once tables program m r first h start main bytes =
       linked = start_linked once program m h start main;
       differ = tables.differ (table_of program) (tables.once program) start.table;
       bytes = bytes;
+      told = λ n v e. absurd (cc e);
     }
 
 -- ---- nor does the storage machine

@@ -17,6 +17,7 @@ use Rattle.pli_coding.specs.SignatureTable.{table_of}
 use Rattle.pli_coding.specs.Statements.{block_held, block_words, stmts_code}
 use Rattle.well_formed_trees.specs.Every.{Every}
 use Rattle.well_formed_trees.specs.WellFormed.{IsWellFormed}
+use Rattle.storage_relation.specs.Versions.{no_constants}
 use Rattle.storage_relation.specs.Tables.{AreRuled}
 use Rattle.activation_relation.specs.Chains.{UnitPlaces}
 use Rattle.activation_relation.specs.Layers.{Point}
@@ -49,6 +50,7 @@ image_for program r =
       links = links_for program;
       units = r.units;
       signatures = map template_of (table_of program);
+      constants = no_constants;
       input = r.input;
       acts = r.acts;
       serials = r.serials;
