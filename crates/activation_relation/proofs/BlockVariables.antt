@@ -103,7 +103,7 @@ variable_stands w p x φ φs h fits =
           subst (λ n. AreLow n (l ∷ p.state.living)) (sym (bound_length _ p.state.activations)) (owner_low, h.low);
       lives =
           record { falling = lives.falling; numbered = lives.numbered; extents = lives.extents };
-      owned = record { living = λ n y e. owned n y e; heap = heap };
+      owned = record { living = λ n y e. owned n y e; heap = heap; constants = h.owned.constants };
       over = over p.control.layers h.over;
       running = h.running;
       allowed = h.allowed;

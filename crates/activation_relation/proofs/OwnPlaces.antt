@@ -1,9 +1,10 @@
--- Frames beside storage: what lives lies in its owner's bytes, so frames and the free bytes are no storage's.
+-- Frames beside storage: what lives lies in its owner's bytes, so frames and the free bytes are no storage's, and what
+-- is told of static data lies before them.
 use Rattle.std.proofs.Common.{◌≡◌, ◌≢◌, ◌⊎◌, inl, inr, ℕ, zero, suc, ◌+◌, ◌/◌, ◌-◌, ◌≤◌, List, [], ◌∷◌, length}
 use Rattle.std.proofs.Common.{Option, Some, None}
 use Rattle.std.proofs.Common.{Bool, true, false, refl, sym, ap, ◌∙◌, subst, arith}
 use Rattle.std.proofs.lemmas.Bool.{cases_eq}
-use Rattle.std.specs.Prelude.{◌==◌}
+use Rattle.std.specs.Prelude.{◌==◌, ◌<◌}
 use Rattle.rv_meaning.specs.Memory.{store}
 use Rattle.rv_meaning.proofs.MemoryLaws.{length-store}
 use Rattle.pli_meaning.specs.StorageState.{State, Living, living_of, heap_serial}
@@ -11,10 +12,11 @@ use Rattle.area_keeper.specs.Keeper.{Keeper}
 use Rattle.area_keeper.specs.KeptAreas.{with_part}
 use Rattle.pli_serving.specs.Bytes.{number_bytes}
 use Rattle.pli_coding.specs.Frames.{MemoryParts, fixed_size, temporary_bytes}
+use Rattle.pli_coding.specs.Images.{first_frame_bytes}
 use Rattle.storage_relation.specs.Changes.{with_memory}
 use Rattle.storage_relation.specs.Served.{Now, Holds}
 use Rattle.storage_relation.specs.Standing.{Holder, held, holder_in, holder_of, bytes_of}
-use Rattle.storage_relation.specs.Stored.{Places, IsClear, Beside}
+use Rattle.storage_relation.specs.Stored.{Places, IsClear, IsUntold, Beside}
 use Rattle.storage_relation.proofs.Changes.{apart_holds}
 use Rattle.storage_relation.proofs.Holders.{eqb-other, held-living}
 use Rattle.storage_relation.proofs.Values.{store_is}
@@ -184,18 +186,61 @@ storage_beside k π s parts φs n h owned laid e =
     (λ owner at count place. beside_place parts φs owner at count place laid)
     (λ at count behind. beside_behind parts φs at count laid (omega (arith, end, behind))) n h e
 
+-- the upper stack begins where its part of memory does
+upper_high : (parts : MemoryParts) (φs : List Layer) → AreLaid parts φs → parts.stack_start ≤ upper_top parts φs
+upper_high parts [] laid = omega arith
+upper_high parts (φ ∷ φs) laid =
+    let rest = upper_high parts φs laid.1 in
+    let above = laid.0.above in
+    let fixed = laid.0.fixed in
+    omega (arith, rest, above, fixed)
+
+-- what is told lies before the stacks
+pub stack_untold :
+    (k : Keeper) (π : Places) (s : State) (parts : MemoryParts) (φs : List Layer) (at count : ℕ) →
+    AreOwned k π s parts φs → parts.stack_start ≤ at → IsUntold π at count
+stack_untold k π s parts φs at count owned high n v e =
+    let low = owned.constants n v e in inl (omega (arith, low, high))
+
 pub frame_clear :
     (k : Keeper) (π : Places) (s : State) (parts : MemoryParts) (φ : Layer) (φs : List Layer) →
     AreOwned k π s parts (φ ∷ φs) → AreLaid parts (φ ∷ φs) → IsClear k π s (frame_start φ) (frame_bytes φ)
-frame_clear k π s parts φ φs owned laid n h e = (storage_beside k π s parts (φ ∷ φs) n h owned laid e).0.0
+frame_clear k π s parts φ φs owned laid =
+    let high = upper_high parts φs laid.1 in
+    let above = laid.0.above in (
+      (λ n h e. (storage_beside k π s parts (φ ∷ φs) n h owned laid e).0.0),
+      stack_untold k π s parts (φ ∷ φs) (frame_start φ) (frame_bytes φ) owned (omega (arith, high, above)),
+    )
+
+-- and those of the frame below it
+pub frame_below_clear :
+    (k : Keeper) (π : Places) (s : State) (parts : MemoryParts) (ψ φ : Layer) (φs : List Layer) →
+    AreOwned k π s parts (ψ ∷ φ ∷ φs) → AreLaid parts (ψ ∷ φ ∷ φs) → IsClear k π s (frame_start φ) (frame_bytes φ)
+frame_below_clear k π s parts ψ φ φs owned laid =
+    let high = upper_high parts φs laid.1.1 in
+    let above = laid.1.0.above in (
+      (λ n h e. (storage_beside k π s parts (ψ ∷ φ ∷ φs) n h owned laid e).1.0.0),
+      stack_untold k π s parts (ψ ∷ φ ∷ φs) (frame_start φ) (frame_bytes φ) owned (omega (arith, high, above)),
+    )
+
+-- and those of the start's frame, where no block is active
+pub start_clear :
+    (k : Keeper) (π : Places) (s : State) (parts : MemoryParts) → AreOwned k π s parts [] → AreLaid parts [] →
+    IsClear k π s parts.stack_start first_frame_bytes
+start_clear k π s parts owned laid = (
+  (λ n h e. storage_beside k π s parts [] n h owned laid e),
+  stack_untold k π s parts [] parts.stack_start first_frame_bytes owned (omega arith),
+)
 
 pub free_clear :
     (k : Keeper) (π : Places) (s : State) (parts : MemoryParts) (φs : List Layer) → AreOwned k π s parts φs →
     AreLaid parts φs → IsClear k π s (upper_top parts φs) (lower_end parts φs - upper_top parts φs)
-free_clear k π s parts φs owned laid n h e =
-    by_holder k π s parts φs (λ at count. Beside at count upper (lower - upper)) owned
-    (λ owner at count place. by at count (place_outside parts φs owner at count place laid))
-    (λ at count behind. by at count (inr (omega (arith, end, behind)))) n h e
+free_clear k π s parts φs owned laid = (
+  by_holder k π s parts φs (λ at count. Beside at count upper (lower - upper)) owned
+      (λ owner at count place. by at count (place_outside parts φs owner at count place laid))
+      (λ at count behind. by at count (inr (omega (arith, end, behind)))),
+  stack_untold k π s parts φs upper (lower - upper) owned (upper_high parts φs laid),
+)
   where
     upper : ℕ
     upper = upper_top parts φs
@@ -220,6 +265,19 @@ pub clear_part :
 clear_part at count from other p n (inl h) low high = inl (omega (arith, h, low))
 clear_part at count from other p n (inr h) low high = inr (omega (arith, h, high))
 
+-- bytes of clear ones are clear
+pub clear_within :
+    (k : Keeper) (π : Places) (s : State) (at count p n : ℕ) → IsClear k π s at count → at ≤ p → p + n ≤ at + count →
+    IsClear k π s p n
+clear_within k π s at count p n clear low high = (
+  (λ i h e. clear_part at count (π.at i) (bytes_of k h) p n (clear.0 i h e) low high),
+  (λ i v e. by i (clear.1 i v e)),
+)
+  where
+    by : (i : ℕ) → (i < at) ⊎ (at + count ≤ i) → (i < p) ⊎ (p + n ≤ i)
+    by i (inl below) = inl (omega (arith, below, low))
+    by i (inr past) = inr (omega (arith, past, high))
+
 number_length : (n v : ℕ) → length (number_bytes n v) ≡ n
 number_length zero v = refl
 number_length (suc n) v = ap (λ i. suc i) (number_length n (v / 256))
@@ -239,8 +297,7 @@ stores_hold w at count (x ∷ xs) h clear room within =
     let one : Holds (with_memory m w) =
     subst (λ n. Holds (with_memory n w)) same
     (apart_holds w h x.0 bytes
-    (λ n g e. clear_part at count (w.places.at n) (bytes_of w.keeper g) x.0 (length bytes) (clear n g e) low
-    (omega (arith, four, high)))
+    (clear_within w.keeper w.places w.state at count x.0 (length bytes) clear low (omega (arith, four, high)))
     (omega (arith, four, inside)))
     in
     let long = length-store 4 w.memory x.0 x.1 in
@@ -258,6 +315,7 @@ owned_entered k π s parts φ φs owned low =
           (IsPlaceOf parts φs l.owner (π.at n) (bytes_of k (holder_of l))))
           (sym (eqb-other l.owner (suc (length φs)) (let few = low n l e in omega (arith, few)))) (owned.living n l e);
       heap = owned.heap;
+      constants = owned.constants;
     }
 
 pub owned_left :
@@ -270,4 +328,5 @@ owned_left k π s parts φ φs owned low =
           (IsPlaceOf parts φs l.owner (π.at n) (bytes_of k (holder_of l))))
           (eqb-other l.owner (suc (length φs)) (let few = low n l e in omega (arith, few))) (owned.living n l e);
       heap = owned.heap;
+      constants = owned.constants;
     }

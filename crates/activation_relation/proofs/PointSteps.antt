@@ -37,7 +37,7 @@ use Rattle.activation_relation.proofs.ActiveChains.{pushed_active, unwound_activ
 use Rattle.activation_relation.proofs.ActiveChains.{reverted_active}
 use Rattle.activation_relation.proofs.Blocks.{same_length}
 use Rattle.activation_relation.proofs.FrameWords.{laid_behind, frames_behind, frames_begun, made_within}
-use Rattle.activation_relation.proofs.OwnPlaces.{owned_entered, owned_left, free_clear, clear_part, stores_hold}
+use Rattle.activation_relation.proofs.OwnPlaces.{owned_entered, owned_left, free_clear, clear_within, stores_hold}
 use Rattle.activation_relation.proofs.Unwinding.{activations_ended, kept_behind, low_left}
 
 -- ---- acts
@@ -51,7 +51,7 @@ with_act_stands w p change h running few =
       laid = h.laid;
       low = h.low;
       lives = record { falling = h.lives.falling; numbered = h.lives.numbered; extents = h.lives.extents };
-      owned = record { living = h.owned.living; heap = h.owned.heap };
+      owned = record { living = h.owned.living; heap = h.owned.heap; constants = h.owned.constants };
       over = h.over;
       running = running;
       allowed = few;
@@ -119,7 +119,7 @@ owned_same :
     (k : Keeper) (π : Places) (s : State) (as' : List Activation) (world : World) (parts : MemoryParts)
     (φs : List Layer) → AreOwned k π s parts φs →
     AreOwned k π (record s { activations = as'; world = world }) parts φs
-owned_same k π s as' world parts φs o = record { living = o.living; heap = o.heap }
+owned_same k π s as' world parts φs o = record { living = o.living; heap = o.heap; constants = o.constants }
 
 -- what is left by a block that ends
 pub record LeftOwned (k : Keeper) (π : Places) (s : State) (parts : MemoryParts) (φs : List Layer) : Type 0 where
@@ -140,6 +140,7 @@ owned_ended k π s parts a as' φ φs h many low =
             living = λ n l e.
                 h.owned.living n l (without_less (s.serials + 1) a.height s.living n l h.lives.falling e);
             heap = h.owned.heap;
+            constants = h.owned.constants;
           })
           (λ n l e. owner_low (length φs) (without_owner a.height s.living) n l
           (subst (λ i. AreLow i (without_owner a.height s.living)) many low) e);
@@ -338,6 +339,7 @@ changed_layers w p as' xs h many active =
             living = λ n l e. place p.control.layers l.owner (p.places.at n) (bytes_of p.keeper (holder_of l))
                 (h.owned.living n l e);
             heap = h.owned.heap;
+            constants = h.owned.constants;
           });
       over = over p.control.layers h.over;
       running = h.running;
@@ -480,10 +482,9 @@ entered_memory w p base m head entry φ line h is = (
     falls = is.0.falls
 
     clear : IsClear p.keeper p.places p.state φ.at size
-    clear n g e =
-        clear_part (upper_top w.parts φs) (lower_end w.parts φs - upper_top w.parts φs) (p.places.at n)
-        (bytes_of p.keeper g) φ.at size
-        (free_clear p.keeper p.places p.state w.parts φs h.0.owned h.0.laid n g e) (omega (arith, above))
+    clear =
+        clear_within p.keeper p.places p.state (upper_top w.parts φs) (lower_end w.parts φs - upper_top w.parts φs) φ.at
+        size (free_clear p.keeper p.places p.state w.parts φs h.0.owned h.0.laid) (omega (arith, above))
         (omega (arith, inside, falls, above))
 
     within : AreWithin φ.at size words

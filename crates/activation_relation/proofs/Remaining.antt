@@ -36,6 +36,7 @@ remains_same p =
       signatures = λ n s e. e;
       statics = refl;
       low = refl;
+      constants = refl;
       active = omega arith;
       in_use = λ height low. refl;
     }
@@ -62,6 +63,7 @@ remains_then p q r a b =
       signatures = λ i s e. b.signatures i s (a.signatures i s e);
       statics = b.statics ∙ a.statics;
       low = b.low ∙ a.low;
+      constants = b.constants ∙ a.constants;
       active = omega (arith, deep, deeper);
       in_use = λ height low. b.in_use height (omega (arith, low, deep)) ∙ a.in_use height low;
     }
@@ -76,6 +78,7 @@ remains_acted p change line =
       signatures = λ n s e. e;
       statics = refl;
       low = refl;
+      constants = refl;
       active = omega arith;
       in_use = λ height low. refl;
     }
@@ -91,6 +94,7 @@ remains_entered p head entry φ line =
       signatures = λ n s e. e;
       statics = refl;
       low = refl;
+      constants = refl;
       active = omega arith;
       in_use = λ height low. refl;
     }
@@ -121,6 +125,7 @@ remains_with p q x r found same =
       signatures = r.signatures;
       statics = r.statics;
       low = r.low;
+      constants = r.constants;
       active = subst (λ n. length p.state.activations ≤ n) (sym (bound_length binding q.state.activations)) r.active;
       in_use = λ height low. same height low ∙ r.in_use height low;
     }
@@ -188,6 +193,7 @@ remains_assigned p serial d v =
       signatures = λ n s e. e;
       statics = refl;
       low = refl;
+      constants = refl;
       active = omega arith;
       in_use = λ height low. in_use_assigned height serial d v p.state.living;
     }
@@ -258,6 +264,7 @@ ended_remains p q a as' r e low height deep =
       signatures = r.signatures;
       statics = r.statics;
       low = r.low;
+      constants = r.constants;
       active = deep;
       in_use = λ n few.
           in_use_without n a.height q.state.living (omega (arith, few, deep, height)) ∙ r.in_use n few;
@@ -285,6 +292,7 @@ remains_left p q a as' kept r e low height deep =
           signatures = o.signatures;
           statics = o.statics;
           low = o.low;
+          constants = o.constants;
           active = o.active;
           in_use = o.in_use;
         }

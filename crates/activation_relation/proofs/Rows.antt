@@ -1,5 +1,5 @@
 -- The first moment of a run, and the worked row.
-use Rattle.std.proofs.Common.{ℕ, ◌+◌, ◌^◌, ◌<◌, ◌≤◌, List, [], ◌∷◌, length, refl, arith, inl}
+use Rattle.std.proofs.Common.{ℕ, ◌+◌, ◌^◌, ◌<◌, ◌≤◌, ◌≡◌, List, [], ◌∷◌, length, refl, arith, inl, Some}
 use Rattle.pli_meaning.specs.StorageState.{heap_serial}
 use Rattle.area_keeper.specs.Keeper.{Keeper}
 use Rattle.pli_serving.specs.Bytes.{Layout}
@@ -15,14 +15,14 @@ use Rattle.activation_relation.proofs.StoredWords.{Writes, writes_first, writes_
 pub first_stands :
     (w : Surroundings) (k : Keeper) (y : Layout) (π : Places) (input : List ℕ) →
     w.parts.stack_start + first_frame_bytes ≤ w.parts.stack_end → w.parts.stack_end ≤ π.at heap_serial →
-    Stands w (first_point k y π input)
-first_stands w k y π input room heap =
+    ((n v : ℕ) → π.constants n ≡ Some v → n < w.parts.stack_start) → Stands w (first_point k y π input)
+first_stands w k y π input room heap constants =
     record {
       active = tt;
       laid = room;
       low = tt;
       lives = record { falling = tt; numbered = λ n l e. absurd (cc e); extents = λ n l e. absurd (cc e) };
-      owned = record { living = λ n l e. absurd (cc e); heap = heap };
+      owned = record { living = λ n l e. absurd (cc e); heap = heap; constants = constants };
       over = tt;
       running = refl;
       allowed = omega arith;

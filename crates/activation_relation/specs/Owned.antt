@@ -1,6 +1,7 @@
 -- Frames beside storage: what an activation owns lies in its own bytes of either stack, and what all of them take is
 -- bounded.
-use Rattle.std.specs.Prelude.{ℕ, suc, ◌+◌, ◌-◌, ◌≤◌, ◌≡◌, ◌⊎◌, ◌==◌, Bool, true, false, List, [], ◌∷◌, length, Some, ⊤}
+use Rattle.std.specs.Prelude.{ℕ, suc, ◌+◌, ◌-◌, ◌<◌, ◌≤◌, ◌≡◌, ◌⊎◌, ◌==◌, Bool, true, false, List, [], ◌∷◌, length}
+use Rattle.std.specs.Prelude.{Some, ⊤}
 use Rattle.pli_meaning.specs.StorageState.{State, Living, living_of, heap_serial}
 use Rattle.area_keeper.specs.Keeper.{Keeper}
 use Rattle.pli_coding.specs.Frames.{MemoryParts, fixed_size}
@@ -36,6 +37,8 @@ pub record AreOwned (k : Keeper) (π : Places) (s : State) (parts : MemoryParts)
       IsPlaceOf parts φs l.owner (π.at n) (bytes_of k (holder_of l))
   -- the heap lies behind the stacks
   pub heap : parts.stack_end ≤ π.at heap_serial
+  -- and what is told of static data before them
+  pub constants : (n v : ℕ) → π.constants n ≡ Some v → n < parts.stack_start
 
 -- no activation above a height owns anything
 abbrev pub AreOwnersLow : (most : ℕ) → State → Type 0
@@ -53,7 +56,7 @@ pub record FramesApart : Type 0 where
   pub storage :
       (k : Keeper) (π : Places) (s : State) (parts : MemoryParts) (φs : List Layer) (n : ℕ) (h : Holder) →
       AreOwned k π s parts φs → AreLaid parts φs → held s n ≡ Some h → AreBeside parts (π.at n) (bytes_of k h) φs
-  -- the newest frame's bytes, and all between the two stacks, are no storage's
+  -- the newest frame's bytes, and all between the two stacks, are no storage's, and none of them is told
   pub frame :
       (k : Keeper) (π : Places) (s : State) (parts : MemoryParts) (φ : Layer) (φs : List Layer) →
       AreOwned k π s parts (φ ∷ φs) → AreLaid parts (φ ∷ φs) → IsClear k π s (frame_start φ) (frame_bytes φ)

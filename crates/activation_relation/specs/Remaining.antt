@@ -33,8 +33,8 @@ in_use_up_to height (l ∷ ls) =
     else (if nat_lt height l.owner then in_use_up_to height ls
     else footprint_of l.generation + in_use_up_to height ls)
 
--- serials only grow, and none that was given moves; so do signatures; what was active is active, and no activation that
--- was there has more or less
+-- serials only grow, and none that was given moves; so do signatures; what is told of static data is told; what was
+-- active is active, and no activation that was there has more or less
 pub record Remains (p q : Point) : Type 0 where
   pub living : (n : ℕ) (l : Living) → living_of p.state.living n ≡ Some l → LivesOn l (living_of q.state.living n)
   pub serials : p.state.serials ≤ q.state.serials
@@ -43,6 +43,7 @@ pub record Remains (p q : Point) : Type 0 where
   pub signatures : Extends p.places.signatures q.places.signatures
   pub statics : q.state.statics ≡ p.state.statics
   pub low : q.places.low ≡ p.places.low
+  pub constants : q.places.constants ≡ p.places.constants
   pub active : length p.state.activations ≤ length q.state.activations
   pub in_use :
       (height : ℕ) → height ≤ length p.state.activations →

@@ -1,6 +1,6 @@
 -- Where a run begins, and a worked row: a procedure that is called by the main one, and an on-unit of the main
 -- procedure that runs above it.
-use Rattle.std.specs.Prelude.{ℕ, ◌+◌, ◌^◌, ◌<◌, ◌≤◌, ◌≡◌, List, [], ◌∷◌, None, length}
+use Rattle.std.specs.Prelude.{ℕ, ◌+◌, ◌^◌, ◌<◌, ◌≤◌, ◌≡◌, List, [], ◌∷◌, None, Some, length}
 use Rattle.pli_language.specs.declared.condition.Condition.TheVariants as C
 use Rattle.pli_typing.specs.TypedTree as Y
 use Rattle.pli_meaning.specs.StorageState as M
@@ -44,7 +44,7 @@ pub record RunsBegin : Type 0 where
   pub stands :
       (w : Surroundings) (k : Keeper) (y : Layout) (π : Places) (input : List ℕ) →
       w.parts.stack_start + first_frame_bytes ≤ w.parts.stack_end → w.parts.stack_end ≤ π.at heap_serial →
-      Stands w (first_point k y π input)
+      ((n v : ℕ) → π.constants n ≡ Some v → n < w.parts.stack_start) → Stands w (first_point k y π input)
   pub frame :
       (parts : MemoryParts) (base : ℕ) (m : List ℕ) → parts.stack_start + first_frame_bytes ≤ parts.stack_end →
       (parts.stack_end < 2 ^ 32) × (parts.stack_end ≤ length m) →

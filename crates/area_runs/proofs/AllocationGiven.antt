@@ -27,7 +27,7 @@ use Rattle.activation_relation.specs.Owned.{AreOwned, AreWithin}
 use Rattle.activation_relation.specs.Points.{Stands, Surroundings}
 use Rattle.activation_relation.proofs.FrameWords.{words_covered}
 use Rattle.activation_relation.proofs.ListWords.{words_rewritten}
-use Rattle.activation_relation.proofs.OwnPlaces.{clear_part, frame_clear, stores_hold}
+use Rattle.activation_relation.proofs.OwnPlaces.{clear_within, frame_clear, stores_hold}
 use Rattle.activation_relation.proofs.StoredWords.{stored_beside}
 use Rattle.run_steps.specs.Bodies.{Free, Ground, IsNear, Known, PlaceFrom, PlaceOf, with'}
 use Rattle.run_steps.proofs.Bodies.{at_place, constant_piece, displaced_by, frame_is, load_piece, lose_known, set_known}
@@ -104,8 +104,8 @@ kept_stands w p φ φs x y b m known frame free bytes stands =
     let within : AreWithin (φ.at - 8) 8 (kept_stores φ.at x y) =
     ((omega (arith, low), omega (arith, low)), ((omega arith, omega (arith, low)), tt)) in
     let clear : IsClear p.keeper p.places p.state (φ.at - 8) 8 =
-    λ i h e. clear_part (frame_start φ) (frame_bytes φ) _ _ (φ.at - 8) 8
-    (frame_clear p.keeper p.places p.state w.parts φ φs owned laid i h e) (omega (arith, covered, above, words, low))
+    clear_within p.keeper p.places p.state (frame_start φ) (frame_bytes φ) (φ.at - 8) 8
+    (frame_clear p.keeper p.places p.state w.parts φ φs owned laid) (omega (arith, covered, above, words, low))
     (omega (arith, covered, above, words, low)) in
     record {
       storage =

@@ -141,7 +141,11 @@ owned_changed :
     AreOwned p.keeper p.places (record p.state { living = living_changed n change p.state.living }) parts
     p.control.layers
 owned_changed parts n change p keeping is =
-    record { living = λ j l e. by j l e (cases_eq j n) (living_of p.state.living j) refl; heap = is.heap }
+    record {
+      living = λ j l e. by j l e (cases_eq j n) (living_of p.state.living j) refl;
+      heap = is.heap;
+      constants = is.constants;
+    }
   where
     place : (j : ℕ) → Living → Type 0
     place j l = IsPlaceOf parts p.control.layers l.owner (p.places.at j) (bytes_of p.keeper (holder_of l))
@@ -220,6 +224,7 @@ living_follows w n change p keeping =
           signatures = λ j s e. e;
           statics = refl;
           low = refl;
+          constants = refl;
           active = omega arith;
           in_use = λ height low. in_use_changed height n change p.state.living keeping;
         };
@@ -236,7 +241,7 @@ heap_follows w heap p =
         laid = is.laid;
         low = is.low;
         lives = record { falling = is.lives.falling; numbered = is.lives.numbered; extents = is.lives.extents };
-        owned = record { living = is.owned.living; heap = is.owned.heap };
+        owned = record { living = is.owned.living; heap = is.owned.heap; constants = is.owned.constants };
         over = is.over;
         running = is.running;
         allowed = is.allowed;
@@ -262,6 +267,7 @@ heap_follows w heap p =
           signatures = r.signatures;
           statics = r.statics;
           low = r.low;
+          constants = r.constants;
           active = r.active;
           in_use = r.in_use;
         }

@@ -466,7 +466,7 @@ pub locate_is : (input first : List ℕ) (acts : ℕ) → acts + 1 < 2 ^ 64 → 
 locate_is input first acts few bytes =
     let l = back_of (first_frame image_parts) (main_called 0) start_linked in
     record {
-      start = record { linked = start_linked; differ = all_differ; bytes = bytes };
+      start = record { linked = start_linked; differ = all_differ; bytes = bytes; told = λ n v e. absurd (cc e) };
       made = all_procedure (surroundings_of (locate_image input acts)) (linked_code locate_code)
           (main_of (locate_whole input acts)) (start_point (locate_image input acts)) no_numbers locate_variables
           (locate_all input acts);

@@ -38,7 +38,7 @@ use Rattle.activation_relation.specs.Points.{Stands, Surroundings}
 use Rattle.activation_relation.specs.Variables.{grown}
 use Rattle.activation_relation.proofs.FrameWords.{beside_above, frames_kept, levels_covered}
 use Rattle.activation_relation.proofs.ListWords.{words_rewritten_below}
-use Rattle.activation_relation.proofs.OwnPlaces.{clear_part, frame_clear, storage_beside, stores_hold}
+use Rattle.activation_relation.proofs.OwnPlaces.{clear_within, frame_below_clear, frame_clear, stores_hold}
 use Rattle.activation_relation.proofs.StoredWords.{same_word, stored_beside}
 use Rattle.activation_relation.proofs.WaitingWords.{lower_stored}
 use Rattle.run_steps.specs.Bodies.{Ground, Known}
@@ -153,13 +153,13 @@ asked_stands {w} {p = p} {ψ = ψ} {φ = φ} {φs = φs} {x = x} b m k bytes sta
     let above = laid.0.above in
     let covered = levels_covered ψ.level ψ.parameters in
     let h1 = stores_hold (now p m) (list_under φ.at + 16) 4 ((list_under φ.at + 16, x.number) ∷ []) stands.storage
-    (λ n h e. clear_part (frame_start φ) (frame_bytes φ) _ _ (list_under φ.at + 16) 4
-    (storage_beside p.keeper p.places p.state w.parts (layers_of ψ φ φs x) n h (owned_here k) laid e).1.0.0
+    (clear_within p.keeper p.places p.state (frame_start φ) (frame_bytes φ) (list_under φ.at + 16) 4
+    (frame_below_clear p.keeper p.places p.state w.parts ψ (given_layer φ x) φs (owned_here k) laid)
     (omega (arith, words)) (omega (arith, words, low)))
     (omega (arith, room, bytes)) ((omega arith, omega arith), tt) in
     let h2 = stores_hold (with_memory first (now p m)) (ψ.at + 40) 4 ((ψ.at + 40, ψ.lower - 16) ∷ []) h1
-    (λ n h e. clear_part (frame_start ψ) (frame_bytes ψ) _ _ (ψ.at + 40) 4
-    (frame_clear p.keeper p.places p.state w.parts ψ (given_layer φ x ∷ φs) (owned_here k) laid n h e)
+    (clear_within p.keeper p.places p.state (frame_start ψ) (frame_bytes ψ) (ψ.at + 40) 4
+    (frame_clear p.keeper p.places p.state w.parts ψ (given_layer φ x ∷ φs) (owned_here k) laid)
     (omega (arith, above)) (omega (arith, covered, above)))
     (omega (arith, frame, bytes, long)) ((omega arith, omega arith), tt) in
     record {

@@ -281,6 +281,7 @@ remains_first {g} {y} h =
       signatures = r.signatures;
       statics = r.statics;
       low = r.low;
+      constants = r.constants;
       active = r.active;
       in_use = r.in_use;
     }

@@ -297,6 +297,7 @@ behind_goes {k} {c} {source} {φ} {φs} {line} {index} {numbers = numbers} {p = 
       signatures = from.signatures;
       statics = from.statics;
       low = from.low;
+      constants = from.constants;
       active = from.active;
       in_use = from.in_use;
     } in
@@ -323,6 +324,7 @@ behind_goes {k} {c} {source} {φ} {φs} {line} {index} {numbers = numbers} {p = 
             signatures = remains.signatures;
             statics = remains.statics;
             low = remains.low;
+            constants = remains.constants;
             active = remains.active;
             in_use = remains.in_use;
           };

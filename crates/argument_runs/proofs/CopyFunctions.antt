@@ -408,6 +408,7 @@ behind_goes {k} {c} {φ} {φs} {numbers = numbers} {p = p} {x = x} call z h o si
       signatures = from.signatures;
       statics = from.statics;
       low = from.low;
+      constants = from.constants;
       active = from.active;
       in_use = from.in_use;
     } in
@@ -437,6 +438,7 @@ behind_goes {k} {c} {φ} {φs} {numbers = numbers} {p = p} {x = x} call z h o si
                 signatures = remains.signatures;
                 statics = remains.statics;
                 low = remains.low;
+                constants = remains.constants;
                 active = remains.active;
                 in_use = remains.in_use;
               };

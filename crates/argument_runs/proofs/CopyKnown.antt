@@ -165,6 +165,7 @@ outer_in {g} {k} {c} {φ} {φs} {p} {numbers} {z} x begun o newest called far is
         signatures = r.signatures;
         statics = r.statics;
         low = r.low;
+        constants = r.constants;
         active = r.active;
         in_use = r.in_use;
       };

@@ -43,7 +43,7 @@ use Rattle.activation_relation.specs.Variables.{FitsBlock}
 use Rattle.activation_relation.proofs.Blocks.{newest_of, same_length}
 use Rattle.activation_relation.proofs.BlockVariables.{variable_stands}
 use Rattle.activation_relation.proofs.FrameWords.{words_covered}
-use Rattle.activation_relation.proofs.OwnPlaces.{clear_part, free_clear, storage_beside}
+use Rattle.activation_relation.proofs.OwnPlaces.{clear_within, frame_below_clear, free_clear}
 use Rattle.run_steps.specs.Engine.{call_at}
 use Rattle.run_steps.specs.Unlimited as U
 use Rattle.block_runs.specs.Machines.{AreEven, IsImage}
@@ -158,7 +158,7 @@ below_stands {w} {p = p} {ψ = ψ} {φ = φ} {φs = φs} {x = x} waits k =
       );
       low = k.stands.low;
       lives = k.stands.lives;
-      owned = record { living = owned.living; heap = owned.heap };
+      owned = record { living = owned.living; heap = owned.heap; constants = owned.constants };
       over = subst (AreOver p.control.entries p.control.edits) k.is.newest k.stands.over;
       running = k.stands.running;
       allowed = k.stands.allowed;
@@ -269,11 +269,12 @@ is_making {w} {p = p} {ψ = ψ} {φ = φ} {φs = φs} {x = x} m k bytes =
       behind = omega (arith, low, start, above, fits);
       aligned = omega (arith, even, fits);
       room = omega (arith, room, bytes, fits);
-      clear = λ n h e. clear_part ψ.top (ψ.lower - ψ.top) _ _ (ψ.lower - 16) 4 (clear n h e) (omega (arith, fits))
+      clear = clear_within p.keeper p.places p.state
+          ψ.top (ψ.lower - ψ.top) (ψ.lower - 16) 4 clear (omega (arith, fits))
           (omega (arith, fits));
       name_room = omega (arith, list, bytes);
-      name_clear = λ n h e. clear_part (frame_start φ) (frame_bytes φ) _ _ (list_under φ.at) 16
-          (storage_beside p.keeper p.places p.state w.parts (layers_of ψ φ φs x) n h (owned_here k) laid e).1.0.0 words
+      name_clear = clear_within p.keeper p.places p.state (frame_start φ) (frame_bytes φ) (list_under φ.at) 16
+          (frame_below_clear p.keeper p.places p.state w.parts ψ (given_layer φ x) φs (owned_here k) laid) words
           (omega (arith, words));
       beside = inr (omega (arith, fits, above));
     }

@@ -25,7 +25,7 @@ use Rattle.activation_relation.specs.Owned.{AreOwned, AreWithin}
 use Rattle.activation_relation.specs.Points.{AreOver, Stands, Surroundings}
 use Rattle.activation_relation.proofs.FrameWords.{words_covered}
 use Rattle.activation_relation.proofs.ListWords.{words_rewritten}
-use Rattle.activation_relation.proofs.OwnPlaces.{clear_part, frame_clear, stores_hold}
+use Rattle.activation_relation.proofs.OwnPlaces.{clear_within, frame_clear, stores_hold}
 use Rattle.activation_relation.proofs.StoredWords.{stored_beside}
 use Rattle.run_steps.specs.Bodies.{Known, PlaceFrom}
 use Rattle.run_steps.proofs.Bodies.{at_place, frame_is, zero_is}
@@ -80,7 +80,7 @@ with_list_stands w code p φ φs waits h newest =
         laid = laid_with w.parts φ φs waits (subst (AreLaid w.parts) newest h.0.laid);
         low = h.0.low;
         lives = h.0.lives;
-        owned = record { living = owned.living; heap = owned.heap };
+        owned = record { living = owned.living; heap = owned.heap; constants = owned.constants };
         over = subst (AreOver p.control.entries p.control.edits) newest h.0.over;
         running = h.0.running;
         allowed = h.0.allowed;
@@ -182,8 +182,8 @@ stands_given w p φ φs given b m known newest few bytes stands =
     let within : AreWithin (list_under φ.at) 24 (list_stores φ.at given) =
     ((omega arith, omega arith), ((omega (arith, low), omega (arith, low)), tt)) in
     let clear : IsClear p.keeper p.places p.state (list_under φ.at) 24 =
-    λ i h e. clear_part (frame_start φ) (frame_bytes φ) _ _ (list_under φ.at) 24
-    (frame_clear p.keeper p.places p.state w.parts φ φs owned laid i h e) (omega (arith, covered, above, words))
+    clear_within p.keeper p.places p.state (frame_start φ) (frame_bytes φ) (list_under φ.at) 24
+    (frame_clear p.keeper p.places p.state w.parts φ φs owned laid) (omega (arith, covered, above, words))
     (omega (arith, covered, above, words)) in
     record {
       storage = same_now (stores_hold (now p m) (list_under φ.at) 24 (list_stores φ.at given) stands.storage clear

@@ -24,7 +24,7 @@ use Rattle.activation_relation.specs.Points.{Stands, Surroundings}
 use Rattle.activation_relation.proofs.Blocks.{enter_answered}
 use Rattle.activation_relation.proofs.FrameWords.{list_covered}
 use Rattle.activation_relation.proofs.ListWords.{list_stored}
-use Rattle.activation_relation.proofs.OwnPlaces.{clear_part, frame_clear, stores_hold}
+use Rattle.activation_relation.proofs.OwnPlaces.{clear_within, frame_clear, stores_hold}
 use Rattle.run_steps.specs.Bodies.{Ground, Known}
 use Rattle.run_steps.proofs.Bodies.{at_place, constant_piece, frame_is, store_piece, zero_is}
 use Rattle.run_steps.specs.Calls.{Calling}
@@ -102,8 +102,8 @@ list_stands {w} {p = p} {x = x} {list = list} b m k o =
     subst (λ m'. StandsIn w (begun_point (beginning_listed list x) p) b (store 4 m' (φ.at + 44) list)) (sym o.is)
     (record {
       storage = same_now (stores_hold (now q o.first) φ.at (148 + 4 * φ.level) xs o.stands.storage
-          (λ i h e. clear_part (frame_start φ) (frame_bytes φ) _ _ φ.at (148 + 4 * φ.level)
-          (frame_clear p.keeper p.places q.state w.parts φ φs known.0.owned laid i h e) (omega (arith, above))
+          (clear_within p.keeper p.places q.state (frame_start φ) (frame_bytes φ) φ.at (148 + 4 * φ.level)
+          (frame_clear p.keeper p.places q.state w.parts φ φs known.0.owned laid) (omega (arith, above))
           (omega (arith, above, covered)))
           (omega (arith, covered, fixed, free, high, inside, bytes))
           ((omega arith, omega arith), ((omega arith, omega arith), tt)));

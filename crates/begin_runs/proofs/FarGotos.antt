@@ -181,6 +181,7 @@ left_remains z h =
       signatures = left.signatures;
       statics = left.statics;
       low = left.low;
+      constants = left.constants;
       active = left.active;
       in_use = left.in_use;
     }

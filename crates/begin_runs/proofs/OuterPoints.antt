@@ -108,6 +108,7 @@ remains_behind units (suc n) r q (a ∷ as') (φ ∷ φs) remains e active m man
       signatures = left.signatures;
       statics = left.statics;
       low = left.low;
+      constants = left.constants;
       active = left.active;
       in_use = left.in_use;
     })
@@ -123,6 +124,7 @@ remains_behind units (suc n) r q (a ∷ as') (φ ∷ φs) remains e active m man
           signatures = h.signatures;
           statics = h.statics;
           low = h.low;
+          constants = h.constants;
           active = h.active;
           in_use = h.in_use;
         }

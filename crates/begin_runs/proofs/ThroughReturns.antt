@@ -119,6 +119,7 @@ raised_stands w q top φ φs newest h up free =
       owned = record {
         living = λ n l e. raised_places w.parts top φ φs l.owner _ _ up (owned.living n l e);
         heap = owned.heap;
+        constants = owned.constants;
       };
       over = over;
       running = h.running;
@@ -302,6 +303,7 @@ at_procedure k x left' c f v {numbers} {p} h o reach =
             signatures = remains.signatures;
             statics = remains.statics;
             low = remains.low;
+            constants = remains.constants;
             active = remains.active;
             in_use = remains.in_use;
           });

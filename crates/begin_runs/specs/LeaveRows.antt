@@ -10,6 +10,7 @@ use Rattle.pli_coding.specs.Environments.{Environment}
 use Rattle.pli_coding.specs.Images.{code_of, environment_of, linked_code, raise_code}
 use Rattle.pli_coding.specs.Linking.{links_of}
 use Rattle.pli_coding.specs.Procedures.{procedure_environment}
+use Rattle.storage_relation.specs.Versions.{no_constants}
 use Rattle.activation_relation.specs.Layers.{services_of}
 use Rattle.run_steps.specs.Reach.{Comes, never}
 use Rattle.program_runs.specs.Procedures.{Procedure, procedure_code}
@@ -83,6 +84,7 @@ leave_image input acts =
       links = links_of leave_code;
       units = [];
       signatures = [];
+      constants = no_constants;
       input = input;
       acts = acts;
       serials = 1;

@@ -1,5 +1,5 @@
 -- The headline of programs whose run is known by the relation of activations.
-use Rattle.std.specs.Prelude.{ℕ, ◌+◌, ◌^◌, ◌<◌, List, map}
+use Rattle.std.specs.Prelude.{ℕ, ◌+◌, ◌^◌, ◌<◌, List, map, Option}
 use Rattle.pli_typing.specs.TypedTree as Y
 use Rattle.pli_meaning.specs.Pictures.{first_bytes}
 use Rattle.pli_serving.specs.Templates.{template_of}
@@ -51,8 +51,8 @@ use Rattle.unit_runs.specs.LoopRows.{loop_program}
 use Rattle.unit_runs.specs.Rows.{mend_program}
 
 -- what is said of a program's image beside the program: its main procedure and the others, where its code and its end
--- stand, where the code of its on-units stands, how many serials may come for each act, and what becomes of the point
--- where its variables are made
+-- stand, where the code of its on-units stands, what is told of its static data, how many serials may come for each
+-- act, and what becomes of the point where its variables are made
 pub record Layout : Type 0 where
   pub main : Procedure
   pub others : List Y.Procedure
@@ -60,6 +60,7 @@ pub record Layout : Type 0 where
   pub entry : ℕ
   pub end : ℕ
   pub units : UnitPlaces
+  pub constants : (place : ℕ) → Option ℕ
   pub serials : ℕ
   pub made : Point → Point
 
@@ -72,6 +73,7 @@ whole_of program x input acts =
         links = links_of (code_of parts program);
         units = x.units;
         signatures = map template_of (table_of program);
+        constants = x.constants;
         input = input;
         acts = acts;
         serials = x.serials;

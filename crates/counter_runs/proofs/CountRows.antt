@@ -408,7 +408,7 @@ pub count_is : (input first : List ℕ) (acts : ℕ) → acts + 1 < 2 ^ 64 → l
 count_is input first acts few bytes =
     let l = back_of (first_frame image_parts) (main_called 0) start_linked in
     record {
-      start = record { linked = start_linked; differ = one_differs; bytes = bytes };
+      start = record { linked = start_linked; differ = one_differs; bytes = bytes; told = λ n v e. absurd (cc e) };
       made = all_procedure (surroundings_of (count_image input acts)) (linked_code count_code)
           (main_of (count_whole input acts)) (start_point (count_image input acts)) no_numbers count_variables
           (count_all input acts);

@@ -90,6 +90,7 @@ lined_among line o =
           signatures = h.signatures;
           statics = h.statics;
           low = h.low;
+          constants = h.constants;
           active = h.active;
           in_use = h.in_use;
         });

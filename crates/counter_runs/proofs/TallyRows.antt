@@ -262,7 +262,7 @@ pub tally_is : (input first : List ℕ) (acts : ℕ) → acts + 1 < 2 ^ 64 → l
 tally_is input first acts few bytes =
     let l = back_of (first_frame image_parts) (main_called 0) start_linked in
     record {
-      start = record { linked = start_linked; differ = both_differ; bytes = bytes };
+      start = record { linked = start_linked; differ = both_differ; bytes = bytes; told = λ n v e. absurd (cc e) };
       made = all_procedure (surroundings_of (tally_image input acts)) (linked_code tally_code)
           (main_of (tally_whole input acts)) (start_point (tally_image input acts)) no_numbers tally_variables
           (tally_all input acts);

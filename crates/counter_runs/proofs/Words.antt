@@ -32,7 +32,7 @@ use Rattle.activation_relation.specs.Points.{AreOver, Stands, Surroundings}
 use Rattle.activation_relation.specs.Remaining.{Remains}
 use Rattle.activation_relation.proofs.FrameWords.{words_covered}
 use Rattle.activation_relation.proofs.ListWords.{words_rewritten}
-use Rattle.activation_relation.proofs.OwnPlaces.{clear_part, frame_clear, stores_hold}
+use Rattle.activation_relation.proofs.OwnPlaces.{clear_within, frame_clear, stores_hold}
 use Rattle.activation_relation.proofs.StoredWords.{stored_beside}
 use Rattle.run_steps.specs.Bodies.{Free, Known, PlaceFrom, with'}
 use Rattle.run_steps.proofs.Bodies.{frame_is, narrow_load_from, narrow_store_into}
@@ -63,6 +63,7 @@ told_remain ls ms h =
       signatures = h.signatures;
       statics = h.statics;
       low = h.low;
+      constants = h.constants;
       active = h.active;
       in_use = h.in_use;
     }
@@ -117,6 +118,7 @@ untold_among k φ φs {numbers} {p} waits newest o =
           signatures = h.signatures;
           statics = h.statics;
           low = h.low;
+          constants = h.constants;
           active = h.active;
           in_use = h.in_use;
         });
@@ -142,7 +144,7 @@ stands_told w p φ φs waits h newest =
       laid = laid_with w.parts φ φs waits (subst (AreLaid w.parts) newest h.laid);
       low = h.low;
       lives = h.lives;
-      owned = record { living = owned.living; heap = owned.heap };
+      owned = record { living = owned.living; heap = owned.heap; constants = owned.constants };
       over = subst (AreOver p.control.entries p.control.edits) newest h.over;
       running = h.running;
       allowed = h.allowed;
@@ -174,6 +176,7 @@ begun_telling k φ φs waits newest b =
         signatures = h.signatures;
         statics = h.statics;
         low = h.low;
+        constants = h.constants;
         active = h.active;
         in_use = h.in_use;
       });
@@ -342,8 +345,8 @@ word_stands w p φ φs n given b m known few bytes stands =
     let low = known.1.high in
     let high = known.1.room in
     let clear : IsClear p.keeper p.places p.state at 4 =
-    λ i h e. clear_part (frame_start φ) (frame_bytes φ) _ _ at 4
-    (frame_clear p.keeper p.places p.state w.parts φ φs known.0.owned laid i h e) (omega (arith, covered, above, room))
+    clear_within p.keeper p.places p.state (frame_start φ) (frame_bytes φ) at 4
+    (frame_clear p.keeper p.places p.state w.parts φ φs known.0.owned laid) (omega (arith, covered, above, room))
     (omega (arith, covered, above, room)) in
     record {
       storage = same_storage (with_waits (with_word n given φ.waits) φ ∷ φs) p new

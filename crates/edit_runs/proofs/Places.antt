@@ -81,6 +81,7 @@ edits_remain before after h =
       signatures = h.signatures;
       statics = h.statics;
       low = h.low;
+      constants = h.constants;
       active = h.active;
       in_use = h.in_use;
     }
@@ -147,6 +148,7 @@ begun_placed k place b =
         signatures = b.remains.signatures;
         statics = b.remains.statics;
         low = b.remains.low;
+        constants = b.remains.constants;
         active = b.remains.active;
         in_use = b.remains.in_use;
       };

@@ -39,7 +39,7 @@ writing_stands w item edits p h over few =
       laid = h.laid;
       low = h.low;
       lives = record { falling = h.lives.falling; numbered = h.lives.numbered; extents = h.lives.extents };
-      owned = record { living = h.owned.living; heap = h.owned.heap };
+      owned = record { living = h.owned.living; heap = h.owned.heap; constants = h.owned.constants };
       over = over;
       running = h.running;
       allowed = omega (arith, few);
@@ -74,6 +74,7 @@ writing_remains item edits p =
       signatures = r.signatures;
       statics = r.statics;
       low = r.low;
+      constants = r.constants;
       active = r.active;
       in_use = r.in_use;
     }

@@ -625,7 +625,7 @@ pub pick_is : (input first : List ℕ) (acts : ℕ) → acts + 1 < 2 ^ 64 → le
 pick_is input first acts few bytes =
     let l = back_of (first_frame image_parts) (main_called 0) start_linked in
     record {
-      start = record { linked = start_linked; differ = both_differ; bytes = bytes };
+      start = record { linked = start_linked; differ = both_differ; bytes = bytes; told = λ n v e. absurd (cc e) };
       made = all_procedure (surroundings_of (pick_image input acts)) (linked_code pick_code)
           (main_of (pick_whole input acts)) (start_point (pick_image input acts)) no_numbers pick_variables
           (pick_all input acts);

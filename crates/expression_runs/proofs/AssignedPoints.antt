@@ -71,7 +71,11 @@ owned_assigned :
     AreOwned p.keeper p.places p.state parts p.control.layers →
     AreOwned p.keeper p.places (with_assigned serial d v p).state parts p.control.layers
 owned_assigned parts serial d v p is =
-    record { living = λ n l e. by n l e (cases_eq n serial) (living_of p.state.living n) refl; heap = is.heap }
+    record {
+      living = λ n l e. by n l e (cases_eq n serial) (living_of p.state.living n) refl;
+      heap = is.heap;
+      constants = is.constants;
+    }
   where
     change : Living → Living
     change = generation_changed (with_element d v)

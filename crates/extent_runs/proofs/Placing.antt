@@ -44,7 +44,7 @@ use Rattle.activation_relation.specs.Variables.{FitsBlock, newest_grown, with_ma
 use Rattle.activation_relation.proofs.Blocks.{newest_of, same_length}
 use Rattle.activation_relation.proofs.BlockVariables.{variable_stands}
 use Rattle.activation_relation.proofs.FrameWords.{frames_kept, beside_above}
-use Rattle.activation_relation.proofs.OwnPlaces.{free_clear, clear_part}
+use Rattle.activation_relation.proofs.OwnPlaces.{free_clear, clear_within}
 use Rattle.activation_relation.proofs.WaitingWords.{lower_stored}
 use Rattle.run_steps.specs.Engine.{call_at}
 use Rattle.run_steps.specs.Unlimited as U
@@ -176,10 +176,11 @@ is_making {w} {p = p} {x = x} {φ = φ} m k bytes =
       behind = omega (arith, start, low, fits, here);
       aligned = omega (arith, even);
       room = omega (arith, holds, fits, high, last, bytes);
-      clear = λ n h e. clear_part upper (end - upper) _ _ (φ.lower - x.bytes) (length (generation_bytes g))
-          (clear n h e) (omega (arith, top, fits)) (omega (arith, top, lower, holds, fits));
+      clear = clear_within p.keeper p.places p.state
+          upper (end - upper) (φ.lower - x.bytes) (length (generation_bytes g))
+          clear (omega (arith, top, fits)) (omega (arith, top, lower, holds, fits));
       name_room = omega (arith, here, fits, high, last, bytes);
-      name_clear = λ n h e. clear_part upper (end - upper) _ _ (φ.at + x.place) 16 (clear n h e)
+      name_clear = clear_within p.keeper p.places p.state upper (end - upper) (φ.at + x.place) 16 clear
           (omega (arith, top, here)) (omega (arith, top, lower, here, fits));
       beside = inr (omega (arith, here, fits));
     }

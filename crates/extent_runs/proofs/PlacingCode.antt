@@ -28,7 +28,7 @@ use Rattle.activation_relation.specs.Owned.{AreOwned}
 use Rattle.activation_relation.specs.Points.{Stands, Surroundings}
 use Rattle.activation_relation.specs.Variables.{newest_grown}
 use Rattle.activation_relation.proofs.FrameWords.{levels_covered}
-use Rattle.activation_relation.proofs.OwnPlaces.{clear_part, frame_clear, stores_hold}
+use Rattle.activation_relation.proofs.OwnPlaces.{clear_within, frame_clear, stores_hold}
 use Rattle.run_steps.specs.Bodies.{Ground, Known, with'}
 use Rattle.run_steps.proofs.Bodies.{at_place, displaced_by, frame_is, load_piece, lose_known, set_known, zero_is}
 use Rattle.run_steps.specs.Calls.{Calling}
@@ -375,8 +375,8 @@ lowered_holds {w} {p = p} {m = m} z known k o is =
     let above = laid.0.above in
     let covered = levels_covered φ.level φ.parameters in
     let h = stores_hold (now p is.first) (φ.at + 40) 4 ((φ.at + 40, φ.lower - z.variable.bytes) ∷ []) is.stands.storage
-    (λ n h' e. clear_part (frame_start φ) (frame_bytes φ) _ _ (φ.at + 40) 4
-    (frame_clear p.keeper p.places p.state w.parts φ z.others owned laid n h' e) (omega (arith, above))
+    (clear_within p.keeper p.places p.state (frame_start φ) (frame_bytes φ) (φ.at + 40) 4
+    (frame_clear p.keeper p.places p.state w.parts φ z.others owned laid) (omega (arith, above))
     (omega (arith, covered, above)))
     (omega (arith, room, bytes)) ((omega arith, omega arith), tt) in
     subst (λ m'. Holds (now p m')) (sym is.is) (same_now h)

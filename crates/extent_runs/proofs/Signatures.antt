@@ -141,7 +141,7 @@ filled_stands w code p u known =
               extends_template u p.places.signatures (p.places.number n) l.generation.shape (s.lives.numbered n l e);
           extents = s.lives.extents;
         };
-        owned = record { living = s.owned.living; heap = s.owned.heap };
+        owned = record { living = s.owned.living; heap = s.owned.heap; constants = s.owned.constants };
         over = s.over;
         running = s.running;
         allowed = s.allowed;
@@ -171,6 +171,7 @@ filled_remains p u =
       signatures = extends_template u p.places.signatures;
       statics = refl;
       low = refl;
+      constants = refl;
       active = omega arith;
       in_use = λ height low. refl;
     }

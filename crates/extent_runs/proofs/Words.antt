@@ -30,7 +30,7 @@ use Rattle.activation_relation.specs.Points.{Stands, Surroundings}
 use Rattle.activation_relation.specs.Remaining.{Remains}
 use Rattle.activation_relation.proofs.FrameWords.{words_covered}
 use Rattle.activation_relation.proofs.ListWords.{words_rewritten}
-use Rattle.activation_relation.proofs.OwnPlaces.{clear_part, frame_clear, stores_hold}
+use Rattle.activation_relation.proofs.OwnPlaces.{clear_within, frame_clear, stores_hold}
 use Rattle.activation_relation.proofs.Remaining.{remains_same, remains_then}
 use Rattle.activation_relation.proofs.Returning.{later_same}
 use Rattle.activation_relation.proofs.StoredWords.{stored_beside}
@@ -84,8 +84,8 @@ words_stand w p φ φs x b m known newest within bytes told stands =
     let high = within.1 in
     let room = known.1.room in
     let clear : IsClear p.keeper p.places p.state x.at x.count =
-    λ i h e. clear_part (frame_start φ) (frame_bytes φ) _ _ x.at x.count
-    (frame_clear p.keeper p.places p.state w.parts φ φs owned laid i h e) low (omega (arith, above, high)) in
+    clear_within p.keeper p.places p.state (frame_start φ) (frame_bytes φ) x.at x.count
+    (frame_clear p.keeper p.places p.state w.parts φ φs owned laid) low (omega (arith, above, high)) in
     record {
       storage = same_now (stores_hold (now p m) x.at x.count x.stores stands.storage clear
           (omega (arith, high, room, bytes)) within.2);
@@ -250,6 +250,7 @@ remains_with p φ φs waits =
       signatures = same.signatures;
       statics = same.statics;
       low = same.low;
+      constants = same.constants;
       active = same.active;
       in_use = same.in_use;
     }

@@ -533,7 +533,7 @@ pub local_is : (input first : List ℕ) (acts : ℕ) → acts + 1 < 2 ^ 64 → l
 local_is input first acts few bytes =
     let l = back_of (first_frame image_parts) (main_called 0) start_linked in
     record {
-      start = record { linked = start_linked; differ = one_differs; bytes = bytes };
+      start = record { linked = start_linked; differ = one_differs; bytes = bytes; told = λ n v e. absurd (cc e) };
       made = one_made (surroundings_of (local_image input acts)) (linked_code local_code)
           (main_of (local_whole input acts)) (start_point (local_image input acts)) no_numbers W.number_declared
           (outer_only input acts);

@@ -40,7 +40,7 @@ use Rattle.activation_relation.specs.Owned.{AreOwned}
 use Rattle.activation_relation.specs.Layers.{Point, now, services_of}
 use Rattle.activation_relation.specs.Points.{Stands, Surroundings}
 use Rattle.activation_relation.proofs.FrameWords.{levels_covered}
-use Rattle.activation_relation.proofs.OwnPlaces.{clear_part, frame_clear}
+use Rattle.activation_relation.proofs.OwnPlaces.{clear_within, frame_clear}
 use Rattle.activation_relation.proofs.WaitingWords.{result_stored}
 use Rattle.run_steps.specs.Bodies.{Ground, Known}
 use Rattle.run_steps.proofs.Bodies.{store_piece}
@@ -132,8 +132,8 @@ stands_returned {k} {p = p} b m given begun o bytes stands =
     (record {
       storage = subst (λ m'. Holds (now p m')) (store_is 4 given at m room)
           (same_now (apart_holds (now p m) stands.storage at (number_bytes 4 given)
-          (λ i held' e. clear_part (frame_start φ) (frame_bytes φ) _ _ at (length (number_bytes 4 given))
-          (frame_clear p.keeper p.places p.state w.parts φ φs owned laid i held' e) (omega (arith, above))
+          (clear_within p.keeper p.places p.state (frame_start φ) (frame_bytes φ) at (length (number_bytes 4 given))
+          (frame_clear p.keeper p.places p.state w.parts φ φs owned laid) (omega (arith, above))
           (omega (arith, length', above, covered)))
           (omega (arith, room, length'))));
       frames =

@@ -16,6 +16,7 @@ use Rattle.pli_coding.specs.Linking.{links_of}
 use Rattle.pli_coding.specs.Procedures.{procedure_environment}
 use Rattle.pli_coding.specs.SignatureTable.{table_of}
 use Rattle.pli_coding.specs.Statements.{block_held, block_words}
+use Rattle.storage_relation.specs.Versions.{no_constants}
 use Rattle.activation_relation.specs.Layers.{services_of}
 use Rattle.run_steps.specs.Reach.{Comes, never}
 use Rattle.program_runs.specs.Procedures.{Procedure, procedure_code}
@@ -130,6 +131,7 @@ shed_image input acts =
       links = links_of shed_code;
       units = [];
       signatures = map template_of (table_of shed_program);
+      constants = no_constants;
       input = input;
       acts = acts;
       serials = 1;

@@ -4,6 +4,7 @@ pub mod Procedures
 pub mod JumpsOut
 pub mod Waiting
 pub mod Statements
+pub mod Constants
 pub mod NewestBlocks
 pub mod Gotos
 pub mod Lists

@@ -286,7 +286,12 @@ pub row_is : (input first : List ℕ) (acts : ℕ) → acts + 1 < 2 ^ 64 → len
 row_is input first acts few bytes =
     let l = back_of (first_frame image_parts) (main_called 0) start_linked in
     record {
-      start = record { linked = start_linked; differ = λ i j a b e. absurd (cc e); bytes = bytes };
+      start = record {
+        linked = start_linked;
+        differ = λ i j a b e. absurd (cc e);
+        bytes = bytes;
+        told = λ n v e. absurd (cc e);
+      };
       made = none_made (surroundings_of (row_image input acts)) (linked_code row_code) (main_of (row_whole input acts))
           (start_point (row_image input acts)) no_numbers refl refl (refl, refl);
       callee = record {

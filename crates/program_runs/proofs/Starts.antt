@@ -25,7 +25,7 @@ use Rattle.activation_relation.specs.Frames.{FramesStand, stored}
 use Rattle.activation_relation.specs.Layers.{now, services_of}
 use Rattle.activation_relation.specs.Points.{Stands}
 use Rattle.activation_relation.specs.Rows.{first_stores}
-use Rattle.activation_relation.proofs.OwnPlaces.{storage_beside, stores_hold}
+use Rattle.activation_relation.proofs.OwnPlaces.{start_clear, stores_hold}
 use Rattle.activation_relation.proofs.Rows.{first_stands, first_frame}
 use Rattle.activation_relation.proofs.StoredWords.{length_stored}
 use Rattle.run_steps.specs.Bodies.{Ground, Known}
@@ -50,16 +50,18 @@ use Rattle.program_runs.specs.Starts.{call_index, no_numbers}
 code_low : (i : Image) (main : ℕ) (first : List ℕ) → IsStart i main first → 4 * length i.code ≤ 14 * 2 ^ 20
 code_low i main first h = let s = h.linked.small' in omega (arith, s)
 
-point_stands : (i : Image) → Stands (surroundings_of i) (start_point i)
-point_stands i =
+point_stands :
+    (i : Image) (main : ℕ) (first : List ℕ) → IsStart i main first → Stands (surroundings_of i) (start_point i)
+point_stands i main first h =
     let p = start_point i in
     first_stands (surroundings_of i) p.keeper p.layout p.places i.input (omega arith) (omega arith)
+    (λ n v e. (h.told n v e).1)
 
 pub start_stands :
     (i : Image) (main : ℕ) (first : List ℕ) → IsStart i main first →
     Stands (surroundings_of i) (start_point i) × IsImage (surroundings_of i) i.code (start_point i)
 start_stands i main first h = (
-  point_stands i,
+  point_stands i main first h,
   record {
     keeper = refl;
     layout = refl;
@@ -100,10 +102,11 @@ start_holds i main first keeps h =
     let bytes = h.bytes in
     let f = first_version (4 * length i.code) in
     let before = first_holds f p.keeper keeps (first_sound (4 * length i.code) (code_low i main first h))
-    i.signatures h.differ (services_of p) i.input first bytes in
+    i.signatures h.differ i.constants (services_of p) i.input first bytes
+    (λ n v e. let t = h.told n v e in let low = t.1 in (t.0, omega (arith, low), t.2)) in
     stores_hold (now p first) frame_at 48 (first_stores image_parts) before.0
-    (λ n held' e. storage_beside p.keeper p.places p.state image_parts [] n held' (point_stands i).owned
-    (point_stands i).laid e)
+    (start_clear p.keeper p.places p.state image_parts (point_stands i main first h).owned
+    (point_stands i main first h).laid)
     (omega (arith, bytes)) ((omega arith, omega arith), ((omega arith, omega arith), tt))
 
 start_frames :

@@ -42,7 +42,7 @@ use Rattle.activation_relation.specs.Variables.{Made, FitsBlock, grown, newest_g
 use Rattle.activation_relation.proofs.Blocks.{newest_of, same_length}
 use Rattle.activation_relation.proofs.BlockVariables.{variable_stands}
 use Rattle.activation_relation.proofs.FrameWords.{frames_kept, beside_above, told_over}
-use Rattle.activation_relation.proofs.OwnPlaces.{free_clear, clear_part}
+use Rattle.activation_relation.proofs.OwnPlaces.{free_clear, clear_within}
 use Rattle.run_steps.specs.Engine.{call_at}
 use Rattle.run_steps.specs.Unlimited as U
 use Rattle.block_runs.specs.Machines.{AreEven, IsImage}
@@ -184,10 +184,11 @@ is_making {w} {p = p} {x = x} {φ = φ} m k bytes =
       behind = omega (arith, start, low);
       aligned = omega (arith, even, here);
       room = omega (arith, holds, fits, high, last, bytes);
-      clear = λ n h e. clear_part upper (end - upper) _ _ (φ.at + (x.place + name_bytes)) (length (generation_bytes g))
-          (clear n h e) (omega (arith, top, here)) (omega (arith, top, lower, here, holds, fits));
+      clear = clear_within p.keeper p.places p.state
+          upper (end - upper) (φ.at + (x.place + name_bytes)) (length (generation_bytes g))
+          clear (omega (arith, top, here)) (omega (arith, top, lower, here, holds, fits));
       name_room = omega (arith, holds, fits, high, last, bytes);
-      name_clear = λ n h e. clear_part upper (end - upper) _ _ (φ.at + x.place) 16 (clear n h e)
+      name_clear = clear_within p.keeper p.places p.state upper (end - upper) (φ.at + x.place) 16 clear
           (omega (arith, top, here)) (omega (arith, top, lower, here, holds, fits));
       beside = inr (omega arith);
     }

@@ -179,7 +179,7 @@ pub number_is : (input first : List ℕ) (acts : ℕ) → acts + 1 < 2 ^ 64 → 
 number_is input first acts few bytes =
     let l = back_of (first_frame image_parts) (main_called 0) start_linked in
     record {
-      start = record { linked = start_linked; differ = one_differs; bytes = bytes };
+      start = record { linked = start_linked; differ = one_differs; bytes = bytes; told = λ n v e. absurd (cc e) };
       made = one_made (surroundings_of (number_image input acts)) (linked_code number_code)
           (main_of (number_whole input acts)) (start_point (number_image input acts)) no_numbers number_declared
           (number_only input acts);

@@ -72,6 +72,7 @@ texts_remain before after h =
       signatures = h.signatures;
       statics = h.statics;
       low = h.low;
+      constants = h.constants;
       active = h.active;
       in_use = h.in_use;
     }
@@ -144,6 +145,7 @@ begun_waits k entries b =
         signatures = b.remains.signatures;
         statics = b.remains.statics;
         low = b.remains.low;
+        constants = b.remains.constants;
         active = b.remains.active;
         in_use = b.remains.in_use;
       };

@@ -1,6 +1,7 @@
 pub mod Starts
 pub mod Procedures
 pub mod Statements
+pub mod Constants
 pub mod Calls
 pub mod Programs
 pub mod Variables

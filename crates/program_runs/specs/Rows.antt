@@ -12,6 +12,7 @@ use Rattle.pli_coding.specs.Images.{code_of, environment_of, linked_code, raise_
 use Rattle.pli_coding.specs.Linking.{links_of}
 use Rattle.pli_coding.specs.Procedures.{procedure_environment}
 use Rattle.pli_coding.specs.Statements.{stmts_code}
+use Rattle.storage_relation.specs.Versions.{no_constants}
 use Rattle.activation_relation.specs.Layers.{services_of}
 use Rattle.run_steps.specs.Reach.{Comes, never}
 use Rattle.program_runs.specs.Procedures.{Procedure, block_of, begin_of, procedure_code}
@@ -80,6 +81,7 @@ row_image input acts =
       links = links_of row_code;
       units = [];
       signatures = [];
+      constants = no_constants;
       input = input;
       acts = acts;
       serials = 1;

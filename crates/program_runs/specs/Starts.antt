@@ -1,5 +1,5 @@
 -- The start of an image: from its first instruction to that which calls the main procedure.
-use Rattle.std.specs.Prelude.{ℕ, ◌+◌, ◌*◌, ◌≡◌, List, ◌∷◌, ◌++◌, length}
+use Rattle.std.specs.Prelude.{ℕ, ◌+◌, ◌*◌, ◌≡◌, List, ◌∷◌, ◌++◌, length, Option}
 use Rattle.rv_meaning.specs.declared.instr.Instr.{Instr}
 use Rattle.rv_meaning.specs.Machine.{memory_size, value}
 use Rattle.pli_types.specs.Templates.{Template}
@@ -13,6 +13,7 @@ use Rattle.pli_coding.specs.Linking.{Links}
 use Rattle.pli_coding.specs.Procedures.{finish_code}
 use Rattle.pli_coding.specs.Registers.{frame_register, a0, a1, a2}
 use Rattle.storage_relation.specs.Served.{AllDiffer}
+use Rattle.storage_relation.specs.Stored.{AreTold}
 use Rattle.storage_relation.specs.Versions.{first_version, first_places, layout_in}
 use Rattle.activation_relation.specs.Chains.{UnitPlaces}
 use Rattle.activation_relation.specs.Layers.{Point, services_of}
@@ -46,13 +47,14 @@ finish_index = 15
 
 -- ---- its first moment
 
--- a program's image in a run: its code, its signatures, the input, how many acts are allowed, and how many serials may
--- come for each
+-- a program's image in a run: its code, its signatures, the bytes that are told of its static data, the input, how many
+-- acts are allowed, and how many serials may come for each
 pub record Image : Type 0 where
   pub code : List Instr
   pub links : Links
   pub units : UnitPlaces
   pub signatures : List Template
+  pub constants : (place : ℕ) → Option ℕ
   pub input : List ℕ
   pub acts : ℕ
   pub serials : ℕ
@@ -70,9 +72,9 @@ surroundings_of i =
 abbrev pub start_point : Image → Point
 start_point i =
     first_point granules (layout_in (first_version (4 * length i.code)))
-    (first_places (first_version (4 * length i.code)) i.signatures) i.input
+    (first_places (first_version (4 * length i.code)) i.signatures i.constants) i.input
 
--- all registers are 0, and memory is anything
+-- all registers are 0, and memory is anything but for what is told of it
 abbrev pub first_family : (first : List ℕ) → Services → Family
 first_family first v b =
     record { machine = record { registers = λ r. 0; memory = first; pc = address b 0 }; services = v }
@@ -81,6 +83,8 @@ pub record IsStart (i : Image) (main : ℕ) (first : List ℕ) : Type 0 where
   pub linked : Linked i.links i.code 0 (start_of main)
   pub differ : AllDiffer i.signatures
   pub bytes : length first ≡ memory_size
+  -- what is told of static data stands behind the code, before the stacks
+  pub told : AreTold i.constants (4 * length i.code) image_parts.stack_start first
 
 -- no number waits in a register yet
 abbrev pub no_numbers : ℕ → ℕ

@@ -12,6 +12,7 @@ use Rattle.pli_coding.specs.Images.{code_of, environment_of, linked_code, raise_
 use Rattle.pli_coding.specs.Linking.{links_of}
 use Rattle.pli_coding.specs.Procedures.{procedure_environment}
 use Rattle.pli_coding.specs.SignatureTable.{table_of}
+use Rattle.storage_relation.specs.Versions.{no_constants}
 use Rattle.activation_relation.specs.Layers.{services_of}
 use Rattle.run_steps.specs.Reach.{Comes, never}
 use Rattle.program_runs.specs.Procedures.{Procedure, procedure_code}
@@ -77,6 +78,7 @@ number_image input acts =
       links = links_of number_code;
       units = [];
       signatures = map template_of (table_of number_program);
+      constants = no_constants;
       input = input;
       acts = acts;
       serials = 1;

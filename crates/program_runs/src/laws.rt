@@ -1,6 +1,7 @@
 // Laws of the definitions: each function's contract is one law, and calling it does nothing.
 
 ghost use Rattle.program_runs.specs.Calls.{CallsDo, NoneMade, ProceduresRun};
+ghost use Rattle.program_runs.specs.Constants.{ConstantsStand};
 ghost use Rattle.program_runs.specs.Names.{NamesTold, OneNamed};
 ghost use Rattle.program_runs.specs.Procedures.{ProceduresBegin};
 ghost use Rattle.program_runs.specs.Programs.{ProgramsRun};
@@ -27,6 +28,11 @@ pub fn procedures_begin()
 /// Null statements, RETURN and STOP do what they mean, at each point of their block.
 pub fn statements_do()
     ensures { StatementsDo }
+{}
+
+/// Bytes that are told of static data where a block's first statement begins stand at each of its points.
+pub fn constants_stand()
+    ensures { ConstantsStand }
 {}
 
 /// A list does what it means if each of its statements does.

@@ -45,7 +45,7 @@ use Rattle.activation_relation.specs.Owned.{AreOwned}
 use Rattle.activation_relation.specs.Points.{Stands, Surroundings}
 use Rattle.activation_relation.proofs.FrameWords.{words_covered}
 use Rattle.activation_relation.proofs.ListWords.{words_rewritten}
-use Rattle.activation_relation.proofs.OwnPlaces.{clear_part, frame_clear, stores_hold}
+use Rattle.activation_relation.proofs.OwnPlaces.{clear_within, frame_clear, stores_hold}
 use Rattle.activation_relation.proofs.StoredWords.{stored_beside}
 use Rattle.run_steps.specs.Bodies.{Ground, Known, PlaceFrom}
 use Rattle.run_steps.proofs.Bodies.{at_place, constant_piece, frame_is, zero_is}
@@ -172,11 +172,11 @@ referred_stand {w} {p = p} {φ = φ} {φs = φs} {r = r} b m k h bytes stands =
     let n = length_part from 16 m (omega (arith, inside, bytes)) in
     let long = copied_length from L m (omega (arith, inside, bytes)) (omega (arith, room, bytes)) in
     let clear : IsClear p.keeper p.places p.state L 24 =
-    λ i g e. clear_part (frame_start φ) (frame_bytes φ) _ _ L 24
-    (frame_clear p.keeper p.places p.state w.parts φ φs owned laid i g e) (omega (arith, covered, above, words))
+    clear_within p.keeper p.places p.state (frame_start φ) (frame_bytes φ) L 24
+    (frame_clear p.keeper p.places p.state w.parts φ φs owned laid) (omega (arith, covered, above, words))
     (omega (arith, covered, above, words)) in
     let h1 = apart_holds (now p m) stands.storage L name
-    (λ i g e. clear_part L 24 _ _ L (length name) (clear i g e) (omega arith) (omega (arith, n)))
+    (clear_within p.keeper p.places p.state L 24 L (length name) clear (omega arith) (omega (arith, n)))
     (omega (arith, n, room, bytes)) in
     let h2 = stores_hold (with_memory first (now p m)) L 24 ((φ.at - 8, r.signature) ∷ (φ.at - 4, 0) ∷ []) h1 clear
     (omega (arith, low, room, bytes, long))

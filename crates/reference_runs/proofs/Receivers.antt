@@ -471,6 +471,7 @@ remains_bound y =
       signatures = r.signatures;
       statics = r.statics;
       low = r.low;
+      constants = r.constants;
       active = r.active;
       in_use = r.in_use;
     }

@@ -204,6 +204,7 @@ behind_goes {k} {c} {x} {r} {φ} {φs} {line} {index} {numbers = numbers} {p = p
       signatures = from.signatures;
       statics = from.statics;
       low = from.low;
+      constants = from.constants;
       active = from.active;
       in_use = from.in_use;
     } in
@@ -230,6 +231,7 @@ behind_goes {k} {c} {x} {r} {φ} {φs} {line} {index} {numbers = numbers} {p = p
             signatures = remains.signatures;
             statics = remains.statics;
             low = remains.low;
+            constants = remains.constants;
             active = remains.active;
             in_use = remains.in_use;
           };

@@ -519,7 +519,7 @@ pub passed_is : (input first : List ℕ) (acts : ℕ) → acts + 1 < 2 ^ 64 → 
 passed_is input first acts few bytes =
     let l = back_of (first_frame image_parts) (main_called 0) start_linked in
     record {
-      start = record { linked = start_linked; differ = one_differs; bytes = bytes };
+      start = record { linked = start_linked; differ = one_differs; bytes = bytes; told = λ n v e. absurd (cc e) };
       made = one_named (surroundings_of (passed_image input acts)) (linked_code passed_code)
           (main_of (passed_whole input acts)) (start_point (passed_image input acts)) no_numbers W.number_declared
           (record { only = outer_only input acts; made = refl; serial = omega arith });

@@ -148,6 +148,7 @@ outer_known k c x r φ φs line index more p numbers z h made o far is b =
         signatures = rest.signatures;
         statics = rest.statics;
         low = rest.low;
+        constants = rest.constants;
         active = rest.active;
         in_use = rest.in_use;
       };

@@ -144,7 +144,7 @@ apart_stays w h at new clear room (BasedName n o) = by (held w.state n) refl
     by (Some (AreaOf a)) e =
         ap (λ bytes. w.places.at n + w.keeper.data_at o bytes)
         (part_beside (w.places.at n) (w.keeper.bytes_for a.capacity) new at w.memory room
-        (h.stored.inside n (AreaOf a) e) (clear n (AreaOf a) e))
+        (h.stored.inside n (AreaOf a) e) (clear.0 n (AreaOf a) e))
 
 -- ---- variables
 

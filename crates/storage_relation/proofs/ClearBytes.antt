@@ -10,7 +10,7 @@ use Rattle.area_keeper.specs.KeeperLaws.{Keeps}
 use Rattle.area_keeper.specs.KeptAreas.{part}
 use Rattle.storage_relation.specs.Standing.{Holder, holder_of, heap_holder, holder_in, held, bytes_of, Stands}
 use Rattle.storage_relation.specs.Stored.{Places, Beside, with_place, with_living, IsClear, made_if, taken_as, slice}
-use Rattle.storage_relation.specs.Stored.{StoredAs}
+use Rattle.storage_relation.specs.Stored.{StoredAs, AreTold, IsUntold}
 use Rattle.storage_relation.proofs.AreaLaws.{area_made}
 use Rattle.storage_relation.proofs.Holders.{eqb-refl, eqb-other}
 use Rattle.storage_relation.proofs.Turning.{Turns, some_same}
@@ -19,25 +19,26 @@ use Rattle.storage_relation.proofs.Turning.{Turns, some_same}
 pub clear_turned :
     (k : Keeper) (π : Places) (s s' : State) (n : ℕ) (h h' : Holder) (at count : ℕ) → Turns k s s' n h h' →
     IsClear k π s at count → IsClear k π s' at count
-clear_turned k π s s' n h h' at count t clear j g e = by (cases_eq j n)
+clear_turned k π s s' n h h' at count t clear = ((λ j g e. by j g e (cases_eq j n)), clear.1)
   where
-    by : (j ≡ n) ⊎ (j ≢ n) → Beside (π.at j) (bytes_of k g) at count
-    by (inl same) =
+    by :
+        (j : ℕ) (g : Holder) → held s' j ≡ Some g → (j ≡ n) ⊎ (j ≢ n) → Beside (π.at j) (bytes_of k g) at count
+    by j g e (inl same) =
         let f : h' ≡ g = some_same (sym t.is ∙ subst (λ i. held s' i ≡ Some g) same e) in
         subst (λ i. Beside (π.at i) (bytes_of k g) at count) (sym same)
-        (subst (λ c. Beside (π.at n) c at count) (sym t.size ∙ ap (bytes_of k) f) (clear n h t.was))
-    by (inr other) = clear j g (sym (t.others j other) ∙ e)
+        (subst (λ c. Beside (π.at n) c at count) (sym t.size ∙ ap (bytes_of k) f) (clear.0 n h t.was))
+    by j g e (inr other) = clear.0 j g (sym (t.others j other) ∙ e)
 
 pub clear_fewer :
     (k : Keeper) (π : Places) (s s' : State) (at count : ℕ) →
     ((j : ℕ) (h : Holder) → held s' j ≡ Some h → held s j ≡ Some h) → IsClear k π s at count → IsClear k π s' at count
-clear_fewer k π s s' at count less clear j g e = clear j g (less j g e)
+clear_fewer k π s s' at count less clear = ((λ j g e. clear.0 j g (less j g e)), clear.1)
 
 pub clear_added :
     (k : Keeper) (π : Places) (s : State) (l : Living) (place number at count : ℕ) → l.serial ≢ heap_serial →
     Beside place (bytes_of k (holder_of l)) at count →
     IsClear k π s at count → IsClear k (with_place l.serial place number π) (with_living l s) at count
-clear_added k π s l place number at count some beside clear j g e = by (cases_eq j l.serial)
+clear_added k π s l place number at count some beside clear = ((λ j g e. by j g e (cases_eq j l.serial)), clear.1)
   where
     here : held (with_living l s) l.serial ≡ Some (holder_of l)
     here =
@@ -45,33 +46,39 @@ clear_added k π s l place number at count some beside clear j g e = by (cases_e
         (eqb-other l.serial heap_serial some)
         ∙ ap (λ q. holder_in (cond q (Some l) (living_of s.living l.serial))) (eqb-refl l.serial)
 
-    by : (j ≡ l.serial) ⊎ (j ≢ l.serial) → Beside ((with_place l.serial place number π).at j) (bytes_of k g) at count
-    by (inl same) =
+    by :
+        (j : ℕ) (g : Holder) → held (with_living l s) j ≡ Some g → (j ≡ l.serial) ⊎ (j ≢ l.serial) →
+        Beside ((with_place l.serial place number π).at j) (bytes_of k g) at count
+    by j g e (inl same) =
         let f : holder_of l ≡ g = some_same (sym here ∙ subst (λ i. held (with_living l s) i ≡ Some g) same e) in
         let p : (with_place l.serial place number π).at j ≡ place = ap (with_place l.serial place number π).at same
         ∙ ap (λ q. cond q place (π.at l.serial)) (eqb-refl l.serial) in
         subst (λ a. Beside a (bytes_of k g) at count) (sym p)
         (subst (λ h. Beside place (bytes_of k h) at count) f beside)
-    by (inr other) =
+    by j g e (inr other) =
         let there : held (with_living l s) j ≡ held s j =
         ap (λ q. cond (j == heap_serial) (Some (heap_holder s.heap))
         (holder_in (cond q (Some l) (living_of s.living j)))) (eqb-other l.serial j (λ e. other (sym e)))
         in
         let p : (with_place l.serial place number π).at j ≡ π.at j =
         ap (λ q. cond q place (π.at j)) (eqb-other j l.serial other) in
-        subst (λ a. Beside a (bytes_of k g) at count) (sym p) (clear j g (sym there ∙ e))
+        subst (λ a. Beside a (bytes_of k g) at count) (sym p) (clear.0 j g (sym there ∙ e))
 
 pub stored_first :
     (k : Keeper) → Keeps k → (π : Places) (input m : List ℕ) → π.heap_made ≡ false →
     π.at 0 + k.bytes_for heap_capacity ≤ length m → π.low ≤ π.at 0 → π.at 0 % 4 ≡ 0 →
+    AreTold π.constants π.low (π.at 0) m →
     StoredAs k π (first_state input) m
-stored_first k keeps π input m unmade inside low four =
+stored_first k keeps π input m unmade inside low four told =
     record {
       stands = λ n h e. by n h e (cases_eq n heap_serial);
       inside = λ n h e. let o = only n h e in subst (λ i. π.at i + bytes_of k h ≤ length m) (sym o.0)
           (subst (λ g. π.at 0 + bytes_of k g ≤ length m) o.1 inside);
       placed = λ n h e. let o = only n h e in subst (λ i. (π.low ≤ π.at i) × (π.at i % 4 ≡ 0)) (sym o.0) (low, four);
       apart = λ i j f g ne e1 e2. absurd (ne ((only i f e1).0 ∙ sym (only j g e2).0));
+      told = λ n v e. let t = told n v e in let below = t.1 in (t.0, omega (arith, below, inside), t.2);
+      untold = λ n h e. let o = only n h e in subst (λ i. IsUntold π (π.at i) (bytes_of k h)) (sym o.0)
+          (λ p v is. inl (told p v is).1);
     }
   where
     only : (n : ℕ) (h : Holder) → held (first_state input) n ≡ Some h → (n ≡ 0) × (heap_holder [] ≡ h)

@@ -1,6 +1,6 @@
 -- The layout of an image's version: its heap is where the ghost has it, and all that is held stands in data.
 use Rattle.std.proofs.Common.{◌≡◌, ℕ, ◌+◌, ◌*◌, ◌%◌, ◌^◌, ◌≤◌, ℤ, List, length, Some, true, false, refl, sym, ap, ◌∙◌}
-use Rattle.std.proofs.Common.{arith}
+use Rattle.std.proofs.Common.{arith, subst}
 use Rattle.std.proofs.lemmas.Bool.Decides.{nat_tests}
 use Rattle.std.specs.Prelude.{nat_le, ◌&&◌}
 use Rattle.pli_meaning.specs.BasicValues.{Name}
@@ -19,7 +19,7 @@ use Rattle.storage_relation.proofs.ClearBytes.{stored_first}
 use Rattle.storage_relation.specs.Served.{HasHeap, Now, Holds, place_now}
 use Rattle.storage_relation.specs.Standing.{Holder, held, bytes_of, size_of, leaf_in, place_in, IsPlain, IsElement}
 use Rattle.storage_relation.specs.Standing.{IsElementNow, address_now}
-use Rattle.storage_relation.specs.Stored.{Places, StoredAs}
+use Rattle.storage_relation.specs.Stored.{Places, StoredAs, AreTold}
 use Rattle.storage_relation.specs.Versions.{Version, first_version, IsSoundVersion, IsLaidOut}
 
 pub first_sound : (code_bytes : ℕ) → code_bytes ≤ 14 * 2 ^ 20 → IsSoundVersion (first_version code_bytes)
@@ -99,13 +99,14 @@ heap_room f k keeps sound =
     let room = sound.room in
     omega (arith, few, room)
 
--- where nothing lives yet, memory of any bytes has it
+-- where nothing lives yet, memory of any bytes has it, but for those that are told of static data
 pub first_stored :
     (f : Version) (k : Keeper) → Keeps k → IsSoundVersion f → (π : Places) (input m : List ℕ) → π.heap_made ≡ false →
-    (π.at heap_serial ≡ f.heap_at) × (π.low ≤ f.heap_at) → length m ≡ f.end → StoredAs k π (first_state input) m
-first_stored f k keeps sound π input m unmade here size =
+    (π.at heap_serial ≡ f.heap_at) × (π.low ≤ f.heap_at) → length m ≡ f.end →
+    AreTold π.constants π.low f.heap_at m → StoredAs k π (first_state input) m
+first_stored f k keeps sound π input m unmade here size told =
     let at = here.0 in
     let low = here.1 in
     let room = heap_room f k keeps sound in
     stored_first k keeps π input m unmade (omega (arith, room, at, size)) (omega (arith, low, at))
-    (ap (λ n. n % 4) at ∙ sound.aligned)
+    (ap (λ n. n % 4) at ∙ sound.aligned) (subst (λ n. AreTold π.constants π.low n m) (sym at) told)

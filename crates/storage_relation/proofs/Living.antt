@@ -12,9 +12,9 @@ use Rattle.pli_serving.specs.Templates.{shape_at}
 use Rattle.storage_relation.proofs.Holders.{eqb-refl, eqb-other, living_of-changed, living_of-others}
 use Rattle.storage_relation.proofs.Placing.{none_above, falling_without, without_less}
 use Rattle.storage_relation.proofs.Turning.{some_same}
-use Rattle.storage_relation.specs.Standing.{heap_holder, holder_in, holder_of, bytes_of}
+use Rattle.storage_relation.specs.Standing.{Holder, heap_holder, holder_in, holder_of, bytes_of}
 use Rattle.storage_relation.specs.Stored.{Places, Beside, AreFalling, Lives, with_place, Extends, with_signatures}
-use Rattle.storage_relation.specs.Stored.{IsClear, Region, InRegions}
+use Rattle.storage_relation.specs.Stored.{IsClear, IsUntold, Region, InRegions}
 
 -- ---- changes of one that lives
 
@@ -169,13 +169,15 @@ pub clear_by_regions :
     Beside (π.at heap_serial) (bytes_of k (heap_holder s.heap)) at count →
     ((n : ℕ) (l : Living) → living_of s.living n ≡ Some l → ((region l.owner).to ≤ at)
     ⊎ (at + count ≤ (region l.owner).from)) →
-    IsClear k π s at count
-clear_by_regions k π s region at count regions heap others n h e = by (n == heap_serial) refl e
+    IsUntold π at count → IsClear k π s at count
+clear_by_regions k π s region at count regions heap others untold =
+    ((λ n h e. by n h (n == heap_serial) refl e), untold)
   where
     living_by :
-        (o : Option Living) → living_of s.living n ≡ o → holder_in o ≡ Some h → Beside (π.at n) (bytes_of k h) at count
-    living_by None f e = absurd (cc e)
-    living_by (Some l) f e =
+        (n : ℕ) (h : Holder) (o : Option Living) → living_of s.living n ≡ o → holder_in o ≡ Some h →
+        Beside (π.at n) (bytes_of k h) at count
+    living_by n h None f e = absurd (cc e)
+    living_by n h (Some l) f e =
         let g : holder_of l ≡ h = some_same e in
         let r = regions.living n l f in
         subst (λ x. Beside (π.at n) (bytes_of k x) at count) g (aside r.0 r.1 (others n l f))
@@ -188,14 +190,15 @@ clear_by_regions k π s region at count regions heap others n h e = by (n == hea
         aside a b (inr x) = inr (omega (arith, a, x))
 
     by :
-        (q : Bool) → (n == heap_serial) ≡ q → cond q (Some (heap_holder s.heap)) (holder_in (living_of s.living n))
-        ≡ Some h → Beside (π.at n) (bytes_of k h) at count
-    by true q e =
+        (n : ℕ) (h : Holder) (q : Bool) → (n == heap_serial) ≡ q →
+        cond q (Some (heap_holder s.heap)) (holder_in (living_of s.living n)) ≡ Some h →
+        Beside (π.at n) (bytes_of k h) at count
+    by n h true q e =
         let z : n ≡ heap_serial = eqb-true n heap_serial q in
         let f : heap_holder s.heap ≡ h = some_same e in
         subst (λ i. Beside (π.at i) (bytes_of k h) at count) (sym z)
         (subst (λ x. Beside (π.at heap_serial) (bytes_of k x) at count) f heap)
-    by false q e = living_by (living_of s.living n) refl e
+    by n h false q e = living_by n h (living_of s.living n) refl e
 
 -- what ended owns nothing
 pub not_owned :

@@ -23,10 +23,10 @@ use Rattle.storage_relation.proofs.Slices.{part_beside, part_written}
 use Rattle.storage_relation.proofs.Spelling.{spelled_length, reads_spelled}
 use Rattle.storage_relation.proofs.Turning.{stored_beside}
 use Rattle.storage_relation.specs.Served.{asking, area_bytes_of}
-use Rattle.storage_relation.specs.Standing.{size_of, Holder, holder_by, holder_of, held, bytes_of, Stands, IsValued}
+use Rattle.storage_relation.specs.Standing.{size_of, holder_by, holder_of, held, bytes_of, Stands, IsValued}
 use Rattle.storage_relation.specs.Standing.{leaves_of, Alone, AreaOf}
 use Rattle.storage_relation.specs.Stored.{Places, made_if, taken_as, Beside, slice, StoredAs, with_place, with_living}
-use Rattle.storage_relation.specs.Stored.{with_heap_made}
+use Rattle.storage_relation.specs.Stored.{with_heap_made, IsClear}
 use Rattle.storage_relation.specs.Telling.{AllHaveValues}
 
 -- ---- a variable: its data, then its name before it or elsewhere
@@ -36,8 +36,7 @@ pub made :
     l.serial ≢ heap_serial →
     place + length b ≤ length m → π.low ≤ place → place % 4 ≡ 0 → name + length named ≤ length m →
     Beside place (length b) name (length named) →
-    ((j : ℕ) (g : Holder) → held s j ≡ Some g → Beside (π.at j) (bytes_of k g) place (length b)) →
-    ((j : ℕ) (g : Holder) → held s j ≡ Some g → Beside (π.at j) (bytes_of k g) name (length named)) →
+    IsClear k π s place (length b) → IsClear k π s name (length named) →
     length b ≡ bytes_of k (holder_of l) → Stands k π.signatures (holder_of l) b →
     StoredAs k (with_place l.serial place number π) (with_living l s) (with_part named name (with_part b place m))
 made k π s m b named l place name number is some room above aligned more apart free clear long stands =
@@ -53,7 +52,7 @@ made k π s m b named l place name number is some room above aligned more apart 
     in
     added k π s (with_part named name (with_part b place m)) l place number second some
     (omega (arith, one, two, room, long)) above aligned
-    (λ j g e. subst (Beside (π.at j) (bytes_of k g) place) long (free j g e))
+    (subst (IsClear k π s place) long free)
     (subst (λ n. Stands k π.signatures (holder_of l) (part place n (with_part named name (with_part b place m)))) long
     (subst (Stands k π.signatures (holder_of l)) (sym own) stands))
   where

@@ -18,11 +18,12 @@ use Rattle.storage_relation.proofs.AreaLaws.{area_made, area_placed}
 use Rattle.storage_relation.proofs.Holders.{eqb-refl, eqb-other}
 use Rattle.storage_relation.proofs.Slices.{part_beside, part_around, part_written}
 use Rattle.storage_relation.proofs.Storing.{taken-other, area_turned, heap_empty}
-use Rattle.storage_relation.proofs.Turning.{some_same}
+use Rattle.storage_relation.proofs.Turning.{some_same, told_written}
 use Rattle.storage_relation.specs.Standing.{size_of, Reads, AreKept, AreaStands, Holder, heap_holder, holder_in}
 use Rattle.storage_relation.specs.Standing.{holder_of, held, bytes_of, Stands, Alone, AreaOf}
 use Rattle.storage_relation.specs.Stored.{Places, taken_as, Beside, slice, StoredAs, AreFalling, with_placed_in}
-use Rattle.storage_relation.specs.Stored.{with_heap_made, with_place, with_living, Extends, with_signatures}
+use Rattle.storage_relation.specs.Stored.{with_heap_made, with_place, with_living, Extends, with_signatures, IsClear}
+use Rattle.storage_relation.specs.Stored.{IsUntold}
 
 -- ---- two writes
 
@@ -99,6 +100,9 @@ heap_begun k keeps π s m is unmade = (
     inside = λ j g e. let i = is.inside j g e in omega (arith, i, same_length);
     placed = is.placed;
     apart = is.apart;
+    told = told_written π m (k.made heap_capacity (part (π.at 0) (k.bytes_for heap_capacity) m)) (π.at 0) is.told
+        (omega (arith, long, own)) (subst (IsUntold π (π.at 0)) (sym long) (is.untold 0 (heap_holder s.heap) refl));
+    untold = is.untold;
   },
   long,
 )
@@ -236,7 +240,7 @@ pub added :
     (k : Keeper) (π : Places) (s : State) (m : List ℕ) (l : Living) (at number : ℕ) → StoredAs k π s m →
     l.serial ≢ heap_serial →
     at + bytes_of k (holder_of l) ≤ length m → π.low ≤ at → at % 4 ≡ 0 →
-    ((j : ℕ) (g : Holder) → held s j ≡ Some g → Beside (π.at j) (bytes_of k g) at (bytes_of k (holder_of l))) →
+    IsClear k π s at (bytes_of k (holder_of l)) →
     Stands k π.signatures (holder_of l) (part at (bytes_of k (holder_of l)) m) →
     StoredAs k (with_place l.serial at number π) (with_living l s) m
 added k π s m l at number is some room above aligned beside stands =
@@ -245,6 +249,8 @@ added k π s m l at number is some room above aligned beside stands =
       inside = λ j g e. inside_by j g e (cases_eq j l.serial);
       placed = λ j g e. placed_by j g e (cases_eq j l.serial);
       apart = λ i j f g ne e1 e2. apart_by i j f g ne e1 e2 (cases_eq i l.serial) (cases_eq j l.serial);
+      told = is.told;
+      untold = λ j g e. untold_by j g e (cases_eq j l.serial);
     }
   where
     π' : Places
@@ -317,6 +323,17 @@ added k π s m l at number is some room above aligned beside stands =
     placed_by j g e (inr other) =
         subst (λ q. (π.low ≤ q) × (q % 4 ≡ 0)) (sym (place-other j other)) (is.placed j g (sym (there j other) ∙ e))
 
+    untold_by :
+        (j : ℕ) (g : Holder) → held (with_living l s) j ≡ Some g → (j ≡ l.serial) ⊎ (j ≢ l.serial) →
+        IsUntold π ((with_place l.serial at number π).at j) (bytes_of k g)
+    untold_by j g e (inl same) =
+        let p : (with_place l.serial at number π).at j ≡ at = ap (with_place l.serial at number π).at same
+        ∙ place-same in
+        subst (λ q. IsUntold π q (bytes_of k g)) (sym p)
+        (subst (λ h. IsUntold π at (bytes_of k h)) (is_new j g e same) beside.1)
+    untold_by j g e (inr other) =
+        subst (λ q. IsUntold π q (bytes_of k g)) (sym (place-other j other)) (is.untold j g (sym (there j other) ∙ e))
+
     turned : (a b c d : ℕ) → Beside a b c d → Beside c d a b
     turned a b c d (inl h) = inr h
     turned a b c d (inr h) = inl h
@@ -333,14 +350,14 @@ added k π s m l at number is some room above aligned beside stands =
         subst (λ u. Beside u (bytes_of k f) ((with_place l.serial at number π).at j) (bytes_of k g)) (sym p)
         (subst (λ u. Beside at (bytes_of k f) u (bytes_of k g)) (sym (place-other j b))
         (subst (λ h. Beside at (bytes_of k h) (π.at j) (bytes_of k g)) x
-        (turned (π.at j) (bytes_of k g) at (bytes_of k (holder_of l)) (beside j g (sym (there j b) ∙ e2)))))
+        (turned (π.at j) (bytes_of k g) at (bytes_of k (holder_of l)) (beside.0 j g (sym (there j b) ∙ e2)))))
     apart_by i j f g ne e1 e2 (inr a) (inl b) =
         let x = is_new j g e2 b in
         let p : (with_place l.serial at number π).at j ≡ at = ap (with_place l.serial at number π).at b ∙ place-same in
         subst (λ u. Beside ((with_place l.serial at number π).at i) (bytes_of k f) u (bytes_of k g)) (sym p)
         (subst (λ u. Beside u (bytes_of k f) at (bytes_of k g)) (sym (place-other i a))
         (subst (λ h. Beside (π.at i) (bytes_of k f) at (bytes_of k h)) x
-        (beside i f (sym (there i a) ∙ e1))))
+        (beside.0 i f (sym (there i a) ∙ e1))))
     apart_by i j f g ne e1 e2 (inr a) (inr b) =
         subst (λ u. Beside u (bytes_of k f) ((with_place l.serial at number π).at j) (bytes_of k g))
         (sym (place-other i a))
@@ -359,6 +376,8 @@ fewer k π s s' m is less =
       inside = λ j g e. is.inside j g (less j g e);
       placed = λ j g e. is.placed j g (less j g e);
       apart = λ i j f g ne e1 e2. is.apart i j f g ne (less i f e1) (less j g e2);
+      told = is.told;
+      untold = λ j g e. is.untold j g (less j g e);
     }
 
 pub none_above :
@@ -470,4 +489,6 @@ more_signatures k π s m t x is =
       inside = is.inside;
       placed = is.placed;
       apart = is.apart;
+      told = is.told;
+      untold = is.untold;
     }

@@ -70,16 +70,16 @@ clear_allocated w n o a g new e at count clear =
         IsClear w.keeper w.places (with_area n (with_placed (record { offset = o; generation = g })) w.state) at count →
         IsClear w.keeper (cond q (with_heap_made w.places) w.places)
         (with_area n (with_placed (record { offset = o; generation = g })) w.state) at count
-    by true clear = λ j f e. clear j f e
+    by true clear = clear
     by false clear = clear
 
 pub clear_made :
     (w : Now) (q : Making) → IsMaking w q → (at count : ℕ) → Beside q.place (length q.data_bytes) at count →
     IsClearNow w at count → IsClearNow (made q w) at count
-clear_made w q is at count beside clear j g e =
+clear_made w q is at count beside clear =
     let s = is.serial in
     clear_added w.keeper w.places w.state q.living q.place q.number at count (λ z. omega (arith, s, z))
-    (subst (λ n. Beside q.place n at count) is.long beside) clear j g e
+    (subst (λ n. Beside q.place n at count) is.long beside) clear
 
 pub clear_ended :
     (w : Now) → Holds w → (height at count : ℕ) → IsClearNow w at count → IsClearNow (ended height w) at count

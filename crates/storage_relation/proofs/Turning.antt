@@ -3,12 +3,13 @@ use Rattle.std.proofs.Common.{◌≡◌, ◌≢◌, ◌⊎◌, inl, inr, ℕ, �
 use Rattle.std.proofs.Common.{arith}
 use Rattle.std.proofs.lemmas.Bool.{cases_eq}
 use Rattle.pli_meaning.specs.StorageState.{State}
-use Rattle.area_keeper.proofs.Agreement.{length_with_part}
+use Rattle.std.specs.Prelude.{slice_index, ◌<◌}
+use Rattle.area_keeper.proofs.Agreement.{length_with_part, byte_below, byte_past}
 use Rattle.area_keeper.specs.Keeper.{Keeper}
 use Rattle.area_keeper.specs.KeptAreas.{part, with_part}
 use Rattle.storage_relation.proofs.Slices.{part_beside, part_around}
 use Rattle.storage_relation.specs.Standing.{Holder, held, bytes_of, Stands}
-use Rattle.storage_relation.specs.Stored.{Places, taken_as, Beside, slice, StoredAs}
+use Rattle.storage_relation.specs.Stored.{Places, taken_as, Beside, slice, StoredAs, AreTold, IsUntold, IsClear}
 
 -- the holder of one serial becomes another, of as many bytes, and all others stay
 pub record Turns (k : Keeper) (s s' : State) (n : ℕ) (h h' : Holder) : Type 0 where
@@ -37,6 +38,19 @@ before k s s' n h h' t j g e = by (cases_eq j n)
 pub some_same : {A : Type 0} {a b : A} → Some a ≡ Some b → a ≡ b
 some_same e = cc e
 
+-- bytes that are told stay where something is written beside them
+pub told_written :
+    (π : Places) (m b : List ℕ) (at : ℕ) → AreTold π.constants π.low (length m) m → at + length b ≤ length m →
+    IsUntold π at (length b) → AreTold π.constants π.low (length (with_part b at m)) (with_part b at m)
+told_written π m b at told room untold n v e =
+    let t = told n v e in
+    let below = t.1 in
+    let long = length_with_part b at m room in (t.0, omega (arith, below, long), by (untold n v e) ∙ t.2)
+  where
+    by : (n < at) ⊎ (at + length b ≤ n) → slice_index (with_part b at m) n ≡ slice_index m n
+    by (inl low) = byte_below b at m n (omega (arith, room)) low
+    by (inr high) = byte_past b at m n (omega (arith, room)) high
+
 -- a write in a holder's bytes
 pub stored_turned :
     (k : Keeper) (π : Places) (s s' : State) (m b : List ℕ) (x n : ℕ) (h h' : Holder) → StoredAs k π s m →
@@ -57,6 +71,11 @@ stored_turned k π s s' m b x n h h' is t room stands =
           subst (λ c. Beside (π.at i) c (π.at j) (bytes_of k g)) (sym o.2)
           (subst (λ c. Beside (π.at i) (bytes_of k o.0) (π.at j) c) (sym p.2)
           (is.apart i j o.0 p.0 ne o.1 p.1));
+      told = told_written π m b (π.at n + x) is.told (omega (arith, own, room))
+          (λ p v e. within p (is.untold n h t.was p v e));
+      untold = λ j g e.
+          let o = before k s s' n h h' t j g e in
+          subst (λ c. IsUntold π (π.at j) c) (sym o.2) (is.untold j o.0 o.1);
     }
   where
     own : π.at n + bytes_of k h ≤ length m
@@ -64,6 +83,10 @@ stored_turned k π s s' m b x n h h' is t room stands =
 
     long : length (with_part b (π.at n + x) m) ≡ length m
     long = length_with_part b (π.at n + x) m (omega (arith, own, room))
+
+    within : (p : ℕ) → (p < π.at n) ⊎ (π.at n + bytes_of k h ≤ p) → (p < π.at n + x) ⊎ (π.at n + x + length b ≤ p)
+    within p (inl low) = inl (omega (arith, low))
+    within p (inr high) = inr (omega (arith, high, room))
 
     around : slice k π n h' (with_part b (π.at n + x) m) ≡ with_part b x (slice k π n h m)
     around =
@@ -96,18 +119,19 @@ stored_turned k π s s' m b x n h h' is t room stands =
         aside (inl l) = inl (omega (arith, l))
         aside (inr l) = inr (omega (arith, l, room))
 
--- what is written beside all that lives leaves it
+-- what is written beside all that lives and all that is told leaves it
 pub stored_beside :
     (k : Keeper) (π : Places) (s : State) (m b : List ℕ) (at : ℕ) → StoredAs k π s m → at + length b ≤ length m →
-    ((n : ℕ) (h : Holder) → held s n ≡ Some h → Beside (π.at n) (bytes_of k h) at (length b)) →
-    StoredAs k π s (with_part b at m)
+    IsClear k π s at (length b) → StoredAs k π s (with_part b at m)
 stored_beside k π s m b at is room beside =
     record {
       stands = λ j g e.
           subst (λ bytes. Stands k π.signatures g (taken_as k π j bytes))
-          (sym (part_beside (π.at j) (bytes_of k g) b at m room (is.inside j g e) (beside j g e)))
+          (sym (part_beside (π.at j) (bytes_of k g) b at m room (is.inside j g e) (beside.0 j g e)))
           (is.stands j g e);
       inside = λ j g e. let i = is.inside j g e in omega (arith, i, length_with_part b at m room);
       placed = is.placed;
       apart = is.apart;
+      told = told_written π m b at is.told room beside.1;
+      untold = is.untold;
     }

@@ -34,7 +34,7 @@ use Rattle.pli_serving.specs.Values.{value_at, generation_bytes}
 use Rattle.storage_relation.specs.Telling.{Tells, HasWords, AllHaveValues, kind_word, offset_word_of, serial_word}
 use Rattle.storage_relation.specs.Standing.{leaves_of, leaf_in, address_now, IsElementNow, IsPlain, IsValued, bytes_of}
 use Rattle.storage_relation.specs.Standing.{holder_of, heap_holder, Stands}
-use Rattle.storage_relation.specs.Stored.{AreLow, Beside, Region, InRegions}
+use Rattle.storage_relation.specs.Stored.{AreLow, Beside, Region, InRegions, IsUntold}
 use Rattle.storage_relation.specs.Served.{Now, Holds, call, FoundFor, place_now, NamesArea, IsNumberOf}
 use Rattle.storage_relation.specs.Changes.{with_memory, IsAssignable, assigned, area_then, Asking, IsAsking}
 use Rattle.storage_relation.specs.Changes.{IsClearNow, KeepsPlaces, KeepsPlacesBut, HasGap, allocated, Making, IsMaking}
@@ -150,13 +150,14 @@ pub record ClearStays : Type 0 where
       IsClearNow w at count → IsClearNow (made q w) at count
   pub gone :
       (w : Now) → Holds w → (height at count : ℕ) → IsClearNow w at count → IsClearNow (ended height w) at count
-  -- more is clear once something has ended: all that lies beside the heap and the regions of those that own something
+  -- more is clear once something has ended: all that lies beside the heap, the regions of those that own something and
+  -- what is told
   pub regions :
       (w : Now) (region : ℕ → Region) (at count : ℕ) → InRegions w.keeper w.places w.state region →
       Beside (w.places.at heap_serial) (bytes_of w.keeper (heap_holder w.state.heap)) at count →
       ((n : ℕ) (l : Living) → living_of w.state.living n ≡ Some l →
       ((region l.owner).to ≤ at) ⊎ (at + count ≤ (region l.owner).from)) →
-      IsClearNow w at count
+      IsUntold w.places at count → IsClearNow w at count
   pub owned :
       (w : Now) → Holds w → (region : ℕ → Region) (height : ℕ) → InRegions w.keeper w.places w.state region →
       InRegions w.keeper w.places (ended height w).state region

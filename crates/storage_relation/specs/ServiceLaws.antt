@@ -58,7 +58,7 @@ use Rattle.storage_relation.specs.Served.{Now, call, place_now, NamesArea, Holds
 use Rattle.storage_relation.specs.Served.{HasHeap, AllDiffer, whole_of, HasMember}
 use Rattle.storage_relation.specs.Standing.{bytes_of, leaf_in, leaves_of, address_now, IsElementNow, IsPlain, IsValued}
 use Rattle.storage_relation.specs.Standing.{IsElement, Holder, held, size_of}
-use Rattle.storage_relation.specs.Stored.{Places, StoredAs, Extends}
+use Rattle.storage_relation.specs.Stored.{Places, StoredAs, Extends, AreTold}
 use Rattle.storage_relation.specs.Tables.{AreRuled, AllOnce}
 use Rattle.storage_relation.specs.Telling.{IsOffset}
 use Rattle.storage_relation.specs.Versions.{Version, IsSoundVersion, IsLaidOut, first_now, first_version}
@@ -296,21 +296,25 @@ pub record HeldInData : Type 0 where
       (f : Version) (w : Now) → IsLaidOut f w → Holds w → (n : Name) (g : Generation) (z : ℤ) (leaf : ℕ) (is : List ℤ) →
       (generation_at w.state n ≡ Some g) × IsPlain g × IsElementNow g z leaf is →
       is_data w.layout (address_now g z leaf is (place_now w n)) (element_size (leaf_in g leaf).kind) ≡ true
-  -- where nothing lives yet, memory of any bytes has it, so there is a state in which all of this holds
+  -- where nothing lives yet, memory of any bytes has it, but for those that are told of static data before the heap, so
+  -- there is a state in which all of this holds
   pub first :
       (f : Version) (k : Keeper) → Keeps k → IsSoundVersion f → (π : Places) (input m : List ℕ) → π.heap_made ≡ false →
-      (π.at heap_serial ≡ f.heap_at) × (π.low ≤ f.heap_at) → length m ≡ f.end → StoredAs k π (first_state input) m
+      (π.at heap_serial ≡ f.heap_at) × (π.low ≤ f.heap_at) → length m ≡ f.end →
+      AreTold π.constants π.low f.heap_at m → StoredAs k π (first_state input) m
 
--- all of this holds at the first moment of a run, whatever the bytes of memory, so no law speaks of nothing
+-- all of this holds at the first moment of a run, whatever the bytes of memory that aren't told, so no law speaks of
+-- nothing
 pub record RunBegins : Type 0 where
   pub holds :
-      (f : Version) (k : Keeper) → Keeps k → IsSoundVersion f → (t : List Template) → AllDiffer t → (v : S.Services)
-      (input m : List ℕ) → length m ≡ f.end → Holds (first_now f k t v input m)
-      × IsLaidOut f (first_now f k t v input m)
+      (f : Version) (k : Keeper) → Keeps k → IsSoundVersion f → (t : List Template) → AllDiffer t →
+      (constants : ℕ → Option ℕ) (v : S.Services) (input m : List ℕ) → length m ≡ f.end →
+      AreTold constants f.code_bytes f.heap_at m →
+      Holds (first_now f k t constants v input m) × IsLaidOut f (first_now f k t constants v input m)
   pub stacks :
-      (f : Version) (k : Keeper) (t : List Template) (v : S.Services) (input m : List ℕ) (of : ℕ → Option Variable) →
-      ((i : ℕ) → v.controlled i ≡ []) →
+      (f : Version) (k : Keeper) (t : List Template) (constants : ℕ → Option ℕ) (v : S.Services) (input m : List ℕ)
+      (of : ℕ → Option Variable) → ((i : ℕ) → v.controlled i ≡ []) →
       ((i j : ℕ) (x y : Variable) → of i ≡ Some x → of j ≡ Some y → i ≢ j → same_variable x y ≡ false) →
-      StacksStand (first_now f k t v input m) of
+      StacksStand (first_now f k t constants v input m) of
   -- version 1 is sound
   pub sound : (code_bytes : ℕ) → code_bytes ≤ 14 * 2 ^ 20 → IsSoundVersion (first_version code_bytes)

@@ -24,6 +24,8 @@ pub record Places : Type 0 where
   pub signatures : List Template
   -- whether the heap's bytes are an area's
   pub heap_made : Bool
+  -- bytes of static data that no run changes, by place
+  pub constants : (place : ℕ) → Option ℕ
 
 -- a heap in which nothing was placed yet is empty, whatever its bytes
 abbrev pub made_if : Keeper → (is_made : Bool) → List ℕ → List ℕ
@@ -41,8 +43,16 @@ Beside at count from other = (at + count ≤ from) ⊎ (from + other ≤ at)
 abbrev pub slice : Keeper → Places → (serial : ℕ) → Holder → List ℕ → List ℕ
 slice k π serial h m = part (π.at serial) (bytes_of k h) m
 
+-- the bytes that are told of static data stand in memory, from one place up to another
+abbrev pub AreTold : (constants : ℕ → Option ℕ) → (from to : ℕ) → List ℕ → Type 0
+AreTold constants from to m = (n v : ℕ) → constants n ≡ Some v → (from ≤ n) × (n < to) × (slice_index m n ≡ v)
+
+-- of so many bytes from a place on none is told
+abbrev pub IsUntold : Places → (at count : ℕ) → Type 0
+IsUntold π at count = (n v : ℕ) → π.constants n ≡ Some v → (n < at) ⊎ (at + count ≤ n)
+
 -- memory has all that lives: each holder in its own bytes, within memory, where words can be loaded, and beside all
--- others
+-- others; and behind the code the bytes that are told of static data, beside all holders
 pub record StoredAs (k : Keeper) (π : Places) (s : State) (m : List ℕ) : Type 0 where
   pub stands : (n : ℕ) (h : Holder) → held s n ≡ Some h → Stands k π.signatures h (taken_as k π n (slice k π n h m))
   pub inside : (n : ℕ) (h : Holder) → held s n ≡ Some h → π.at n + bytes_of k h ≤ length m
@@ -50,6 +60,8 @@ pub record StoredAs (k : Keeper) (π : Places) (s : State) (m : List ℕ) : Type
   pub apart :
       (i j : ℕ) (g h : Holder) → i ≢ j → held s i ≡ Some g → held s j ≡ Some h →
       Beside (π.at i) (bytes_of k g) (π.at j) (bytes_of k h)
+  pub told : AreTold π.constants π.low (length m) m
+  pub untold : (n : ℕ) (h : Holder) → held s n ≡ Some h → IsUntold π (π.at n) (bytes_of k h)
 
 -- ---- where what a name names stands
 
@@ -89,16 +101,13 @@ with_placed_in a placed = record { capacity = a.capacity; placed = placed }
 -- ---- changes of the ghost
 
 abbrev pub with_heap_made : Places → Places
-with_heap_made π = record { at = π.at; number = π.number; low = π.low; signatures = π.signatures; heap_made = true }
+with_heap_made π = record π { heap_made = true }
 
 abbrev pub with_place : (serial at number : ℕ) → Places → Places
 with_place serial at number π =
-    record {
+    record π {
       at = λ j. if j == serial then at else π.at j;
       number = λ j. if j == serial then number else π.number j;
-      low = π.low;
-      signatures = π.signatures;
-      heap_made = π.heap_made;
     }
 
 abbrev pub with_living : Living → State → State
@@ -108,12 +117,13 @@ abbrev pub Extends : (old new : List Template) → Type 0
 Extends old new = (n : ℕ) (s : C.Shape) → shape_at old n ≡ Some s → shape_at new n ≡ Some s
 
 abbrev pub with_signatures : List Template → Places → Places
-with_signatures t π = record { at = π.at; number = π.number; low = π.low; signatures = t; heap_made = π.heap_made }
+with_signatures t π = record π { signatures = t }
 
--- ---- bytes that no storage takes
+-- ---- bytes that no storage takes, and of which none is told
 
 abbrev pub IsClear : Keeper → Places → State → (at count : ℕ) → Type 0
-IsClear k π s at count = (n : ℕ) (h : Holder) → held s n ≡ Some h → Beside (π.at n) (bytes_of k h) at count
+IsClear k π s at count =
+    ((n : ℕ) (h : Holder) → held s n ≡ Some h → Beside (π.at n) (bytes_of k h) at count) × IsUntold π at count
 
 -- ---- regions of the stack
 

@@ -1,5 +1,5 @@
 -- Where an image of a version has its code, the heap and its end.
-use Rattle.std.specs.Prelude.{◌≡◌, ℕ, ◌+◌, ◌≤◌, List, length, ◌^◌, false, ◌%◌, ◌*◌}
+use Rattle.std.specs.Prelude.{◌≡◌, ℕ, ◌+◌, ◌≤◌, List, length, ◌^◌, false, ◌%◌, ◌*◌, Option, None}
 use Rattle.rv_meaning.specs.Machine.{memory_size}
 use Rattle.pli_meaning.specs.StorageState.{heap_serial, heap_capacity, first_state}
 use Rattle.pli_types.specs.Templates.{Template}
@@ -41,17 +41,30 @@ pub record IsLaidOut (f : Version) (w : Now) : Type 0 where
 
 -- ---- the first moment of a run
 
--- where memory and services begin: nothing lives, the heap isn't made, and the signatures are the table's
-abbrev pub first_places : Version → List Template → Places
-first_places f t =
-    record { at = λ n. f.heap_at; number = λ n. 0; low = f.code_bytes; signatures = t; heap_made = false }
+-- where memory and services begin: nothing lives, the heap isn't made, the signatures are the table's, and bytes of
+-- static data are told
+abbrev pub first_places : Version → List Template → (constants : ℕ → Option ℕ) → Places
+first_places f t constants =
+    record {
+      at = λ n. f.heap_at;
+      number = λ n. 0;
+      low = f.code_bytes;
+      signatures = t;
+      heap_made = false;
+      constants = constants;
+    }
 
-abbrev pub first_now : Version → Keeper → List Template → S.Services → (input memory : List ℕ) → Now
-first_now f k t v input m =
+-- of a program without static data none is told
+abbrev pub no_constants : (place : ℕ) → Option ℕ
+no_constants place = None
+
+abbrev pub first_now :
+    Version → Keeper → List Template → (constants : ℕ → Option ℕ) → S.Services → (input memory : List ℕ) → Now
+first_now f k t constants v input m =
     record {
       keeper = k;
       layout = layout_in f;
-      places = first_places f t;
+      places = first_places f t constants;
       state = first_state input;
       services = v;
       memory = m;

@@ -17,6 +17,7 @@ use Rattle.pli_coding.specs.Linking.{links_of}
 use Rattle.pli_coding.specs.Procedures.{procedure_environment}
 use Rattle.pli_coding.specs.SignatureTable.{table_of}
 use Rattle.pli_coding.specs.Statements.{block_held, block_words, stmt_code}
+use Rattle.storage_relation.specs.Versions.{no_constants}
 use Rattle.activation_relation.specs.Chains.{UnitPlaces}
 use Rattle.activation_relation.specs.Layers.{services_of}
 use Rattle.run_steps.specs.Reach.{Comes, never}
@@ -116,6 +117,7 @@ rise_image input acts =
       links = links_of rise_code;
       units = rise_units;
       signatures = map template_of (table_of rise_program);
+      constants = no_constants;
       input = input;
       acts = acts;
       serials = 1;

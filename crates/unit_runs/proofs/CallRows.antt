@@ -578,7 +578,7 @@ pub lend_is : (input first : List ℕ) (acts : ℕ) → acts + 1 < 2 ^ 64 → le
 lend_is input first acts few bytes =
     let l = back_of (first_frame image_parts) (main_called 0) start_linked in
     record {
-      start = record { linked = start_linked; differ = one_differs; bytes = bytes };
+      start = record { linked = start_linked; differ = one_differs; bytes = bytes; told = λ n v e. absurd (cc e) };
       made = one_made (surroundings_of (lend_image input acts)) (linked_code lend_code)
           (main_of (lend_whole input acts)) (start_point (lend_image input acts)) no_numbers W.number_declared
           (lend_only input acts);

@@ -190,6 +190,7 @@ remains_unit p q x at r =
       signatures = r.signatures;
       statics = r.statics;
       low = r.low;
+      constants = r.constants;
       active = omega (arith, n, m, active);
       in_use = λ height low. r.in_use height (omega (arith, n, low));
     }
@@ -271,6 +272,7 @@ unit_begun k x index h =
         signatures = b.remains.signatures;
         statics = b.remains.statics;
         low = b.remains.low;
+        constants = b.remains.constants;
         active = omega (arith, active, more);
         in_use = b.remains.in_use;
       };

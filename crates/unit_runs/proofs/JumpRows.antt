@@ -495,7 +495,7 @@ pub skip_is : (input first : List ℕ) (acts : ℕ) → acts + 1 < 2 ^ 64 → le
 skip_is input first acts few bytes =
     let l = back_of (first_frame image_parts) (main_called 0) start_linked in
     record {
-      start = record { linked = start_linked; differ = one_differs; bytes = bytes };
+      start = record { linked = start_linked; differ = one_differs; bytes = bytes; told = λ n v e. absurd (cc e) };
       made = one_made (surroundings_of (skip_image input acts)) (linked_code skip_code)
           (main_of (skip_whole input acts)) (start_point (skip_image input acts)) no_numbers W.number_declared
           (skip_only input acts);

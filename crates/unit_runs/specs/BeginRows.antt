@@ -18,6 +18,7 @@ use Rattle.pli_coding.specs.Procedures.{procedure_environment}
 use Rattle.pli_coding.specs.Registers.{a0, frame_register}
 use Rattle.pli_coding.specs.SignatureTable.{table_of}
 use Rattle.pli_coding.specs.Statements.{block_held, block_words, stmt_code}
+use Rattle.storage_relation.specs.Versions.{no_constants}
 use Rattle.activation_relation.specs.Chains.{UnitPlaces}
 use Rattle.activation_relation.specs.Layers.{services_of}
 use Rattle.run_steps.specs.Reach.{Comes, never}
@@ -155,6 +156,7 @@ host_image input acts =
       links = links_of host_code;
       units = host_units;
       signatures = map template_of (table_of host_program);
+      constants = no_constants;
       input = input;
       acts = acts;
       serials = 1;

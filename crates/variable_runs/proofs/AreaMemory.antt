@@ -49,7 +49,7 @@ use Rattle.activation_relation.specs.Variables.{FitsBlock, newest_grown, with_ma
 use Rattle.activation_relation.proofs.Blocks.{newest_of, same_length}
 use Rattle.activation_relation.proofs.BlockVariables.{variable_stands}
 use Rattle.activation_relation.proofs.FrameWords.{frames_kept, beside_above, told_over}
-use Rattle.activation_relation.proofs.OwnPlaces.{free_clear, clear_part}
+use Rattle.activation_relation.proofs.OwnPlaces.{free_clear, clear_within}
 use Rattle.run_steps.specs.Engine.{call_at}
 use Rattle.run_steps.specs.Unlimited as U
 use Rattle.block_runs.specs.Machines.{AreEven, IsImage}
@@ -325,10 +325,10 @@ is_making {w} {p = p} {x = x} {φ = φ} m k bytes h =
       behind = omega (arith, start, low);
       aligned = omega (arith, even, here);
       room = omega (arith, holds, fits, high, last, bytes, long);
-      clear = λ n g e. clear_part upper (end - upper) _ _ (φ.at + (x.place + name_bytes)) count (clear n g e)
+      clear = clear_within p.keeper p.places p.state upper (end - upper) (φ.at + (x.place + name_bytes)) count clear
           (omega (arith, top, here)) (omega (arith, top, lower, here, holds, fits, long));
       name_room = omega (arith, holds, fits, high, last, bytes);
-      name_clear = λ n g e. clear_part upper (end - upper) _ _ (φ.at + x.place) 16 (clear n g e)
+      name_clear = clear_within p.keeper p.places p.state upper (end - upper) (φ.at + x.place) 16 clear
           (omega (arith, top, here)) (omega (arith, top, lower, here, holds, fits));
       beside = inr (omega arith);
     }

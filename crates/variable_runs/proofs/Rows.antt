@@ -351,7 +351,7 @@ pub pair_is : (input first : List ℕ) (acts : ℕ) → acts + 1 < 2 ^ 64 → le
 pair_is input first acts few bytes =
     let l = back_of (first_frame image_parts) (main_called 0) start_linked in
     record {
-      start = record { linked = start_linked; differ = one_differs; bytes = bytes };
+      start = record { linked = start_linked; differ = one_differs; bytes = bytes; told = λ n v e. absurd (cc e) };
       made = all_procedure (surroundings_of (pair_image input acts)) (linked_code pair_code)
           (main_of (pair_whole input acts)) (start_point (pair_image input acts)) no_numbers pair_variables
           (pair_all input acts);
