@@ -4,6 +4,7 @@ use Rattle.pli_meaning.specs.Pictures.{first_bytes}
 use Rattle.pli_coding.specs.Assembly.{size_of}
 use Rattle.pli_coding.specs.Images.{code_of, picture_of}
 use Rattle.pli_coding.specs.Linking.{links_of}
+use Rattle.storage_relation.specs.Versions.{no_constants}
 use Rattle.run_steps.proofs.Linking.{linked_length}
 use Rattle.pli_headline.specs.Headline.{FitsMemory, parts}
 use Rattle.pli_headline.proofs.WholeSizes.{first_length}
@@ -31,6 +32,7 @@ count_layout =
       entry = count_entry;
       end = count_finish;
       units = [];
+      constants = no_constants;
       serials = 2;
       made = newest_all parts count_variables;
     }
@@ -59,6 +61,7 @@ tally_layout =
       entry = tally_entry;
       end = tally_finish;
       units = tally_units;
+      constants = no_constants;
       serials = 2;
       made = newest_all parts tally_variables;
     }

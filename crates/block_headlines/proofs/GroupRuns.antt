@@ -4,6 +4,7 @@ use Rattle.pli_meaning.specs.Pictures.{first_bytes}
 use Rattle.pli_coding.specs.Assembly.{size_of}
 use Rattle.pli_coding.specs.Images.{code_of, picture_of}
 use Rattle.pli_coding.specs.Linking.{links_of}
+use Rattle.storage_relation.specs.Versions.{no_constants}
 use Rattle.run_steps.proofs.Linking.{linked_length}
 use Rattle.pli_headline.specs.Headline.{FitsMemory, parts}
 use Rattle.pli_headline.proofs.WholeSizes.{first_length}
@@ -28,6 +29,7 @@ group_layout =
       entry = group_entry;
       end = group_finish;
       units = [];
+      constants = no_constants;
       serials = 1;
       made = newest_made parts W.number_declared;
     }

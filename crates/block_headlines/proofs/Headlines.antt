@@ -11,6 +11,7 @@ use Rattle.pli_coding.specs.Assembly.{size_of}
 use Rattle.pli_coding.specs.Images.{code_of, picture_of}
 use Rattle.pli_coding.specs.Linking.{links_of}
 use Rattle.pli_coding.specs.SignatureTable.{table_of}
+use Rattle.storage_relation.specs.Versions.{no_constants}
 use Rattle.activation_relation.specs.Layers.{services_of}
 use Rattle.run_steps.specs.Reach.{Comes, never}
 use Rattle.run_steps.proofs.Linking.{linked_length}
@@ -176,6 +177,7 @@ row_layout =
       entry = main_entry;
       end = row_end main_entry row_main;
       units = [];
+      constants = no_constants;
       serials = 1;
       made = λ q. q;
     }
@@ -189,6 +191,7 @@ number_layout =
       entry = number_entry;
       end = number_end;
       units = [];
+      constants = no_constants;
       serials = 1;
       made = newest_made parts number_declared;
     }
@@ -205,6 +208,7 @@ double_layout =
       entry = double_entry;
       end = double_finish;
       units = [];
+      constants = no_constants;
       serials = 1;
       made = newest_made parts number_declared;
     }
@@ -230,6 +234,7 @@ fetch_layout =
       entry = fetch_entry;
       end = fetch_finish;
       units = [];
+      constants = no_constants;
       serials = 1;
       made = newest_made parts number_declared;
     }
@@ -255,6 +260,7 @@ local_layout =
       entry = local_entry;
       end = local_finish;
       units = [];
+      constants = no_constants;
       serials = 1;
       made = newest_made parts number_declared;
     }
@@ -280,6 +286,7 @@ given_layout =
       entry = given_entry;
       end = given_finish;
       units = [];
+      constants = no_constants;
       serials = 1;
       made = newest_made parts number_declared;
     }
@@ -305,6 +312,7 @@ passed_layout =
       entry = passed_entry;
       end = passed_finish;
       units = [];
+      constants = no_constants;
       serials = 1;
       made = newest_named parts number_declared;
     }
@@ -330,6 +338,7 @@ kept_layout =
       entry = kept_entry;
       end = kept_finish;
       units = [];
+      constants = no_constants;
       serials = 1;
       made = newest_named parts number_declared;
     }
@@ -355,6 +364,7 @@ applied_layout =
       entry = applied_entry;
       end = applied_finish;
       units = [];
+      constants = no_constants;
       serials = 1;
       made = newest_made parts number_declared;
     }
@@ -380,6 +390,7 @@ nest_layout =
       entry = nest_entry;
       end = nest_finish;
       units = [];
+      constants = no_constants;
       serials = 1;
       made = newest_made parts number_declared;
     }
@@ -405,6 +416,7 @@ leave_layout =
       entry = leave_entry;
       end = leave_finish;
       units = [];
+      constants = no_constants;
       serials = 1;
       made = λ q. q;
     }
@@ -430,6 +442,7 @@ host_layout =
       entry = host_entry;
       end = host_finish;
       units = host_units;
+      constants = no_constants;
       serials = 1;
       made = newest_made parts number_declared;
     }
@@ -455,6 +468,7 @@ mend_layout =
       entry = mend_entry;
       end = mend_finish;
       units = mend_units;
+      constants = no_constants;
       serials = 1;
       made = newest_made parts number_declared;
     }
@@ -480,6 +494,7 @@ deep_layout =
       entry = deep_entry;
       end = deep_finish;
       units = deep_units;
+      constants = no_constants;
       serials = 1;
       made = newest_made parts number_declared;
     }
@@ -505,6 +520,7 @@ skip_layout =
       entry = skip_entry;
       end = skip_finish;
       units = skip_units;
+      constants = no_constants;
       serials = 1;
       made = newest_made parts number_declared;
     }
@@ -530,6 +546,7 @@ loop_layout =
       entry = loop_entry;
       end = loop_finish;
       units = loop_units;
+      constants = no_constants;
       serials = 1;
       made = newest_made parts number_declared;
     }
@@ -555,6 +572,7 @@ lend_layout =
       entry = lend_entry;
       end = lend_finish;
       units = lend_units;
+      constants = no_constants;
       serials = 1;
       made = newest_made parts number_declared;
     }

@@ -5,6 +5,7 @@ use Rattle.pli_meaning.specs.Pictures.{first_bytes}
 use Rattle.pli_coding.specs.Assembly.{size_of}
 use Rattle.pli_coding.specs.Images.{code_of, picture_of}
 use Rattle.pli_coding.specs.Linking.{links_of}
+use Rattle.storage_relation.specs.Versions.{no_constants}
 use Rattle.run_steps.proofs.Linking.{linked_length}
 use Rattle.pli_headline.specs.Headline.{FitsMemory, parts}
 use Rattle.pli_headline.proofs.WholeSizes.{first_length}
@@ -40,6 +41,7 @@ bolt_layout =
       entry = bolt_entry;
       end = bolt_finish;
       units = [];
+      constants = no_constants;
       serials = 1;
       made = newest_made parts number_declared;
     }
@@ -65,6 +67,7 @@ shed_layout =
       entry = shed_entry;
       end = shed_finish;
       units = [];
+      constants = no_constants;
       serials = 1;
       made = newest_made parts number_declared;
     }
@@ -90,6 +93,7 @@ flee_layout =
       entry = flee_entry;
       end = flee_finish;
       units = flee_units;
+      constants = no_constants;
       serials = 1;
       made = newest_made parts number_declared;
     }
@@ -115,6 +119,7 @@ mute_layout =
       entry = mute_entry;
       end = mute_finish;
       units = mute_units;
+      constants = no_constants;
       serials = 1;
       made = newest_made parts number_declared;
     }

@@ -1,3 +1,4 @@
+pub mod Constants
 pub mod CounterRuns
 pub mod JumpRuns
 pub mod VariableRuns

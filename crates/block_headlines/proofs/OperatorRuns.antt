@@ -2,6 +2,7 @@
 use Rattle.std.proofs.Common.{[], arith}
 use Rattle.pli_meaning.specs.Pictures.{first_bytes}
 use Rattle.pli_coding.specs.Images.{picture_of}
+use Rattle.storage_relation.specs.Versions.{no_constants}
 use Rattle.pli_headline.specs.Headline.{FitsMemory, parts}
 use Rattle.pli_headline.proofs.WholeSizes.{first_length}
 use Rattle.program_runs.specs.VariableRows.{number_declared}
@@ -25,6 +26,7 @@ square_layout =
       entry = square_entry;
       end = square_finish;
       units = [];
+      constants = no_constants;
       serials = 1;
       made = newest_made parts number_declared;
     }
@@ -50,6 +52,7 @@ turn_layout =
       entry = turn_entry;
       end = turn_finish;
       units = [];
+      constants = no_constants;
       serials = 1;
       made = newest_made parts number_declared;
     }

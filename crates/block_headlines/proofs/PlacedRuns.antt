@@ -9,7 +9,8 @@ use Rattle.storage_relation.specs.ServiceLaws.{TableDiffers}
 use Rattle.run_steps.proofs.Linking.{linked_length}
 use Rattle.pli_headline.specs.Headline.{FitsMemory, parts}
 use Rattle.pli_headline.proofs.WholeSizes.{first_length}
-use Rattle.program_places.specs.Programs.{behind_body, entry_for, environment_for, procedure_for}
+use Rattle.program_places.specs.Constants.{constants_in}
+use Rattle.program_places.specs.Programs.{behind_body, code_for, entry_for, environment_for, procedure_for}
 use Rattle.program_places.specs.Rows.{bare_procedure, called_body, called_head, turning_body, turning_head}
 use Rattle.program_places.specs.Rows.{turning_program}
 use Rattle.program_places.proofs.Rows.{turning_each, turning_is}
@@ -30,6 +31,7 @@ turning_layout =
       entry = entry_for turning_program 1;
       end = behind_body turning_program turning_head turning_body;
       units = [];
+      constants = constants_in (code_for turning_program);
       serials = 1;
       made = λ q. q;
     }

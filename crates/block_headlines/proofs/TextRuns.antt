@@ -2,6 +2,7 @@
 use Rattle.std.proofs.Common.{[], ◌∷◌, arith}
 use Rattle.pli_meaning.specs.Pictures.{first_bytes}
 use Rattle.pli_coding.specs.Images.{picture_of}
+use Rattle.storage_relation.specs.Versions.{no_constants}
 use Rattle.pli_headline.specs.Headline.{FitsMemory, parts}
 use Rattle.pli_headline.proofs.WholeSizes.{first_length}
 use Rattle.program_runs.specs.VariableRows.{number_declared}
@@ -27,6 +28,7 @@ wait_layout =
       entry = wait_entry;
       end = wait_finish;
       units = [];
+      constants = no_constants;
       serials = 1;
       made = newest_made parts number_declared;
     }
@@ -52,6 +54,7 @@ drop_layout =
       entry = drop_entry;
       end = drop_finish;
       units = [];
+      constants = no_constants;
       serials = 1;
       made = newest_made parts number_declared;
     }
@@ -77,6 +80,7 @@ rise_layout =
       entry = rise_entry;
       end = rise_finish;
       units = rise_units;
+      constants = no_constants;
       serials = 1;
       made = newest_made parts number_declared;
     }

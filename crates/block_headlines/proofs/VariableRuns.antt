@@ -5,6 +5,7 @@ use Rattle.pli_meaning.specs.Pictures.{first_bytes}
 use Rattle.pli_coding.specs.Assembly.{size_of}
 use Rattle.pli_coding.specs.Images.{code_of, picture_of}
 use Rattle.pli_coding.specs.Linking.{links_of}
+use Rattle.storage_relation.specs.Versions.{no_constants}
 use Rattle.run_steps.proofs.Linking.{linked_length}
 use Rattle.pli_headline.specs.Headline.{FitsMemory, parts}
 use Rattle.pli_headline.proofs.WholeSizes.{first_length}
@@ -34,6 +35,7 @@ pair_layout =
       entry = pair_entry;
       end = pair_finish;
       units = [];
+      constants = no_constants;
       serials = 2;
       made = newest_all parts pair_variables;
     }
@@ -59,6 +61,7 @@ locate_layout =
       entry = locate_entry;
       end = locate_finish;
       units = [];
+      constants = no_constants;
       serials = 2;
       made = newest_all parts locate_variables;
     }

@@ -1,5 +1,5 @@
 -- The headline of programs whose run is known by the relation of activations.
-use Rattle.std.specs.Prelude.{ℕ, ◌+◌, ◌^◌, ◌<◌, List, map}
+use Rattle.std.specs.Prelude.{ℕ, ◌+◌, ◌^◌, ◌<◌, List, map, Option}
 use Rattle.pli_typing.specs.TypedTree as Y
 use Rattle.pli_meaning.specs.Pictures.{first_bytes}
 use Rattle.pli_serving.specs.Templates.{template_of}
@@ -7,7 +7,6 @@ use Rattle.pli_coding.specs.Environments.{Environment}
 use Rattle.pli_coding.specs.Images.{code_of, linked_code, picture_of}
 use Rattle.pli_coding.specs.Linking.{links_of}
 use Rattle.pli_coding.specs.SignatureTable.{table_of}
-use Rattle.storage_relation.specs.Versions.{no_constants}
 use Rattle.activation_relation.specs.Chains.{UnitPlaces}
 use Rattle.activation_relation.specs.Layers.{Point}
 use Rattle.pli_headline.specs.Headline.{Headline, parts}
@@ -52,8 +51,8 @@ use Rattle.unit_runs.specs.LoopRows.{loop_program}
 use Rattle.unit_runs.specs.Rows.{mend_program}
 
 -- what is said of a program's image beside the program: its main procedure and the others, where its code and its end
--- stand, where the code of its on-units stands, how many serials may come for each act, and what becomes of the point
--- where its variables are made
+-- stand, where the code of its on-units stands, what is told of its static data, how many serials may come for each
+-- act, and what becomes of the point where its variables are made
 pub record Layout : Type 0 where
   pub main : Procedure
   pub others : List Y.Procedure
@@ -61,6 +60,7 @@ pub record Layout : Type 0 where
   pub entry : ℕ
   pub end : ℕ
   pub units : UnitPlaces
+  pub constants : (place : ℕ) → Option ℕ
   pub serials : ℕ
   pub made : Point → Point
 
@@ -73,7 +73,7 @@ whole_of program x input acts =
         links = links_of (code_of parts program);
         units = x.units;
         signatures = map template_of (table_of program);
-        constants = no_constants;
+        constants = x.constants;
         input = input;
         acts = acts;
         serials = x.serials;

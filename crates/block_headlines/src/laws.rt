@@ -1,5 +1,6 @@
 // Laws of the definitions: each function's contract is one law, and calling it does nothing.
 
+ghost use Rattle.block_headlines.specs.Constants.{ConstantsTold};
 ghost use Rattle.block_headlines.specs.Headlines.{HeadlinesKept, HeadlinesOfRows, UnitHeadlinesKept};
 
 use code_marks::laws::marked_once;
@@ -25,6 +26,11 @@ pub fn unit_headlines_kept()
     storage_acts_allowed();
     granules_keep();
 }
+
+/// What a program tells of its static data stands in the first memory of its image, each datum at its place.
+pub fn constants_told()
+    ensures { ConstantsTold }
+{}
 
 /// The programs of all worked rows of the crates below keep the headline.
 pub fn headlines_of_rows()

@@ -42,10 +42,10 @@ statements = tt
 
 pub shown_written :
     (input : List ℕ) →
-    M.meaning shown_program input 7
+    M.meaning shown_program input 9
     ≡ Some (record {
-      acts = 7;
-      output = 32 ∷ 32 ∷ 55 ∷ 32 ∷ 32 ∷ 49 ∷ 52 ∷ 32 ∷ 32 ∷ 55 ∷ 10 ∷ [];
+      acts = 9;
+      output = 10 ∷ 10 ∷ 32 ∷ 32 ∷ 55 ∷ 32 ∷ 32 ∷ 49 ∷ 52 ∷ 32 ∷ 32 ∷ 55 ∷ 32 ∷ 55 ∷ 10 ∷ [];
       raised = [];
       end = E.Finished;
     })

@@ -1,7 +1,8 @@
--- PUT EDIT of numbers: the place in the format list begins, the numbers are shown one behind the other, and it ends.
-use Rattle.std.proofs.Common.{◌≡◌, ℕ, ◌+◌, ◌≤◌, List, [], ◌∷◌, ◌++◌, refl, sym, ap, ◌∙◌}
+-- PUT EDIT of numbers: lines end, if any; for each list its place begins, its numbers are shown one behind the other,
+-- and it ends.
+use Rattle.std.proofs.Common.{◌≡◌, ℕ, ◌+◌, ◌^◌, ◌<◌, ◌≤◌, List, [], ◌∷◌, ◌++◌, None, Some, refl, sym, ap, ◌∙◌}
 use Rattle.std.proofs.Common.{subst, arith, lit<}
-use Rattle.std.specs.Prelude.{ℤ}
+use Rattle.std.specs.Prelude.{ℤ, Option}
 use Rattle.rv_meaning.specs.declared.instr.Instr.TheVariants as I
 use Rattle.pli_language.specs.Tree as T
 use Rattle.pli_typing.specs.TypedTree as Y
@@ -12,7 +13,7 @@ use Rattle.pli_meaning.specs.Executing as M
 use Rattle.pli_meaning.specs.Raising.{at_line}
 use Rattle.pli_meaning.specs.Streaming as P
 use Rattle.pli_meaning.specs.Streaming.{FormatItem, format_items}
-use Rattle.pli_meaning.specs.World.{counted}
+use Rattle.pli_meaning.specs.World.{counted, written}
 use Rattle.pli_serving.specs.Answers.{Done}
 use Rattle.pli_serving.specs.Edits as E
 use Rattle.pli_serving.specs.Outcomes.{or_bad}
@@ -23,7 +24,7 @@ use Rattle.pli_coding.specs.Environments.{none_taken}
 use Rattle.pli_coding.specs.Expressions.{number_code}
 use Rattle.pli_coding.specs.Instructions.{small}
 use Rattle.pli_coding.specs.Linking.{place_of}
-use Rattle.pli_coding.specs.Registers.{a0, a1, a7}
+use Rattle.pli_coding.specs.Registers.{a0, a1, a7, held_registers}
 use Rattle.pli_coding.specs.StaticForms.{formats_datum}
 use Rattle.pli_coding.specs.Streams as C
 use Rattle.pli_coding.specs.Streams.{edit_begun, edit_ended}
@@ -42,10 +43,10 @@ use Rattle.run_steps.proofs.Linking.{size_append}
 use Rattle.run_steps.specs.Owing.{owing}
 use Rattle.run_steps.proofs.Owing.{comes_owing, done_owing, owing_closed}
 use Rattle.run_steps.specs.Reach.{Aims, Closed, Comes, Family, Reach, before, cost, reached}
-use Rattle.run_steps.proofs.Reach.{before_closed, comes_on, onward, reach_then, reached_holds}
+use Rattle.run_steps.proofs.Reach.{before_closed, comes_on, onward, reach_then, reached_holds, stay}
 use Rattle.run_steps.proofs.Reaching.{reach_moved}
 use Rattle.run_steps.specs.Temporaries.{nothing}
-use Rattle.block_runs.specs.Machines.{AreIn, acted}
+use Rattle.block_runs.specs.Machines.{AreIn, IsIn}
 use Rattle.block_runs.proofs.BlockEntries.{small_is}
 use Rattle.block_runs.proofs.PointActs.{act_comes}
 use Rattle.block_runs.proofs.CallStatements.{comes_map}
@@ -58,13 +59,16 @@ use Rattle.expression_runs.specs.Laws as L
 use Rattle.expression_runs.specs.Assignments.{setting_of}
 use Rattle.expression_runs.specs.Values.{behind, number_aims}
 use Rattle.expression_runs.proofs.Words.{frame_of, known_word}
+use Rattle.text_runs.specs.Texts.{ErrorComes}
 use Rattle.text_runs.proofs.TextCalls.{Asking, asks}
-use Rattle.edit_runs.specs.Edits.{AreFixed, IsPut, Item, ItemsDo, KnowsFormats, Put, placing, put_items}
-use Rattle.edit_runs.specs.Edits.{put_of, putting, within}
+use Rattle.edit_runs.specs.Edits.{AreFixed, AreListed, IsPut, IsSkipped, Item, ItemsDo, KnowsFormats, Pair, PairsDo}
+use Rattle.edit_runs.specs.Edits.{Put, placing, put_items, put_of, put_pairs, putting, within}
 use Rattle.edit_runs.specs.Writing.{with_edits}
 use Rattle.edit_runs.proofs.Items.{ArePut, HasLeft, Puts, item_code, item_coded, left_aims, left_closed}
 use Rattle.edit_runs.proofs.Items.{number_shown, setting_in, valued_comes, whole_in}
 use Rattle.edit_runs.proofs.Places.{edits_among, edits_in, jumps_down, over_place}
+use Rattle.edit_runs.proofs.Skips.{item_of, skip_comes}
+use Rattle.edit_runs.proofs.Writing.{writing_among}
 
 -- ---- one number
 
@@ -359,12 +363,13 @@ end_reach k {p} {numbers} h place below e c f l there =
 moved_at : {P : Whole → Type 0} {n j : ℕ} (b : Base) (y : Whole) → n ≡ j → At b n P y → At b j P y
 moved_at b y e o = record { pc = o.pc ∙ ap (address b) e; holds = o.holds }
 
-abbrev puts_of : Block → List Label → (x : Put) → (need most first : ℕ) → (more : List FormatItem) → Puts
-puts_of k labels x need most first more =
+abbrev puts_of :
+    Block → List Label → Pair → (line need most first : ℕ) → (more : List FormatItem) → Puts
+puts_of k labels x line need most first more =
     record {
       block = k;
       labels = labels;
-      line = x.line;
+      line = line;
       most = most;
       need = need;
       formats = x.formats;
@@ -372,118 +377,203 @@ puts_of k labels x need most first more =
       more = more;
     }
 
--- what it owes where it ends: the credits of the code around its numbers
+-- what it owes where it ends: the credits of the service that ends a place
 abbrev debt : ℕ
-debt = 7
+debt = 2
 
--- behind the numbers the place ends, and the debt is paid
-ended_goes :
-    (u : Puts) (left' acts' i j wanted : ℕ) {c : ℕ} {f : Family} {p : Point} {numbers : ℕ → ℕ}
-    (rest : List FormatItem) → AreOver u.block.first.control.entries u.block.first.control.edits
-    u.block.first.control.layers → IsAmong (placing (putting (whole_in u) rest) u.block) numbers p →
-    acts' ≤ p.state.world.acts → c ≤ wanted →
-    Linked u.block.call.surroundings.links u.block.call.code i edit_ended → i + 2 ≡ j →
-    AreIn u.block.call.surroundings p numbers i f →
-    (owing u.block.call.code debt (statement_aims u.block u.labels acts' j wanted left')).done c f (services_of p) tt
-    p.state
-ended_goes u left' acts' i j wanted {c} {f} {p} {numbers} rest over' o since few l end there =
-    let k = u.block in
-    let edits = k.first.control.edits in
-    let place = putting (whole_in u) rest in
-    let h = point_frame o.stands o.image in
-    let q = with_edits edits p in
-    let r = end_reach k h place edits o.later.edits c f l there in
-    let among : IsAmong k numbers q = edits_among k (place ∷ edits) edits edits o refl over' in
-    done_owing (statement_closed k u.labels acts' j wanted left') debt wanted (omega (arith, few)) r tt p.state
-    (λ g at. goes_here acts' wanted g since among
-    (λ b. in_known h o.image.parts (moved_at b (g b) end (at b))))
+-- what is known around its lists
+record IsAround (k : Block) (labels : List Label) (line need most : ℕ) : Type 0 where
+  acts : k.call.surroundings.acts + 1 < 2 ^ 64
+  over : AreOver k.first.control.entries k.first.control.edits k.first.control.layers
+  registers : need ≤ k.registers
+  one : 1 ≤ k.registers
+  held : k.registers ≤ held_registers
+  error : (place : EditPlace) → ErrorComes (List ℕ) (within place (setting_of k labels line most))
 
-pub put_does :
-    (k : Block) (labels : List Label) (x : Put) (index left' need most : ℕ) → IsPut k labels x index need most →
-    ItemsDo (setting_of k labels x.line most) need (x.first ∷ x.more) → Does k labels (put_of x) index left'
-unfolding M.statement P.put P.pairs_put ◌>>◌ ◌>>=◌ give
-put_does k labels x index left' need most is does p numbers c wanted f o paid there =
+abbrev lists_code : Block → List Pair → Code
+lists_code k xs = C.put_pairs k.environment none_taken (put_pairs xs)
+
+-- from a point before a list on, one list behind the other
+lists_come :
+    (k : Block) (labels : List Label) (line need most left' : ℕ) → IsAround k labels line need most →
+    (xs : List Pair) → AreListed k xs → PairsDo (setting_of k labels line most) need xs →
+    (acts' c wanted i j : ℕ) (f : Family) {p : Point} {numbers : ℕ → ℕ} → IsAmong k numbers p →
+    p.control.line ≡ line → acts' ≤ p.state.world.acts →
+    (c ≤ debt) × (c + size_of (lists_code k xs) + most ≤ cost k.call.code) →
+    Linked k.call.surroundings.links k.call.code i (lists_code k xs) → i + size_of (lists_code k xs) ≡ j →
+    AreIn k.call.surroundings p numbers i f →
+    Comes k.call.code c f (services_of p)
+    (owing k.call.code debt (statement_aims k labels acts' j wanted left'))
+    (P.pairs_put (at_line k.around line) (put_pairs xs) k.call.surroundings.acts p.state)
+unfolding P.pairs_put ◌>>◌ ◌>>=◌ give
+lists_come k labels line need most left' a [] known does acts' c wanted i j f {p} {numbers} o at since few l end there =
+    let code = k.call.code in
+    let low = few.0 in
+    record {
+      to = done_owing (statement_closed k labels acts' j wanted left') debt wanted (omega (arith, low))
+          (stay code c f (services_of p) (λ b y. IsIn k.call.surroundings p numbers i b y) there) tt p.state
+          (λ g at'.
+          goes_here acts' wanted g since o
+          (λ b. subst (λ n. IsIn k.call.surroundings p numbers n b (g b)) (omega (arith, end)) (at' b)));
+    }
+lists_come k labels line need most left' a (x ∷ xs) known does acts' c wanted i j f {p} {numbers} o at since few l end
+    there =
     let w = k.call.surroundings in
     let code = k.call.code in
     let fs = x.formats in
-    let u = puts_of k labels x need most is.formats.first is.formats.more in
+    let fixed = known.0.0 in
+    let u = puts_of k labels x line need most fixed.first fixed.more in
+    let here = at_line k.around line in
+    let first = k.first.control in
+    let begun = edit_begun fs 1 in
+    let items = items_code u (x.first ∷ x.more) in
+    let pair = begun ++ (items ++ edit_ended) in
+    let rest = lists_code k xs in
+    let n1 = size_append pair rest in
+    let n2 = size_append begun (items ++ edit_ended) in
+    let n3 = size_append items edit_ended in
+    let all = few.1 in
+    let low = few.0 in
+    let l1 = front_of pair rest l in
+    let l2 = back_of begun (items ++ edit_ended) l1 in
+    let owed = owing code debt (statement_aims k labels acts' j wanted left') in
+    let closed = owing_closed code debt (statement_aims k labels acts' j wanted left') in
+    let shown = put_items (x.first ∷ x.more) in
+    let next2 : Unit {0} → Meaning (Unit {0}) = λ t. P.pairs_put here (put_pairs xs) in
+    let h = point_frame o.stands o.image in
+    let whole = format_items fs in
+    let place = putting whole whole in
+    let b : ArePut u = record {
+      acts = a.acts;
+      over = a.over;
+      fixed = fixed.fixed;
+      text = fixed.text;
+      are = fixed.are;
+      registers = a.registers;
+      one = a.one;
+      held = a.held;
+      error = a.error;
+    } in
+    let q1 = begun_point fs p in
+    let i1 = i + 5 in
+    let i2 = i1 + size_of items in
+    let among1 : IsAmong (placing place k) numbers q1 =
+    edits_among k first.edits (place ∷ first.edits) (place ∷ p.control.edits) o
+    (ap (λ es. place ∷ es) o.later.edits) (over_place place first.entries first.edits first.layers a.over) in
+    let flow = P.items_put here whole whole shown w.acts q1.state in
+    onward closed (begin_reach k fs h c f (front_of begun (items ++ edit_ended) l1) known.0.1 o there)
+    (λ g1 at1.
+    comes_on w.acts flow next2
+    (comes_map (items_aims u acts' i2 0) (before code owed w.acts next2) flow
+    (λ c1 f1 v1 t s e.
+    let o2 = e.1 in
+    let place2 = putting (whole_in u) e.0 in
+    let h2 = point_frame o2.among.stands o2.among.image in
+    let q2 = with_edits first.edits o2.point in
+    let r2 = end_reach k h2 place2 first.edits o2.among.later.edits 0 (reached o2.reach)
+    (back_of items edit_ended l2) (reached_holds o2.reach) in
+    let among2 : IsAmong k o2.numbers q2 =
+    edits_among k (place2 ∷ first.edits) first.edits first.edits o2.among refl a.over in
+    subst (λ s'. Comes code c1 f1 v1 owed (next2 t w.acts s')) (sym o2.state)
+    (onward closed (reach_then o2.reach r2)
+    (λ g2 at2.
+    lists_come k labels line need most left' a xs known.1 does.1 acts' 2 wanted (i + size_of pair) j g2 among2 o2.line
+    o2.since (omega arith, omega (arith, all, n1, n2, n3)) (back_of pair rest l) (omega (arith, n1, end))
+    (λ b'. in_known h2 o2.among.image.parts (moved_at b' (g2 b') (omega (arith, n2, n3)) (at2 b'))))))
+    (λ c1 f1 v1 height label s e. λ i0 f0 v0 from. jumps_repaid debt from e)
+    (λ c1 f1 v1 r' s e. absurd e)
+    (subst (λ ws. Comes code (c + 5) g1 (services_of q1) (items_aims u acts' i2 0)
+    (P.items_put here ws ws shown w.acts q1.state)) (sym fixed.items)
+    (items_comes u b x.first x.more does.0
+    (record { rest = whole_in u; point = q1; numbers = numbers; credits = c + 5; index = i1; family = g1 })
+    acts' 0 i2
+    (record {
+      among = subst (λ ws. IsAmong (placing (putting ws ws) k) numbers q1) fixed.items among1;
+      line = at;
+      fixed = fixed.are;
+      since = since;
+      paid = omega (arith, all, n1, n2, n3);
+      there = λ b'. in_known h o.image.parts (at1 b');
+    })
+    (front_of items edit_ended l2) refl))))
+
+-- lines end first, or none
+skipped_come :
+    (k : Block) (labels : List Label) (line need most left' : ℕ) → IsAround k labels line need most →
+    (skip : Option ℕ) → IsSkipped skip → (xs : List Pair) → AreListed k xs →
+    PairsDo (setting_of k labels line most) need xs → (acts' wanted i j : ℕ) (f : Family) {p : Point}
+    {numbers : ℕ → ℕ} → IsAmong k numbers p → p.control.line ≡ line → acts' ≤ p.state.world.acts →
+    size_of (C.skip_option 1 skip ++ lists_code k xs) + most ≤ cost k.call.code →
+    Linked k.call.surroundings.links k.call.code i (C.skip_option 1 skip ++ lists_code k xs) →
+    i + size_of (C.skip_option 1 skip ++ lists_code k xs) ≡ j → AreIn k.call.surroundings p numbers i f →
+    Comes k.call.code 0 f (services_of p) (owing k.call.code debt (statement_aims k labels acts' j wanted left'))
+    (P.put (at_line k.around line) skip (put_pairs xs) k.call.surroundings.acts p.state)
+unfolding P.put P.control_put ◌>>◌ ◌>>=◌
+skipped_come k labels line need most left' a None some xs known does acts' wanted i j f o at since paid l end there =
+    lists_come k labels line need most left' a xs known does acts' 0 wanted i j f o at since
+    (omega arith, omega (arith, paid)) l end there
+skipped_come k labels line need most left' a (Some lines) some xs known does acts' wanted i j f {p} {numbers} o at since
+    paid l end there =
+    let w = k.call.surroundings in
+    let option = C.skip_option 1 (Some lines) in
+    let rest = lists_code k xs in
+    let n0 = size_append option rest in
+    let closed = owing_closed k.call.code debt (statement_aims k labels acts' j wanted left') in
+    let next' : Unit {0} → Meaning (Unit {0}) = λ t. P.pairs_put (at_line k.around line) (put_pairs xs) in
+    comes_on w.acts (act (written (item_of lines)) w.acts p.state) next'
+    (skip_comes (before_closed w.acts next' closed) lines 0 0 f (o.stands, o.image) (some, a.acts)
+    (omega (arith, paid, n0)) (front_of option rest l) there
+    (λ g less at'.
+    lists_come k labels line need most left' a xs known does acts' 0 wanted (i + size_of option) j g
+    (writing_among (item_of lines) o less) at (omega (arith, since)) (omega arith, omega (arith, paid, n0))
+    (back_of option rest l) (omega (arith, n0, end)) at'))
+
+pub put_does :
+    (k : Block) (labels : List Label) (x : Put) (index left' need most : ℕ) → IsPut k labels x index need most →
+    PairsDo (setting_of k labels x.line most) need (x.first ∷ x.more) → Does k labels (put_of x) index left'
+unfolding M.statement ◌>>◌ ◌>>=◌
+put_does k labels x index left' need most is does p numbers c wanted f o paid there =
+    let w = k.call.surroundings in
+    let code = k.call.code in
     let line = x.line in
     let here = at_line k.around line in
     let acts' = p.state.world.acts in
     let first = k.first.control in
     let one = act_code line in
-    let begun = edit_begun fs 1 in
-    let items = items_code u (x.first ∷ x.more) in
-    let pair = begun ++ (items ++ edit_ended) in
-    let n0 = size_append one (pair ++ []) in
-    let n1 = size_append pair [] in
-    let n2 = size_append begun (items ++ edit_ended) in
-    let n3 = size_append items edit_ended in
-    let l1 = front_of pair [] (back_of one (pair ++ []) is.statement) in
-    let l2 = back_of begun (items ++ edit_ended) l1 in
-    let j = index + size_in k (put_of x) in
-    let aims = statement_aims k labels acts' j wanted left' in
-    let owed = owing code debt aims in
-    let closed = owing_closed code debt aims in
-    let shown = put_items (x.first ∷ x.more) in
-    let next1 : Unit {0} → Meaning (Unit {0}) = λ t. P.pairs_put here (record { items = shown; formats = fs } ∷ []) in
-    let next2 : Unit {0} → Meaning (Unit {0}) = λ t. P.pairs_put here [] in
-    let h = point_frame o.stands o.image in
-    let over' : AreOver first.entries first.edits first.layers = over_first k [] o in
+    let xs = x.first ∷ x.more in
+    let behind' = C.skip_option 1 x.skip ++ lists_code k xs in
+    let n0 = size_append one behind' in
     let all = is.paid in
-    let a : ArePut u = record {
+    let j = index + size_in k (put_of x) in
+    let owed = owing code debt (statement_aims k labels acts' j wanted left') in
+    let closed = owing_closed code debt (statement_aims k labels acts' j wanted left') in
+    let next1 : Unit {0} → Meaning (Unit {0}) = λ t. P.put here x.skip (put_pairs xs) in
+    let over' : AreOver first.entries first.edits first.layers = over_first k [] o in
+    let some = some_behind k x in
+    comes_owing debt (M.statement k.around (put_of x) w.acts p.state)
+    (comes_on w.acts (act counted w.acts p.state) next1
+    (act_comes (before_closed w.acts next1 closed) line (c + debt) 0 f (o.stands, o.image)
+    (is.act.line_fits, is.act.acts, omega (arith, paid, n0, some)) (front_of one behind' is.statement) there
+    (λ g less at.
+    skipped_come k labels line need most left'
+    (record {
       acts = is.act.acts;
       over = over';
-      fixed = is.formats.fixed;
-      text = is.formats.text;
-      are = is.formats.are;
       registers = is.registers;
       one = is.one;
       held = is.held;
       error = is.error;
-    } in
-    comes_owing debt (M.statement k.around (put_of x) w.acts p.state)
-    (comes_on w.acts (act counted w.acts p.state) next1
-    (act_comes (before_closed w.acts next1 closed) line (c + debt) 0 f (o.stands, o.image)
-    (is.act.line_fits, is.act.acts, omega (arith, paid, n0, n1, n2, n3)) (front_of one (pair ++ []) is.statement) there
-    (λ g less at.
-    let q = acted line p in
-    let o' = acted_among line o less in
-    let r = begin_reach k fs h 0 g (front_of begun (items ++ edit_ended) l1) is.known o' at in
-    let whole = format_items fs in
-    let place = putting whole whole in
-    let q1 = begun_point fs q in
-    let i1 = index + size_of one + 5 in
-    let i2 = i1 + size_of items in
-    let among1 : IsAmong (placing place k) numbers q1 =
-    edits_among k first.edits (place ∷ first.edits) (place ∷ q.control.edits) o'
-    (ap (λ es. place ∷ es) o'.later.edits) (over_place place first.entries first.edits first.layers over') in
-    let flow = P.items_put here whole whole shown w.acts q1.state in
-    onward closed r
-    (λ g1 at1.
-    comes_on w.acts flow next2
-    (comes_map (items_aims u acts' i2 wanted) (before code owed w.acts next2) flow
-    (λ c1 f1 v1 t s e.
-    let o2 = e.1 in
-    record {
-      to = subst (λ s'. owed.done c1 f1 v1 tt s') (sym o2.state)
-          (closed.done o2.reach tt o2.point.state
-          (ended_goes u left' acts' i2 j wanted e.0 over' o2.among o2.since (omega arith)
-          (back_of items edit_ended l2) (omega (arith, n0, n1, n2, n3)) (reached_holds o2.reach)));
     })
-    (λ c1 f1 v1 height label s e. λ i0 f0 v0 from. jumps_repaid debt from e)
-    (λ c1 f1 v1 r' s e. absurd e)
-    (subst (λ ws. Comes code 5 g1 (services_of q1) (items_aims u acts' i2 wanted)
-    (P.items_put here ws ws shown w.acts q1.state)) (sym is.formats.items)
-    (items_comes u a x.first x.more does
-    (record { rest = whole_in u; point = q1; numbers = numbers; credits = 5; index = i1; family = g1 })
-    acts' wanted i2
-    (record {
-      among = subst (λ ws. IsAmong (placing (putting ws ws) k) numbers q1) is.formats.items among1;
-      line = refl;
-      fixed = is.formats.are;
-      since = omega arith;
-      paid = omega (arith, all, n0, n1, n2, n3);
-      there = λ b. in_known h o.image.parts (at1 b);
-    })
-    (front_of items edit_ended l2) refl)))))))
+    x.skip is.skip xs is.lists does acts' wanted (index + size_of one) j g (acted_among line o less) refl (omega arith)
+    (omega (arith, all, n0)) (back_of one behind' is.statement) (omega (arith, n0)) at)))
+  where
+    some_behind : (k : Block) (x : Put) → debt ≤ size_of (C.skip_option 1 x.skip ++ lists_code k (x.first ∷ x.more))
+    some_behind k x =
+        let begun = edit_begun x.first.formats 1 in
+        let items = C.items_put k.environment none_taken x.first.formats (put_items (x.first.first ∷ x.first.more)) in
+        let pair = begun ++ (items ++ edit_ended) in
+        let rest = lists_code k x.more in
+        let n0 = size_append (C.skip_option 1 x.skip) (pair ++ rest) in
+        let n1 = size_append pair rest in
+        let n2 = size_append begun (items ++ edit_ended) in
+        omega (arith, n0, n1, n2)

@@ -48,10 +48,10 @@ use Rattle.edit_runs.proofs.Writing.{writing_among, writing_comes}
 
 -- ---- the service
 
-abbrev item_of : (lines : ℕ) → List ℕ → List ℕ
+abbrev pub item_of : (lines : ℕ) → List ℕ → List ℕ
 item_of lines = P.control_written (SkipItem lines)
 
-abbrev behind_skip : (lines : ℕ) → Point → Point
+abbrev pub behind_skip : (lines : ℕ) → Point → Point
 behind_skip lines p = writing (item_of lines) p.control.edits p
 
 skip_answered :
@@ -104,7 +104,7 @@ skip_asked {w} {p = p} {numbers = numbers} lines c f h most l l' there =
     reach_then r1 r2
 
 -- lines end, or the run pauses before that
-skip_comes :
+pub skip_comes :
     {w : Surroundings} {code : List Instr} {p : Point} {numbers : ℕ → ℕ} {i : ℕ} {aims : Aims (Unit {0})}
     (closed : Closed code aims) (lines c wanted : ℕ) (f : Family) → Stands w p × IsImage w code p →
     ((1 ≤ lines) × (lines ≤ 1000)) × (w.acts + 1 < 2 ^ 64) →

@@ -1,5 +1,5 @@
--- PUT EDIT of numbers by F: places in format lists at the points of a block, and where the format list stands.
-use Rattle.std.specs.Prelude.{ℕ, ◌+◌, ◌^◌, ◌<◌, ◌≤◌, ◌≡◌, List, [], ◌∷◌, None, Some, true, false, ⊤}
+-- PUT EDIT of numbers by F: places in format lists at the points of a block, and where the format lists stand.
+use Rattle.std.specs.Prelude.{ℕ, ◌+◌, ◌^◌, ◌<◌, ◌≤◌, ◌≡◌, List, [], ◌∷◌, Option, None, Some, true, false, ⊤}
 use Rattle.pli_language.specs.Tree as T
 use Rattle.pli_typing.specs.TypedTree as Y
 use Rattle.pli_meaning.specs.Control.{Label}
@@ -94,20 +94,41 @@ abbrev pub put_items : List Item → List Y.PutItem
 put_items [] = []
 put_items (x ∷ xs) = Y.PutValue (Y.NumberValue x.precision x.source) ∷ put_items xs
 
-pub record Put : Type 0 where
+-- one of its data lists, with the format list that it goes by
+pub record Pair : Type 0 where
   pub first : Item
   pub more : List Item
   pub formats : T.Formats
+
+abbrev pub put_pairs : List Pair → List Y.PutPair
+put_pairs [] = []
+put_pairs (x ∷ xs) = record { items = put_items (x.first ∷ x.more); formats = x.formats } ∷ put_pairs xs
+
+-- lines may be ended first
+pub record Put : Type 0 where
+  pub skip : Option ℕ
+  pub first : Pair
+  pub more : List Pair
   pub line : ℕ
 
 abbrev pub put_of : Put → Y.Stmt
-put_of x = Y.Put None (record { items = put_items (x.first ∷ x.more); formats = x.formats } ∷ []) x.line
+put_of x = Y.Put x.skip (put_pairs (x.first ∷ x.more)) x.line
+
+-- the language lets from 1 to 1,000 lines be ended
+abbrev pub IsSkipped : Option ℕ → Type 0
+IsSkipped None = ⊤
+IsSkipped (Some lines) = (1 ≤ lines) × (lines ≤ 1000)
+
+-- the block knows the format lists, which are of F items
+abbrev pub AreListed : Block → List Pair → Type 0
+AreListed k [] = ⊤
+AreListed k (x ∷ xs) = (IsFixed x.formats × KnowsFormats k x.formats) × AreListed k xs
 
 -- where it stands, how many registers its expressions need, and that one act pays for each of them
 pub record IsPut (k : Block) (labels : List Label) (x : Put) (index need most : ℕ) : Type 0 where
   pub act : HasAct k x.line
-  pub formats : IsFixed x.formats
-  pub known : KnowsFormats k x.formats
+  pub skip : IsSkipped x.skip
+  pub lists : AreListed k (x.first ∷ x.more)
   pub registers : need ≤ k.registers
   pub one : 1 ≤ k.registers
   pub held : k.registers ≤ held_registers
@@ -120,7 +141,11 @@ abbrev pub ItemsDo : Setting → (need : ℕ) → List Item → Type 0
 ItemsDo s need [] = ⊤
 ItemsDo s need (x ∷ xs) = ((place : EditPlace) → L.Does (within place s) need x.source) × ItemsDo s need xs
 
+abbrev pub PairsDo : Setting → (need : ℕ) → List Pair → Type 0
+PairsDo s need [] = ⊤
+PairsDo s need (x ∷ xs) = ItemsDo s need (x.first ∷ x.more) × PairsDo s need xs
+
 abbrev pub PutsDo : Type 0
 PutsDo =
     (k : Block) (labels : List Label) (x : Put) (index left' need most : ℕ) → IsPut k labels x index need most →
-    ItemsDo (setting_of k labels x.line most) need (x.first ∷ x.more) → Does k labels (put_of x) index left'
+    PairsDo (setting_of k labels x.line most) need (x.first ∷ x.more) → Does k labels (put_of x) index left'

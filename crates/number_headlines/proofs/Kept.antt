@@ -12,6 +12,7 @@ use Rattle.pli_coding.specs.Images.{linked_code, picture_of}
 use Rattle.pli_coding.specs.SignatureTable.{table_of}
 use Rattle.code_marks.specs.CodeMarks.{MarkedOnce}
 use Rattle.storage_relation.specs.ServiceLaws.{TableDiffers}
+use Rattle.program_places.specs.Constants.{constants_in}
 use Rattle.program_places.specs.Programs.{IsLoadable, body_for, code_for, environment_for}
 use Rattle.program_places.specs.Programs.{behind_body, entry_for, procedure_for}
 use Rattle.program_places.proofs.Blocks.{own_block}
@@ -24,6 +25,7 @@ use Rattle.program_runs.specs.Starts.{image_parts, no_numbers}
 use Rattle.program_runs.specs.Statements.{EachDoes, IsBegun}
 use Rattle.variable_runs.proofs.Lists.{all_procedure}
 use Rattle.pli_headline.specs.Headline.{FitsMemory, Headline, parts}
+use Rattle.block_headlines.proofs.Constants.{constants_stand}
 use Rattle.block_headlines.specs.Headlines.{HeadlinesKept, Layout, Runs}
 use Rattle.number_runs.specs.Knowledge.{IsReady, KnowsCalls}
 use Rattle.number_runs.specs.Variables.{words_in}
@@ -122,6 +124,7 @@ layout_for {program} m =
       entry = entry_for program m.head.number;
       end = behind_body program m.head m.body;
       units = [];
+      constants = constants_in (code_for program);
       serials = most_words;
       made = made_for program m.head;
     }
@@ -134,7 +137,8 @@ program_runs once tables {program} m fits =
       whole = λ input acts few.
           whole_stands once tables program (placed m) (run_for input acts) (made_for program m.head)
           (first_bytes (picture_of parts program)) m.loadable (has_start program m.plain) m.main
-          (first_length (picture_of parts program) m.loadable.fits fits.statics_fit) few
+          (first_length (picture_of parts program) m.loadable.fits fits.statics_fit)
+          (constants_stand (code_for program) fits) few
           (all_procedure (surroundings_for program input acts) (linked_code (code_for program))
           (main_for m input acts)
           (start_for program input acts) no_numbers (words_in (environment_for program m.head))

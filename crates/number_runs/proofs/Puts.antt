@@ -1,7 +1,7 @@
--- PUT SKIP, and PUT EDIT of numbers by F items, do what they mean.
-use Rattle.std.proofs.Common.{◌≡◌, ℕ, zero, suc, ◌+◌, ◌^◌, ◌≤◌, List, [], ◌∷◌, ◌++◌, true, false, refl, sym, ap}
+-- PUT SKIP, and PUT EDIT of numbers by lists of F items, do what they mean.
+use Rattle.std.proofs.Common.{◌≡◌, ℕ, zero, suc, ◌+◌, ◌≤◌, List, [], ◌∷◌, ◌++◌, true, false, refl, sym, ap}
 use Rattle.std.proofs.Common.{◌∙◌, subst, arith, inl, None, Some}
-use Rattle.std.specs.Prelude.{◌&&◌, Bool, map, max, nat_le, Option}
+use Rattle.std.specs.Prelude.{◌&&◌, map, max, nat_le, Option}
 use Rattle.std.proofs.lemmas.Bool.{and_parts, leb-true}
 use Rattle.pli_language.specs.Formats.{is_times, is_width}
 use Rattle.pli_language.specs.Tree as T
@@ -10,24 +10,27 @@ use Rattle.pli_meaning.specs.Control.{Label}
 use Rattle.pli_meaning.specs.Streaming.{DataFormat, FixedItem, FormatItem, format_items, repeated}
 use Rattle.pli_serving.specs.ServiceState.{EditPlace}
 use Rattle.pli_coding.specs.Allocating.{act_code}
+use Rattle.pli_coding.specs.Assembly.{size_of}
 use Rattle.pli_coding.specs.Environments.{none_taken}
 use Rattle.pli_coding.specs.Registers.{held_registers}
 use Rattle.pli_coding.specs.Statements.{stmt_code}
 use Rattle.pli_coding.specs.StaticForms.{formats_datum}
-use Rattle.pli_coding.specs.Streams.{has_fixed, has_text, put_pairs}
+use Rattle.pli_coding.specs.Streams as C
+use Rattle.pli_coding.specs.Streams.{has_text}
 use Rattle.run_steps.specs.Items.{Linked}
 use Rattle.run_steps.specs.Reach.{cost}
 use Rattle.run_steps.proofs.Jumps.{back_of}
 use Rattle.program_runs.specs.Statements.{Block, Does, HasAct, size_in}
 use Rattle.expression_runs.specs.Assignments.{setting_of}
 use Rattle.expression_runs.specs.Values.{Setting}
-use Rattle.edit_runs.specs.Edits.{AreFixed, IsFixed, Item, ItemsDo, Put, put_items, put_of, within}
+use Rattle.edit_runs.specs.Edits.{AreFixed, AreListed, IsFixed, IsSkipped, Item, ItemsDo, Pair, PairsDo, Put}
+use Rattle.edit_runs.specs.Edits.{put_items, put_pairs, within}
 use Rattle.edit_runs.proofs.Puts.{put_does}
 use Rattle.edit_runs.proofs.Skips.{skip_does}
 use Rattle.number_runs.specs.Knowledge.{KnowsNumbers, KnowsPuts}
 use Rattle.number_runs.specs.Numbers.{Scope, is_number, number_needs}
-use Rattle.number_runs.specs.Puts.{are_fixed_items, are_put_items, is_fixed_item, is_fixed_list, is_put, is_put_item}
-use Rattle.number_runs.specs.Puts.{is_put_list, put_items_need, put_needs, without_calls}
+use Rattle.number_runs.specs.Puts.{are_fixed_items, are_pairs, are_put_items, is_fixed_list, is_put, is_put_item}
+use Rattle.number_runs.specs.Puts.{is_put_list, is_skip, put_items_need, put_needs, without_calls}
 use Rattle.number_runs.proofs.Expressions.{more_registers, number_does}
 
 -- ---- format lists
@@ -137,9 +140,7 @@ items_do s k need (i ∷ is) knows h fits =
       items_do s k need is knows a.1 (omega (arith, fits)),
     )
 
--- ---- the statement
-
--- where it stands, in a block of a scope, and that one act pays for it and for so much more
+-- where the statement stands, in a block of a scope, and that one act pays for it and for so much more
 pub record HasPut (s : Scope) (k : Block) (skip : Option ℕ) (pairs : List Y.PutPair) (line index most : ℕ) : Type 0
   where
     pub act : HasAct k line
@@ -151,43 +152,119 @@ pub record HasPut (s : Scope) (k : Block) (skip : Option ℕ) (pairs : List Y.Pu
     pub paid : size_in k (Y.Put skip pairs line) + most ≤ cost k.call.code
     pub knows : s.puts ≡ true → KnowsPuts s k most
 
-one_at_least : (s : Scope) (i : Y.PutItem) → is_put_item s i ≡ true → 1 ≤ put_items_need (i ∷ [])
-one_at_least s i h = let n = (listed s i h).needs in omega (arith, n)
+-- ---- lists of them
+
+first_of : List Y.PutItem → Item
+first_of [] = record { precision = 0; source = Y.NumberConstant 0 }
+first_of (i ∷ is) = item_of i
+
+more_of : List Y.PutItem → List Item
+more_of [] = []
+more_of (i ∷ is) = items_of is
+
+abbrev pair_of : Y.PutPair → Pair
+pair_of p = record { first = first_of p.items; more = more_of p.items; formats = p.formats }
+
+abbrev pairs_of : List Y.PutPair → List Pair
+pairs_of [] = []
+pairs_of (p ∷ ps) = pair_of p ∷ pairs_of ps
+
+list_is :
+    (s : Scope) (is : List Y.PutItem) → is_put_list s is ≡ true → put_items (first_of is ∷ more_of is) ≡ is
+unfolding first_of more_of
+list_is s [] h = absurd (cc h)
+list_is s (i ∷ is) h = items_are s (i ∷ is) h
+
+pairs_are : (s : Scope) (ps : List Y.PutPair) → are_pairs s ps ≡ true → put_pairs (pairs_of ps) ≡ ps
+pairs_are s [] h = refl
+pairs_are s (p ∷ ps) h =
+    let a = and_parts (is_put_list s p.items && is_fixed_list p.formats) (are_pairs s ps) h in
+    let b = and_parts (is_put_list s p.items) (is_fixed_list p.formats) a.0 in
+    let rest = put_pairs (pairs_of ps) in
+    ap (λ xs. record { items = xs; formats = p.formats } ∷ rest) (list_is s p.items b.0)
+    ∙ ap (λ qs. p ∷ qs) (pairs_are s ps a.1)
+
+pairs_listed :
+    (s : Scope) (k : Block) (most : ℕ) → KnowsPuts s k most → (ps : List Y.PutPair) (i : ℕ) →
+    are_pairs s ps ≡ true →
+    Linked k.call.surroundings.links k.call.code i (C.put_pairs k.environment none_taken ps) →
+    AreListed k (pairs_of ps)
+pairs_listed s k most knows [] i h l = tt
+pairs_listed s k most knows (p ∷ ps) i h l =
+    let a = and_parts (is_put_list s p.items && is_fixed_list p.formats) (are_pairs s ps) h in
+    let fixed = (and_parts (is_put_list s p.items) (is_fixed_list p.formats) a.0).1 in
+    let one = C.put_pair k.environment none_taken p in (
+      (list_fixed p.formats fixed, knows.lists p.formats fixed (l.named (formats_datum p.formats) (inl refl))),
+      pairs_listed s k most knows ps (i + size_of one) a.1
+          (back_of one (C.put_pairs k.environment none_taken ps) l),
+    )
+
+list_does :
+    (s : Scope) (k : Setting) (need : ℕ) (is : List Y.PutItem) →
+    ((place : EditPlace) → KnowsNumbers (without_calls s) (within place k)) → is_put_list s is ≡ true →
+    put_items_need is ≤ need → ItemsDo k need (first_of is ∷ more_of is)
+unfolding first_of more_of
+list_does s k need [] knows h fits = absurd (cc h)
+list_does s k need (i ∷ is) knows h fits = items_do s k need (i ∷ is) knows h fits
+
+pairs_do :
+    (s : Scope) (k : Setting) (need : ℕ) (ps : List Y.PutPair) →
+    ((place : EditPlace) → KnowsNumbers (without_calls s) (within place k)) → are_pairs s ps ≡ true →
+    put_needs ps ≤ need → PairsDo k need (pairs_of ps)
+pairs_do s k need [] knows h fits = tt
+pairs_do s k need (p ∷ ps) knows h fits =
+    let a = and_parts (is_put_list s p.items && is_fixed_list p.formats) (are_pairs s ps) h in
+    let b = and_parts (is_put_list s p.items) (is_fixed_list p.formats) a.0 in (
+      list_does s k need p.items knows b.0 (omega (arith, fits)),
+      pairs_do s k need ps knows a.1 (omega (arith, fits)),
+    )
+
+-- each number waits in a register
+one_at_least : (s : Scope) (is : List Y.PutItem) → is_put_list s is ≡ true → 1 ≤ put_items_need is
+one_at_least s [] h = absurd (cc h)
+one_at_least s (i ∷ is) h =
+    let n = (listed s i (and_parts (is_put_item s i) (are_put_items s is) h).0).needs in
+    omega (arith, n)
+
+-- ---- the statement
+
+skip_is : (skip : Option ℕ) → is_skip skip ≡ true → IsSkipped skip
+skip_is None h = tt
+skip_is (Some lines) h = times_are lines h
 
 edit_does :
-    (s : Scope) (k : Block) (labels : List Label) (items : List Y.PutItem) (formats : T.Formats)
-    (line index left' most : ℕ) → is_put_list s items ≡ true → is_fixed_list formats ≡ true → s.puts ≡ true →
-    HasPut s k None (record { items = items; formats = formats } ∷ []) line index most →
-    Does k labels (Y.Put None (record { items = items; formats = formats } ∷ []) line) index left'
-edit_does s k labels [] formats line index left' most some fixed puts has = absurd (cc some)
-edit_does s k labels (i ∷ is) formats line index left' most some fixed puts has =
-    let a = and_parts (is_put_item s i) (are_put_items s is) some in
-    let x : Put = record { first = item_of i; more = items_of is; formats = formats; line = line } in
+    (s : Scope) (k : Block) (labels : List Label) (skip : Option ℕ) (p : Y.PutPair) (ps : List Y.PutPair)
+    (line index left' most : ℕ) → is_skip skip ≡ true → s.puts ≡ true → are_pairs s (p ∷ ps) ≡ true →
+    HasPut s k skip (p ∷ ps) line index most → Does k labels (Y.Put skip (p ∷ ps) line) index left'
+edit_does s k labels skip p ps line index left' most some puts are has =
+    let a = and_parts (is_put_list s p.items && is_fixed_list p.formats) (are_pairs s ps) are in
+    let b = and_parts (is_put_list s p.items) (is_fixed_list p.formats) a.0 in
+    let x : Put = record { skip = skip; first = pair_of p; more = pairs_of ps; line = line } in
     let knows = has.knows puts in
-    let need = put_items_need (i ∷ is) in
-    let one = one_at_least s i a.0 in
+    let need = put_needs (p ∷ ps) in
+    let one = one_at_least s p.items b.0 in
     let room = has.registers in
-    let same = items_are s (i ∷ is) some in
-    let stmt : List Y.PutItem → Y.Stmt =
-    λ xs. Y.Put None (record { items = xs; formats = formats } ∷ []) line in
-    let pairs = put_pairs k.environment none_taken (record { items = i ∷ is; formats = formats } ∷ []) in
-    let named = (back_of (act_code line) pairs has.statement).named (formats_datum formats) (inl refl) in
-    subst (λ xs. Does k labels (stmt xs) index left') same
+    let same = pairs_are s (p ∷ ps) are in
+    let stmt : List Y.PutPair → Y.Stmt = λ qs. Y.Put skip qs line in
+    let option = C.skip_option 1 skip in
+    let lists = C.put_pairs k.environment none_taken (p ∷ ps) in
+    let l = back_of option lists (back_of (act_code line) (option ++ lists) has.statement) in
+    subst (λ qs. Does k labels (stmt qs) index left') same
     (put_does k labels x index left' need most
     (record {
       act = has.act;
-      formats = list_fixed formats fixed;
-      known = knows.lists formats fixed named;
+      skip = skip_is skip some;
+      lists = pairs_listed s k most knows (p ∷ ps) (index + size_of (act_code line) + size_of option) are l;
       registers = omega (arith, room);
       one = omega (arith, one, room);
       held = has.held;
       error = λ place. knows.error place labels line;
       statement = subst
-          (λ xs. Linked k.call.surroundings.links k.call.code index (stmt_code k.environment none_taken (stmt xs)))
+          (λ qs. Linked k.call.surroundings.links k.call.code index (stmt_code k.environment none_taken (stmt qs)))
           (sym same) has.statement;
-      paid = subst (λ xs. size_in k (stmt xs) + most ≤ cost k.call.code) (sym same) has.paid;
+      paid = subst (λ qs. size_in k (stmt qs) + most ≤ cost k.call.code) (sym same) has.paid;
     })
-    (items_do s (setting_of k labels line most) need (i ∷ is) (λ place. knows.numbers place labels line) some
+    (pairs_do s (setting_of k labels line most) need (p ∷ ps) (λ place. knows.numbers place labels line) are
     (omega arith)))
 
 pub put_statement_does :
@@ -195,13 +272,11 @@ pub put_statement_does :
     (line index left' most : ℕ) → is_put s skip pairs ≡ true → HasPut s k skip pairs line index most →
     Does k labels (Y.Put skip pairs line) index left'
 put_statement_does s k labels None [] line index left' most h has = absurd (cc h)
-put_statement_does s k labels None (p ∷ []) line index left' most h has =
-    let a = and_parts s.puts (is_put_list s p.items && is_fixed_list p.formats) h in
-    let b = and_parts (is_put_list s p.items) (is_fixed_list p.formats) a.1 in
-    edit_does s k labels p.items p.formats line index left' most b.0 b.1 a.0 has
-put_statement_does s k labels None (p ∷ q ∷ ps) line index left' most h has = absurd (cc h)
 put_statement_does s k labels (Some lines) [] line index left' most h has =
     let a = times_are lines h in
     skip_does k labels lines line index left'
     (record { act = has.act; some = a.0; most = a.1; statement = has.statement })
-put_statement_does s k labels (Some lines) (p ∷ ps) line index left' most h has = absurd (cc h)
+put_statement_does s k labels skip (p ∷ ps) line index left' most h has =
+    let a = and_parts (is_skip skip) (s.puts && are_pairs s (p ∷ ps)) h in
+    let b = and_parts s.puts (are_pairs s (p ∷ ps)) a.1 in
+    edit_does s k labels skip p ps line index left' most a.0 b.0 b.1 has

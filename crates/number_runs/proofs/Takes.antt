@@ -1,6 +1,6 @@
 -- What the temporaries of the class take: as many registers as its expressions need, and no words of the frame.
 use Rattle.std.proofs.Common.{◌≡◌, ℕ, suc, ◌+◌, ◌<◌, ◌≤◌, List, [], ◌∷◌, ◌++◌, true, refl, sym, ap, ◌∙◌, subst}
-use Rattle.std.proofs.Common.{arith, None, Some}
+use Rattle.std.proofs.Common.{arith}
 use Rattle.std.specs.Prelude.{◌&&◌, ◌==◌, Bool, max, Option, if◌then◌else◌}
 use Rattle.std.proofs.lemmas.Bool.{and_parts, lt-ltb}
 use Rattle.pli_typing.specs.TypedTree as Y
@@ -17,7 +17,7 @@ use Rattle.pli_coding.specs.Temporaries.{bit_takes, number_takes, numbers_take, 
 use Rattle.expression_runs.specs.Variables.{Spot, whole}
 use Rattle.number_runs.specs.Numbers.{Scope, are_numbers, is_number, is_test, is_variable, number_needs, numbers_need}
 use Rattle.number_runs.specs.Numbers.{is_fixed, is_plain, test_needs}
-use Rattle.number_runs.specs.Puts.{are_put_items, is_fixed_list, is_put, is_put_item, is_put_list}
+use Rattle.number_runs.specs.Puts.{are_pairs, are_put_items, is_fixed_list, is_put, is_put_item, is_put_list, is_skip}
 use Rattle.number_runs.specs.Puts.{put_item_needs, put_items_need, put_needs, without_calls}
 use Rattle.number_runs.specs.Statements.{are_statements, is_line, is_statement, is_stored, statement_needs}
 use Rattle.number_runs.specs.Statements.{statements_need, stored_needs}
@@ -230,19 +230,24 @@ put_list_taken :
 put_list_taken s [] h fits = absurd (cc h)
 put_list_taken s (i ∷ is) h fits = put_items_taken s (i ∷ is) h fits
 
+pairs_taken :
+    (s : Scope) (ps : List Y.PutPair) → are_pairs s ps ≡ true → put_needs ps ≤ held_registers →
+    Takes (put_needs ps) none_taken (put_takes none_taken ps)
+pairs_taken s [] h fits = takes_none none_taken
+pairs_taken s (p ∷ ps) h fits =
+    let a = and_parts (is_put_list s p.items && is_fixed_list p.formats) (are_pairs s ps) h in
+    let b = and_parts (is_put_list s p.items) (is_fixed_list p.formats) a.0 in
+    takes_either (put_items_need p.items) (put_needs ps) none_taken (put_items_take none_taken p.items)
+    (put_takes none_taken ps) (put_list_taken s p.items b.0 (omega (arith, fits)))
+    (pairs_taken s ps a.1 (omega (arith, fits)))
+
 put_taken :
     (s : Scope) (skip : Option ℕ) (pairs : List Y.PutPair) → is_put s skip pairs ≡ true →
     put_needs pairs ≤ held_registers → Takes (put_needs pairs) none_taken (put_takes none_taken pairs)
-put_taken s None [] h fits = absurd (cc h)
-put_taken s None (p ∷ []) h fits =
-    let a = and_parts s.puts (is_put_list s p.items && is_fixed_list p.formats) h in
-    takes_either (put_items_need p.items) 0 none_taken (put_items_take none_taken p.items) none_taken
-    (put_list_taken s p.items (and_parts (is_put_list s p.items) (is_fixed_list p.formats) a.1).0
-    (omega (arith, fits)))
-    (takes_none none_taken)
-put_taken s None (p ∷ q ∷ ps) h fits = absurd (cc h)
-put_taken s (Some lines) [] h fits = takes_none none_taken
-put_taken s (Some lines) (p ∷ ps) h fits = absurd (cc h)
+put_taken s skip [] h fits = takes_none none_taken
+put_taken s skip (p ∷ ps) h fits =
+    let a = and_parts (is_skip skip) (s.puts && are_pairs s (p ∷ ps)) h in
+    pairs_taken s (p ∷ ps) (and_parts s.puts (are_pairs s (p ∷ ps)) a.1).1 fits
 
 mutual
   statement_taken :

@@ -43,11 +43,20 @@ is_put_list s (i ∷ is) = are_put_items s (i ∷ is)
 
 -- ---- the statement
 
--- lines are ended in any scope; numbers are written, by one list, where the scope lets its statements do so
+-- each by a list of its own
+abbrev pub are_pairs : Scope → List Y.PutPair → Bool
+are_pairs s [] = true
+are_pairs s (p ∷ ps) = (is_put_list s p.items && is_fixed_list p.formats) && are_pairs s ps
+
+abbrev pub is_skip : Option ℕ → Bool
+is_skip None = true
+is_skip (Some lines) = is_times lines
+
+-- lines are ended in any scope; numbers are written, behind that, where the scope lets its statements do so
 abbrev pub is_put : Scope → (skip : Option ℕ) → List Y.PutPair → Bool
+is_put s None [] = false
 is_put s (Some lines) [] = is_times lines
-is_put s None (p ∷ []) = s.puts && (is_put_list s p.items && is_fixed_list p.formats)
-is_put s _ _ = false
+is_put s skip (p ∷ ps) = is_skip skip && (s.puts && are_pairs s (p ∷ ps))
 
 -- how many registers its temporaries need: each number waits in one while its format item is looked for
 abbrev pub put_item_needs : Y.PutItem → ℕ

@@ -229,7 +229,7 @@ pub turning_is :
 turning_is once tables input first acts few bytes =
     let i = image_for turning_program (turning_run input acts) in
     whole_stands once tables turning_program turning_procedure (turning_run input acts) (λ q. q) first turning_loadable
-    turning_starts turning_main bytes few
+    turning_starts turning_main bytes (λ n v e. absurd (cc e)) few
     (none_made (surroundings_of i) (linked_code (code_for turning_program)) (main_of (turning_whole input acts))
     (start_point i) no_numbers refl refl (refl, refl))
     (record { room = omega arith; shallow = refl; parent = tt; idle = refl })

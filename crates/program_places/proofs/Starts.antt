@@ -29,8 +29,8 @@ use Rattle.program_runs.specs.Procedures.{HasRoom}
 use Rattle.program_runs.specs.Programs.{IsWhole, main_of}
 use Rattle.program_runs.specs.Starts.{IsStart, call_index, image_parts, main_called, no_numbers, start_of, start_point}
 use Rattle.program_runs.specs.Starts.{surroundings_of}
-use Rattle.program_places.specs.Programs.{HasStart, IsLoadable, IsMain, IsProcedure, IsUnstatic, IsUnstaticClass, Main}
-use Rattle.program_places.specs.Programs.{Run}
+use Rattle.program_places.specs.Programs.{HasStart, HasStaticData, IsLoadable, IsMain, IsProcedure, IsUnstatic}
+use Rattle.program_places.specs.Programs.{IsUnstaticClass, Main, Run}
 use Rattle.program_places.specs.Programs.{code_for, image_for, links_for, procedure_for, program_environment, whole_for}
 use Rattle.program_places.proofs.Callees.{callee_stands}
 use Rattle.program_places.proofs.Marks.{placed_as, placed_front}
@@ -84,14 +84,14 @@ start_linked once program m h start main =
 
 pub start_stands :
     MarkedOnce → TableDiffers → (program : Y.Program) (m : Main) (r : Run) (first : List ℕ) → IsLoadable program →
-    HasStart program → IsMain program m → length first ≡ memory_size →
+    HasStart program → IsMain program m → length first ≡ memory_size → HasStaticData program first →
     IsStart (image_for program r) m.head.number first
-start_stands once tables program m r first h start main bytes =
+start_stands once tables program m r first h start main bytes told =
     record {
       linked = start_linked once program m h start main;
       differ = tables.differ (table_of program) (tables.once program) start.table;
       bytes = bytes;
-      told = λ n v e. absurd (cc e);
+      told = told;
     }
 
 -- ---- nor does the storage machine
@@ -140,15 +140,16 @@ main_calls once program m h start main =
 
 pub whole_stands :
     MarkedOnce → TableDiffers → (program : Y.Program) (m : Main) (r : Run) (made : Point → Point) (first : List ℕ) →
-    IsLoadable program → HasStart program → IsMain program m → length first ≡ memory_size → r.acts + 1 < 2 ^ 64 →
+    IsLoadable program → HasStart program → IsMain program m → length first ≡ memory_size →
+    HasStaticData program first → r.acts + 1 < 2 ^ 64 →
     AreMade (surroundings_of (image_for program r)) (linked_code (code_for program))
     (main_of (whole_for program m r made)) (start_point (image_for program r)) no_numbers →
     HasRoom (surroundings_of (image_for program r)) (start_point (image_for program r))
     (procedure_for program m.head m.body) (main_of (whole_for program m r made)).calling →
     IsWhole (whole_for program m r made) first
-whole_stands once tables program m r made first h start main bytes acts are room =
+whole_stands once tables program m r made first h start main bytes told acts are room =
     record {
-      start = start_stands once tables program m r first h start main bytes;
+      start = start_stands once tables program m r first h start main bytes told;
       callee = callee_stands once program m.head m.body r
           (record {
             parent = 0;

@@ -25,8 +25,8 @@ use Rattle.program_runs.specs.Statements.{AreMarked}
 use Rattle.expression_runs.specs.Raises.{Routines}
 use Rattle.function_runs.specs.Functions.{IsFunction}
 use Rattle.program_places.specs.Placed.{Placed}
-use Rattle.program_places.specs.Programs.{HasStart, IsLoadable, IsMain, IsProcedure, Main, Run, Site, behind_body}
-use Rattle.program_places.specs.Programs.{body_for}
+use Rattle.program_places.specs.Programs.{HasStart, HasStaticData, IsLoadable, IsMain, IsProcedure, Main, Run, Site}
+use Rattle.program_places.specs.Programs.{behind_body, body_for}
 use Rattle.program_places.specs.Programs.{callee_for, code_for, environment_for, function_for, image_for}
 use Rattle.program_places.specs.Programs.{links_for, procedure_for, raises_index, whole_for}
 
@@ -141,13 +141,15 @@ pub record FunctionsStand : Type 0 where
 abbrev pub StartsStand : Type 0
 StartsStand =
     (program : Y.Program) (m : Main) (r : Run) (first : List ℕ) → IsLoadable program → HasStart program →
-    IsMain program m → length first ≡ memory_size → IsStart (image_for program r) m.head.number first
+    IsMain program m → length first ≡ memory_size → HasStaticData program first →
+    IsStart (image_for program r) m.head.number first
 
 -- so a program is whole if its main procedure's variables are made as they are meant and there is room for its frame
 abbrev pub WholesStand : Type 0
 WholesStand =
     (program : Y.Program) (m : Main) (r : Run) (made : Point → Point) (first : List ℕ) → IsLoadable program →
-    HasStart program → IsMain program m → length first ≡ memory_size → r.acts + 1 < 2 ^ 64 →
+    HasStart program → IsMain program m → length first ≡ memory_size → HasStaticData program first →
+    r.acts + 1 < 2 ^ 64 →
     AreMade (surroundings_of (image_for program r)) (linked_code (code_for program))
     (main_of (whole_for program m r made)) (start_point (image_for program r)) no_numbers →
     HasRoom (surroundings_of (image_for program r)) (start_point (image_for program r))

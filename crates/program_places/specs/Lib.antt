@@ -1,4 +1,5 @@
 pub mod Placed
+pub mod Constants
 pub mod Programs
 pub mod Laws
 pub mod Rows

@@ -1,6 +1,6 @@
 -- A typed program with the image that pli_coding defines for it: where its procedures and functions stand, and what
 -- each of them is where it is called.
-use Rattle.std.specs.Prelude.{ℕ, ◌+◌, ◌≡◌, ◌≤◌, ◌==◌, List, [], ◌∷◌, length, map, Option, Some, None, ⊤, false}
+use Rattle.std.specs.Prelude.{ℕ, ◌+◌, ◌*◌, ◌≡◌, ◌≤◌, ◌==◌, List, [], ◌∷◌, length, map, Option, Some, None, ⊤, false}
 use Rattle.std.specs.Prelude.{if◌then◌else◌}
 use Rattle.pli_typing.specs.TypedTree as Y
 use Rattle.pli_meaning.specs.DeclaredShapes.{head_of, procedure_numbered}
@@ -17,7 +17,7 @@ use Rattle.pli_coding.specs.SignatureTable.{table_of}
 use Rattle.pli_coding.specs.Statements.{block_held, block_words, stmts_code}
 use Rattle.well_formed_trees.specs.Every.{Every}
 use Rattle.well_formed_trees.specs.WellFormed.{IsWellFormed}
-use Rattle.storage_relation.specs.Versions.{no_constants}
+use Rattle.storage_relation.specs.Stored.{AreTold}
 use Rattle.storage_relation.specs.Tables.{AreRuled}
 use Rattle.activation_relation.specs.Chains.{UnitPlaces}
 use Rattle.activation_relation.specs.Layers.{Point}
@@ -26,6 +26,7 @@ use Rattle.program_runs.specs.Calls.{Callee}
 use Rattle.program_runs.specs.Procedures.{Procedure, begin_of}
 use Rattle.program_runs.specs.Programs.{Whole}
 use Rattle.program_runs.specs.Starts.{Image, image_parts}
+use Rattle.program_places.specs.Constants.{constants_in}
 use Rattle.pli_coding.specs.Allocating.{act_code}
 
 -- ---- its image
@@ -50,11 +51,17 @@ image_for program r =
       links = links_for program;
       units = r.units;
       signatures = map template_of (table_of program);
-      constants = no_constants;
+      constants = constants_in (code_for program);
       input = r.input;
       acts = r.acts;
       serials = r.serials;
     }
+
+-- memory at first has what the program tells of its static data, behind the code and before the stacks
+abbrev pub HasStaticData : Y.Program → (first : List ℕ) → Type 0
+HasStaticData program first =
+    AreTold (constants_in (code_for program)) (4 * length (linked_code (code_for program))) image_parts.stack_start
+    first
 
 -- as the tree of each accepted source is, with code that a machine loads
 pub record IsLoadable (program : Y.Program) : Type 0 where

@@ -23,7 +23,7 @@ use Rattle.storage_relation.proofs.Slices.{part_beside, part_written}
 use Rattle.storage_relation.proofs.Spelling.{spelled_length, reads_spelled}
 use Rattle.storage_relation.proofs.Turning.{stored_beside}
 use Rattle.storage_relation.specs.Served.{asking, area_bytes_of}
-use Rattle.storage_relation.specs.Standing.{size_of, Holder, holder_by, holder_of, held, bytes_of, Stands, IsValued}
+use Rattle.storage_relation.specs.Standing.{size_of, holder_by, holder_of, held, bytes_of, Stands, IsValued}
 use Rattle.storage_relation.specs.Standing.{leaves_of, Alone, AreaOf}
 use Rattle.storage_relation.specs.Stored.{Places, made_if, taken_as, Beside, slice, StoredAs, with_place, with_living}
 use Rattle.storage_relation.specs.Stored.{with_heap_made, IsClear}

@@ -7,6 +7,7 @@ use Rattle.pli_coding.specs.Images.{linked_code, picture_of}
 use Rattle.pli_coding.specs.SignatureTable.{table_of}
 use Rattle.code_marks.specs.CodeMarks.{MarkedOnce}
 use Rattle.storage_relation.specs.ServiceLaws.{TableDiffers}
+use Rattle.program_places.specs.Constants.{constants_in}
 use Rattle.program_places.specs.Programs.{IsLoadable, behind_body, code_for, entry_for, environment_for}
 use Rattle.program_places.specs.Programs.{procedure_for}
 use Rattle.program_places.proofs.Memory.{first_length}
@@ -14,6 +15,7 @@ use Rattle.program_places.proofs.Starts.{whole_stands}
 use Rattle.program_runs.specs.Starts.{no_numbers}
 use Rattle.variable_runs.proofs.Lists.{all_procedure}
 use Rattle.pli_headline.specs.Headline.{FitsMemory, Headline, parts}
+use Rattle.block_headlines.proofs.Constants.{constants_stand}
 use Rattle.block_headlines.specs.Headlines.{Layout, UnitHeadlinesKept, UnitsRun}
 use Rattle.number_runs.specs.Variables.{words_in}
 use Rattle.number_headlines.specs.Programs.{are_all_plain, most_words}
@@ -34,6 +36,7 @@ layout_for {program} m =
       entry = entry_for program m.head.number;
       end = behind_body program m.head m.body;
       units = units_for m;
+      constants = constants_in (code_for program);
       serials = most_words;
       made = made_for program m.head;
     }
@@ -46,7 +49,8 @@ units_run once tables {program} m fits =
       whole = λ input acts few.
           whole_stands once tables program (placed m) (run_for m input acts) (made_for program m.head)
           (first_bytes (picture_of parts program)) m.loadable (has_start program m.plain) m.main
-          (first_length (picture_of parts program) m.loadable.fits fits.statics_fit) few
+          (first_length (picture_of parts program) m.loadable.fits fits.statics_fit)
+          (constants_stand (code_for program) fits) few
           (all_procedure (surroundings_for m input acts) (linked_code (code_for program)) (main_for m input acts)
           (start_for m input acts) no_numbers (words_in (environment_for program m.head)) (main_all m input acts))
           (main_room m input acts);
