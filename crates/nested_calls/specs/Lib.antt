@@ -1,0 +1,4 @@
+pub mod Nested
+pub mod NestedCalls
+pub mod NestedFunctions
+pub mod NestedVariables
