@@ -1,6 +1,4 @@
 pub mod Takes
-pub mod Still
-pub mod Statements
 pub mod Places
 pub mod Mains
 pub mod Forces
