@@ -12,12 +12,12 @@ use Rattle.pli_coding.specs.Environments.{none_taken}
 use Rattle.pli_coding.specs.Images.{linked_code}
 use Rattle.pli_coding.specs.Statements.{marked, stmt_code, stmts_code}
 use Rattle.code_marks.specs.CodeMarks.{MarkedOnce}
-use Rattle.program_places.specs.Programs.{body_for, code_for, environment_for, links_for}
+use Rattle.program_places.specs.Programs.{code_for, environment_for, links_for}
 use Rattle.program_places.proofs.Blocks.{own_block}
 use Rattle.program_places.proofs.Callees.{end_is}
 use Rattle.program_places.proofs.Labels.{are_marked, label_of}
 use Rattle.program_places.proofs.Marks.{placed_back, placed_front}
-use Rattle.program_places.proofs.Procedures.{body_placed, raise_routines}
+use Rattle.program_places.proofs.Procedures.{raise_routines}
 use Rattle.program_places.proofs.Starts.{main_found}
 use Rattle.program_runs.specs.Calls.{left_over}
 use Rattle.program_runs.specs.Starts.{image_parts}
@@ -39,39 +39,12 @@ use Rattle.unit_runs.proofs.Changing.{begun_after, changing_ends}
 use Rattle.unit_runs.proofs.OwnRaises.{past_numbers}
 use Rattle.unit_numbers.specs.Programs.{are_steps, is_step, is_step_with}
 use Rattle.unit_numbers.specs.Units.{own_scope, unit_in}
-use Rattle.unit_numbers.proofs.Forces.{AreOverflow, past_system}
+use Rattle.unit_numbers.proofs.Calls.{main_calls}
+use Rattle.unit_numbers.proofs.Established.{list_placed, main_system, start_of, unit_stands}
 use Rattle.unit_numbers.proofs.Mains.{Main, block_for, main_held, main_number, most_for, own_known, placed}
-use Rattle.unit_numbers.proofs.Places.{on_placed}
 use Rattle.unit_numbers.proofs.Raises.{IsUnitOf, overflow_with, past_setting}
 use Rattle.unit_numbers.proofs.Takes.{unit_found}
 use Rattle.unit_numbers.proofs.Units.{unit_is}
-
-abbrev start_of : {program : Y.Program} → Main program → ℕ
-start_of {program} m = body_for program m.head m.body
-
--- ---- the units that it has by then
-
-list_placed :
-    MarkedOnce → {program : Y.Program} (m : Main program) (input : List ℕ) (acts : ℕ) →
-    AreStanding (block_for m input acts) m.body (start_of m)
-list_placed once {program} m input acts =
-    body_placed once program m.head m.body None m.loadable (main_found program (placed m) m.main)
-
-unit_stands :
-    MarkedOnce → {program : Y.Program} (m : Main program) (input : List ℕ) (acts : ℕ) (e : OnUnit × ℕ) →
-    StandsIn (block_for m input acts) m.body (start_of m) e → IsUnitOf m input acts e.0 e.1
-unit_stands once {program} m input acts e there =
-    on_placed program m.head (labels_in m.body) (block_for m input acts) m.body (start_of m) e m.steps
-    (list_placed once m input acts) there
-
-past_overflow :
-    MarkedOnce → {program : Y.Program} (m : Main program) (input : List ℕ) (acts : ℕ) (past : Past) →
-    IsPast (block_for m input acts) m.body (start_of m) past → AreOverflow past
-past_overflow once m input acts [] known = tt
-past_overflow once {program} m input acts (e ∷ past) known = (
-  (unit_is program m.head (labels_in m.body) e.0 (unit_stands once m input acts e known.1).is).condition,
-  past_overflow once m input acts past known.2,
-)
 
 -- ---- raises
 
@@ -103,15 +76,12 @@ divisor_known :
     IsPast (block_for m input (suc more)) m.body (start_of m) past →
     ZeroDivideComes (past_setting m input (suc more) past labels line)
 divisor_known once {program} m input more past labels line few known =
-    let k = block_for m input (suc more) in
     let routines = raise_routines once program m.loadable in
     let inside = routines.linked.inside in
-    let xs = words_in (environment_for program m.head) in
-    let all = past_overflow once m input (suc more) past known in
     zero_divide_ends (past_setting m input (suc more) past labels line) (record {
       routines = routines;
-      divisor = past_system C.ZeroDivide past k.first refl all (made_system image_parts _ xs _ C.ZeroDivide tt);
-      error = past_system C.Error past k.first refl all (made_system image_parts _ xs _ C.Error tt);
+      divisor = main_system once m input (suc more) past known C.ZeroDivide refl;
+      error = main_system once m input (suc more) past known C.Error refl;
       acts = few;
       most = omega (arith, inside);
     })
@@ -140,10 +110,7 @@ main_ready once {program} m input more past few b known =
         divisor = λ labels line includes. divisor_known once m input more past labels line few known;
       };
       variables = λ x h. past_numbers k past x (main_number m input (suc more) x (own_known m input (suc more) x h) b);
-      calls = record {
-        functions = λ labels line n includes h. absurd (cc h);
-        procedures = λ labels n line index includes h. absurd (cc h);
-      };
+      calls = main_calls once m input more past few b known;
       jumps = λ labels level label line index includes h. absurd (cc h);
       room = omega arith;
       home = λ may. record {

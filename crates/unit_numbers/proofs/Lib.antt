@@ -5,6 +5,10 @@ pub mod Forces
 pub mod Units
 pub mod Outer
 pub mod Raises
+pub mod Established
+pub mod Called
+pub mod Visits
+pub mod Calls
 pub mod Bodies
 pub mod Kept
 pub mod Rows

@@ -10,16 +10,17 @@ use Rattle.unit_runs.specs.Establishing.{OnUnit}
 use Rattle.number_runs.specs.Numbers.{Scope, has_none}
 use Rattle.number_runs.specs.Statements.{is_line}
 use Rattle.number_headlines.specs.Programs.{is_body}
+use Rattle.unit_numbers.specs.Calls.{may_call}
 
--- the statements of the main procedure may name its variables, and call nothing
+-- the statements of the main procedure may name its variables, and call such functions and procedures
 abbrev pub own_scope : Y.Program → (main : Y.BlockHead) → Scope
 own_scope program main =
     record {
       program = program;
       level = main.level;
       blocks = place_of_head main ∷ [];
-      is_function = λ n. false;
-      is_procedure = λ n. false;
+      is_function = may_call program main true;
+      is_procedure = may_call program main false;
       raises = true;
       own = true;
       is_outer = λ level label. false;
