@@ -47,6 +47,9 @@ inner_scope program main head =
       is_function = λ n. false;
       is_procedure = λ n. false;
       puts = false;
+      raises = true;
+      own = true;
+      is_outer = λ level label. false;
     }
 
 abbrev pub is_inner : Y.Program → (main : Y.BlockHead) → (valued : Bool) → Y.Procedure → Bool
@@ -74,6 +77,9 @@ main_scope program head =
       is_function = is_callable program head true;
       is_procedure = is_callable program head false;
       puts = false;
+      raises = true;
+      own = true;
+      is_outer = λ level label. false;
     }
 
 abbrev pub is_main : Y.Program → Y.Procedure → Bool

@@ -1,7 +1,7 @@
 -- Variables that are all FIXED BINARY(31): each is made where the frame ends, 32 bytes behind the one before it.
 use Rattle.std.proofs.Common.{◌≡◌, ℕ, zero, suc, ◌+◌, ◌*◌, ◌^◌, ◌<◌, ◌≤◌, List, [], ◌∷◌, ◌++◌, Option, None, Some, inl}
 use Rattle.std.proofs.Common.{inr, length, true, false, refl, sym, ap, ◌∙◌, subst, arith}
-use Rattle.std.specs.Prelude.{◌==◌, Bool, if◌then◌else◌, min, slice_get}
+use Rattle.std.specs.Prelude.{◌==◌, ◌%◌, Bool, if◌then◌else◌, min, slice_get}
 use Rattle.std.proofs.lemmas.Bool.{and_parts, le-leb}
 use Rattle.rv_meaning.specs.declared.instr.Instr.{Instr}
 use Rattle.pli_typing.specs.TypedTree as Y
@@ -19,7 +19,7 @@ use Rattle.block_runs.specs.Machines.{HasParts}
 use Rattle.program_runs.specs.Calls.{Callee, begun_at, block_at}
 use Rattle.program_runs.specs.Procedures.{layer_for}
 use Rattle.program_runs.specs.Statements.{Block, IsAmong, IsBegun}
-use Rattle.program_runs.specs.Variables.{IsDeclared, generation_for}
+use Rattle.program_runs.specs.Variables.{Declared, IsDeclared, generation_for}
 use Rattle.program_runs.proofs.VariableRows.{number_valued}
 use Rattle.expression_runs.specs.Variables.{IsNumber, Spot, number_declared, number_shape, variable_of}
 use Rattle.variable_runs.specs.Lists.{Among, AreAll, AreDeclared, AreListed, AreThose, HaveWords, all_made}
@@ -134,6 +134,28 @@ room_behind w p φ φs number place index more (d ∷ ds) h =
     (index + 1) more ds
     (next_room w p φ φs number place index (length ds + more)
     (subst (λ n. HaveRoom w p φ φs place n) all h)))
+
+-- they lie one behind the other at the end of the newest block's frame
+pub record AreLaid (w : Surroundings) (p : Point) (φ : Layer) (φs : List Layer) (xs : List Declared)
+    (count : ℕ) : Type 0
+  where
+    pub newest : (all_made w.parts φ xs p).control.layers ≡ layer_after w.parts (p.state.serials + 1) φ xs ∷ φs
+    pub top : (layer_after w.parts (p.state.serials + 1) φ xs).top ≡ φ.top + 32 * count
+    pub lower : (layer_after w.parts (p.state.serials + 1) φ xs).lower ≡ φ.lower
+
+pub words_laid :
+    (w : Surroundings) (p : Point) (φ : Layer) (φs : List Layer) (number place index : ℕ)
+    (ds : List Y.DeclaredVariable) → p.control.layers ≡ φ ∷ φs → φ.at + place ≡ φ.top → φ.top % 16 ≡ 0 →
+    place + 32 * length ds ≤ last_place → AreLaid w p φ φs (words_from number place index ds) (length ds)
+words_laid w p φ φs number place index [] newest here even counted =
+    record { newest = newest; top = omega arith; lower = refl }
+words_laid w p φ φs number place index (d ∷ ds) newest here even counted =
+    let x = word_made number place index in
+    let rest = words_laid w (behind_made w.parts φ x p) (layer_behind w.parts (p.state.serials + 1) φ x) φs number
+    (place + 32) (index + 1) ds (next_layers w p x φ φs newest) (omega (arith, here, counted))
+    (omega (arith, here, even, counted)) (omega (arith, counted)) in
+    let top = rest.top in
+    record { newest = rest.newest; top = omega (arith, here, counted, top); lower = rest.lower }
 
 pub room_fewer :
     (w : Surroundings) (p : Point) (φ : Layer) (φs : List Layer) (place m n : ℕ) → m ≤ n → HaveRoom w p φ φs place n →

@@ -3,6 +3,7 @@ use Rattle.std.specs.Prelude.{ℕ, suc, ◌^◌, ◌==◌, ◌&&◌, Bool, true,
 use Rattle.std.specs.Prelude.{Some}
 use Rattle.std.specs.List.{list_any}
 use Rattle.pli_typing.specs.TypedTree as Y
+use Rattle.pli_meaning.specs.Control.{Label}
 use Rattle.pli_meaning.specs.DeclaredShapes.{declared_variable}
 use Rattle.pli_coding.specs.Environments.{BlockPlace}
 use Rattle.expression_runs.specs.Variables.{Spot, variable_of}
@@ -18,7 +19,14 @@ pub record Scope : Type 0 where
   pub blocks : List BlockPlace
   pub is_function : ℕ → Bool
   pub is_procedure : ℕ → Bool
+  -- whether statements may write numbers by format lists
   pub puts : Bool
+  -- whether expressions may raise conditions
+  pub raises : Bool
+  -- whether statements may return, and jump to labels of their own lists
+  pub own : Bool
+  -- the labels to which they may jump out, each of the block around at a level
+  pub is_outer : ℕ → Label → Bool
 
 -- ---- variables
 
@@ -83,14 +91,14 @@ abbrev mutual
   is_number s (Y.NumberConstant n) = nat_lt n (2 ^ 31)
   is_number s (Y.NumberIn r) = is_variable s r
   is_number s (Y.NumberFrom (Y.Calling number level Y.NoArgument)) = (level == s.level) && s.is_function number
-  is_number s (Y.Signed sign x) = is_number s x
-  is_number s (Y.Calculated operator left right) = is_number s left && is_number s right
-  is_number s (Y.Absolute x) = is_number s x
+  is_number s (Y.Signed sign x) = s.raises && is_number s x
+  is_number s (Y.Calculated operator left right) = s.raises && (is_number s left && is_number s right)
+  is_number s (Y.Absolute x) = s.raises && is_number s x
   is_number s (Y.SignOf x) = is_number s x
   is_number s (Y.Extreme extremum first more) = is_number s first && are_numbers s more
-  is_number s (Y.Modulo dividend divisor) = is_number s dividend && is_number s divisor
+  is_number s (Y.Modulo dividend divisor) = s.raises && (is_number s dividend && is_number s divisor)
   is_number s (Y.Divided precision dividend divisor) =
-      (precision == 31) && (is_number s dividend && is_number s divisor)
+      s.raises && ((precision == 31) && (is_number s dividend && is_number s divisor))
   is_number s _ = false
 
   pub are_numbers : Scope → Y.Numbers → Bool
