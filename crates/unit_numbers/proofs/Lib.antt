@@ -4,8 +4,10 @@ pub mod Mains
 pub mod Forces
 pub mod Units
 pub mod Outer
-pub mod Raises
+pub mod Past
 pub mod Established
+pub mod Divides
+pub mod Raises
 pub mod Called
 pub mod Visits
 pub mod Calls
