@@ -14,3 +14,4 @@ pub mod Calls
 pub mod Bodies
 pub mod Kept
 pub mod Rows
+pub mod GuardRows
