@@ -20,7 +20,6 @@ use Rattle.program_places.proofs.Marks.{placed_back, placed_front}
 use Rattle.program_places.proofs.Procedures.{raise_routines}
 use Rattle.program_places.proofs.Starts.{main_found}
 use Rattle.program_runs.specs.Calls.{left_over}
-use Rattle.program_runs.specs.Starts.{image_parts}
 use Rattle.program_runs.specs.Statements.{Does, IsBegun}
 use Rattle.program_runs.proofs.Statements.{none_does}
 use Rattle.expression_runs.specs.Values.{OverflowComes}
@@ -29,9 +28,7 @@ use Rattle.operator_runs.specs.Divisors.{ZeroDivideComes}
 use Rattle.operator_runs.proofs.Divisors.{zero_divide_ends}
 use Rattle.number_runs.specs.Knowledge.{AreStanding, Includes, IsReady, Standing}
 use Rattle.number_runs.specs.Statements.{is_statement, statement_needs, statements_need}
-use Rattle.number_runs.specs.Variables.{words_in}
 use Rattle.number_runs.proofs.Statements.{form_does}
-use Rattle.number_headlines.proofs.Mains.{made_system}
 use Rattle.unit_runs.specs.Bodies.{BodyDoes}
 use Rattle.unit_runs.specs.Changing.{AllDo, IsPast, Past, StandsIn, StepDoes, after}
 use Rattle.unit_runs.specs.Establishing.{IsOn, OnUnit, on_of}
@@ -40,9 +37,10 @@ use Rattle.unit_runs.proofs.OwnRaises.{past_numbers}
 use Rattle.unit_numbers.specs.Programs.{are_steps, is_step, is_step_with}
 use Rattle.unit_numbers.specs.Units.{own_scope, unit_in}
 use Rattle.unit_numbers.proofs.Calls.{main_calls}
-use Rattle.unit_numbers.proofs.Established.{list_placed, main_system, start_of, unit_stands}
+use Rattle.unit_numbers.proofs.Established.{InForce, IsUnitOf, error_system, in_force, list_placed, start_of}
+use Rattle.unit_numbers.proofs.Established.{unit_stands}
 use Rattle.unit_numbers.proofs.Mains.{Main, block_for, main_held, main_number, most_for, own_known, placed}
-use Rattle.unit_numbers.proofs.Raises.{IsUnitOf, overflow_with, past_setting}
+use Rattle.unit_numbers.proofs.Raises.{divide_with, overflow_with, past_setting}
 use Rattle.unit_numbers.proofs.Takes.{unit_found}
 use Rattle.unit_numbers.proofs.Units.{unit_is}
 
@@ -51,40 +49,40 @@ use Rattle.unit_numbers.proofs.Units.{unit_is}
 overflow_known :
     MarkedOnce → {program : Y.Program} (m : Main program) (input : List ℕ) (more : ℕ) (past : Past)
     (labels : List Label) (line : ℕ) → suc more + 1 < 2 ^ 64 → IsBegun (block_for m input (suc more)) →
-    Includes (labels_in m.body) labels →
-    IsPast (block_for m input (suc more)) m.body (start_of m) past →
-    OverflowComes (past_setting m input (suc more) past labels line)
-overflow_known once {program} m input more [] labels line few b includes known =
+    Includes (labels_in m.body) labels → IsPast (block_for m input (suc more)) m.body (start_of m) past →
+    InForce m input (suc more) past C.FixedOverflow → OverflowComes (past_setting m input (suc more) past labels line)
+overflow_known once {program} m input more past labels line few b includes known (inl system) =
     let routines = raise_routines once program m.loadable in
     let inside = routines.linked.inside in
-    let xs = words_in (environment_for program m.head) in
-    overflow_ends (past_setting m input (suc more) [] labels line)
+    overflow_ends (past_setting m input (suc more) past labels line)
     (record {
       routines = routines;
-      overflow = made_system image_parts _ xs _ C.FixedOverflow tt;
-      error = made_system image_parts _ xs _ C.Error tt;
+      overflow = system;
+      error = error_system once m input (suc more) past known;
       acts = few;
       most = omega (arith, inside);
     })
-overflow_known once m input more (e ∷ past) labels line few b includes known =
-    overflow_with once m input more past labels line e.1 e.0 few b includes
-    (unit_stands once m input (suc more) e known.1) known
+overflow_known once m input more past labels line few b includes known (inr n) =
+    overflow_with once m input more past labels line few b includes known n
 
 divisor_known :
     MarkedOnce → {program : Y.Program} (m : Main program) (input : List ℕ) (more : ℕ) (past : Past)
-    (labels : List Label) (line : ℕ) → suc more + 1 < 2 ^ 64 →
-    IsPast (block_for m input (suc more)) m.body (start_of m) past →
-    ZeroDivideComes (past_setting m input (suc more) past labels line)
-divisor_known once {program} m input more past labels line few known =
+    (labels : List Label) (line : ℕ) → suc more + 1 < 2 ^ 64 → IsBegun (block_for m input (suc more)) →
+    Includes (labels_in m.body) labels → IsPast (block_for m input (suc more)) m.body (start_of m) past →
+    InForce m input (suc more) past C.ZeroDivide → ZeroDivideComes (past_setting m input (suc more) past labels line)
+divisor_known once {program} m input more past labels line few b includes known (inl system) =
     let routines = raise_routines once program m.loadable in
     let inside = routines.linked.inside in
-    zero_divide_ends (past_setting m input (suc more) past labels line) (record {
+    zero_divide_ends (past_setting m input (suc more) past labels line)
+    (record {
       routines = routines;
-      divisor = main_system once m input (suc more) past known C.ZeroDivide refl;
-      error = main_system once m input (suc more) past known C.Error refl;
+      divisor = system;
+      error = error_system once m input (suc more) past known;
       acts = few;
       most = omega (arith, inside);
     })
+divisor_known once m input more past labels line few b includes known (inr n) =
+    divide_with once m input more past labels line few b includes known n
 
 -- ---- its statements
 
@@ -106,8 +104,12 @@ main_ready once {program} m input more past few b known =
       turns = omega (arith, first);
       held = omega arith;
       raises = λ may. record {
-        overflow = λ labels line includes. overflow_known once m input more past labels line few b includes known;
-        divisor = λ labels line includes. divisor_known once m input more past labels line few known;
+        overflow = λ labels line includes.
+            overflow_known once m input more past labels line few b includes known
+            (in_force once m input (suc more) past known C.FixedOverflow);
+        divisor = λ labels line includes.
+            divisor_known once m input more past labels line few b includes known
+            (in_force once m input (suc more) past known C.ZeroDivide);
       };
       variables = λ x h. past_numbers k past x (main_number m input (suc more) x (own_known m input (suc more) x h) b);
       calls = main_calls once m input more past few b known;

@@ -1,15 +1,17 @@
--- A unit of the main procedure where it is raised: it stands in the code, its statements do what they mean, and so
--- FIXEDOVERFLOW comes to what it means.
+-- A unit of the main procedure where it is raised: it stands in the code, its statements do what they mean, and so the
+-- raise comes to what it means.
 use Rattle.std.proofs.Common.{◌≡◌, ◌⊎◌, inl, inr, ℕ, suc, ◌+◌, ◌*◌, ◌^◌, ◌<◌, ◌≤◌, List, [], ◌∷◌, length}
 use Rattle.std.proofs.Common.{◌++◌, true, false, refl, sym, ap, ◌∙◌, subst, arith}
 use Rattle.std.specs.Prelude.{◌==◌, Bool, cond, drop, nat_lt}
+use Rattle.pli_language.specs.declared.condition.Condition.{Condition}
+use Rattle.pli_language.specs.declared.condition.Condition.TheVariants as C
 use Rattle.pli_typing.specs.TypedTree as Y
 use Rattle.pli_meaning.specs.Control.{Label, is_among}
 use Rattle.pli_meaning.specs.DeclaredShapes.{head_of}
 use Rattle.pli_meaning.specs.Executing.{entered, labels_in}
 use Rattle.pli_meaning.specs.Raising.{Around}
-use Rattle.pli_meaning.specs.StorageState.{Activation, ancestor, ancestor_at, height_of, most_activations}
-use Rattle.pli_meaning.specs.StorageState.{newest_height}
+use Rattle.pli_meaning.specs.StorageState.{Activation, BlockUnit, ancestor, ancestor_at, force, height_of}
+use Rattle.pli_meaning.specs.StorageState.{most_activations, newest_height}
 use Rattle.pli_coding.specs.Assembly.{size_of}
 use Rattle.pli_coding.specs.Environments.{Environment, block_around, none_taken}
 use Rattle.pli_coding.specs.Frames.{frame_end}
@@ -17,12 +19,13 @@ use Rattle.pli_coding.specs.Images.{linked_code}
 use Rattle.pli_coding.specs.Procedures.{procedure_of_block}
 use Rattle.pli_coding.specs.Statements.{stmt_code, unit_environment, unit_takes}
 use Rattle.code_marks.specs.CodeMarks.{MarkedOnce}
+use Rattle.activation_relation.specs.Chains.{HasParent}
 use Rattle.activation_relation.specs.Frames.{frame_under, lower_end, upper_top}
 use Rattle.run_steps.specs.Items.{Linked}
 use Rattle.begin_runs.proofs.FarGotos.{far_does}
 use Rattle.function_runs.proofs.OuterVariables.{same_ancestor}
 use Rattle.std.proofs.lemmas.Bool.{and_parts, eqb-true}
-use Rattle.std.proofs.Common.{None}
+use Rattle.std.proofs.Common.{None, Some}
 use Rattle.program_places.proofs.Outermost.{outermost_block}
 use Rattle.program_places.proofs.Starts.{main_found}
 use Rattle.program_places.specs.Inner.{standing_for}
@@ -37,6 +40,7 @@ use Rattle.program_runs.specs.Statements.{Block, Does, IsBegun, Outer, as_outer,
 use Rattle.expression_runs.specs.Assignments.{setting_of}
 use Rattle.expression_runs.specs.Values.{OverflowComes, Setting}
 use Rattle.expression_runs.specs.Variables.{IsNumber, Spot}
+use Rattle.operator_runs.specs.Divisors.{ZeroDivideComes}
 use Rattle.number_runs.specs.Knowledge.{Includes, IsReady}
 use Rattle.number_runs.specs.Numbers.{is_known}
 use Rattle.number_runs.specs.Statements.{statements_need}
@@ -45,17 +49,21 @@ use Rattle.number_runs.proofs.Statements.{body_does}
 use Rattle.number_runs.proofs.Takes.{Takes, statements_taken}
 use Rattle.number_headlines.proofs.Tables.{block_plain}
 use Rattle.unit_runs.specs.Changing.{IsOwnRaise, IsPast, Past, after, past_point}
-use Rattle.unit_runs.specs.Establishing.{OnUnit, unit_index}
+use Rattle.unit_runs.specs.Establishing.{OnUnit, unit_index, unit_of}
 use Rattle.unit_runs.specs.Raised.{AreMade, IsRaiseOf, IsRaised, Raise, Standing, UnitDoes, list_index, unit_block}
 use Rattle.unit_runs.specs.UnitVariables.{IsOwnUnit}
-use Rattle.unit_runs.proofs.OwnRaises.{own_raised, past_like, past_numbers}
+use Rattle.unit_runs.proofs.Changing.{begun_after}
+use Rattle.unit_runs.proofs.OwnRaises.{past_like, past_numbers}
 use Rattle.unit_runs.proofs.UnitRuns.{overflow_returns}
 use Rattle.unit_runs.proofs.UnitVariables.{none_made, outer_number, unit_over}
 use Rattle.unit_numbers.specs.Units.{own_scope, unit_scope}
 use Rattle.unit_numbers.proofs.Mains.{Main, block_for, free, level_of, main_lone, main_number, most_for, own_known}
-use Rattle.unit_numbers.proofs.Mains.{Lone, main_begun, main_layer, placed, surroundings_for, units_for}
+use Rattle.unit_numbers.proofs.Mains.{Lone, main_begun, main_layer, placed, surroundings_for}
 use Rattle.unit_numbers.proofs.Outer.{lone_own, made_stacks, main_saves, main_top}
-use Rattle.unit_numbers.proofs.Places.{IsPlaced, one_place}
+use Rattle.unit_numbers.proofs.Divides.{divide_returns}
+use Rattle.unit_numbers.proofs.Established.{IsUnitOf, Newest}
+use Rattle.unit_numbers.proofs.Past.{alone_parent, main_alone, main_past, past_lower}
+use Rattle.unit_numbers.proofs.Places.{one_place}
 use Rattle.unit_numbers.proofs.Takes.{unit_taken}
 use Rattle.unit_numbers.proofs.Units.{Unit', none_coded, unit_is}
 
@@ -67,13 +75,6 @@ around_for program more = record { program = program; enter = entered program mo
 abbrev pub unit_at : {program : Y.Program} → Main program → (more : ℕ) → OnUnit → (index : ℕ) → Standing
 unit_at {program} m more x index =
     standing_for (environment_for program m.head) x index (around_for program more) (λ q. q)
-
--- an ON of the main procedure
-abbrev pub IsUnitOf : {program : Y.Program} → Main program → (input : List ℕ) → (acts : ℕ) → OnUnit → (index : ℕ) →
-    Type 0
-IsUnitOf {program} m input acts x index =
-    IsPlaced program m.head (labels_in m.body) (block_for m input acts) (units_for m) (body_for program m.head m.body) x
-    index
 
 -- its temporaries fit registers
 pub taken_by :
@@ -321,13 +322,18 @@ scene_does once {program} m z s r is =
           (around_for program z.more) (λ q. q) s.placed.placed),
     )
 
--- so it comes to what it means
+-- so a raise comes to what it means
 pub overflow_at :
     MarkedOnce → {program : Y.Program} (m : Main program) (z : Scene) → IsScene m z →
-    OverflowComes (scene_setting m z)
-overflow_at once {program} m z s =
-    overflow_returns (scene_setting m z) (scene_unit m z) z.more s.raised (scene_does once m z s)
-    (unit_is program m.head (labels_in m.body) z.unit s.placed.is).condition
+    z.unit.condition ≡ C.FixedOverflow → OverflowComes (scene_setting m z)
+overflow_at once m z s condition =
+    overflow_returns (scene_setting m z) (scene_unit m z) z.more s.raised (scene_does once m z s) condition
+
+pub divide_at :
+    MarkedOnce → {program : Y.Program} (m : Main program) (z : Scene) → IsScene m z →
+    z.unit.condition ≡ C.ZeroDivide → ZeroDivideComes (scene_setting m z)
+divide_at once m z s condition =
+    divide_returns (scene_setting m z) (scene_unit m z) z.more s.raised (scene_does once m z s) condition
 
 -- ---- in the main procedure itself
 
@@ -335,7 +341,57 @@ overflow_at once {program} m z s =
 abbrev pub past_setting :
     {program : Y.Program} → Main program → (input : List ℕ) → (acts : ℕ) → Past → List Label → (line : ℕ) → Setting
 past_setting {program} m input acts past labels line =
-    setting_of (after (block_for m input acts) past) labels line (most_for program)
+    setting_of (main_past m input acts past) labels line (most_for program)
+
+main_raised :
+    MarkedOnce → {program : Y.Program} (m : Main program) (input : List ℕ) (more : ℕ) (past : Past)
+    (labels : List Label) (line : ℕ) {c : Condition} → suc more + 1 < 2 ^ 64 → IsBegun (block_for m input (suc more)) →
+    IsPast (block_for m input (suc more)) m.body (body_for program m.head m.body) past →
+    (n : Newest m input (suc more) past c) →
+    (h : IsRaised (past_setting m input (suc more) past labels line) (unit_at m more n.unit n.index) more)
+    × (h.by.height ≡ 1)
+main_raised once {program} m input more past labels line few b known n =
+    let k0 = block_for m input (suc more) in
+    let k = main_past m input (suc more) past in
+    let u = unit_is program m.head (labels_in m.body) n.unit n.placed.is in
+    let z = own_raise once m input more few b n.unit n.index n.placed in
+    let one = main_alone m input (suc more) past in
+    let b' = begun_after k0 m.body (body_for program m.head m.body) past b known in
+    let top = (past_like k0 past).top in
+    let lower = past_lower past k0.first in
+    let room = z.room in
+    let first = b'.acts in (
+      record {
+        begun = b';
+        routines = z.routines;
+        by = n.forced.by;
+        force = subst (λ d. force k.first.state.activations d ≡ Some (n.forced.by, BlockUnit (unit_of n.unit)))
+            (sym n.condition) n.forced.is;
+        parent =
+            subst (λ l. HasParent l n.forced.by.height k.first.state.activations) (sym u.level)
+            (subst (λ m'. HasParent 1 m' k.first.state.activations) (sym n.forced.own) (
+              omega arith,
+              ap (λ as'. height_of (ancestor as' 1 0)) one.is
+                  ∙ alone_parent m.head.level one.bindings one.units (level_of m),
+            ));
+        room = omega (arith, top, lower, room);
+        shallow = ap (λ (as' : List Activation). nat_lt (length as') most_activations) one.is;
+        only = z.only;
+        some = z.some;
+        stands = z.stands;
+        labels = z.labels;
+        kind = z.kind;
+        level = z.few;
+        line = z.line;
+        saved = z.saved;
+        acts = few;
+        enter = refl;
+        around = refl;
+        enough = omega (arith, first);
+        most = z.paid;
+      },
+      n.forced.own,
+    )
 
 abbrev own_scene :
     {program : Y.Program} → Main program → (input : List ℕ) → (more : ℕ) → Past → List Label → (line index : ℕ) →
@@ -347,7 +403,7 @@ own_scene m input more past labels line index x =
       more = more;
       past = past;
       carried = labels;
-      block = as_outer (after (block_for m input (suc more)) past) labels;
+      block = as_outer (main_past m input (suc more) past) labels;
       outers = [];
       labels = labels;
       line = line;
@@ -355,59 +411,74 @@ own_scene m input more past labels line index x =
       index = index;
     }
 
-pub overflow_with :
+own_is :
     MarkedOnce → {program : Y.Program} (m : Main program) (input : List ℕ) (more : ℕ) (past : Past)
-    (labels : List Label) (line index : ℕ) (x : OnUnit) → suc more + 1 < 2 ^ 64 →
-    IsBegun (block_for m input (suc more)) → Includes (labels_in m.body) labels → IsUnitOf m input (suc more) x index →
-    IsPast (block_for m input (suc more)) m.body (body_for program m.head m.body) ((x, index) ∷ past) →
-    OverflowComes (past_setting m input (suc more) ((x, index) ∷ past) labels line)
-overflow_with once {program} m input more past labels line index x few b includes placed known =
-    overflow_at once m (own_scene m input more all labels line index x)
-    (record {
+    (labels : List Label) (line : ℕ) {c : Condition} → suc more + 1 < 2 ^ 64 → IsBegun (block_for m input (suc more)) →
+    Includes (labels_in m.body) labels →
+    IsPast (block_for m input (suc more)) m.body (body_for program m.head m.body) past →
+    (n : Newest m input (suc more) past c) →
+    IsScene m (own_scene m input more past labels line n.index n.unit)
+own_is once {program} m input more past labels line few b includes known n =
+    record {
       few = few;
       begun = b;
       includes = includes;
-      placed = placed;
+      placed = n.placed;
       raised = h.0;
       behind = 0;
       there = refl;
       numbers = λ r is made b' v named.
           let at = (own_known m input (suc more) v named).level in
           outer_number k y more h.0 r v own is made b' (omega (arith, level, outer, at))
-          (past_numbers k0 all v (main_number m input (suc more) v (own_known m input (suc more) v named) b));
+          (past_numbers k0 past v (main_number m input (suc more) v (own_known m input (suc more) v named) b));
       found = λ r is made b'.
           ap height_of (same_ancestor m.head.level (unit_over k y more h.0 r own is made b') h.0.begun is.among
           (omega (arith, outer, level)))
-          ∙ (past_like k0 all).ancestors m.head.level
+          ∙ (past_like k0 past).ancestors m.head.level
           ∙ ap (λ as'. height_of (ancestor as' (newest_height as') m.head.level)) one.is
           ∙ lone_own m.head.level one.bindings;
-    })
+    }
   where
-    all : Past
-    all = (x, index) ∷ past
-
     k0 : Block
     k0 = block_for m input (suc more)
 
     k : Setting
-    k = past_setting m input (suc more) all labels line
+    k = past_setting m input (suc more) past labels line
 
     y : Standing
-    y = unit_at m more x index
+    y = unit_at m more n.unit n.index
 
     one : Lone m.head.level k0.first.state.activations
     one = main_lone m input (suc more)
 
-    level : x.head.level ≡ 1
-    level = (unit_is program m.head (labels_in m.body) x placed.is).level
+    level : n.unit.head.level ≡ 1
+    level = (unit_is program m.head (labels_in m.body) n.unit n.placed.is).level
 
     outer : m.head.level ≡ 0
     outer = level_of m
 
-    h : (h' : IsRaised k y more) × (h'.by.height ≡ own_height k0)
-    h =
-        own_raised k0 m.body (body_for program m.head m.body) labels y index line (most_for program) more past b known
-        (own_raise once m input more few b x index placed)
+    h : (h' : IsRaised k y more) × (h'.by.height ≡ 1)
+    h = main_raised once m input more past labels line few b known n
 
     own : IsOwnUnit k y more h.0
     own = record { own = h.1; level = refl; inner = refl; program = refl; parts = refl }
+
+pub overflow_with :
+    MarkedOnce → {program : Y.Program} (m : Main program) (input : List ℕ) (more : ℕ) (past : Past)
+    (labels : List Label) (line : ℕ) → suc more + 1 < 2 ^ 64 → IsBegun (block_for m input (suc more)) →
+    Includes (labels_in m.body) labels →
+    IsPast (block_for m input (suc more)) m.body (body_for program m.head m.body) past →
+    Newest m input (suc more) past C.FixedOverflow → OverflowComes (past_setting m input (suc more) past labels line)
+overflow_with once m input more past labels line few b includes known n =
+    overflow_at once m (own_scene m input more past labels line n.index n.unit)
+    (own_is once m input more past labels line few b includes known n) n.condition
+
+pub divide_with :
+    MarkedOnce → {program : Y.Program} (m : Main program) (input : List ℕ) (more : ℕ) (past : Past)
+    (labels : List Label) (line : ℕ) → suc more + 1 < 2 ^ 64 → IsBegun (block_for m input (suc more)) →
+    Includes (labels_in m.body) labels →
+    IsPast (block_for m input (suc more)) m.body (body_for program m.head m.body) past →
+    Newest m input (suc more) past C.ZeroDivide → ZeroDivideComes (past_setting m input (suc more) past labels line)
+divide_with once m input more past labels line few b includes known n =
+    divide_at once m (own_scene m input more past labels line n.index n.unit)
+    (own_is once m input more past labels line few b includes known n) n.condition

@@ -1,5 +1,5 @@
--- Programs of FIXED BINARY(31) numbers whose main procedure has ON FIXEDOVERFLOW, as a class that is computed from
--- typed trees.
+-- Programs of FIXED BINARY(31) numbers whose main procedure has ON FIXEDOVERFLOW or ON ZERODIVIDE, as a class that is
+-- computed from typed trees.
 use Rattle.std.specs.Prelude.{◌&&◌, ◌||◌, ◌==◌, Bool, true, false, List, [], ◌∷◌, nat_le, not, Option, None, Some}
 use Rattle.pli_typing.specs.TypedTree as Y
 use Rattle.pli_meaning.specs.Control.{Label}
@@ -54,7 +54,7 @@ abbrev pub is_unit_main : Y.Program → Y.Procedure → Bool
 is_unit_main program p =
     has_none p.parameters && (has_result false p.result && is_unit_body program (head_of p.block) (body_of p.block))
 
--- the first one is the main procedure; it calls none of the others
+-- the first one is the main procedure; what it doesn't call may be any
 abbrev pub has_unit_main : Y.Program → List Y.Procedure → Bool
 has_unit_main program [] = false
 has_unit_main program (p ∷ ps) = is_unit_main program p

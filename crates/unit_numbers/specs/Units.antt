@@ -1,4 +1,4 @@
--- On-units of FIXEDOVERFLOW over FIXED BINARY(31) numbers, as a class that is computed from typed trees.
+-- On-units of FIXEDOVERFLOW and ZERODIVIDE over FIXED BINARY(31) numbers, as a class that is computed from typed trees.
 use Rattle.std.specs.Prelude.{◌&&◌, ◌==◌, Bool, true, false, List, [], ◌∷◌, nat_le, Option, None, Some}
 use Rattle.pli_language.specs.declared.condition.Condition.{Condition}
 use Rattle.pli_language.specs.declared.condition.Condition.TheVariants as C
@@ -51,9 +51,11 @@ unit_in (Y.OnUnit condition (Y.BlockOf head body) line) =
     Some (record { condition = condition; head = head; body = body; line = line })
 unit_in _ = None
 
-abbrev pub is_overflow : Condition → Bool
-is_overflow C.FixedOverflow = true
-is_overflow _ = false
+-- for a condition that numbers raise
+abbrev pub is_of_numbers : Condition → Bool
+is_of_numbers C.FixedOverflow = true
+is_of_numbers C.ZeroDivide = true
+is_of_numbers _ = false
 
 -- a single statement, or a BEGIN block that declares nothing
 abbrev pub is_bare : Y.Program → Y.BlockHead → Y.BlockKind → Bool
@@ -64,7 +66,7 @@ is_bare program head _ = false
 -- a unit of the main procedure, whose list has these labels
 abbrev pub is_unit : Y.Program → (main : Y.BlockHead) → List Label → OnUnit → Bool
 is_unit program main labels x =
-    is_overflow x.condition
+    is_of_numbers x.condition
     && (is_line x.line
     && (is_line x.head.line
     && ((x.head.level == 1)
