@@ -8,3 +8,4 @@ pub mod Bodies
 pub mod Kept
 pub mod Rows
 pub mod CallRows
+pub mod NestRows
