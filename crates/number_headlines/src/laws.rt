@@ -2,6 +2,7 @@
 
 ghost use Rattle.number_headlines.specs.CallRows.{CallingKept};
 ghost use Rattle.number_headlines.specs.Headlines.{NumberHeadlinesKept};
+ghost use Rattle.number_headlines.specs.NestRows.{NestKept};
 ghost use Rattle.number_headlines.specs.Rows.{TotalKept};
 
 use block_headlines::laws::headlines_kept;
@@ -27,6 +28,13 @@ pub fn total_kept()
 /// A worked row with calls: the same loop, in which a procedure and a function of the main procedure are called.
 pub fn calling_kept()
     ensures { CallingKept }
+{
+    number_headlines_kept();
+}
+
+/// A worked row with recursion: two procedures that call one another, one inside one of them, and a function.
+pub fn nest_kept()
+    ensures { NestKept }
 {
     number_headlines_kept();
 }

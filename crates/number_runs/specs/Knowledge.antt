@@ -35,8 +35,8 @@ use Rattle.number_runs.specs.Puts.{is_fixed_list, without_calls}
 
 -- ---- around expressions
 
-abbrev pub call_number : Scope → ℕ → Y.Number
-call_number s n = Y.NumberFrom (Y.Calling n s.level Y.NoArgument)
+abbrev pub call_number : (level number : ℕ) → Y.Number
+call_number level n = Y.NumberFrom (Y.Calling n level Y.NoArgument)
 
 -- raises come to what they mean where there may be any, each variable that may be named is a number of the block, and
 -- calls of functions that may be called leave what they mean
@@ -45,7 +45,7 @@ pub record KnowsNumbers (s : Scope) (k : Setting) : Type 0 where
   pub overflow : s.raises ≡ true → OverflowComes k
   pub divisor : s.raises ≡ true → ZeroDivideComes k
   pub variables : (x : Spot) → is_known s x ≡ true → IsNumber k.block x
-  pub functions : (n : ℕ) → s.is_function n ≡ true → L.Does k 0 (call_number s n)
+  pub functions : (level n : ℕ) → s.is_function level n ≡ true → L.Does k 0 (call_number level n)
 
 -- around what is written it is known while a place in a format list is in use; an ERROR there comes to what it means;
 -- and each list that static data have is known
@@ -113,20 +113,21 @@ pub record KnowsRaises (k : Block) (own : List Label) (most : ℕ) : Type 0 wher
   pub divisor :
       (labels : List Label) (line : ℕ) → Includes own labels → ZeroDivideComes (setting_of k labels line most)
 
-abbrev pub call_statement : Scope → (number line : ℕ) → Y.Stmt
-call_statement s n line = Y.CallProcedure (Y.Calling n s.level Y.NoArgument) line
+abbrev pub call_statement : (level number line : ℕ) → Y.Stmt
+call_statement level n line = Y.CallProcedure (Y.Calling n level Y.NoArgument) line
 
 -- the calls that its statements may hold do what they mean; so many instructions come at most between a call in an
 -- expression and the first act of what is called
 pub record KnowsCalls (s : Scope) (k : Block) (own : List Label) (most left' : ℕ) : Type 0 where
   pub functions :
-      (labels : List Label) (line n : ℕ) → Includes own labels → s.is_function n ≡ true →
-      L.Does (setting_of k labels line most) 0 (call_number s n)
+      (labels : List Label) (line level n : ℕ) → Includes own labels → s.is_function level n ≡ true →
+      L.Does (setting_of k labels line most) 0 (call_number level n)
   pub procedures :
-      (labels : List Label) (n line index : ℕ) → Includes own labels → s.is_procedure n ≡ true → line < 2 ^ 31 →
+      (labels : List Label) (level n line index : ℕ) → Includes own labels → s.is_procedure level n ≡ true →
+      line < 2 ^ 31 →
       Linked k.call.surroundings.links k.call.code index
-      (stmt_code k.environment none_taken (call_statement s n line)) →
-      Does k labels (call_statement s n line) index left'
+      (stmt_code k.environment none_taken (call_statement level n line)) →
+      Does k labels (call_statement level n line) index left'
 
 -- jumps out come to what they mean
 abbrev pub KnowsJumps : Scope → Block → (own : List Label) → (left' : ℕ) → Type 0

@@ -186,4 +186,4 @@ loop_does k labels condition body line index left' need most h tests is each p n
     (h.act.line_fits, h.act.acts, omega (arith, paid, n0)) (front_of one all' h.statement) there
     (λ g less at.
     turns_do k.around.turns k labels condition body line index left' need most h tests is each (acted line p) numbers
-    acts 0 wanted g (acted_among line o less) (omega arith) (omega (arith, few)) (omega (arith, all, n0)) at)))
+    acts 0 wanted g (acted_among line o less) (omega arith) (omega (arith, few, later)) (omega (arith, all, n0)) at)))
