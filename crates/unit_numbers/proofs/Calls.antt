@@ -2,7 +2,8 @@
 -- come to its units.
 use Rattle.std.proofs.Common.{◌≡◌, ℕ, zero, suc, ◌+◌, ◌^◌, ◌<◌, List, [], ◌∷◌, ◌++◌, Option, Some, None}
 use Rattle.std.proofs.Common.{true, false, inl, inr, refl, sym, ap, subst, arith}
-use Rattle.std.specs.Prelude.{Bool}
+use Rattle.std.specs.Prelude.{Bool, ◌==◌}
+use Rattle.std.proofs.lemmas.Bool.{and_parts, eqb-true}
 use Rattle.pli_language.specs.declared.condition.Condition.TheVariants as C
 use Rattle.pli_typing.specs.Signatures.{Fixed}
 use Rattle.pli_typing.specs.TypedTree as Y
@@ -168,8 +169,8 @@ called_ready once m i v more past entry function h b home =
       raises = λ may. called_raises once m i v more past entry function (labels_in i.body ++ []) h b;
       variables = λ x known. visit_number m i v more past entry function h b x known;
       calls = record {
-        functions = λ labels line n includes call. absurd (cc call);
-        procedures = λ labels n line index includes call. absurd (cc call);
+        functions = λ labels line level n includes call. absurd (cc call);
+        procedures = λ labels level n line index includes call. absurd (cc call);
       };
       puts = λ e. absurd (cc e);
       jumps = λ labels level label line index includes out. absurd (cc out);
@@ -313,13 +314,13 @@ procedure_called :
     IsPast (block_for m input (suc more)) m.body (body_for program m.head m.body) past → (labels : List Label) →
     Includes (labels_in m.body) labels → (n line index : ℕ) → may_call program m.head false n ≡ true → line < 2 ^ 31 →
     Linked (links_for program) (linked_code (code_for program)) index
-    (stmt_code (environment_for program m.head) none_taken (call_statement (own_scope program m.head) n line)) →
-    Does (main_past m input (suc more) past) labels (call_statement (own_scope program m.head) n line) index left_over
+    (stmt_code (environment_for program m.head) none_taken (call_statement m.head.level n line)) →
+    Does (main_past m input (suc more) past) labels (call_statement m.head.level n line) index left_over
 procedure_called once {program} m input more past few b known labels includes n line index h less =
     let i = inner_is m false n h in
     subst (λ j. Linked (links_for program) (linked_code (code_for program)) index
-    (stmt_code (environment_for program m.head) none_taken (call_statement (own_scope program m.head) j line)) →
-    Does (main_past m input (suc more) past) labels (call_statement (own_scope program m.head) j line) index left_over)
+    (stmt_code (environment_for program m.head) none_taken (call_statement m.head.level j line)) →
+    Does (main_past m input (suc more) past) labels (call_statement m.head.level j line) index left_over)
     i.numbered
     (λ l. call_by once m i input more past few b known labels includes line index less l)
 
@@ -426,11 +427,11 @@ function_called :
     IsPast (block_for m input (suc more)) m.body (body_for program m.head m.body) past → (labels : List Label) →
     Includes (labels_in m.body) labels → (line n : ℕ) → may_call program m.head true n ≡ true →
     L.Does (setting_of (main_past m input (suc more) past) labels line (most_for program)) 0
-    (call_number (own_scope program m.head) n)
+    (call_number m.head.level n)
 function_called once {program} m input more past few b known labels includes line n h =
     let i = inner_is m true n h in
     subst (λ j. L.Does (setting_of (main_past m input (suc more) past) labels line (most_for program)) 0
-    (call_number (own_scope program m.head) j)) i.numbered
+    (call_number m.head.level j)) i.numbered
     (call_value once m i input more past few b known labels includes line)
 
 -- ---- what the statements of the main procedure may call
@@ -441,10 +442,18 @@ pub main_calls :
     IsPast (block_for m input (suc more)) m.body (body_for program m.head m.body) past →
     KnowsCalls (own_scope program m.head) (main_past m input (suc more) past) (labels_in m.body) (most_for program)
     left_over
-main_calls once m input more past few b known =
+main_calls once {program} m input more past few b known =
+    let k = main_past m input (suc more) past in
     record {
-      functions = λ labels line n includes h.
-          function_called once m input more past few b known labels includes line n h;
-      procedures = λ labels n line index includes h less l.
-          procedure_called once m input more past few b known labels includes n line index h less l;
+      functions = λ labels line level n includes h.
+          let a = and_parts (level == m.head.level) (may_call program m.head true n) h in
+          subst (λ at. L.Does (setting_of k labels line (most_for program)) 0 (call_number at n))
+              (sym (eqb-true level m.head.level a.0))
+              (function_called once m input more past few b known labels includes line n a.1);
+      procedures = λ labels level n line index includes h less.
+          let a = and_parts (level == m.head.level) (may_call program m.head false n) h in
+          subst (λ at. Linked (links_for program) (linked_code (code_for program)) index
+              (stmt_code (environment_for program m.head) none_taken (call_statement at n line)) →
+              Does k labels (call_statement at n line) index left_over) (sym (eqb-true level m.head.level a.0))
+              (λ l. procedure_called once m input more past few b known labels includes n line index a.1 less l);
     }

@@ -287,8 +287,8 @@ scene_ready once {program} m z s r is made b =
       raises = λ may. absurd (cc may);
       variables = λ v known. s.numbers r is made b v known;
       calls = record {
-        functions = λ ls at n inside call. absurd (cc call);
-        procedures = λ ls n at index inside call. absurd (cc call);
+        functions = λ ls at level n inside call. absurd (cc call);
+        procedures = λ ls level n at index inside call. absurd (cc call);
       };
       puts = λ e. absurd (cc e);
       jumps = λ ls level label at index inside out less.

@@ -19,8 +19,8 @@ own_scope program main =
       program = program;
       level = main.level;
       blocks = place_of_head main ∷ [];
-      is_function = may_call program main true;
-      is_procedure = may_call program main false;
+      is_function = λ level n. (level == main.level) && may_call program main true n;
+      is_procedure = λ level n. (level == main.level) && may_call program main false n;
       puts = false;
       raises = true;
       own = true;
