@@ -107,8 +107,8 @@ ready once {program} m input acts valued more a ns blocks few inner h calls =
       acts = few;
       turns = omega (arith, enough);
       held = omega arith;
-      raises = λ may. none_raised (block_of_run program input acts valued more a) (labels_in a.body ++ [])
-          (most_for program) (record {
+      raises = none_raised (scope_of program ns a.head) (block_of_run program input acts valued more a)
+          (labels_in a.body ++ []) (most_for program) (record {
             routines = routines;
             overflow = h.unraised C.FixedOverflow;
             divisor = h.unraised C.ZeroDivide;

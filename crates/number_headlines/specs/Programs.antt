@@ -94,7 +94,8 @@ scope_of program ns head =
       is_function = is_callable program ns head true;
       is_procedure = is_callable program ns head false;
       puts = false;
-      raises = true;
+      overflows = true;
+      divides = true;
       own = true;
       is_outer = λ level label. false;
     }

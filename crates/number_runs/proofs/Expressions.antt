@@ -17,8 +17,8 @@ use Rattle.operator_runs.proofs.Signs.{absolute_does, negative_does, positive_do
 use Rattle.test_runs.specs.Tests.{Tests}
 use Rattle.test_runs.proofs.Bits.{and_tests, bits_tests, constant_tests, negated_tests, numbers_tests, or_tests}
 use Rattle.number_runs.specs.Knowledge.{KnowsNumbers}
-use Rattle.number_runs.specs.Numbers.{Scope, are_numbers, is_number, is_test, number_needs, numbers_need}
-use Rattle.number_runs.specs.Numbers.{test_needs}
+use Rattle.number_runs.specs.Numbers.{Scope, are_numbers, is_number, is_test, may_calculate, number_needs}
+use Rattle.number_runs.specs.Numbers.{numbers_need, test_needs}
 use Rattle.number_runs.proofs.Variables.{variable_is}
 
 -- with more registers, too
@@ -33,7 +33,8 @@ all_with_more k m n (Y.NumberThen first rest) few does =
     (more_registers k m n first few does.0, all_with_more k m n rest few does.1)
 
 signed_does :
-    (s : Scope) (k : Setting) (sign : Y.Sign) (x : Y.Number) (n : ℕ) → KnowsNumbers s k → s.raises ≡ true → Does k n x →
+    (s : Scope) (k : Setting) (sign : Y.Sign) (x : Y.Number) (n : ℕ) → KnowsNumbers s k → s.overflows ≡ true →
+    Does k n x →
     Does k (max n 1) (Y.Signed sign x)
 signed_does s k Y.Positive x n h may does =
     more_registers k n (max n 1) (Y.Signed Y.Positive x) (omega arith) (positive_does k x n does)
@@ -41,13 +42,14 @@ signed_does s k Y.Negative x n h may does = negative_does k x n (h.overflow may)
 
 calculated_does :
     (s : Scope) (k : Setting) (operator : Y.ArithmeticOperator) (left right : Y.Number) (m n : ℕ) →
-    KnowsNumbers s k → s.raises ≡ true → Does k m left → Does k n right →
+    KnowsNumbers s k → may_calculate s operator ≡ true → Does k m left → Does k n right →
     Does k (max m (suc n)) (Y.Calculated operator left right)
 calculated_does s k Y.Sum left right m n h may l r = sum_does k left right m n (h.overflow may) l r
 calculated_does s k Y.Difference left right m n h may l r = difference_does k left right m n (h.overflow may) l r
 calculated_does s k Y.Product left right m n h may l r = product_does k left right m n (h.overflow may) l r
 calculated_does s k Y.Quotient left right m n h may l r =
-    quotient_does k left right m n (h.overflow may) (h.divisor may) l r
+    let a = and_parts s.overflows s.divides may in
+    quotient_does k left right m n (h.overflow a.0) (h.divisor a.1) l r
 
 called_does :
     (s : Scope) (k : Setting) (c : Y.Call) → KnowsNumbers s k → is_number s (Y.NumberFrom c) ≡ true →
@@ -65,15 +67,15 @@ mutual
       subst (λ r'. Does k 0 (Y.NumberIn r')) (sym v.is) (variable_does k v.spot h.begun (h.variables v.spot v.known))
   number_does s k (Y.NumberFrom c) h is = called_does s k c h is
   number_does s k (Y.Signed sign x) h is =
-      let a = and_parts s.raises (is_number s x) is in
+      let a = and_parts s.overflows (is_number s x) is in
       signed_does s k sign x (number_needs x) h a.0 (number_does s k x h a.1)
   number_does s k (Y.Calculated operator left right) h is =
-      let r = and_parts s.raises (is_number s left && is_number s right) is in
+      let r = and_parts (may_calculate s operator) (is_number s left && is_number s right) is in
       let a = and_parts (is_number s left) (is_number s right) r.1 in
       calculated_does s k operator left right (number_needs left) (number_needs right) h r.0
       (number_does s k left h a.0) (number_does s k right h a.1)
   number_does s k (Y.Absolute x) h is =
-      let a = and_parts s.raises (is_number s x) is in
+      let a = and_parts s.overflows (is_number s x) is in
       absolute_does k x (number_needs x) (h.overflow a.0) (number_does s k x h a.1)
   number_does s k (Y.SignOf x) h is = sign_does k x (number_needs x) (number_does s k x h is)
   number_does s k (Y.Extreme extremum first more) h is =
@@ -81,17 +83,19 @@ mutual
       extreme_does k extremum first more (number_needs first) (numbers_need more) (number_does s k first h a.0)
       (numbers_do s k more h a.1)
   number_does s k (Y.Modulo left right) h is =
-      let r = and_parts s.raises (is_number s left && is_number s right) is in
+      let r = and_parts s.divides (is_number s left && is_number s right) is in
       let a = and_parts (is_number s left) (is_number s right) r.1 in
       modulo_does k left right (number_needs left) (number_needs right) (h.divisor r.0) (number_does s k left h a.0)
       (number_does s k right h a.1)
   number_does s k (Y.Divided precision left right) h is =
-      let r = and_parts s.raises ((precision == 31) && (is_number s left && is_number s right)) is in
+      let both = s.overflows && s.divides in
+      let r = and_parts both ((precision == 31) && (is_number s left && is_number s right)) is in
+      let may = and_parts s.overflows s.divides r.0 in
       let a = and_parts (precision == 31) (is_number s left && is_number s right) r.1 in
       let b = and_parts (is_number s left) (is_number s right) a.1 in
       subst (λ n. Does k (max (number_needs left) (suc (number_needs right))) (Y.Divided n left right))
       (sym (eqb-true precision 31 a.0))
-      (divided_does k left right (number_needs left) (number_needs right) (h.overflow r.0) (h.divisor r.0)
+      (divided_does k left right (number_needs left) (number_needs right) (h.overflow may.0) (h.divisor may.1)
       (number_does s k left h b.0) (number_does s k right h b.1))
   number_does s k (Y.NumberOfText x) h is = absurd (cc is)
   number_does s k (Y.NumberOfBit x) h is = absurd (cc is)

@@ -56,17 +56,18 @@ pub record Home : Type 0 where
   pub ready : IsReady scope valued block own most left'
 
 -- without units raises end the run
-pub none_raised : (k : Block) (own : List Label) (most : ℕ) → IsUnraised k most → KnowsRaises k own most
-none_raised k own most u =
+pub none_raised :
+    (s : Scope) (k : Block) (own : List Label) (most : ℕ) → IsUnraised k most → KnowsRaises s k own most
+none_raised s k own most u =
     record {
-      overflow = λ labels line includes. overflow_ends (setting_of k labels line most) (record {
+      overflow = λ may labels line includes. overflow_ends (setting_of k labels line most) (record {
         routines = u.routines;
         overflow = u.overflow;
         error = u.error;
         acts = u.acts;
         most = u.few;
       });
-      divisor = λ labels line includes. zero_divide_ends (setting_of k labels line most) (record {
+      divisor = λ may labels line includes. zero_divide_ends (setting_of k labels line most) (record {
         routines = u.routines;
         divisor = u.divisor;
         error = u.error;
@@ -93,8 +94,8 @@ knows h labels line includes =
     let r = h.ready in
     record {
       begun = r.begun;
-      overflow = λ may. (r.raises may).overflow labels line includes;
-      divisor = λ may. (r.raises may).divisor labels line includes;
+      overflow = λ may. r.raises.overflow may labels line includes;
+      divisor = λ may. r.raises.divisor may labels line includes;
       variables = r.variables;
       functions = λ level n is. r.calls.functions labels line level n includes is;
     }

@@ -42,8 +42,8 @@ call_number level n = Y.NumberFrom (Y.Calling n level Y.NoArgument)
 -- calls of functions that may be called leave what they mean
 pub record KnowsNumbers (s : Scope) (k : Setting) : Type 0 where
   pub begun : IsBegun k.block
-  pub overflow : s.raises ≡ true → OverflowComes k
-  pub divisor : s.raises ≡ true → ZeroDivideComes k
+  pub overflow : s.overflows ≡ true → OverflowComes k
+  pub divisor : s.divides ≡ true → ZeroDivideComes k
   pub variables : (x : Spot) → is_known s x ≡ true → IsNumber k.block x
   pub functions : (level n : ℕ) → s.is_function level n ≡ true → L.Does k 0 (call_number level n)
 
@@ -107,11 +107,13 @@ pub record AreAround (k : Block) (own labels : List Label) : Type 0 where
   pub includes : Includes own labels
 
 -- raises in its statements come to what they mean, also where a unit goes on at a label of the block's own list
-pub record KnowsRaises (k : Block) (own : List Label) (most : ℕ) : Type 0 where
+pub record KnowsRaises (s : Scope) (k : Block) (own : List Label) (most : ℕ) : Type 0 where
   pub overflow :
-      (labels : List Label) (line : ℕ) → Includes own labels → OverflowComes (setting_of k labels line most)
+      s.overflows ≡ true → (labels : List Label) (line : ℕ) → Includes own labels →
+      OverflowComes (setting_of k labels line most)
   pub divisor :
-      (labels : List Label) (line : ℕ) → Includes own labels → ZeroDivideComes (setting_of k labels line most)
+      s.divides ≡ true → (labels : List Label) (line : ℕ) → Includes own labels →
+      ZeroDivideComes (setting_of k labels line most)
 
 abbrev pub call_statement : (level number line : ℕ) → Y.Stmt
 call_statement level n line = Y.CallProcedure (Y.Calling n level Y.NoArgument) line
@@ -152,7 +154,7 @@ pub record IsReady (s : Scope) (valued : Bool) (k : Block) (labels : List Label)
   pub acts : k.call.surroundings.acts + 1 < 2 ^ 64
   pub turns : k.call.surroundings.acts < k.around.turns + k.first.state.world.acts
   pub held : k.registers ≤ held_registers
-  pub raises : s.raises ≡ true → KnowsRaises k labels most
+  pub raises : KnowsRaises s k labels most
   pub variables : (x : Spot) → is_known s x ≡ true → IsNumber k x
   pub calls : KnowsCalls s k labels most left'
   pub jumps : KnowsJumps s k labels left'

@@ -21,8 +21,9 @@ pub record Scope : Type 0 where
   pub is_procedure : (level number : ℕ) → Bool
   -- whether statements may write numbers by format lists
   pub puts : Bool
-  -- whether expressions may raise conditions
-  pub raises : Bool
+  -- whether expressions may raise FIXEDOVERFLOW, and ZERODIVIDE
+  pub overflows : Bool
+  pub divides : Bool
   -- whether statements may return, and jump to labels of their own lists
   pub own : Bool
   -- the labels to which they may jump out, each of the block around at a level
@@ -86,19 +87,25 @@ is_variable s _ = false
 
 -- ---- numbers
 
+-- what an operator may raise
+abbrev pub may_calculate : Scope → Y.ArithmeticOperator → Bool
+may_calculate s Y.Quotient = s.overflows && s.divides
+may_calculate s _ = s.overflows
+
 abbrev mutual
   pub is_number : Scope → Y.Number → Bool
   is_number s (Y.NumberConstant n) = nat_lt n (2 ^ 31)
   is_number s (Y.NumberIn r) = is_variable s r
   is_number s (Y.NumberFrom (Y.Calling number level Y.NoArgument)) = s.is_function level number
-  is_number s (Y.Signed sign x) = s.raises && is_number s x
-  is_number s (Y.Calculated operator left right) = s.raises && (is_number s left && is_number s right)
-  is_number s (Y.Absolute x) = s.raises && is_number s x
+  is_number s (Y.Signed sign x) = s.overflows && is_number s x
+  is_number s (Y.Calculated operator left right) =
+      may_calculate s operator && (is_number s left && is_number s right)
+  is_number s (Y.Absolute x) = s.overflows && is_number s x
   is_number s (Y.SignOf x) = is_number s x
   is_number s (Y.Extreme extremum first more) = is_number s first && are_numbers s more
-  is_number s (Y.Modulo dividend divisor) = s.raises && (is_number s dividend && is_number s divisor)
+  is_number s (Y.Modulo dividend divisor) = s.divides && (is_number s dividend && is_number s divisor)
   is_number s (Y.Divided precision dividend divisor) =
-      s.raises && ((precision == 31) && (is_number s dividend && is_number s divisor))
+      (s.overflows && s.divides) && ((precision == 31) && (is_number s dividend && is_number s divisor))
   is_number s _ = false
 
   pub are_numbers : Scope → Y.Numbers → Bool

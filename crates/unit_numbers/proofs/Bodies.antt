@@ -103,11 +103,11 @@ main_ready once {program} m input more past few b known =
       acts = few;
       turns = omega (arith, first);
       held = omega arith;
-      raises = λ may. record {
-        overflow = λ labels line includes.
+      raises = record {
+        overflow = λ may labels line includes.
             overflow_known once m input more past labels line few b includes known
             (in_force once m input (suc more) past known C.FixedOverflow);
-        divisor = λ labels line includes.
+        divisor = λ may labels line includes.
             divisor_known once m input more past labels line few b includes known
             (in_force once m input (suc more) past known C.ZeroDivide);
       };
@@ -165,7 +165,7 @@ is_on :
     IsPast (block_for m input acts) m.body (start_of m) past → IsOn (after (block_for m input acts) past) x index
 is_on once {program} m input acts few b x index h past known =
     record {
-      act = record { line_fits = (unit_is program m.head (labels_in m.body) x h.is).line; acts = few };
+      act = record { line_fits = (unit_is program m.head m.body x h.is).line; acts = few };
       begun = begun_after (block_for m input acts) m.body (start_of m) past b known;
       statement = h.placed.linked;
       place = h.stands;
@@ -174,14 +174,14 @@ is_on once {program} m input acts few b x index h past known =
 step_does :
     MarkedOnce → {program : Y.Program} (m : Main program) (input : List ℕ) (acts : ℕ) → acts + 1 < 2 ^ 64 →
     IsBegun (block_for m input acts) → (stmt : Y.Stmt) (index : ℕ) →
-    is_step program m.head (labels_in m.body) stmt ≡ true → statement_needs stmt ≤ statements_need m.body →
+    is_step program m.head m.body stmt ≡ true → statement_needs stmt ≤ statements_need m.body →
     Standing (block_for m input acts) stmt index →
     ((x : OnUnit) → stmt ≡ on_of x → IsUnitOf m input acts x index) →
     StepDoes (block_for m input acts) m.body (start_of m) stmt index left_over
 step_does once {program} m input acts few b stmt index is fits at units = by (unit_in stmt) refl is
   where
     by :
-        (o : Option OnUnit) → unit_in stmt ≡ o → is_step_with program m.head (labels_in m.body) o stmt ≡ true →
+        (o : Option OnUnit) → unit_in stmt ≡ o → is_step_with program m.head m.body o stmt ≡ true →
         StepDoes (block_for m input acts) m.body (start_of m) stmt index left_over
     by None e is = inr (λ past known. main_does once m input acts few b stmt index is fits at past known)
     by (Some x) e is =
@@ -191,7 +191,7 @@ step_does once {program} m input acts few b stmt index is fits at units = by (un
 all_do :
     MarkedOnce → {program : Y.Program} (m : Main program) (input : List ℕ) (acts : ℕ) → acts + 1 < 2 ^ 64 →
     IsBegun (block_for m input acts) → (rest : Y.Stmts) (index : ℕ) →
-    are_steps program m.head (labels_in m.body) rest ≡ true → statements_need rest ≤ statements_need m.body →
+    are_steps program m.head m.body rest ≡ true → statements_need rest ≤ statements_need m.body →
     AreStanding (block_for m input acts) rest index →
     ((e : OnUnit × ℕ) → StandsIn (block_for m input acts) rest index e →
     StandsIn (block_for m input acts) m.body (start_of m) e) →
@@ -204,7 +204,7 @@ all_do once {program} m input acts few b (Y.StmtThen own first rest) index is fi
     let at' = placed_back (marked e.block own) (one ++ more) at in
     let here = index + size_of (marked e.block own) in
     let labels = labels_in m.body in
-    let a = and_parts (is_step program m.head labels first) (are_steps program m.head labels rest) is in (
+    let a = and_parts (is_step program m.head m.body first) (are_steps program m.head m.body rest) is in (
       step_does once m input acts few b first here a.0 (omega (arith, fits)) (placed_front one more at')
           (λ x same. unit_stands once m input acts (x, here) (there (x, here) (inl (same, refl)))),
       all_do once m input acts few b rest (here + size_of one) a.1 (omega (arith, fits)) (placed_back one more at')

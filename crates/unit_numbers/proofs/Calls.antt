@@ -139,13 +139,14 @@ called_raises :
     MarkedOnce → {program : Y.Program} (m : Main program) {valued : Bool} {number : ℕ} (i : Inner m valued number)
     (v : Visit) (more : ℕ) (past : Past) (entry : Entry) (function : Option Function) (own : List Label) →
     IsVisit m v more past → IsBegun (visit_block m i v more past entry function) →
-    KnowsRaises (visit_block m i v more past entry function) own (most_for program)
+    KnowsRaises (called_scope program m.head i.head) (visit_block m i v more past entry function) own
+    (most_for program)
 called_raises once m i v more past entry function own h b =
     record {
-      overflow = λ labels line includes.
+      overflow = λ may labels line includes.
           called_overflow once m i v more past entry function labels line h b
           (in_force once m v.input (suc more) past h.known C.FixedOverflow);
-      divisor = λ labels line includes.
+      divisor = λ may labels line includes.
           called_divides once m i v more past entry function labels line h b
           (in_force once m v.input (suc more) past h.known C.ZeroDivide);
     }
@@ -166,7 +167,7 @@ called_ready once m i v more past entry function h b home =
       acts = h.few;
       turns = omega (arith, first);
       held = omega arith;
-      raises = λ may. called_raises once m i v more past entry function (labels_in i.body ++ []) h b;
+      raises = called_raises once m i v more past entry function (labels_in i.body ++ []) h b;
       variables = λ x known. visit_number m i v more past entry function h b x known;
       calls = record {
         functions = λ labels line level n includes call. absurd (cc call);

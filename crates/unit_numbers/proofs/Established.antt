@@ -1,7 +1,8 @@
 -- The units that the main procedure has established by some point of its list: each stands in it, and the last one for
 -- a condition is in force for it.
-use Rattle.std.proofs.Common.{◌≡◌, ◌⊎◌, inl, inr, ℕ, List, [], ◌∷◌, None, Some, true, false, refl, subst}
-use Rattle.std.specs.Prelude.{Bool}
+use Rattle.std.proofs.Common.{◌≡◌, ◌⊎◌, inl, inr, ℕ, List, [], ◌∷◌, None, Some, true, false, refl, sym, ap}
+use Rattle.std.proofs.Common.{◌∙◌, subst}
+use Rattle.std.specs.Prelude.{Bool, not}
 use Rattle.pli_language.specs.declared.condition.Condition.{Condition}
 use Rattle.pli_language.specs.declared.condition.Condition.TheVariants as C
 use Rattle.pli_typing.specs.TypedTree as Y
@@ -20,17 +21,18 @@ use Rattle.number_headlines.proofs.Mains.{made_system}
 use Rattle.unit_runs.specs.Changing.{IsPast, Past, StandsIn}
 use Rattle.unit_runs.specs.Establishing.{OnUnit, unit_of}
 use Rattle.unit_runs.proofs.Establishing.{unit_forced}
+use Rattle.unit_numbers.specs.Units.{has_unit}
 use Rattle.unit_numbers.proofs.Forces.{Forced, forced_still, same_is, system_still}
 use Rattle.unit_numbers.proofs.Mains.{Main, block_for, placed, units_for}
 use Rattle.unit_numbers.proofs.Past.{main_past}
-use Rattle.unit_numbers.proofs.Places.{IsPlaced, on_placed}
+use Rattle.unit_numbers.proofs.Places.{IsPlaced, on_placed, unit_listed}
 use Rattle.unit_numbers.proofs.Units.{not_error, unit_is}
 
 -- an ON of the main procedure
 abbrev pub IsUnitOf : {program : Y.Program} → Main program → (input : List ℕ) → (acts : ℕ) → OnUnit → (index : ℕ) →
     Type 0
 IsUnitOf {program} m input acts x index =
-    IsPlaced program m.head (labels_in m.body) (block_for m input acts) (units_for m) (body_for program m.head m.body) x
+    IsPlaced program m.head m.body (block_for m input acts) (units_for m) (body_for program m.head m.body) x
     index
 
 abbrev pub start_of : {program : Y.Program} → Main program → ℕ
@@ -46,7 +48,7 @@ pub unit_stands :
     MarkedOnce → {program : Y.Program} (m : Main program) (input : List ℕ) (acts : ℕ) (e : OnUnit × ℕ) →
     StandsIn (block_for m input acts) m.body (start_of m) e → IsUnitOf m input acts e.0 e.1
 unit_stands once {program} m input acts e there =
-    on_placed program m.head (labels_in m.body) (block_for m input acts) m.body (start_of m) e m.steps
+    on_placed program m.head m.body (block_for m input acts) m.body (start_of m) e m.steps
     (list_placed once m input acts) there
 
 -- ---- the unit in force for a condition: the last one for it that the main procedure has established
@@ -56,6 +58,7 @@ pub record Newest {program : Y.Program} (m : Main program) (input : List ℕ) (a
   where
     pub unit : OnUnit
     pub index : ℕ
+    pub stands : StandsIn (block_for m input acts) m.body (start_of m) (unit, index)
     pub placed : IsUnitOf m input acts unit index
     pub condition : unit.condition ≡ c
     pub forced : Forced (force (main_past m input acts past).first.state.activations c) unit
@@ -85,6 +88,7 @@ in_force once {program} m input acts (e ∷ past) known c =
         inr (record {
           unit = e.0;
           index = e.1;
+          stands = known.1;
           placed = unit_stands once m input acts e known.1;
           condition = same;
           forced = record {
@@ -100,6 +104,7 @@ in_force once {program} m input acts (e ∷ past) known c =
         inr (record {
           unit = n.unit;
           index = n.index;
+          stands = n.stands;
           placed = n.placed;
           condition = n.condition;
           forced = forced_still e.0.condition c (BlockUnit (unit_of e.0)) before.first.state.activations n.unit other
@@ -118,4 +123,18 @@ error_system once {program} m input acts past known = by (in_force once m input 
         IsSystem (force (main_past m input acts past).first.state.activations C.Error)
     by (inl system) = system
     by (inr n) =
-        absurd (not_error n.condition (unit_is program m.head (labels_in m.body) n.unit n.placed.is).condition)
+        absurd (not_error n.condition (unit_is program m.head m.body n.unit n.placed.is).condition)
+
+-- nor for a condition for which the list has none
+pub none_system :
+    MarkedOnce → {program : Y.Program} (m : Main program) (input : List ℕ) (acts : ℕ) (past : Past) →
+    IsPast (block_for m input acts) m.body (start_of m) past → (c : Condition) → not (has_unit c m.body) ≡ true →
+    IsSystem (force (main_past m input acts past).first.state.activations c)
+none_system once {program} m input acts past known c none = by (in_force once m input acts past known c)
+  where
+    by : InForce m input acts past c → IsSystem (force (main_past m input acts past).first.state.activations c)
+    by (inl system) = system
+    by (inr n) =
+        let listed = unit_listed (block_for m input acts) m.body (start_of m) (n.unit, n.index) n.stands in
+        let there = subst (λ d. has_unit d m.body ≡ true) n.condition listed in
+        absurd (cc (sym (ap not there) ∙ none))

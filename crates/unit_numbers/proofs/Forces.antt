@@ -39,6 +39,13 @@ same_is C.Error C.ZeroDivide h = absurd (cc h)
 same_is C.Error C.Endfile h = absurd (cc h)
 same_is C.Error C.Error h = refl
 
+pub condition_same : (c : Condition) → same_condition c c ≡ true
+condition_same C.Area = refl
+condition_same C.FixedOverflow = refl
+condition_same C.ZeroDivide = refl
+condition_same C.Endfile = refl
+condition_same C.Error = refl
+
 abbrev pub IsOther : (d c : Condition) → Type 0
 IsOther d c = same_condition d c ≡ false
 

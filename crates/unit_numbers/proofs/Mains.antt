@@ -51,7 +51,7 @@ pub record Main (program : Y.Program) : Type 0 where
   pub main : IsMain program (record { head = head; body = body; others = others })
   pub plain : are_all_plain program.variables ≡ true
   pub loadable : IsLoadable program
-  pub steps : are_steps program head (labels_in body) body ≡ true
+  pub steps : are_steps program head body body ≡ true
   pub apart : are_apart body ≡ true
   pub fits : statements_need body ≤ held_registers
 
@@ -70,7 +70,7 @@ main_is program (p ∷ ps) e plain load h =
     let fits = nat_le (statements_need body) held_registers in
     let a = and_parts (has_none p.parameters) (has_result false p.result && inner) h in
     let b = and_parts (has_result false p.result) inner a.1 in
-    let c = and_parts (are_steps program head (labels_in body) body) (are_apart body && fits) b.1 in
+    let c = and_parts (are_steps program head body body) (are_apart body && fits) b.1 in
     let d = and_parts (are_apart body) fits c.1 in
     record {
       head = head;
@@ -110,7 +110,7 @@ no_words : {program : Y.Program} (m : Main program) → (procedure_for program m
 no_words {program} m =
     let plain = block_plain program.variables m.head.number m.plain in
     (behind_variables (own_scope program m.head) program m.head.number (statements_need m.body) m.body
-    plain.0 (steps_taken program m.head (labels_in m.body) m.body m.steps m.fits)).words
+    plain.0 (steps_taken program m.head m.body m.body m.steps m.fits)).words
 
 -- it saves as many registers as they take
 pub main_held :
@@ -120,7 +120,7 @@ main_held {program} m =
     let plain = block_plain program.variables m.head.number m.plain in
     let s = own_scope program m.head in
     let n = (behind_variables s program m.head.number (statements_need m.body) m.body plain.0
-    (steps_taken program m.head (labels_in m.body) m.body m.steps m.fits)).registers in
+    (steps_taken program m.head m.body m.body m.steps m.fits)).registers in
     let fits = m.fits in
     omega (arith, n, fits)
 

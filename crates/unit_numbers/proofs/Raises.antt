@@ -20,6 +20,7 @@ use Rattle.pli_coding.specs.Procedures.{procedure_of_block}
 use Rattle.pli_coding.specs.Statements.{stmt_code, unit_environment, unit_takes}
 use Rattle.code_marks.specs.CodeMarks.{MarkedOnce}
 use Rattle.activation_relation.specs.Chains.{HasParent}
+use Rattle.activation_relation.specs.ServiceLaws.{IsSystem}
 use Rattle.activation_relation.specs.Frames.{frame_under, lower_end, upper_top}
 use Rattle.run_steps.specs.Items.{Linked}
 use Rattle.begin_runs.proofs.FarGotos.{far_does}
@@ -40,8 +41,10 @@ use Rattle.program_runs.specs.Statements.{Block, Does, IsBegun, Outer, as_outer,
 use Rattle.expression_runs.specs.Assignments.{setting_of}
 use Rattle.expression_runs.specs.Values.{OverflowComes, Setting}
 use Rattle.expression_runs.specs.Variables.{IsNumber, Spot}
+use Rattle.expression_runs.proofs.Raises.{overflow_ends}
 use Rattle.operator_runs.specs.Divisors.{ZeroDivideComes}
-use Rattle.number_runs.specs.Knowledge.{Includes, IsReady}
+use Rattle.operator_runs.proofs.Divisors.{zero_divide_ends}
+use Rattle.number_runs.specs.Knowledge.{Includes, IsReady, KnowsRaises}
 use Rattle.number_runs.specs.Numbers.{is_known}
 use Rattle.number_runs.specs.Statements.{statements_need}
 use Rattle.number_runs.specs.Variables.{words_in}
@@ -61,7 +64,7 @@ use Rattle.unit_numbers.proofs.Mains.{Main, block_for, free, level_of, main_lone
 use Rattle.unit_numbers.proofs.Mains.{Lone, main_begun, main_layer, placed, surroundings_for}
 use Rattle.unit_numbers.proofs.Outer.{lone_own, made_stacks, main_saves, main_top}
 use Rattle.unit_numbers.proofs.Divides.{divide_returns}
-use Rattle.unit_numbers.proofs.Established.{IsUnitOf, Newest}
+use Rattle.unit_numbers.proofs.Established.{IsUnitOf, Newest, error_system, none_system}
 use Rattle.unit_numbers.proofs.Past.{alone_parent, main_alone, main_past, past_lower}
 use Rattle.unit_numbers.proofs.Places.{one_place}
 use Rattle.unit_numbers.proofs.Takes.{unit_taken}
@@ -78,10 +81,10 @@ unit_at {program} m more x index =
 
 -- its temporaries fit registers
 pub taken_by :
-    {program : Y.Program} (m : Main program) (x : OnUnit) → Unit' program m.head (labels_in m.body) x →
+    {program : Y.Program} (m : Main program) (x : OnUnit) → Unit' program m.head m.body x →
     Takes (statements_need x.body) none_taken (unit_takes program x.head x.head.kind x.body)
 taken_by {program} m x u =
-    let s = unit_scope program m.head (labels_in m.body) in
+    let s = unit_scope program m.head m.body in
     let plain = block_plain program.variables x.head.number m.plain in
     unit_taken s program x.head x.head.kind (statements_need x.body) x.body plain.0
     (statements_taken s false (labels_in x.body ++ []) x.body u.statements u.fits)
@@ -114,7 +117,7 @@ own_raise once {program} m input more few b x index h =
     let code = linked_code (code_for program) in
     let around = around_for program more in
     let y = unit_at m more x index in
-    let u = unit_is program m.head (labels_in m.body) x h.is in
+    let u = unit_is program m.head m.body x h.is in
     let words = (taken_by m x u).words in
     let level = u.level in
     let outer = level_of m in
@@ -195,6 +198,7 @@ scene_inner m z r = unit_block (scene_setting m z) (scene_unit m z) r
 pub record IsScene {program : Y.Program} (m : Main program) (z : Scene) : Type 0 where
   pub few : z.acts + 1 < 2 ^ 64
   pub begun : IsBegun (block_for m z.input z.acts)
+  pub known : IsPast (block_for m z.input z.acts) m.body (body_for program m.head m.body) z.past
   pub includes : Includes (labels_in m.body) z.carried
   pub placed : IsUnitOf m z.input z.acts z.unit z.index
   pub raised : IsRaised (scene_setting m z) (scene_unit m z) z.more
@@ -209,6 +213,11 @@ pub record IsScene {program : Y.Program} (m : Main program) (z : Scene) : Type 0
       (r : Raise) → IsRaiseOf (scene_setting m z) (scene_unit m z) z.more raised r →
       AreMade (scene_setting m z) (scene_unit m z) r → IsBegun (scene_inner m z r) →
       height_of (ancestor_at (scene_inner m z r).first.state m.head.level) ≡ 1
+  -- where the main procedure has none for a condition, the unit's block has none
+  pub system :
+      (r : Raise) → IsRaiseOf (scene_setting m z) (scene_unit m z) z.more raised r → (c : Condition) →
+      IsSystem (force (scene_main m z).first.state.activations c) →
+      IsSystem (force (scene_inner m z r).first.state.activations c)
 
 -- ---- its statements
 
@@ -225,7 +234,7 @@ scene_far :
 scene_far once {program} m z s r is made b label among ls at index less l =
     let k0 = block_for m z.input z.acts in
     let e = environment_for program m.head in
-    let u = unit_is program m.head (labels_in m.body) z.unit s.placed.is in
+    let u = unit_is program m.head m.body z.unit s.placed.is in
     let outer = level_of m in
     let level = u.level in
     let like = past_like k0 z.past in
@@ -270,11 +279,43 @@ scene_far once {program} m z s r is made b label among ls at index less l =
     })
     l
 
+-- it raises only conditions for which the main procedure never has a unit
+scene_raises :
+    MarkedOnce → {program : Y.Program} (m : Main program) (z : Scene) (s : IsScene m z) (r : Raise) →
+    IsRaiseOf (scene_setting m z) (scene_unit m z) z.more s.raised r → (own : List Label) →
+    KnowsRaises (unit_scope program m.head m.body) (scene_inner m z r) own (most_for program)
+scene_raises once {program} m z s r is own =
+    let routines = raise_routines once program m.loadable in
+    let inside = routines.linked.inside in
+    let error = s.system r is C.Error (error_system once m z.input z.acts z.past s.known) in
+    record {
+      overflow = λ may labels line includes. overflow_ends
+          (setting_of (scene_inner m z r) labels line (most_for program))
+          (record {
+            routines = routines;
+            overflow = s.system r is C.FixedOverflow
+                (none_system once m z.input z.acts z.past s.known C.FixedOverflow may);
+            error = error;
+            acts = s.few;
+            most = omega (arith, inside);
+          });
+      divisor = λ may labels line includes. zero_divide_ends
+          (setting_of (scene_inner m z r) labels line (most_for program))
+          (record {
+            routines = routines;
+            divisor = s.system r is C.ZeroDivide
+                (none_system once m z.input z.acts z.past s.known C.ZeroDivide may);
+            error = error;
+            acts = s.few;
+            most = omega (arith, inside);
+          });
+    }
+
 scene_ready :
     MarkedOnce → {program : Y.Program} (m : Main program) (z : Scene) (s : IsScene m z) (r : Raise) →
     IsRaiseOf (scene_setting m z) (scene_unit m z) z.more s.raised r →
     AreMade (scene_setting m z) (scene_unit m z) r → IsBegun (scene_inner m z r) →
-    IsReady (unit_scope program m.head (labels_in m.body)) false (scene_inner m z r) (labels_in z.unit.body ++ [])
+    IsReady (unit_scope program m.head m.body) false (scene_inner m z r) (labels_in z.unit.body ++ [])
     (most_for program) left_over
 scene_ready once {program} m z s r is made b =
     let enough = s.raised.enough in
@@ -284,7 +325,7 @@ scene_ready once {program} m z s r is made b =
       acts = s.few;
       turns = omega (arith, enough, later);
       held = omega arith;
-      raises = λ may. absurd (cc may);
+      raises = scene_raises once m z s r is (labels_in z.unit.body ++ []);
       variables = λ v known. s.numbers r is made b v known;
       calls = record {
         functions = λ ls at level n inside call. absurd (cc call);
@@ -309,14 +350,14 @@ scene_does once {program} m z s r is =
     let e = environment_for program m.head in
     let y = scene_unit m z in
     let x = z.unit in
-    let u = unit_is program m.head (labels_in m.body) x s.placed.is in
+    let u = unit_is program m.head m.body x s.placed.is in
     let made = none_made k y r (record { kind = u.bare; code = none_coded program e x.head refl u.bare; made = refl })
     in
     let n = (taken_by m x u).registers in
     let fits = u.fits in (
       made,
       λ b.
-          body_does (unit_scope program m.head (labels_in m.body)) false (scene_inner m z r) x.body (list_index y)
+          body_does (unit_scope program m.head m.body) false (scene_inner m z r) x.body (list_index y)
           (most_for program) left_over (scene_ready once m z s r is made b) u.statements (omega (arith, n, fits))
           (unit_list_placed (links_for program) (linked_code (code_for program)) z.index e x
           (around_for program z.more) (λ q. q) s.placed.placed),
@@ -353,7 +394,7 @@ main_raised :
 main_raised once {program} m input more past labels line few b known n =
     let k0 = block_for m input (suc more) in
     let k = main_past m input (suc more) past in
-    let u = unit_is program m.head (labels_in m.body) n.unit n.placed.is in
+    let u = unit_is program m.head m.body n.unit n.placed.is in
     let z = own_raise once m input more few b n.unit n.index n.placed in
     let one = main_alone m input (suc more) past in
     let b' = begun_after k0 m.body (body_for program m.head m.body) past b known in
@@ -422,6 +463,7 @@ own_is once {program} m input more past labels line few b includes known n =
     record {
       few = few;
       begun = b;
+      known = known;
       includes = includes;
       placed = n.placed;
       raised = h.0;
@@ -437,6 +479,8 @@ own_is once {program} m input more past labels line few b includes known n =
           ∙ (past_like k0 past).ancestors m.head.level
           ∙ ap (λ as'. height_of (ancestor as' (newest_height as') m.head.level)) one.is
           ∙ lone_own m.head.level one.bindings;
+      system = λ r is c system.
+          subst IsSystem (sym (ap (λ as'. force as' c) is.among.later.activations)) system;
     }
   where
     k0 : Block
@@ -452,7 +496,7 @@ own_is once {program} m input more past labels line few b includes known n =
     one = main_lone m input (suc more)
 
     level : n.unit.head.level ≡ 1
-    level = (unit_is program m.head (labels_in m.body) n.unit n.placed.is).level
+    level = (unit_is program m.head m.body n.unit n.placed.is).level
 
     outer : m.head.level ≡ 0
     outer = level_of m

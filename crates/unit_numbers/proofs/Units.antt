@@ -6,7 +6,6 @@ use Rattle.std.proofs.lemmas.Bool.{and_parts, eqb-true, leb-true, ltb-true}
 use Rattle.pli_language.specs.declared.condition.Condition.{Condition}
 use Rattle.pli_language.specs.declared.condition.Condition.TheVariants as C
 use Rattle.pli_typing.specs.TypedTree as Y
-use Rattle.pli_meaning.specs.Control.{Label}
 use Rattle.pli_meaning.specs.DeclaredShapes.{variables_of_block}
 use Rattle.pli_meaning.specs.Executing.{labels_in}
 use Rattle.pli_coding.specs.Entries.{variables_made}
@@ -27,14 +26,14 @@ IsBare program head =
 abbrev pub IsOfNumbers : Condition → Type 0
 IsOfNumbers c = (c ≡ C.FixedOverflow) ⊎ (c ≡ C.ZeroDivide)
 
-pub record Unit' (program : Y.Program) (main : Y.BlockHead) (labels : List Label) (x : OnUnit) : Type 0 where
+pub record Unit' (program : Y.Program) (main : Y.BlockHead) (all : Y.Stmts) (x : OnUnit) : Type 0 where
   pub condition : IsOfNumbers x.condition
   pub line : x.line < 2 ^ 31
   pub begins : x.head.line < 2 ^ 31
   pub level : x.head.level ≡ 1
   pub later : main.number ≤ x.head.number
   pub bare : IsBare program x.head
-  pub statements : are_statements (unit_scope program main labels) false (labels_in x.body ++ []) x.body ≡ true
+  pub statements : are_statements (unit_scope program main all) false (labels_in x.body ++ []) x.body ≡ true
   pub fits : statements_need x.body ≤ held_registers
 
 condition_is : (c : Condition) → is_of_numbers c ≡ true → IsOfNumbers c
@@ -61,10 +60,10 @@ bare_is program head Y.BeginBlock e h = absurd (cc h)
 bare_is program head Y.ProcedureBlock e h = absurd (cc h)
 
 pub unit_is :
-    (program : Y.Program) (main : Y.BlockHead) (labels : List Label) (x : OnUnit) →
-    is_unit program main labels x ≡ true → Unit' program main labels x
-unit_is program main labels x h =
-    let s = unit_scope program main labels in
+    (program : Y.Program) (main : Y.BlockHead) (all : Y.Stmts) (x : OnUnit) →
+    is_unit program main all x ≡ true → Unit' program main all x
+unit_is program main all x h =
+    let s = unit_scope program main all in
     let fits = nat_le (statements_need x.body) held_registers in
     let bare = is_bare program x.head x.head.kind in
     let five = bare && is_body s false x.body in

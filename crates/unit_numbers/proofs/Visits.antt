@@ -381,7 +381,7 @@ visit_raised :
     (unit_at m more n.unit n.index) more)
     × (h.by.height ≡ 1)
 visit_raised once {program} m i v more past entry function labels line {c} h n b =
-    let u = unit_is program m.head (labels_in m.body) n.unit n.placed.is in
+    let u = unit_is program m.head m.body n.unit n.placed.is in
     let z = own_raise once m v.input (suc more) h.few h.begun n.unit n.index n.placed in
     let two = visit_two m i v (suc more) past entry function h in
     let made = visit_made m i v (suc more) past h in
@@ -432,6 +432,7 @@ visit_is once {program} m i v more past entry function labels line h n b =
     record {
       few = h.few;
       begun = h.begun;
+      known = h.known;
       includes = h.includes;
       placed = n.placed;
       raised = raised.0;
@@ -459,6 +460,9 @@ visit_is once {program} m i v more past entry function labels line h n b =
           two_found (E.activation_of n.unit.head (unit_entry (scene_unit m z) r) (length r.point.state.activations + 1))
           r.point.state.activations m.head.level i.head.level (two_at r is) (is.height ∙ raised.1)
           (eqb-other n.unit.head.level m.head.level (λ e. omega (arith, e, level, outer)));
+      system = λ r is c system.
+          subst IsSystem (sym (ap (λ as'. force as' c) is.among.later.activations))
+          (visit_system m i v (suc more) past entry function h c system);
     }
   where
     acts : ℕ
@@ -471,7 +475,7 @@ visit_is once {program} m i v more past entry function labels line h n b =
     main = main_past m v.input acts past
 
     level : n.unit.head.level ≡ 1
-    level = (unit_is program m.head (labels_in m.body) n.unit n.placed.is).level
+    level = (unit_is program m.head m.body n.unit n.placed.is).level
 
     outer : m.head.level ≡ 0
     outer = level_of m

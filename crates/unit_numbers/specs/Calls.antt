@@ -17,7 +17,8 @@ called_scope program main head =
       is_function = λ level n. false;
       is_procedure = λ level n. false;
       puts = false;
-      raises = true;
+      overflows = true;
+      divides = true;
       own = true;
       is_outer = λ level label. false;
     }
