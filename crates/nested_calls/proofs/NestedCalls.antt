@@ -135,7 +135,7 @@ is_parent {k} {p = p} level inner parent nest o within e f =
 
 -- ---- at each of the block's points
 
-room_among :
+pub room_among :
     {k : Block} {c : Callee} {level line index more : ℕ} {numbers : ℕ → ℕ} {p : Point} →
     IsNestedCall k c level line index more → nat_lt (length k.first.state.activations) most_activations ≡ true →
     IsAmong k numbers p → HasRoom k.call.surroundings p c.procedure c.calling

@@ -54,10 +54,10 @@ use Rattle.nested_calls.proofs.NestedCalls.{call_of, is_parent, parent_inside, p
 
 -- ---- its code
 
-abbrev given_in : Setting → (level : ℕ) → Code
+abbrev pub given_in : Setting → (level : ℕ) → Code
 given_in k level = given_code (level == k.block.environment.level) k.words level
 
-value_coded :
+pub value_coded :
     (k : Setting) (c : Callee) (level taken : ℕ) →
     number_code k.block.environment (in_registers k.words taken) (value_at c level) ≡ given_in k level ++ call_of c
 value_coded k c level taken =
@@ -68,7 +68,7 @@ value_coded k c level taken =
 
 -- ---- where it is called
 
-room_among :
+pub room_among :
     (k : Setting) (c : Callee) (level more : ℕ) {numbers : ℕ → ℕ} {p : Point} → IsNestedFunction k c level more →
     nat_lt (length k.block.first.state.activations) most_activations ≡ true → IsAmong k.block numbers p →
     (call : ℕ) → HasRoom k.block.call.surroundings p c.procedure (called_from c call).calling
@@ -84,7 +84,7 @@ room_among k c level more h few o call =
     }
 
 -- it doesn't depend on where the call stands
-function_from :
+pub function_from :
     (k : Setting) (c : Callee) (call : ℕ) → IsFunction k.block.call.surroundings k.block.call.code c →
     IsFunction k.block.call.surroundings k.block.call.code (called_from c call)
 function_from k c call h =
@@ -103,7 +103,7 @@ function_from k c call h =
     }
 
 -- what the call means
-called_means :
+pub called_means :
     (k : Setting) (c : Callee) (level more : ℕ) {numbers : ℕ → ℕ} {p : Point} → IsNestedFunction k c level more →
     IsAmong k.block numbers p →
     V.called k.around (Y.Calling c.procedure.head.number level Y.NoArgument) k.block.call.surroundings.acts p.state
@@ -123,7 +123,7 @@ called_means k c level more {p = p} h o =
 
 -- ---- what comes back
 
-abbrev as_number : Option BasicValue → Meaning ℤ
+abbrev pub as_number : Option BasicValue → Meaning ℤ
 as_number r = V.returned r >>= (λ v. give (number_in v))
 
 behind_goes :
