@@ -1,6 +1,6 @@
 -- A procedure is called where as many blocks are active as may be: its frame is made, and service 4 ends the run.
-use Rattle.std.proofs.Common.{◌≡◌, ℕ, suc, ◌+◌, ◌*◌, ◌^◌, ◌<◌, ◌≤◌, List, [], ◌∷◌, ◌++◌, None, false, refl, sym, ap, ◌∙◌, subst}
-use Rattle.std.proofs.Common.{arith, length}
+use Rattle.std.proofs.Common.{◌≡◌, ℕ, suc, ◌+◌, ◌*◌, ◌^◌, ◌<◌, ◌≤◌, List, [], ◌∷◌, ◌++◌, None, false, refl}
+use Rattle.std.proofs.Common.{sym, ap, ◌∙◌, subst, arith, length}
 use Rattle.std.specs.Prelude.{nat_lt, pos}
 use Rattle.rv_meaning.specs.declared.instr.Instr.{Instr}
 use Rattle.rv_meaning.specs.declared.instr.Instr.TheVariants as I
@@ -39,14 +39,14 @@ use Rattle.run_steps.proofs.Jumps.{back_of, call_piece, front_of}
 use Rattle.run_steps.proofs.Linking.{size_append}
 use Rattle.run_steps.specs.Reach.{Aims, Closed, Comes, Family, Reach, cost, reached}
 use Rattle.run_steps.proofs.Reach.{onward, reach_map, reach_then, reached_holds}
-use Rattle.run_steps.proofs.Reaching.{reach_moved}
 use Rattle.block_runs.specs.Beginnings.{Beginning, CallStands, IsCalled, IsCalling, beginning_code, begun_point}
 use Rattle.block_runs.specs.Machines.{AreIn, IsImage, IsIn}
 use Rattle.block_runs.proofs.BlockEntries.{small_is, word_fits, word_is}
 use Rattle.block_runs.proofs.FrameBeginnings.{Begun, IsBegun, all_stored, all_words, frame_code, frame_made, new_frame}
-use Rattle.block_runs.proofs.FrameBeginnings.{outside, own_regs, regs_of}
+use Rattle.block_runs.proofs.FrameBeginnings.{outside, regs_of}
 use Rattle.block_runs.proofs.Places.{IsFrame, bounds, word_in}
-use Rattle.block_runs.proofs.PointGrounds.{StandsIn, call_is, in_known, known_in, point_frame, point_ground, registers_in}
+use Rattle.block_runs.proofs.PointGrounds.{StandsIn, call_is, in_known, known_in, point_frame, point_ground}
+use Rattle.block_runs.proofs.PointGrounds.{registers_in}
 use Rattle.block_runs.proofs.StoredGrounds.{StoredOver, making_ground}
 
 -- ---- what is premised: all that a beginning asks of a point but that one more block may be active

@@ -4,3 +4,5 @@ pub mod NestedCalls
 pub mod DeepBeginnings
 pub mod DeepCalls
 pub mod NestedFunctions
+pub mod FullVariables
+pub mod FullCalls

@@ -1,5 +1,5 @@
 -- CALL of a procedure that the running block declares, or a block around it.
-use Rattle.std.proofs.Common.{◌≡◌, ℕ, zero, suc, ◌+◌, ◌^◌, ◌<◌, ◌≤◌, List, [], ◌∷◌, ◌++◌, length, Option, Some, Bool, true}
+use Rattle.std.proofs.Common.{◌≡◌, ℕ, suc, ◌+◌, ◌<◌, ◌≤◌, List, [], ◌∷◌, ◌++◌, length, Option, Bool, true}
 use Rattle.std.proofs.Common.{false, inl, inr, refl, sym, ap, ◌∙◌, subst, arith}
 use Rattle.std.proofs.lemmas.Bool.{eq-eqb, eqb-true, eqb-false}
 use Rattle.std.proofs.lemmas.List.{append_assoc}
@@ -12,7 +12,7 @@ use Rattle.pli_meaning.specs.Evaluating as V
 use Rattle.pli_meaning.specs.Executing as M
 use Rattle.pli_meaning.specs.Executing.{begun}
 use Rattle.pli_meaning.specs.Raising.{Around, Entry, at_line}
-use Rattle.pli_meaning.specs.StorageState.{Activation, State, ancestor, ancestor_at, height_of, newest_height}
+use Rattle.pli_meaning.specs.StorageState.{State, ancestor, ancestor_at, height_of, newest_height}
 use Rattle.pli_meaning.specs.StorageState.{most_activations}
 use Rattle.pli_meaning.specs.World.{World, counted}
 use Rattle.pli_coding.specs.Allocating.{act_code}
@@ -25,7 +25,7 @@ use Rattle.pli_coding.specs.Statements.{stmt_code}
 use Rattle.activation_relation.specs.Chains.{HasParent, frame_at}
 use Rattle.activation_relation.specs.CodeStores.{most_levels}
 use Rattle.activation_relation.specs.Frames.{frame_under, lower_end}
-use Rattle.activation_relation.specs.Layers.{Layer, Point, services_of}
+use Rattle.activation_relation.specs.Layers.{Point, services_of}
 use Rattle.activation_relation.proofs.Blocks.{same_length}
 use Rattle.activation_relation.proofs.Displays.{ancestor_low}
 use Rattle.activation_relation.proofs.Returning.{later_then}
@@ -36,7 +36,7 @@ use Rattle.run_steps.specs.Reach.{Comes, Family, before}
 use Rattle.run_steps.proofs.Reach.{before_closed, comes_on, onward, reach_map}
 use Rattle.run_steps.specs.Reaching.{Reaches}
 use Rattle.block_runs.specs.Bodies.{IsBehind, behind_aims}
-use Rattle.block_runs.specs.Machines.{AreIn, IsImage, IsIn, acted}
+use Rattle.block_runs.specs.Machines.{AreIn, IsIn, acted}
 use Rattle.block_runs.proofs.CallStatements.{comes_map}
 use Rattle.block_runs.proofs.Places.{frame_found, inside_memory}
 use Rattle.block_runs.proofs.PointActs.{act_comes}
@@ -51,7 +51,7 @@ use Rattle.program_runs.proofs.Statements.{acted_among, statement_closed}
 use Rattle.expression_runs.specs.Variables.{IsFrameOf}
 use Rattle.expression_runs.proofs.VariablePoints.{reaches_by}
 use Rattle.nested_calls.specs.Nested.{IsNested, given_code, parent_at, parent_code}
-use Rattle.nested_calls.specs.NestedCalls.{HasFrame, IsNestedCall, call_at}
+use Rattle.nested_calls.specs.NestedCalls.{IsNestedCall, call_at}
 use Rattle.nested_calls.proofs.GivenCode.{given}
 
 -- ---- the frame of the static parent
@@ -135,7 +135,7 @@ is_parent {k} {p = p} level inner parent nest o within e f =
 
 -- ---- at each of the block's points
 
-room_among :
+pub room_among :
     {k : Block} {c : Callee} {level line index more : ℕ} {numbers : ℕ → ℕ} {p : Point} →
     IsNestedCall k c level line index more → nat_lt (length k.first.state.activations) most_activations ≡ true →
     IsAmong k numbers p → HasRoom k.call.surroundings p c.procedure c.calling

@@ -1,21 +1,18 @@
 -- Calls in expressions of a function that the running block declares, or a block around it.
-use Rattle.std.proofs.Common.{◌≡◌, ℕ, suc, ◌+◌, ◌^◌, ◌<◌, ◌≤◌, List, [], ◌∷◌, ◌++◌, length, Option, Some, None, true, false}
+use Rattle.std.proofs.Common.{◌≡◌, ℕ, ◌+◌, ◌≤◌, [], ◌++◌, length, Option, Some, None, true, false}
 use Rattle.std.proofs.Common.{refl, sym, ap, ◌∙◌, subst, arith}
 use Rattle.std.proofs.lemmas.List.{append_assoc}
 use Rattle.std.specs.Prelude.{ℤ, nat_lt, ◌==◌}
-use Rattle.rv_meaning.specs.Words.{word}
 use Rattle.pli_language.specs.declared.condition.Condition.TheVariants as C
 use Rattle.pli_typing.specs.TypedTree as Y
 use Rattle.pli_meaning.specs.BasicValues.{BasicBit, BasicNumber, BasicOffset, BasicPointer, BasicText, BasicValue}
 use Rattle.pli_meaning.specs.Contents.{number_in}
-use Rattle.pli_meaning.specs.Control.{Meaning, finish, give, looked, ◌>>=◌, ◌>>◌}
+use Rattle.pli_meaning.specs.Control.{Meaning, give, looked, ◌>>=◌, ◌>>◌}
 use Rattle.pli_meaning.specs.Evaluating as V
 use Rattle.pli_meaning.specs.Executing as M
 use Rattle.pli_meaning.specs.Raising.{Around, Entry}
 use Rattle.pli_meaning.specs.StorageState.{State, ancestor, ancestor_at, force, height_of, most_activations}
 use Rattle.pli_meaning.specs.StorageState.{newest_height}
-use Rattle.pli_meaning.specs.declared.outcome.End.TheVariants as E
-use Rattle.pli_meaning.specs.declared.outcome.Limit.TheVariants as W
 use Rattle.pli_serving.specs.ServiceState.{Services}
 use Rattle.pli_coding.specs.Allocating.{act_code}
 use Rattle.pli_coding.specs.Assembly.{Code, size_of}
@@ -30,11 +27,10 @@ use Rattle.activation_relation.specs.Frames.{lower_end}
 use Rattle.activation_relation.specs.Layers.{Point, services_of}
 use Rattle.activation_relation.specs.ServiceLaws.{IsSystem}
 use Rattle.activation_relation.proofs.Returning.{later_then}
-use Rattle.run_steps.specs.Engine.{most_code}
 use Rattle.run_steps.specs.Items.{Linked}
 use Rattle.run_steps.proofs.Jumps.{back_of, front_of}
 use Rattle.run_steps.proofs.Linking.{size_append}
-use Rattle.run_steps.specs.Reach.{Comes, Family, before, cost}
+use Rattle.run_steps.specs.Reach.{Comes, Family, before}
 use Rattle.run_steps.proofs.Reach.{before_closed, comes_on, onward, reach_map}
 use Rattle.block_runs.specs.Bodies.{IsBehind, behind_aims}
 use Rattle.block_runs.specs.Machines.{IsIn}
@@ -43,7 +39,7 @@ use Rattle.program_runs.specs.Calls.{AreMade, Callee, body_index, labels_of, lef
 use Rattle.program_runs.specs.Procedures.{HasRoom, begin_of, block_of, frame_for}
 use Rattle.program_runs.specs.Statements.{EachDoes, IsAmong, IsBegun}
 use Rattle.expression_runs.specs.Laws as L
-use Rattle.expression_runs.specs.Values.{Setting, Stretch, behind, in_registers, number_aims}
+use Rattle.expression_runs.specs.Values.{Setting, behind, in_registers, number_aims}
 use Rattle.expression_runs.proofs.Words.{number_closed}
 use Rattle.function_runs.specs.FunctionCalls.{called_from}
 use Rattle.function_runs.specs.Functions.{IsFunction, function_at, function_beginning, function_block, function_entry}
@@ -58,10 +54,10 @@ use Rattle.nested_calls.proofs.NestedCalls.{call_of, is_parent, parent_inside, p
 
 -- ---- its code
 
-abbrev given_in : Setting → (level : ℕ) → Code
+abbrev pub given_in : Setting → (level : ℕ) → Code
 given_in k level = given_code (level == k.block.environment.level) k.words level
 
-value_coded :
+pub value_coded :
     (k : Setting) (c : Callee) (level taken : ℕ) →
     number_code k.block.environment (in_registers k.words taken) (value_at c level) ≡ given_in k level ++ call_of c
 value_coded k c level taken =
@@ -72,7 +68,7 @@ value_coded k c level taken =
 
 -- ---- where it is called
 
-room_among :
+pub room_among :
     (k : Setting) (c : Callee) (level more : ℕ) {numbers : ℕ → ℕ} {p : Point} → IsNestedFunction k c level more →
     nat_lt (length k.block.first.state.activations) most_activations ≡ true → IsAmong k.block numbers p →
     (call : ℕ) → HasRoom k.block.call.surroundings p c.procedure (called_from c call).calling
@@ -88,7 +84,7 @@ room_among k c level more h few o call =
     }
 
 -- it doesn't depend on where the call stands
-function_from :
+pub function_from :
     (k : Setting) (c : Callee) (call : ℕ) → IsFunction k.block.call.surroundings k.block.call.code c →
     IsFunction k.block.call.surroundings k.block.call.code (called_from c call)
 function_from k c call h =
@@ -107,7 +103,7 @@ function_from k c call h =
     }
 
 -- what the call means
-called_means :
+pub called_means :
     (k : Setting) (c : Callee) (level more : ℕ) {numbers : ℕ → ℕ} {p : Point} → IsNestedFunction k c level more →
     IsAmong k.block numbers p →
     V.called k.around (Y.Calling c.procedure.head.number level Y.NoArgument) k.block.call.surroundings.acts p.state
@@ -127,7 +123,7 @@ called_means k c level more {p = p} h o =
 
 -- ---- what comes back
 
-abbrev as_number : Option BasicValue → Meaning ℤ
+abbrev pub as_number : Option BasicValue → Meaning ℤ
 as_number r = V.returned r >>= (λ v. give (number_in v))
 
 behind_goes :

@@ -1,6 +1,6 @@
 -- Static ancestors and variables of a block in what is called from it: the same ones, in frames that its display has.
-use Rattle.std.proofs.Common.{◌≡◌, ℕ, suc, ◌+◌, ◌*◌, ◌^◌, ◌<◌, ◌≤◌, List, ◌∷◌, length, Some, true, false, inl, inr, refl}
-use Rattle.std.proofs.Common.{sym, ap, ◌∙◌, subst, arith}
+use Rattle.std.proofs.Common.{◌≡◌, ℕ, suc, ◌+◌, ◌*◌, ◌^◌, ◌<◌, ◌≤◌, List, ◌∷◌, length, Some, true, false, inl, inr}
+use Rattle.std.proofs.Common.{refl, sym, ap, ◌∙◌, subst, arith}
 use Rattle.std.proofs.lemmas.Bool.{eq-eqb, eqb-true, leb-true}
 use Rattle.std.proofs.lemmas.Bool.Decides.{nat_tests}
 use Rattle.std.specs.Prelude.{Bool, cond, ◌==◌, nat_le}
@@ -114,7 +114,8 @@ over_nested {k} {inner} {level} {p = p} i nest o within =
         0 < height_of (ancestor_at inner.first.state n)
     some_by n true e less =
         let low = leb-true n level e in
-        subst (λ a. 0 < height_of a) (sym (same_ancestor n i nest o within low)) (nest.some n (omega (arith, low, within)))
+        subst (λ a. 0 < height_of a) (sym (same_ancestor n i nest o within low))
+        (nest.some n (omega (arith, low, within)))
     some_by n false e less =
         let height = i.height in
         subst (λ a. 0 < height_of a) (sym (own_one n i (last n e less))) (omega (arith, height))

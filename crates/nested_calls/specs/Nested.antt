@@ -1,5 +1,5 @@
 -- A block whose static ancestors are active at each level around it: what a call of theirs may name.
-use Rattle.std.specs.Prelude.{ℕ, ◌<◌, ◌≤◌, ◌≡◌, cond, Bool, pos, [], ◌∷◌, ◌++◌}
+use Rattle.std.specs.Prelude.{ℕ, ◌<◌, ◌≤◌, ◌≡◌, cond, Bool, [], ◌∷◌, ◌++◌}
 use Rattle.pli_meaning.specs.StorageState.{ancestor, ancestor_at, height_of}
 use Rattle.pli_coding.specs.Assembly.{Code}
 use Rattle.pli_coding.specs.Frames.{display, words_place}

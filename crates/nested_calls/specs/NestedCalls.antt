@@ -15,6 +15,7 @@ use Rattle.run_steps.specs.Items.{Linked}
 use Rattle.program_runs.specs.Calls.{AreMade, Callee, IsCallee, block_at, body_index, labels_of, left_over}
 use Rattle.program_runs.specs.Procedures.{block_of, frame_for}
 use Rattle.program_runs.specs.Statements.{Block, Does, EachDoes, IsAmong, IsBegun}
+use Rattle.nested_calls.specs.FullVariables.{AreFull}
 use Rattle.nested_calls.specs.Nested.{IsNested, parent_at}
 
 -- declared by the block of a level
@@ -65,3 +66,9 @@ pub record NestedCallsDo : Type 0 where
       (k : Block) (c : Callee) (level line index left' more : ℕ) → IsNestedCall k c level line index more →
       nat_lt (length k.first.state.activations) most_activations ≡ false → IsBegun k → (labels : List Label) →
       Does k labels (call_at c level line) index left'
+  -- and so it does where its variables pass the limit on what is AUTOMATIC
+  pub full :
+      (k : Block) (c : Callee) (level line index left' more : ℕ) → IsNestedCall k c level line index more →
+      nat_lt (length k.first.state.activations) most_activations ≡ true →
+      ((p : Point) (numbers : ℕ → ℕ) → IsAmong k numbers p → AreFull k.call.surroundings k.call.code c p numbers) →
+      IsBegun k → (labels : List Label) → Does k labels (call_at c level line) index left'

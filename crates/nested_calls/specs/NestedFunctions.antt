@@ -15,6 +15,7 @@ use Rattle.expression_runs.specs.Laws as L
 use Rattle.expression_runs.specs.Values.{Setting}
 use Rattle.function_runs.specs.FunctionCalls.{called_from}
 use Rattle.function_runs.specs.Functions.{IsFunction, function_block, function_code}
+use Rattle.nested_calls.specs.FullVariables.{AreFull}
 use Rattle.nested_calls.specs.Nested.{IsNested, parent_at}
 use Rattle.nested_calls.specs.NestedCalls.{HasFrame}
 
@@ -58,3 +59,9 @@ pub record NestedFunctionsDo : Type 0 where
   pub ends :
       (k : Setting) (c : Callee) (level more : ℕ) → IsNestedFunction k c level more →
       nat_lt (length k.block.first.state.activations) most_activations ≡ false → L.Does k 0 (value_at c level)
+  pub full :
+      (k : Setting) (c : Callee) (level more : ℕ) → IsNestedFunction k c level more →
+      nat_lt (length k.block.first.state.activations) most_activations ≡ true →
+      ((call : ℕ) (p : Point) (numbers : ℕ → ℕ) → IsAmong k.block numbers p →
+      AreFull k.block.call.surroundings k.block.call.code (called_from c call) p numbers) →
+      L.Does k 0 (value_at c level)

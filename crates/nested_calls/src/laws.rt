@@ -1,5 +1,6 @@
 // Laws of the definitions: each function's contract is one law, and calling it does nothing.
 
+ghost use Rattle.nested_calls.specs.FullVariables.{VariablesEnd};
 ghost use Rattle.nested_calls.specs.NestedCalls.{NestedCallsDo};
 ghost use Rattle.nested_calls.specs.NestedFunctions.{NestedFunctionsDo};
 ghost use Rattle.nested_calls.specs.NestedVariables.{NestedNumbers};
@@ -17,4 +18,9 @@ pub fn nested_functions_do()
 /// What is called is nested in the blocks around it, whose variables are the same ones there.
 pub fn nested_numbers()
     ensures { NestedNumbers }
+{}
+
+/// A variable that passes the limit on what is AUTOMATIC ends the run where it would be made.
+pub fn variables_end()
+    ensures { VariablesEnd }
 {}

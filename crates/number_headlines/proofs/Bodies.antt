@@ -1,7 +1,7 @@
 -- The statements of each block of a program of the class do what they mean, and so do the calls in them, as deep as
 -- they go.
-use Rattle.std.proofs.Common.{◌≡◌, ◌⊎◌, inl, inr, ℕ, zero, suc, ◌+◌, ◌*◌, ◌^◌, ◌<◌, ◌≤◌, List, [], ◌∷◌, ◌++◌, length, None}
-use Rattle.std.proofs.Common.{Some, Bool, true, false, refl, sym, ap, ◌∙◌, subst, arith}
+use Rattle.std.proofs.Common.{◌≡◌, ◌⊎◌, inl, inr, ℕ, zero, suc, ◌+◌, ◌^◌, ◌<◌, ◌≤◌, List, [], ◌∷◌, ◌++◌, length}
+use Rattle.std.proofs.Common.{Bool, true, false, refl, sym, ap, subst, arith}
 use Rattle.std.specs.Prelude.{cond, nat_lt, ◌==◌}
 use Rattle.pli_language.specs.declared.condition.Condition.TheVariants as C
 use Rattle.pli_typing.specs.TypedTree as Y
@@ -12,7 +12,6 @@ use Rattle.pli_meaning.specs.StorageState.{most_activations}
 use Rattle.pli_coding.specs.Allocating.{act_code}
 use Rattle.pli_coding.specs.Assembly.{size_of}
 use Rattle.pli_coding.specs.Environments.{Environment, none_taken}
-use Rattle.pli_coding.specs.Frames.{fixed_size}
 use Rattle.pli_coding.specs.Images.{linked_code}
 use Rattle.pli_coding.specs.Procedures.{procedure_of_block}
 use Rattle.pli_coding.specs.Statements.{stmt_code}
@@ -29,9 +28,9 @@ use Rattle.program_places.proofs.Callees.{callee_stands, end_is}
 use Rattle.program_places.proofs.Found.{known}
 use Rattle.program_places.proofs.Functions.{function_end_is, function_stands}
 use Rattle.program_places.proofs.Procedures.{body_placed, raise_routines}
-use Rattle.program_runs.specs.Calls.{Callee, left_over}
+use Rattle.program_runs.specs.Calls.{left_over}
 use Rattle.program_runs.specs.Starts.{image_parts}
-use Rattle.program_runs.specs.Statements.{Block, Does, EachDoes, IsAmong, IsBegun, IsOwn}
+use Rattle.program_runs.specs.Statements.{Block, Does, EachDoes, IsBegun, IsOwn}
 use Rattle.expression_runs.specs.Assignments.{setting_of}
 use Rattle.expression_runs.specs.Laws as L
 use Rattle.nested_calls.specs.NestedCalls.{HasFrame, IsNestedCall}
@@ -45,7 +44,7 @@ use Rattle.number_runs.proofs.Takes.{registers_held}
 use Rattle.number_headlines.specs.Programs.{is_callable, scope_of}
 use Rattle.number_headlines.proofs.Entered.{are_made, entered, entered_at, none_waits, unraised_there}
 use Rattle.number_headlines.proofs.Inner.{Inner, inner_is}
-use Rattle.number_headlines.proofs.Mains.{Main, most_for, result_of, run_for, spare_for, surroundings_for}
+use Rattle.number_headlines.proofs.Mains.{Main, most_for, result_of, run_for}
 use Rattle.number_headlines.proofs.Running.{IsRunning, MayCall, Running, block_of_run, callee_of, site_of}
 use Rattle.number_headlines.proofs.Tables.{block_plain}
 

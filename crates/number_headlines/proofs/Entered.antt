@@ -1,7 +1,7 @@
 -- A block of the class that is called from another: its variables are made, and what is known there is known of it.
-use Rattle.std.proofs.Common.{◌≡◌, ◌⊎◌, inl, inr, ℕ, suc, ◌+◌, ◌*◌, ◌^◌, ◌<◌, ◌≤◌, List, [], ◌∷◌, ◌++◌, length, Option, None}
-use Rattle.std.proofs.Common.{Some, Bool, true, false, refl, sym, ap, ◌∙◌, subst, arith}
-use Rattle.std.specs.Prelude.{◌&&◌, ◌==◌, nat_le, nat_lt}
+use Rattle.std.proofs.Common.{◌≡◌, ◌⊎◌, inl, inr, ℕ, suc, ◌+◌, ◌<◌, ◌≤◌, List, [], ◌∷◌, length}
+use Rattle.std.proofs.Common.{Bool, true, false, refl, sym, ap, ◌∙◌, subst, arith}
+use Rattle.std.specs.Prelude.{nat_le, nat_lt}
 use Rattle.std.specs.List.{list_any}
 use Rattle.std.proofs.lemmas.Bool.{and_from, and_parts, leb-true, ltb-true}
 use Rattle.std.proofs.lemmas.Bool.Decides.{nat_tests}
@@ -41,7 +41,7 @@ use Rattle.number_headlines.specs.Programs.{places_to, scope_of}
 use Rattle.number_headlines.proofs.Inner.{Inner}
 use Rattle.number_headlines.proofs.Mains.{Main, made_system, result_of, spare_for, surroundings_for}
 use Rattle.number_headlines.proofs.Places.{alike_at, around_is, is_around}
-use Rattle.number_headlines.proofs.Running.{Free, HasShape, IsRunning, MayCall, Running, block_of_run, callee_of, free_among}
+use Rattle.number_headlines.proofs.Running.{IsRunning, MayCall, Running, block_of_run, callee_of, free_among}
 use Rattle.number_headlines.proofs.Tables.{block_plain, has_table, word_signature}
 
 -- ---- what is called at a point of a block

@@ -1,6 +1,6 @@
 -- What a call of a program of the class finds: a procedure of the class, which a block around the calling one declares.
-use Rattle.std.proofs.Common.{◌≡◌, ℕ, suc, ◌≤◌, List, [], ◌∷◌, ◌++◌, Option, None, Some, Bool, true, false, refl, sym, ap}
-use Rattle.std.proofs.Common.{◌∙◌, subst}
+use Rattle.std.proofs.Common.{◌≡◌, ℕ, suc, ◌≤◌, List, [], ◌∷◌, ◌++◌, Option, None, Some, Bool, true, false, refl}
+use Rattle.std.proofs.Common.{sym, ap, ◌∙◌, subst}
 use Rattle.std.specs.Prelude.{◌&&◌, ◌==◌, ◌||◌, cond, nat_le}
 use Rattle.std.specs.List.{list_any}
 use Rattle.std.proofs.lemmas.Bool.{and_parts, eqb-true, leb-true}
@@ -12,7 +12,7 @@ use Rattle.pli_coding.specs.Registers.{held_registers}
 use Rattle.program_places.specs.Programs.{IsProcedure, environment_for}
 use Rattle.number_runs.specs.Numbers.{has_none}
 use Rattle.number_runs.specs.Statements.{are_statements, statements_need}
-use Rattle.number_headlines.specs.Programs.{are_inner, body_of, has_result, is_body, is_callable, is_declared_if, is_inner}
+use Rattle.number_headlines.specs.Programs.{are_inner, body_of, has_result, is_body, is_callable, is_declared_if}
 use Rattle.number_headlines.specs.Programs.{is_inner_if, is_valued, scope_of, stand_alike}
 use Rattle.number_headlines.proofs.Mains.{Main, procedure_is, result_of}
 

@@ -1,18 +1,16 @@
 -- The main procedure of a program of the class: each of its statements does what it means, and so it keeps the
 -- headline.
-use Rattle.std.proofs.Common.{◌≡◌, ◌⊎◌, inl, inr, ℕ, suc, ◌+◌, ◌*◌, ◌^◌, ◌<◌, ◌≤◌, List, [], ◌∷◌, ◌++◌, length, None, Some}
+use Rattle.std.proofs.Common.{◌≡◌, ◌⊎◌, inl, inr, ℕ, ◌+◌, ◌^◌, ◌<◌, ◌≤◌, List, [], ◌∷◌, ◌++◌, length, None}
 use Rattle.std.proofs.Common.{true, false, refl, sym, ap, ◌∙◌, subst, arith}
-use Rattle.std.specs.Prelude.{◌&&◌, ◌==◌, cond}
 use Rattle.std.specs.List.{list_any}
-use Rattle.std.proofs.lemmas.Bool.{and_parts, eq-eqb}
-use Rattle.pli_language.specs.declared.condition.Condition.{Condition}
+use Rattle.std.proofs.lemmas.Bool.{and_parts}
 use Rattle.pli_typing.specs.TypedTree as Y
 use Rattle.pli_meaning.specs.BasicValues.{VariableName}
 use Rattle.pli_meaning.specs.DeclaredShapes.{declared_variable, variables_of_block}
 use Rattle.pli_meaning.specs.Executing.{labels_in}
 use Rattle.pli_meaning.specs.Making.{with_binding}
 use Rattle.pli_meaning.specs.Pictures.{first_bytes}
-use Rattle.pli_meaning.specs.StorageState.{Activation, Binding, ancestor, ancestor_at, height_of, most_activations}
+use Rattle.pli_meaning.specs.StorageState.{Activation, Binding, ancestor, height_of, most_activations}
 use Rattle.pli_meaning.specs.StorageState.{newest_height}
 use Rattle.pli_serving.specs.Templates.{shape_at}
 use Rattle.pli_coding.specs.Environments.{block_around}
@@ -46,11 +44,12 @@ use Rattle.number_runs.proofs.Words.{room_behind}
 use Rattle.number_headlines.specs.Headlines.{IsNumberProgram}
 use Rattle.number_headlines.specs.Programs.{are_all_plain, has_main, most_words, places_to, scope_of}
 use Rattle.number_headlines.proofs.Bodies.{each_body}
-use Rattle.number_headlines.proofs.Mains.{Main, block_for, level_of, made_for, made_system, main_all, main_begun, main_for}
+use Rattle.number_headlines.proofs.Mains.{Main, block_for, level_of, made_for, made_system, main_all, main_begun}
+use Rattle.number_headlines.proofs.Mains.{main_for}
 use Rattle.number_headlines.proofs.Mains.{main_is, main_layer, main_number, main_room, main_spare, placed, run_for}
 use Rattle.number_headlines.proofs.Mains.{spare_for, start_for, surroundings_for}
 use Rattle.number_headlines.proofs.Places.{around_is}
-use Rattle.number_headlines.proofs.Running.{IsRunning, MayCall, Running}
+use Rattle.number_headlines.proofs.Running.{IsRunning, Running}
 use Rattle.number_headlines.proofs.Tables.{has_start, has_table, word_signature}
 
 -- ---- the main procedure as the first block that runs

@@ -122,14 +122,13 @@ value w x n = (record { precision = 31; scalar = scalar w x n }, (designated w x
 assigned :
     (w : Where) (x : Spot) (source : Y.Number) (line : ℕ) → Names w x → SoundNumber w source → line < 2 ^ 31 →
     SoundStmt w (Y.Assign (whole x) (Y.StoredNumber 31 source) line)
-assigned w x source line n sound less =
-    (
-      record { type = Y.FixedLeaf 31; scalar = scalar w x n; fits = refl },
-      (
-        (designated w x n, (tt, (tt, tt))),
-        (((omega arith, omega arith), sound), less),
-      ),
-    )
+assigned w x source line n sound less = (
+  record { type = Y.FixedLeaf 31; scalar = scalar w x n; fits = refl },
+  (
+    (designated w x n, (tt, (tt, tt))),
+    (((omega arith, omega arith), sound), less),
+  ),
+)
 
 in_main_count : Names in_main count_spot
 in_main_count = record { found = refl; around = inl (refl, refl) }

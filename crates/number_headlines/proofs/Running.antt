@@ -1,6 +1,6 @@
 -- A block of a program of the class where it runs: what is known at its first statement.
-use Rattle.std.proofs.Common.{◌≡◌, ◌⊎◌, inl, inr, ℕ, suc, ◌+◌, ◌*◌, ◌^◌, ◌<◌, ◌≤◌, List, [], ◌∷◌, ◌++◌, length, Option, None}
-use Rattle.std.proofs.Common.{Some, Bool, true, false, refl, sym, ap, ◌∙◌, subst, arith}
+use Rattle.std.proofs.Common.{◌≡◌, ◌⊎◌, ℕ, suc, ◌+◌, ◌<◌, ◌≤◌, List, [], ◌++◌, length, Option, None}
+use Rattle.std.proofs.Common.{Some, Bool, true, false, sym, ◌∙◌, subst, arith}
 use Rattle.rv_meaning.specs.declared.instr.Instr.{Instr}
 use Rattle.pli_language.specs.declared.condition.Condition.{Condition}
 use Rattle.pli_typing.specs.Signatures.{Fixed}
@@ -123,8 +123,8 @@ HasShape program q =
     (block : ℕ) → 0 < length (variables_of_block program block) →
     shape_at q.places.signatures (number_in_table word_signature (table_of program)) ≡ Some number_shape
 
--- the procedures that it may call: these are of the class, and call nothing, or the same ones, where as many blocks have
--- room as may be active
+-- the procedures that it may call: these are of the class, and call nothing, or the same ones, where as many blocks
+-- have room as may be active
 pub record MayCall {program : Y.Program} (m : Main program) (numbers : List ℕ) (q : Point) (blocks : ℕ) : Type 0 where
   pub called : numbers ≡ m.called
   pub some : 1 ≤ blocks
