@@ -425,7 +425,11 @@ listed_stands {w} {code} {p} {x = x} {list = list} k =
         );
         low = known.0.low;
         lives = known.0.lives;
-        owned = record { living = known.0.owned.living; heap = known.0.owned.heap };
+        owned = record {
+          living = known.0.owned.living;
+          heap = known.0.owned.heap;
+          constants = known.0.owned.constants;
+        };
         over = known.0.over;
         running = known.0.running;
         allowed = known.0.allowed;

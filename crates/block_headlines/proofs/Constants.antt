@@ -41,19 +41,19 @@ record Found (f : Datum → Bool) (ds : List Datum) : Type 0 where
 
 found : (f : Datum → Bool) (ds : List Datum) → list_any f ds ≡ true → Found f ds
 found f [] h = absurd (cc h)
-found f (x ∷ ds) h = by (or_cases (f x) (list_any f ds) h)
+found f (x ∷ ds) h = by (or_cases (f x) (list_any f ds) h) (found f ds)
   where
-    by : (f x ≡ true) ⊎ (list_any f ds ≡ true) → Found f (x ∷ ds)
-    by (inl e) = record { datum = x; has = or_left _ _ (same_datum-same x); is = e }
-    by (inr e) = let r = found f ds e in record { datum = r.datum; has = or_right _ _ r.has; is = r.is }
+    by : (f x ≡ true) ⊎ (list_any f ds ≡ true) → (list_any f ds ≡ true → Found f ds) → Found f (x ∷ ds)
+    by (inl e) rest = record { datum = x; has = or_left _ _ (same_datum-same x); is = e }
+    by (inr e) rest = let r = rest e in record { datum = r.datum; has = or_right _ _ r.has; is = r.is }
 
 any_of : (f : Datum → Bool) (ds : List Datum) (d : Datum) → Has ds d → f d ≡ true → list_any f ds ≡ true
 any_of f [] d h e = absurd (cc h)
-any_of f (x ∷ ds) d h e = by (or_cases (same_datum d x) (list_any (same_datum d) ds) h)
+any_of f (x ∷ ds) d h e = by (or_cases (same_datum d x) (list_any (same_datum d) ds) h) (λ r. any_of f ds d r e)
   where
-    by : (same_datum d x ≡ true) ⊎ Has ds d → list_any f (x ∷ ds) ≡ true
-    by (inl s) = or_left _ _ (subst (λ u. f u ≡ true) (same_datum-equal d x s) e)
-    by (inr r) = or_right _ _ (any_of f ds d r e)
+    by : (same_datum d x ≡ true) ⊎ Has ds d → (Has ds d → list_any f ds ≡ true) → list_any f (x ∷ ds) ≡ true
+    by (inl s) rest = or_left _ _ (subst (λ u. f u ≡ true) (same_datum-equal d x s) e)
+    by (inr r) rest = or_right _ _ (rest r)
 
 -- ---- what is told
 

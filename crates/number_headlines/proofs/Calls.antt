@@ -30,17 +30,21 @@ use Rattle.program_runs.proofs.CallStatements.{call_does, statement_at}
 use Rattle.program_runs.proofs.Statements.{none_does}
 use Rattle.expression_runs.specs.Variables.{IsNumber, Spot}
 use Rattle.function_runs.proofs.OuterVariables.{procedure_number}
-use Rattle.number_runs.specs.Knowledge.{IsReady, call_statement}
+use Rattle.block_headlines.proofs.Constants.{called_of_program}
+use Rattle.number_runs.specs.Knowledge.{IsReady, IsUnraised, call_statement}
 use Rattle.number_runs.specs.Numbers.{is_known}
 use Rattle.number_runs.specs.Variables.{words_in}
 use Rattle.number_runs.proofs.Statements.{body_does, none_raised}
+use Rattle.number_runs.proofs.Puts.{puts_known}
 use Rattle.number_runs.proofs.Takes.{registers_held}
 use Rattle.number_runs.proofs.Words.{own_word}
 use Rattle.number_headlines.specs.Programs.{inner_scope, is_callable, main_scope}
 use Rattle.number_headlines.proofs.Inner.{Inner, Named, inner_all, inner_for, inner_is, inner_made, inner_room}
 use Rattle.number_headlines.proofs.Inner.{inner_words, named_is, site_for}
-use Rattle.number_headlines.proofs.Mains.{Main, block_for, level_of, made_system, main_number, most_for, run_for}
+use Rattle.number_headlines.proofs.Mains.{Main, block_for, level_of, made_system, main_number, main_told, most_for}
+use Rattle.number_headlines.proofs.Mains.{run_for}
 use Rattle.number_headlines.proofs.Mains.{start_for, surroundings_for}
+use Rattle.number_headlines.proofs.Puts.{error_routine, lists_known}
 use Rattle.number_headlines.proofs.Tables.{block_plain}
 
 -- ---- its block
@@ -129,6 +133,21 @@ inner_ready once {program} m i input more call {p} {numbers} o b =
     let routines = raise_routines once program m.loadable in
     let inside = routines.linked.inside in
     let xs = words_in (environment_for program m.head) in
+    let k = inner_block m i input (suc more) more call p numbers in
+    let s = inner_scope program m.head i.head in
+    let u : IsUnraised k (most_for program) =
+    record {
+      routines = routines;
+      overflow = inner_system m i input (suc more) more call o C.FixedOverflow
+          (made_system image_parts _ xs _ C.FixedOverflow tt);
+      divisor = inner_system m i input (suc more) more call o C.ZeroDivide
+          (made_system image_parts _ xs _ C.ZeroDivide tt);
+      error = inner_system m i input (suc more) more call o C.Error (made_system image_parts _ xs _ C.Error tt);
+      acts = o.few;
+      few = omega (arith, inside);
+    } in
+    let variables : (x : Spot) → is_known s x ≡ true → IsNumber k x =
+    λ x h. inner_number m i input (suc more) more call o b x h in
     record {
       begun = b;
       level = refl;
@@ -137,23 +156,16 @@ inner_ready once {program} m i input more call {p} {numbers} o b =
       acts = o.few;
       turns = omega arith;
       held = omega arith;
-      raises = none_raised (inner_block m i input (suc more) more call p numbers) (labels_in i.body ++ [])
-      (most_for program) (record {
-        routines = routines;
-        overflow = inner_system m i input (suc more) more call o C.FixedOverflow
-            (made_system image_parts _ xs _ C.FixedOverflow tt);
-        divisor = inner_system m i input (suc more) more call o C.ZeroDivide
-            (made_system image_parts _ xs _ C.ZeroDivide tt);
-        error = inner_system m i input (suc more) more call o C.Error (made_system image_parts _ xs _ C.Error tt);
-        acts = o.few;
-        few = omega (arith, inside);
-      });
-      variables = λ x h. inner_number m i input (suc more) more call o b x h;
+      raises = none_raised k (labels_in i.body ++ []) (most_for program) u;
+      variables = variables;
       calls = record {
         functions = λ labels line n includes h. absurd (cc h);
         procedures = λ labels n line index includes h. absurd (cc h);
       };
-      puts = λ e. absurd (cc e);
+      puts = λ e.
+          puts_known s k (most_for program) b u (error_routine once program m.loadable) variables
+          (lists_known program k m.memory
+          (called_of_program program (block_for m input (suc more)) k numbers (main_told m input (suc more) o.begun) o.among refl refl b));
       room = omega arith;
       returns = λ e. record {
         owner = refl;

@@ -30,10 +30,12 @@ use Rattle.function_runs.specs.Functions.{function_block}
 use Rattle.function_runs.proofs.FunctionCalls.{function_does}
 use Rattle.expression_runs.specs.Assignments.{setting_of}
 use Rattle.expression_runs.specs.Laws as L
-use Rattle.number_runs.specs.Knowledge.{IsReady, call_number}
+use Rattle.block_headlines.proofs.Constants.{called_of_program}
+use Rattle.number_runs.specs.Knowledge.{IsReady, IsUnraised, call_number}
 use Rattle.number_runs.specs.Numbers.{is_known}
 use Rattle.number_runs.specs.Variables.{words_in}
 use Rattle.number_runs.proofs.Statements.{body_does, none_raised}
+use Rattle.number_runs.proofs.Puts.{puts_known}
 use Rattle.number_runs.proofs.Takes.{registers_held}
 use Rattle.number_runs.proofs.Words.{function_word}
 use Rattle.number_headlines.specs.Programs.{inner_scope, is_callable, main_scope}
@@ -41,8 +43,10 @@ use Rattle.number_headlines.proofs.Inner.{Inner, Named, inner_all, inner_for, in
 use Rattle.number_headlines.proofs.Inner.{inner_words, named_is, site_for}
 use Rattle.number_headlines.proofs.Calls.{Moment}
 use Rattle.number_headlines.proofs.Mains.{result_of}
-use Rattle.number_headlines.proofs.Mains.{Main, block_for, level_of, made_system, main_number, most_for, run_for}
+use Rattle.number_headlines.proofs.Mains.{Main, block_for, level_of, made_system, main_number, main_told, most_for}
+use Rattle.number_headlines.proofs.Mains.{run_for}
 use Rattle.number_headlines.proofs.Mains.{surroundings_for}
+use Rattle.number_headlines.proofs.Puts.{error_routine, lists_known}
 use Rattle.number_headlines.proofs.Tables.{block_plain}
 
 -- ---- its block
@@ -127,6 +131,21 @@ valued_ready once {program} m i input more call {p} {numbers} o b =
     let routines = raise_routines once program m.loadable in
     let inside = routines.linked.inside in
     let xs = words_in (environment_for program m.head) in
+    let k = valued_block m i input (suc more) more call p numbers in
+    let s = inner_scope program m.head i.head in
+    let u : IsUnraised k (most_for program) =
+    record {
+      routines = routines;
+      overflow = valued_system m i input (suc more) more call o C.FixedOverflow
+          (made_system image_parts _ xs _ C.FixedOverflow tt);
+      divisor = valued_system m i input (suc more) more call o C.ZeroDivide
+          (made_system image_parts _ xs _ C.ZeroDivide tt);
+      error = valued_system m i input (suc more) more call o C.Error (made_system image_parts _ xs _ C.Error tt);
+      acts = o.few;
+      few = omega (arith, inside);
+    } in
+    let variables : (x : Spot) → is_known s x ≡ true → IsNumber k x =
+    λ x h. valued_number m i input (suc more) more call o b x h in
     record {
       begun = b;
       level = refl;
@@ -135,23 +154,16 @@ valued_ready once {program} m i input more call {p} {numbers} o b =
       acts = o.few;
       turns = omega arith;
       held = omega arith;
-      raises = none_raised (valued_block m i input (suc more) more call p numbers) (labels_in i.body ++ [])
-      (most_for program) (record {
-        routines = routines;
-        overflow = valued_system m i input (suc more) more call o C.FixedOverflow
-            (made_system image_parts _ xs _ C.FixedOverflow tt);
-        divisor = valued_system m i input (suc more) more call o C.ZeroDivide
-            (made_system image_parts _ xs _ C.ZeroDivide tt);
-        error = valued_system m i input (suc more) more call o C.Error (made_system image_parts _ xs _ C.Error tt);
-        acts = o.few;
-        few = omega (arith, inside);
-      });
-      variables = λ x h. valued_number m i input (suc more) more call o b x h;
+      raises = none_raised k (labels_in i.body ++ []) (most_for program) u;
+      variables = variables;
       calls = record {
         functions = λ labels line n includes h. absurd (cc h);
         procedures = λ labels n line index includes h. absurd (cc h);
       };
-      puts = λ e. absurd (cc e);
+      puts = λ e.
+          puts_known s k (most_for program) b u (error_routine once program m.loadable) variables
+          (lists_known program k m.memory
+          (called_of_program program (block_for m input (suc more)) k numbers (main_told m input (suc more) o.begun) o.among refl refl b));
       room = omega arith;
       returns = λ e. absurd (cc e);
       values = λ e. record {

@@ -1,7 +1,7 @@
 -- The main procedure of a program of the class: each of its statements does what it means, and so it keeps the
 -- headline.
-use Rattle.std.proofs.Common.{ℕ, ◌+◌, ◌^◌, ◌<◌, List, [], ◌++◌, None}
-use Rattle.std.proofs.Common.{false}
+use Rattle.std.proofs.Common.{◌≡◌, ℕ, ◌+◌, ◌^◌, ◌<◌, List, [], ◌++◌, None}
+use Rattle.std.proofs.Common.{false, true}
 use Rattle.std.proofs.Common.{refl, arith}
 use Rattle.std.proofs.lemmas.Bool.{and_parts}
 use Rattle.pli_language.specs.declared.condition.Condition.TheVariants as C
@@ -23,20 +23,24 @@ use Rattle.program_places.proofs.Starts.{main_found, whole_stands}
 use Rattle.program_runs.specs.Calls.{left_over}
 use Rattle.program_runs.specs.Starts.{image_parts, no_numbers}
 use Rattle.program_runs.specs.Statements.{EachDoes, IsBegun}
+use Rattle.expression_runs.specs.Variables.{IsNumber, Spot}
 use Rattle.variable_runs.proofs.Lists.{all_procedure}
 use Rattle.pli_headline.specs.Headline.{FitsMemory, Headline, parts}
 use Rattle.block_headlines.proofs.Constants.{constants_stand}
 use Rattle.block_headlines.specs.Headlines.{HeadlinesKept, Layout, Runs}
-use Rattle.number_runs.specs.Knowledge.{IsReady, KnowsCalls}
+use Rattle.number_runs.specs.Knowledge.{IsReady, IsUnraised, KnowsCalls}
+use Rattle.number_runs.specs.Numbers.{is_known}
 use Rattle.number_runs.specs.Variables.{words_in}
 use Rattle.number_runs.proofs.Statements.{body_does, none_raised}
+use Rattle.number_runs.proofs.Puts.{puts_known}
 use Rattle.number_runs.proofs.Takes.{registers_held}
 use Rattle.number_headlines.specs.Headlines.{IsNumberProgram}
 use Rattle.number_headlines.specs.Programs.{are_all_plain, has_main, main_scope}
 use Rattle.number_headlines.specs.Programs.{most_words}
+use Rattle.number_headlines.proofs.Puts.{error_routine, lists_known}
 use Rattle.number_headlines.proofs.Tables.{block_plain, has_start}
 use Rattle.number_headlines.proofs.Mains.{Main, block_for, made_for, made_system, main_all, main_for, main_is}
-use Rattle.number_headlines.proofs.Mains.{main_number, main_room, most_for, own_known, run_for, start_for}
+use Rattle.number_headlines.proofs.Mains.{main_number, main_told, main_room, most_for, own_known, run_for, start_for}
 use Rattle.number_headlines.proofs.Mains.{placed, surroundings_for}
 use Rattle.number_headlines.proofs.Calls.{procedure_called}
 use Rattle.number_headlines.proofs.Functions.{function_called}
@@ -54,6 +58,19 @@ main_ready once {program} m input acts few b calls =
     let routines = raise_routines once program m.loadable in
     let inside = routines.linked.inside in
     let xs = words_in (environment_for program m.head) in
+    let k = block_for m input acts in
+    let s = main_scope program m.head in
+    let u : IsUnraised k (most_for program) =
+    record {
+      routines = routines;
+      overflow = made_system image_parts _ xs _ C.FixedOverflow tt;
+      divisor = made_system image_parts _ xs _ C.ZeroDivide tt;
+      error = made_system image_parts _ xs _ C.Error tt;
+      acts = few;
+      few = omega (arith, inside);
+    } in
+    let variables : (x : Spot) → is_known s x ≡ true → IsNumber k x =
+    λ x h. main_number m input acts x (own_known m input acts x h) b in
     record {
       begun = b;
       level = refl;
@@ -62,18 +79,13 @@ main_ready once {program} m input acts few b calls =
       acts = few;
       turns = omega arith;
       held = omega arith;
-      raises = none_raised (block_for m input acts) (labels_in m.body ++ [])
-      (most_for program) (record {
-        routines = routines;
-        overflow = made_system image_parts _ xs _ C.FixedOverflow tt;
-        divisor = made_system image_parts _ xs _ C.ZeroDivide tt;
-        error = made_system image_parts _ xs _ C.Error tt;
-        acts = few;
-        few = omega (arith, inside);
-      });
-      variables = λ x h. main_number m input acts x (own_known m input acts x h) b;
+      raises = none_raised k (labels_in m.body ++ []) (most_for program) u;
+      variables = variables;
       calls = calls;
-      puts = λ e. absurd (cc e);
+      puts = λ e.
+          puts_known s k (most_for program) b u (error_routine once program m.loadable) variables
+          (lists_known program k m.memory
+          (main_told m input acts b));
       room = omega arith;
       returns = λ e. record {
         owner = refl;
@@ -154,5 +166,5 @@ pub headline_kept :
 headline_kept once tables kept program h fits =
     let a = and_parts (are_all_plain program.variables) (has_main program program.procedures) h.numbers in
     let load : IsLoadable program = record { well_formed = h.well_formed; fits = fits.code_fits } in
-    let m = main_is program program.procedures refl a.0 load a.1 in
+    let m = main_is program program.procedures refl a.0 load fits a.1 in
     kept program (layout_for m) (program_runs once tables m fits)

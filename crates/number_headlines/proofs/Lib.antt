@@ -1,4 +1,5 @@
 pub mod Tables
+pub mod Puts
 pub mod Mains
 pub mod Inner
 pub mod Calls
@@ -6,3 +7,4 @@ pub mod Functions
 pub mod Kept
 pub mod Rows
 pub mod CallRows
+pub mod PutRows

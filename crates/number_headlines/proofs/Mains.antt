@@ -12,7 +12,7 @@ use Rattle.pli_meaning.specs.Making.{with_binding}
 use Rattle.pli_meaning.specs.StorageState.{Activation, BlockUnit, OnUnit, SystemUnit, force, first_unit, unit_for}
 use Rattle.pli_meaning.specs.StorageState.{Binding}
 use Rattle.pli_coding.specs.Frames.{MemoryParts, fixed_size, parameters_in}
-use Rattle.pli_coding.specs.Images.{linked_code, place_of_head}
+use Rattle.pli_coding.specs.Images.{linked_code, picture_of, place_of_head}
 use Rattle.pli_coding.specs.Registers.{held_registers}
 use Rattle.activation_relation.specs.Chains.{HasParent}
 use Rattle.activation_relation.specs.Layers.{Layer, Point}
@@ -32,6 +32,9 @@ use Rattle.expression_runs.specs.Variables.{IsNumber, Spot, variable_of}
 use Rattle.activation_relation.specs.Points.{Surroundings}
 use Rattle.variable_runs.specs.Lists.{AreAll, all_made, behind_made, layer_behind, newest_all}
 use Rattle.well_formed_trees.specs.WellFormed.{HasMain}
+use Rattle.pli_headline.specs.Headline.{FitsMemory, parts}
+use Rattle.block_headlines.specs.Constants.{IsOf}
+use Rattle.block_headlines.proofs.Constants.{main_of_program}
 use Rattle.number_runs.specs.Numbers.{has_none, is_known, is_place, is_plain_if}
 use Rattle.number_runs.specs.Statements.{are_statements, statements_need}
 use Rattle.number_runs.specs.Variables.{HasWords, HaveRoom, IsOwnWord, words_in}
@@ -104,6 +107,7 @@ pub record Main (program : Y.Program) : Type 0 where
   pub main : IsMain program (record { head = head; body = body; others = others })
   pub plain : are_all_plain program.variables ≡ true
   pub loadable : IsLoadable program
+  pub memory : FitsMemory (picture_of parts program)
   pub statements : are_statements (main_scope program head) false (labels_in body ++ []) body ≡ true
   pub fits : statements_need body ≤ held_registers
 
@@ -113,9 +117,10 @@ placed m = record { head = m.head; body = m.body; others = m.others }
 
 pub main_is :
     (program : Y.Program) (ps : List Y.Procedure) → program.procedures ≡ ps →
-    are_all_plain program.variables ≡ true → IsLoadable program → has_main program ps ≡ true → Main program
-main_is program [] e plain load h = absurd (cc h)
-main_is program (p ∷ ps) e plain load h =
+    are_all_plain program.variables ≡ true → IsLoadable program → FitsMemory (picture_of parts program) →
+    has_main program ps ≡ true → Main program
+main_is program [] e plain load fits h = absurd (cc h)
+main_is program (p ∷ ps) e plain load fits h =
     let head = head_of p.block in
     let body = body_of p.block in
     let inner = is_body (main_scope program head) false body in
@@ -130,6 +135,7 @@ main_is program (p ∷ ps) e plain load h =
       main = e ∙ ap (λ x. x ∷ ps) (procedure_is false p a.0 b.0);
       plain = plain;
       loadable = load;
+      memory = fits;
       statements = c.0;
       fits = leb-true (statements_need body) held_registers c.1;
     }
@@ -290,3 +296,10 @@ main_number {program} m input acts x own b =
     own_word (surroundings_for program input acts) (linked_code (code_for program)) (main_for m input acts)
     (start_for program input acts) (start_for program input acts) no_numbers x
     (record { high = omega arith; inside = omega arith }) (main_words m input acts, main_all m input acts) own b
+
+-- what the program tells of its static data is told there
+pub main_told :
+    {program : Y.Program} (m : Main program) (input : List ℕ) (acts : ℕ) → IsBegun (block_for m input acts) →
+    IsOf program (block_for m input acts)
+main_told {program} m input acts b =
+    main_of_program program (run_for input acts) (block_for m input acts) refl refl refl b

@@ -46,7 +46,7 @@ inner_scope program main head =
       blocks = place_of_head head ∷ place_of_head main ∷ [];
       is_function = λ n. false;
       is_procedure = λ n. false;
-      puts = false;
+      puts = true;
     }
 
 abbrev pub is_inner : Y.Program → (main : Y.BlockHead) → (valued : Bool) → Y.Procedure → Bool
@@ -73,7 +73,7 @@ main_scope program head =
       blocks = place_of_head head ∷ [];
       is_function = is_callable program head true;
       is_procedure = is_callable program head false;
-      puts = false;
+      puts = true;
     }
 
 abbrev pub is_main : Y.Program → Y.Procedure → Bool

@@ -2,6 +2,7 @@
 
 ghost use Rattle.number_headlines.specs.CallRows.{CallingKept};
 ghost use Rattle.number_headlines.specs.Headlines.{NumberHeadlinesKept};
+ghost use Rattle.number_headlines.specs.PutRows.{SquaresKept};
 ghost use Rattle.number_headlines.specs.Rows.{TotalKept};
 
 use block_headlines::laws::headlines_kept;
@@ -27,6 +28,13 @@ pub fn total_kept()
 /// A worked row with calls: the same loop, in which a procedure and a function of the main procedure are called.
 pub fn calling_kept()
     ensures { CallingKept }
+{
+    number_headlines_kept();
+}
+
+/// A worked row that writes: a loop that prints a table of numbers with their squares.
+pub fn squares_kept()
+    ensures { SquaresKept }
 {
     number_headlines_kept();
 }

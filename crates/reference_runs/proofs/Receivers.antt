@@ -281,7 +281,11 @@ bound_known h =
           numbered = known.0.lives.numbered;
           extents = known.0.lives.extents;
         };
-        owned = record { living = known.0.owned.living; heap = known.0.owned.heap };
+        owned = record {
+          living = known.0.owned.living;
+          heap = known.0.owned.heap;
+          constants = known.0.owned.constants;
+        };
         over = known.0.over;
         running = known.0.running;
         allowed = known.0.allowed;
