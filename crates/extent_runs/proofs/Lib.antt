@@ -6,5 +6,6 @@ pub mod Words
 pub mod Placing
 pub mod PlacingCode
 pub mod Both
+pub mod Lists
 pub mod Entered
 pub mod Arrays

@@ -4,5 +4,6 @@ pub mod Extents
 pub mod Words
 pub mod Placing
 pub mod Both
+pub mod Lists
 pub mod Entered
 pub mod Arrays

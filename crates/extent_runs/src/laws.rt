@@ -4,6 +4,7 @@ ghost use Rattle.extent_runs.specs.Arrays.{ArraysFilled};
 ghost use Rattle.extent_runs.specs.Both.{ExtentsEvaluated, ExtentsPlaced};
 ghost use Rattle.extent_runs.specs.Entered.{BlocksEntered};
 ghost use Rattle.extent_runs.specs.Extents.{ExtentsDo, ExtentsEnd};
+ghost use Rattle.extent_runs.specs.Lists.{ListsFound};
 ghost use Rattle.extent_runs.specs.Making.{MakingBeginsDo, MakingProceduresRun, StraightMakes};
 ghost use Rattle.extent_runs.specs.Placing.{AdjustablesPlaced};
 ghost use Rattle.extent_runs.specs.Signatures.{SignaturesFilled};
@@ -57,6 +58,11 @@ pub fn extents_evaluated()
 /// From there on the variable is made, where the list of the extent's places stands in static data.
 pub fn extents_placed()
     ensures { ExtentsPlaced }
+{}
+
+/// The list of an extent's places is found at each point of a block that has its bytes; so the variable is made there.
+pub fn lists_found()
+    ensures { ListsFound }
 {}
 
 /// A block that has been entered has begun where the act of its extents has been made.
