@@ -38,13 +38,15 @@ use Rattle.nested_calls.specs.NestedFunctions.{IsNestedFunction}
 use Rattle.nested_calls.proofs.DeepCalls.{deep_call_ends}
 use Rattle.nested_calls.proofs.NestedCalls.{call_coded, call_of, given_in, nested_call_does}
 use Rattle.nested_calls.proofs.NestedFunctions.{deep_function_ends, nested_function_does}
-use Rattle.number_runs.specs.Knowledge.{IsReady, IsValued, KnowsCalls, call_number, call_statement}
+use Rattle.number_runs.specs.Knowledge.{IsReady, IsUnraised, IsValued, KnowsCalls, call_number, call_statement}
 use Rattle.number_runs.proofs.Statements.{body_does, none_raised}
+use Rattle.number_runs.proofs.Puts.{puts_known}
 use Rattle.number_runs.proofs.Takes.{registers_held}
 use Rattle.number_headlines.specs.Programs.{is_callable, scope_of}
 use Rattle.number_headlines.proofs.Entered.{are_made, entered, entered_at, none_waits, unraised_there}
 use Rattle.number_headlines.proofs.Inner.{Inner, inner_is}
 use Rattle.number_headlines.proofs.Mains.{Main, most_for, result_of, run_for}
+use Rattle.number_headlines.proofs.Puts.{error_routine, lists_known}
 use Rattle.number_headlines.proofs.Running.{IsRunning, MayCall, Running, block_of_run, callee_of, site_of}
 use Rattle.number_headlines.proofs.Tables.{block_plain}
 
@@ -101,24 +103,29 @@ ready once {program} m input acts valued more a ns blocks few inner h calls =
     let routines = raise_routines once program m.loadable in
     let inside = routines.linked.inside in
     let enough = h.enough in
+    let k = block_of_run program input acts valued more a in
+    let s = scope_of program ns a.head in
+    let u : IsUnraised k (most_for program) =
+    record {
+      routines = routines;
+      overflow = h.unraised C.FixedOverflow;
+      divisor = h.unraised C.ZeroDivide;
+      error = h.unraised C.Error;
+      acts = few;
+      few = omega (arith, inside);
+    } in
     record {
       begun = h.begun;
       acts = few;
       turns = omega (arith, enough);
       held = omega arith;
-      raises = none_raised (scope_of program ns a.head) (block_of_run program input acts valued more a)
-          (labels_in a.body ++ []) (most_for program) (record {
-            routines = routines;
-            overflow = h.unraised C.FixedOverflow;
-            divisor = h.unraised C.ZeroDivide;
-            error = h.unraised C.Error;
-            acts = few;
-            few = omega (arith, inside);
-          });
+      raises = none_raised s k (labels_in a.body ++ []) (most_for program) u;
       variables = h.variables;
       calls = calls;
       jumps = λ labels level label line index includes out. absurd (cc out);
-      puts = λ may. absurd (cc may);
+      puts = λ may.
+          puts_known s k (most_for program) h.begun u (error_routine once program m.loadable) h.variables
+          (lists_known program k m.memory h.told);
       room = omega arith;
       home = λ may. record {
         level = refl;

@@ -30,6 +30,7 @@ use Rattle.program_runs.specs.Variables.{Declared}
 use Rattle.expression_runs.specs.Variables.{IsNumber, Spot, number_declared, number_shape, variable_of}
 use Rattle.variable_runs.specs.Lists.{AreAll, all_made, behind_made, layer_behind}
 use Rattle.variable_runs.proofs.Lists.{all_procedure}
+use Rattle.block_headlines.proofs.Constants.{called_of_program}
 use Rattle.nested_calls.specs.Nested.{IsNested, parent_at}
 use Rattle.nested_calls.specs.NestedVariables.{IsInside}
 use Rattle.nested_calls.proofs.NestedVariables.{function_nested, function_number, procedure_nested, procedure_number}
@@ -361,6 +362,8 @@ entered {program} m {input} {acts} {valued} {more} {b} {a} {ns} {p} {numbers} o 
       variables = λ x h. each_number m o i call b' x h;
       unraised = λ condition. unraised_there m o i call condition;
       idle = same.waiting;
+      told = called_of_program program k (block_of_run program input acts v more (entered_at i k call p numbers)) numbers
+          o.running.told o.among refl refl b';
       free = record {
         layer = _;
         below = _;

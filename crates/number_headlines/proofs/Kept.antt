@@ -46,7 +46,8 @@ use Rattle.number_headlines.specs.Programs.{are_all_plain, has_main, most_words,
 use Rattle.number_headlines.proofs.Bodies.{each_body}
 use Rattle.number_headlines.proofs.Mains.{Main, block_for, level_of, made_for, made_system, main_all, main_begun}
 use Rattle.number_headlines.proofs.Mains.{main_for}
-use Rattle.number_headlines.proofs.Mains.{main_is, main_layer, main_number, main_room, main_spare, placed, run_for}
+use Rattle.number_headlines.proofs.Mains.{main_is, main_layer, main_number, main_room, main_spare, main_told, placed}
+use Rattle.number_headlines.proofs.Mains.{run_for}
 use Rattle.number_headlines.proofs.Mains.{spare_for, start_for, surroundings_for}
 use Rattle.number_headlines.proofs.Places.{around_is}
 use Rattle.number_headlines.proofs.Running.{IsRunning, Running}
@@ -176,6 +177,7 @@ main_running {program} m input acts b =
       variables = λ x h. main_variable m input acts b x h;
       unraised = λ c. made_system image_parts _ xs _ c tt;
       idle = same.waiting;
+      told = main_told m input acts b;
       free = record {
         layer = _;
         below = _;
@@ -260,5 +262,5 @@ pub headline_kept :
 headline_kept once tables kept program h fits =
     let a = and_parts (are_all_plain program.variables) (has_main program program.procedures) h.numbers in
     let load : IsLoadable program = record { well_formed = h.well_formed; fits = fits.code_fits } in
-    let m = main_is program program.procedures refl a.0 load a.1 in
+    let m = main_is program program.procedures refl a.0 load fits a.1 in
     kept program (layout_for m) (program_runs once tables m fits)

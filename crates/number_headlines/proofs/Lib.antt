@@ -1,4 +1,5 @@
 pub mod Tables
+pub mod Puts
 pub mod Mains
 pub mod Places
 pub mod Running
@@ -9,3 +10,4 @@ pub mod Kept
 pub mod Rows
 pub mod CallRows
 pub mod NestRows
+pub mod PutRows

@@ -12,7 +12,7 @@ use Rattle.pli_meaning.specs.Making.{with_binding}
 use Rattle.pli_meaning.specs.StorageState.{Activation, BlockUnit, OnUnit, SystemUnit, force, first_unit, unit_for}
 use Rattle.pli_meaning.specs.StorageState.{Binding, most_activations}
 use Rattle.pli_coding.specs.Frames.{MemoryParts, fixed_size, parameters_in}
-use Rattle.pli_coding.specs.Images.{linked_code}
+use Rattle.pli_coding.specs.Images.{linked_code, picture_of}
 use Rattle.pli_coding.specs.Registers.{held_registers}
 use Rattle.activation_relation.specs.Chains.{HasParent}
 use Rattle.activation_relation.specs.Layers.{Layer, Point}
@@ -32,6 +32,9 @@ use Rattle.expression_runs.specs.Variables.{IsNumber, Spot}
 use Rattle.activation_relation.specs.Points.{Surroundings}
 use Rattle.variable_runs.specs.Lists.{AreAll, all_made, behind_made, layer_behind, newest_all}
 use Rattle.well_formed_trees.specs.WellFormed.{HasMain}
+use Rattle.pli_headline.specs.Headline.{FitsMemory, parts}
+use Rattle.block_headlines.specs.Constants.{IsOf}
+use Rattle.block_headlines.proofs.Constants.{main_of_program}
 use Rattle.number_runs.specs.Numbers.{has_none}
 use Rattle.number_runs.specs.Statements.{are_statements, statements_need}
 use Rattle.number_runs.specs.Variables.{HasWords, HaveRoom, IsOwnWord, words_in}
@@ -104,6 +107,7 @@ pub record Main (program : Y.Program) : Type 0 where
   pub main : IsMain program (record { head = head; body = body; others = others })
   pub plain : are_all_plain program.variables ≡ true
   pub loadable : IsLoadable program
+  pub memory : FitsMemory (picture_of parts program)
   -- the numbers of the procedures that it calls, and of those that they call
   pub called : List ℕ
   pub inner : List ℕ
@@ -135,8 +139,9 @@ record Depth (program : Y.Program) (called inner : List ℕ) : Type 0 where
 main_by :
     (program : Y.Program) (p : Y.Procedure) (ps : List Y.Procedure) (called inner : List ℕ) →
     program.procedures ≡ p ∷ ps → are_all_plain program.variables ≡ true → IsLoadable program →
-    Depth program called inner → is_main program called inner p ≡ true → Main program
-main_by program p ps called inner e plain load d h =
+    FitsMemory (picture_of parts program) → Depth program called inner →
+    is_main program called inner p ≡ true → Main program
+main_by program p ps called inner e plain load fits d h =
     let head = head_of p.block in
     let body = body_of p.block in
     let s = scope_of program called head in
@@ -153,6 +158,7 @@ main_by program p ps called inner e plain load d h =
       main = e ∙ ap (λ x. x ∷ ps) (procedure_is false p a.0 b.0);
       plain = plain;
       loadable = load;
+      memory = fits;
       called = called;
       inner = inner;
       statements = f.0;
@@ -168,9 +174,10 @@ main_by program p ps called inner e plain load d h =
 
 pub main_is :
     (program : Y.Program) (ps : List Y.Procedure) → program.procedures ≡ ps →
-    are_all_plain program.variables ≡ true → IsLoadable program → has_main program ps ≡ true → Main program
-main_is program [] e plain load h = absurd (cc h)
-main_is program (p ∷ ps) e plain load h =
+    are_all_plain program.variables ≡ true → IsLoadable program → FitsMemory (picture_of parts program) →
+    has_main program ps ≡ true → Main program
+main_is program [] e plain load fits h = absurd (cc h)
+main_is program (p ∷ ps) e plain load fits h =
     by (is_main program (calling_none program) [] p) refl h
   where
     deep : Bool
@@ -178,7 +185,7 @@ main_is program (p ∷ ps) e plain load h =
 
     by : (q : Bool) → is_main program (calling_none program) [] p ≡ q → (q || deep) ≡ true → Main program
     by true is f =
-        main_by program p ps (calling_none program) [] e plain load
+        main_by program p ps (calling_none program) [] e plain load fits
         (record {
           words = most_words;
           blocks = 1;
@@ -191,7 +198,7 @@ main_is program (p ∷ ps) e plain load h =
     by false is f =
         let a = and_parts (are_all_few program.variables)
         (is_main program (calling_each program) (calling_each program) p) f in
-        main_by program p ps (calling_each program) (calling_each program) e plain load
+        main_by program p ps (calling_each program) (calling_each program) e plain load fits
         (record {
           words = few_words;
           blocks = most_activations;
@@ -344,3 +351,10 @@ main_number {program} m input acts x own b =
     own_word (surroundings_for program input acts) (linked_code (code_for program)) (main_for m input acts)
     (start_for program input acts) (start_for program input acts) no_numbers x
     (record { high = omega arith; inside = omega arith }) (main_words m input acts, main_all m input acts) own b
+
+-- what the program tells of its static data is told there
+pub main_told :
+    {program : Y.Program} (m : Main program) (input : List ℕ) (acts : ℕ) → IsBegun (block_for m input acts) →
+    IsOf program (block_for m input acts)
+main_told {program} m input acts b =
+    main_of_program program (run_for input acts) (block_for m input acts) refl refl refl b

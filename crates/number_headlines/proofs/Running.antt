@@ -28,6 +28,7 @@ use Rattle.program_runs.specs.Procedures.{Procedure, block_of, layer_for}
 use Rattle.program_runs.specs.Statements.{Block, IsAmong, IsBegun}
 use Rattle.expression_runs.specs.Variables.{IsNumber, Spot, number_shape}
 use Rattle.function_runs.specs.Functions.{function_entry}
+use Rattle.block_headlines.specs.Constants.{IsOf}
 use Rattle.nested_calls.specs.Nested.{IsNested}
 use Rattle.number_runs.specs.Numbers.{is_known}
 use Rattle.number_runs.specs.Statements.{are_statements, statements_need}
@@ -147,6 +148,8 @@ pub record IsRunning {program : Y.Program} (m : Main program) (input : List ℕ)
     pub unraised :
         (c : Condition) → IsSystem (force (block_of_run program input acts valued more a).first.state.activations c)
     pub idle : (block_of_run program input acts valued more a).first.control.waiting ≡ None
+    -- what the program tells of its static data is told there
+    pub told : IsOf program (block_of_run program input acts valued more a)
     pub free :
         Free (surroundings_for program input acts) (block_of_run program input acts valued more a).first
         (spare_for m blocks)

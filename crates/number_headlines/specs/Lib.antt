@@ -3,3 +3,4 @@ pub mod Headlines
 pub mod Rows
 pub mod CallRows
 pub mod NestRows
+pub mod PutRows

@@ -1,5 +1,5 @@
 -- PUT SKIP, and PUT EDIT of numbers by lists of F items, do what they mean.
-use Rattle.std.proofs.Common.{◌≡◌, ℕ, zero, suc, ◌+◌, ◌≤◌, List, [], ◌∷◌, ◌++◌, true, false, refl, sym, ap}
+use Rattle.std.proofs.Common.{◌≡◌, ℕ, zero, suc, ◌+◌, ◌*◌, ◌≤◌, List, [], ◌∷◌, ◌++◌, true, false, refl, sym, ap}
 use Rattle.std.proofs.Common.{◌∙◌, subst, arith, inl, None, Some}
 use Rattle.std.specs.Prelude.{◌&&◌, map, max, nat_le, Option}
 use Rattle.std.proofs.lemmas.Bool.{and_parts, leb-true}
@@ -10,8 +10,9 @@ use Rattle.pli_meaning.specs.Control.{Label}
 use Rattle.pli_meaning.specs.Streaming.{DataFormat, FixedItem, FormatItem, format_items, repeated}
 use Rattle.pli_serving.specs.ServiceState.{EditPlace}
 use Rattle.pli_coding.specs.Allocating.{act_code}
-use Rattle.pli_coding.specs.Assembly.{size_of}
+use Rattle.pli_coding.specs.Assembly.{RaiseError, size_of}
 use Rattle.pli_coding.specs.Environments.{none_taken}
+use Rattle.pli_coding.specs.Linking.{place_of}
 use Rattle.pli_coding.specs.Registers.{held_registers}
 use Rattle.pli_coding.specs.Statements.{stmt_code}
 use Rattle.pli_coding.specs.StaticForms.{formats_datum}
@@ -20,15 +21,20 @@ use Rattle.pli_coding.specs.Streams.{has_text}
 use Rattle.run_steps.specs.Items.{Linked}
 use Rattle.run_steps.specs.Reach.{cost}
 use Rattle.run_steps.proofs.Jumps.{back_of}
-use Rattle.program_runs.specs.Statements.{Block, Does, HasAct, size_in}
+use Rattle.program_runs.specs.Statements.{Block, Does, HasAct, IsBegun, size_in}
 use Rattle.expression_runs.specs.Assignments.{setting_of}
 use Rattle.expression_runs.specs.Values.{Setting}
+use Rattle.expression_runs.specs.Variables.{IsNumber, Spot}
+use Rattle.expression_runs.proofs.Raises.{overflow_ends}
+use Rattle.operator_runs.proofs.Divisors.{zero_divide_ends}
+use Rattle.text_runs.proofs.Errors.{error_ends}
 use Rattle.edit_runs.specs.Edits.{AreFixed, AreListed, IsFixed, IsSkipped, Item, ItemsDo, Pair, PairsDo, Put}
 use Rattle.edit_runs.specs.Edits.{put_items, put_pairs, within}
+use Rattle.edit_runs.proofs.Places.{begun_placed, number_placed}
 use Rattle.edit_runs.proofs.Puts.{put_does}
 use Rattle.edit_runs.proofs.Skips.{skip_does}
-use Rattle.number_runs.specs.Knowledge.{KnowsNumbers, KnowsPuts}
-use Rattle.number_runs.specs.Numbers.{Scope, is_number, number_needs}
+use Rattle.number_runs.specs.Knowledge.{IsUnraised, KnowsLists, KnowsNumbers, KnowsPuts}
+use Rattle.number_runs.specs.Numbers.{Scope, is_known, is_number, number_needs}
 use Rattle.number_runs.specs.Puts.{are_fixed_items, are_pairs, are_put_items, is_fixed_list, is_put, is_put_item}
 use Rattle.number_runs.specs.Puts.{is_put_list, is_skip, put_items_need, put_needs, without_calls}
 use Rattle.number_runs.proofs.Expressions.{more_registers, number_does}
@@ -280,3 +286,43 @@ put_statement_does s k labels skip (p ∷ ps) line index left' most h has =
     let a = and_parts (is_skip skip) (s.puts && are_pairs s (p ∷ ps)) h in
     let b = and_parts s.puts (are_pairs s (p ∷ ps)) a.1 in
     edit_does s k labels skip p ps line index left' most a.0 b.0 b.1 has
+
+-- ---- what is known where no unit is in force
+
+pub puts_known :
+    (s : Scope) (k : Block) (most : ℕ) → IsBegun k → (u : IsUnraised k most) →
+    place_of k.call.surroundings.links RaiseError ≡ 4 * (u.routines.at + 8) →
+    ((x : Spot) → is_known s x ≡ true → IsNumber k x) → KnowsLists k → KnowsPuts s k most
+puts_known s k most b u raises variables lists =
+    let few = u.few in
+    record {
+      numbers = λ place labels line.
+          let h = within place (setting_of k labels line most) in
+          record {
+            begun = begun_placed k place b;
+            overflow = λ may. overflow_ends h (record {
+              routines = u.routines;
+              overflow = u.overflow;
+              error = u.error;
+              acts = u.acts;
+              most = u.few;
+            });
+            divisor = λ may. zero_divide_ends h (record {
+              routines = u.routines;
+              divisor = u.divisor;
+              error = u.error;
+              acts = u.acts;
+              most = u.few;
+            });
+            variables = λ x is. number_placed k place x (variables x is);
+            functions = λ level n is. absurd (cc is);
+          };
+      error = λ place labels line. error_ends (List ℕ) (within place (setting_of k labels line most)) (record {
+        routines = u.routines;
+        raises = raises;
+        error = u.error;
+        acts = u.acts;
+        most = omega (arith, few);
+      });
+      lists = lists;
+    }

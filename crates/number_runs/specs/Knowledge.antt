@@ -47,8 +47,14 @@ pub record KnowsNumbers (s : Scope) (k : Setting) : Type 0 where
   pub variables : (x : Spot) → is_known s x ≡ true → IsNumber k.block x
   pub functions : (level n : ℕ) → s.is_function level n ≡ true → L.Does k 0 (call_number level n)
 
--- around what is written it is known while a place in a format list is in use; an ERROR there comes to what it means;
--- and each list that static data have is known
+-- each list of F items that static data have is known
+abbrev pub KnowsLists : Block → Type 0
+KnowsLists k =
+    (fs : T.Formats) → is_fixed_list fs ≡ true → IsPlaced (formats_datum fs) k.call.surroundings.links.data' →
+    KnowsFormats k fs
+
+-- around what is written as much is known while a place in a format list is in use, an ERROR there comes to what it
+-- means, and the lists are known
 pub record KnowsPuts (s : Scope) (k : Block) (most : ℕ) : Type 0 where
   pub numbers :
       (place : EditPlace) (labels : List Label) (line : ℕ) →
@@ -56,9 +62,7 @@ pub record KnowsPuts (s : Scope) (k : Block) (most : ℕ) : Type 0 where
   pub error :
       (place : EditPlace) (labels : List Label) (line : ℕ) →
       ErrorComes (List ℕ) (within place (setting_of k labels line most))
-  pub lists :
-      (fs : T.Formats) → is_fixed_list fs ≡ true →
-      IsPlaced (formats_datum fs) k.call.surroundings.links.data' → KnowsFormats k fs
+  pub lists : KnowsLists k
 
 -- ---- around statements
 
