@@ -60,9 +60,9 @@ use Rattle.unit_runs.proofs.OwnRaises.{past_like, past_numbers}
 use Rattle.unit_runs.proofs.UnitRuns.{overflow_returns}
 use Rattle.unit_runs.proofs.UnitVariables.{none_made, outer_number, unit_over}
 use Rattle.unit_numbers.specs.Units.{own_scope, unit_scope}
-use Rattle.unit_numbers.proofs.Mains.{Main, block_for, free, level_of, main_lone, main_number, most_for, own_known}
-use Rattle.unit_numbers.proofs.Mains.{Lone, main_begun, main_layer, placed, surroundings_for}
-use Rattle.unit_numbers.proofs.Outer.{lone_own, made_stacks, main_saves, main_top}
+use Rattle.unit_numbers.proofs.Mains.{Alone, Main, block_for, first_alone, free, level_of, main_begun, main_layer}
+use Rattle.unit_numbers.proofs.Mains.{main_number, most_for, own_known, placed, surroundings_for}
+use Rattle.unit_numbers.proofs.Outer.{alone_own, made_stacks, main_saves, main_top}
 use Rattle.unit_numbers.proofs.Divides.{divide_returns}
 use Rattle.unit_numbers.proofs.Established.{IsUnitOf, Newest, error_system, none_system}
 use Rattle.unit_numbers.proofs.Past.{alone_parent, main_alone, main_past, past_lower}
@@ -125,7 +125,7 @@ own_raise once {program} m input more few b x index h =
     let fits = f.fits in
     let top = ap (λ ls. upper_top image_parts ls) f.newest in
     let lower = ap (λ ls. lower_end image_parts ls) f.newest in
-    let one = main_lone m input (suc more) in
+    let one = first_alone m input (suc more) in
     let stands = unit_placed links code index e x around (λ q. q) h.placed in
     let inside = stands.linked.inside in
     let behind = h.behind in
@@ -476,9 +476,8 @@ own_is once {program} m input more past labels line few b includes known n =
       found = λ r is made b'.
           ap height_of (same_ancestor m.head.level (unit_over k y more h.0 r own is made b') h.0.begun is.among
           (omega (arith, outer, level)))
-          ∙ (past_like k0 past).ancestors m.head.level
           ∙ ap (λ as'. height_of (ancestor as' (newest_height as') m.head.level)) one.is
-          ∙ lone_own m.head.level one.bindings;
+          ∙ alone_own m.head.level one.bindings one.units;
       system = λ r is c system.
           subst IsSystem (sym (ap (λ as'. force as' c) is.among.later.activations)) system;
     }
@@ -492,8 +491,8 @@ own_is once {program} m input more past labels line few b includes known n =
     y : Standing
     y = unit_at m more n.unit n.index
 
-    one : Lone m.head.level k0.first.state.activations
-    one = main_lone m input (suc more)
+    one : Alone m.head.level k.block.first.state.activations
+    one = main_alone m input (suc more) past
 
     level : n.unit.head.level ≡ 1
     level = (unit_is program m.head m.body n.unit n.placed.is).level
