@@ -15,3 +15,4 @@ pub mod Bodies
 pub mod Kept
 pub mod Rows
 pub mod GuardRows
+pub mod Spread

@@ -1,6 +1,6 @@
 -- What a jump out of a unit finds of the main procedure: its stacks, its frame's end and the registers that it saves.
 use Rattle.std.proofs.Common.{◌≡◌, ℕ, ◌+◌, ◌*◌, ◌≤◌, List, [], ◌∷◌, length}
-use Rattle.std.proofs.Common.{true, refl, ap, ◌∙◌, arith}
+use Rattle.std.proofs.Common.{true, refl, ap, ◌∙◌, subst, arith}
 use Rattle.std.specs.Prelude.{min}
 use Rattle.std.proofs.Common.{Some, None}
 use Rattle.std.specs.Prelude.{cond}
@@ -25,7 +25,8 @@ use Rattle.number_runs.specs.Numbers.{is_plain}
 use Rattle.number_runs.specs.Variables.{are_plain}
 use Rattle.number_runs.proofs.Variables.{plain_is}
 use Rattle.number_headlines.proofs.Tables.{block_plain}
-use Rattle.unit_numbers.proofs.Mains.{Main, alone, block_for, free, main_spare, main_words}
+use Rattle.unit_numbers.proofs.Mains.{Main, alone, block_for, free, list_of, main_spare, main_words}
+use Rattle.unit_numbers.proofs.Spread.{spread_labels}
 
 -- ---- its activation
 
@@ -97,6 +98,8 @@ labels_saved program label (Y.StmtThen [] first rest) e =
 labels_saved program label (Y.StmtThen (l ∷ ls) first rest) e = omega arith
 
 pub main_saves :
-    {program : Y.Program} (m : Main program) (label : Label) → is_among label (labels_in m.body) ≡ true →
+    {program : Y.Program} (m : Main program) (label : Label) → is_among label (labels_in (list_of m)) ≡ true →
     held_registers ≤ block_held (environment_for program m.head) m.head.number m.body
-main_saves {program} m label e = let h = labels_saved program label m.body e in omega (arith, h)
+main_saves {program} m label e =
+    let h = labels_saved program label m.body (subst (λ ls. is_among label ls ≡ true) (spread_labels m.body) e) in
+    omega (arith, h)

@@ -4,3 +4,4 @@ pub mod Programs
 pub mod Headlines
 pub mod Rows
 pub mod GuardRows
+pub mod Groups
