@@ -1,6 +1,6 @@
 -- The main procedure of a program of the class: each of its statements does what it means, and so it keeps the
 -- headline.
-use Rattle.std.proofs.Common.{◌≡◌, ◌⊎◌, inl, inr, ℕ, ◌+◌, ◌^◌, ◌<◌, ◌≤◌, List, [], ◌∷◌, ◌++◌, length, None}
+use Rattle.std.proofs.Common.{◌≡◌, ℕ, ◌+◌, ◌^◌, ◌<◌, List, [], ◌∷◌, ◌++◌, length, None}
 use Rattle.std.proofs.Common.{true, false, refl, sym, ap, ◌∙◌, subst, arith}
 use Rattle.std.specs.List.{list_any}
 use Rattle.std.proofs.lemmas.Bool.{and_parts}
@@ -45,7 +45,8 @@ use Rattle.number_headlines.proofs.Bodies.{each_body}
 use Rattle.number_headlines.proofs.FullWords.{words_at, words_count, words_lower}
 use Rattle.number_headlines.proofs.Mains.{Main, block_for, level_of, made_for, made_system, main_all, main_begun}
 use Rattle.number_headlines.proofs.Mains.{main_for}
-use Rattle.number_headlines.proofs.Mains.{main_is, main_layer, main_number, main_room, main_spare, no_words, placed, run_for}
+use Rattle.number_headlines.proofs.Mains.{main_is, main_layer, main_number, main_room, main_spare, no_words, placed}
+use Rattle.number_headlines.proofs.Mains.{run_for}
 use Rattle.number_headlines.proofs.Mains.{spare, start_for, surroundings_for}
 use Rattle.number_headlines.proofs.Places.{around_is}
 use Rattle.number_headlines.proofs.Running.{IsRunning, Running}
