@@ -32,7 +32,7 @@ use Rattle.program_places.proofs.Functions.{function_end_is, function_stands}
 use Rattle.program_places.proofs.Procedures.{body_placed, raise_routines}
 use Rattle.program_runs.specs.Calls.{left_over}
 use Rattle.program_runs.specs.Starts.{image_parts}
-use Rattle.program_runs.specs.Statements.{Block, Does, EachDoes, IsBegun, IsOwn}
+use Rattle.program_runs.specs.Statements.{Does, EachDoes, IsBegun, IsOwn}
 use Rattle.expression_runs.specs.Assignments.{setting_of}
 use Rattle.expression_runs.specs.Laws as L
 use Rattle.nested_calls.specs.NestedCalls.{HasFrame, IsNestedCall}
@@ -167,7 +167,8 @@ EachBody {program} m input acts more =
 
 -- the frame of what is called has room
 frame_fits :
-    {program : Y.Program} (m : Main program) (input : List ℕ) (acts : ℕ) (valued : Bool) (more b : ℕ) (a : Running) → IsRunning m input acts valued (suc more) a (suc b) → {v : Bool} {level number : ℕ}
+    {program : Y.Program} (m : Main program) (input : List ℕ) (acts : ℕ) (valued : Bool) (more b : ℕ) (a : Running) →
+    IsRunning m input acts valued (suc more) a (suc b) → {v : Bool} {level number : ℕ}
     (i : Inner m a.head v level number) (call : ℕ) (p : Point) (numbers : ℕ → ℕ) →
     HasFrame (block_of_run program input acts valued (suc more) a)
     (callee_of program v more (entered_at i (block_of_run program input acts valued (suc more) a) call p numbers))

@@ -216,11 +216,13 @@ nested_by :
     (entered_at i (block_of_run program input acts valued (suc more) a) call p numbers)) →
     IsNested (block_of_run program input acts v more
     (entered_at i (block_of_run program input acts valued (suc more) a) call p numbers))
-nested_by false {program} m {input} {acts} {valued} {more} {a = a} {p = p} {numbers = numbers} o {level} i call pass b' =
+nested_by false {program} m {input} {acts} {valued} {more} {a = a} {p = p} {numbers = numbers} o {level} i call pass
+    b' =
     let k = block_of_run program input acts valued (suc more) a in
     procedure_nested k (callee_of program false more (entered_at i k call p numbers)) level (is_inside m o i call) p
     numbers o.among (are_made m o i call pass) b'
-nested_by true {program} m {input} {acts} {valued} {more} {a = a} {p = p} {numbers = numbers} o {level} i call pass b' =
+nested_by true {program} m {input} {acts} {valued} {more} {a = a} {p = p} {numbers = numbers} o {level} i call pass
+    b' =
     let k = block_of_run program input acts valued (suc more) a in
     function_nested k (callee_of program true more (entered_at i k call p numbers)) level (is_inside m o i call) p
     numbers o.among (are_made m o i call pass) b'
@@ -237,13 +239,13 @@ outer_by :
     x.level ≤ level → IsNumber (block_of_run program input acts valued (suc more) a) x →
     IsNumber (block_of_run program input acts v more
     (entered_at i (block_of_run program input acts valued (suc more) a) call p numbers)) x
-outer_by false {program} m {input} {acts} {valued} {more} {a = a} {p = p} {numbers = numbers} o {level} i call pass b' x low
-    is =
+outer_by false {program} m {input} {acts} {valued} {more} {a = a} {p = p} {numbers = numbers} o {level} i call pass
+    b' x low is =
     let k = block_of_run program input acts valued (suc more) a in
     procedure_number k (callee_of program false more (entered_at i k call p numbers)) level x (is_inside m o i call) low
     is p numbers o.among (are_made m o i call pass) b'
-outer_by true {program} m {input} {acts} {valued} {more} {a = a} {p = p} {numbers = numbers} o {level} i call pass b' x low
-    is =
+outer_by true {program} m {input} {acts} {valued} {more} {a = a} {p = p} {numbers = numbers} o {level} i call pass
+    b' x low is =
     let k = block_of_run program input acts valued (suc more) a in
     function_number k (callee_of program true more (entered_at i k call p numbers)) level x (is_inside m o i call) low
     is p numbers o.among (are_made m o i call pass) b'
@@ -261,13 +263,15 @@ own_by :
     is_plain_if (declared_variable program (variable_of x)) ≡ true →
     IsNumber (block_of_run program input acts v more
     (entered_at i (block_of_run program input acts valued (suc more) a) call p numbers)) x
-own_by false {program} m {input} {acts} {valued} {more} {a = a} {p = p} {numbers = numbers} o i call pass b' x is plain =
+own_by false {program} m {input} {acts} {valued} {more} {a = a} {p = p} {numbers = numbers} o i call pass b' x is
+    plain =
     let k = block_of_run program input acts valued (suc more) a in
     own_word (surroundings_for program input acts) (linked_code (code_for program))
     (callee_of program false more (entered_at i k call p numbers)) p p numbers x
     (record { high = omega arith; inside = omega arith }) (has_words m o i call pass, has_all m o i call pass)
     (record { block = is.0; level = is.1; plain = plain }) b'
-own_by true {program} m {input} {acts} {valued} {more} {a = a} {p = p} {numbers = numbers} o i call pass b' x is plain =
+own_by true {program} m {input} {acts} {valued} {more} {a = a} {p = p} {numbers = numbers} o i call pass b' x is
+    plain =
     let k = block_of_run program input acts valued (suc more) a in
     function_word (surroundings_for program input acts) (linked_code (code_for program))
     (callee_of program true more (entered_at i k call p numbers)) p p numbers x

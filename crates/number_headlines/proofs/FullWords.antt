@@ -1,10 +1,9 @@
 -- Variables of a block of the class: what they count for in AUTOMATIC storage, and that those which pass the limit on
 -- that end the run.
-use Rattle.std.proofs.Common.{◌≡◌, ℕ, suc, ◌+◌, ◌*◌, ◌%◌, ◌^◌, ◌<◌, ◌≤◌, List, [], ◌∷◌, ◌++◌, length, Some, Bool, true, false}
-use Rattle.std.proofs.Common.{refl, sym, ap, ◌∙◌, subst, arith}
-use Rattle.std.specs.Prelude.{cond, nat_le, nat_lt, ◌==◌, if◌then◌else◌}
+use Rattle.std.proofs.Common.{◌≡◌, ℕ, suc, ◌+◌, ◌*◌, ◌%◌, ◌^◌, ◌<◌, ◌≤◌, List, [], ◌∷◌, length, Some, Bool, true, false}
+use Rattle.std.proofs.Common.{refl, ap, ◌∙◌, arith}
+use Rattle.std.specs.Prelude.{cond, nat_le, nat_lt, if◌then◌else◌}
 use Rattle.std.proofs.lemmas.Bool.{and_parts, leb-true}
-use Rattle.std.proofs.lemmas.Bool.Decides.{nat_tests}
 use Rattle.rv_meaning.specs.declared.instr.Instr.{Instr}
 use Rattle.pli_typing.specs.TypedTree as Y
 use Rattle.pli_meaning.specs.BasicValues.{VariableName}
@@ -28,14 +27,13 @@ use Rattle.pli_coding.specs.Locating.{table_number}
 use Rattle.storage_relation.proofs.Holders.{eqb-other}
 use Rattle.activation_relation.specs.Layers.{Layer, Point, services_of}
 use Rattle.activation_relation.specs.Points.{Stands, Surroundings}
-use Rattle.activation_relation.specs.Variables.{with_made}
 use Rattle.run_steps.specs.Items.{Linked}
 use Rattle.run_steps.proofs.Jumps.{back_of, front_of}
 use Rattle.run_steps.proofs.Linking.{size_append}
 use Rattle.run_steps.specs.Reach.{Family, cost, reached}
 use Rattle.run_steps.proofs.Reach.{reached_holds}
 use Rattle.block_runs.specs.Machines.{AreIn, IsImage}
-use Rattle.program_runs.specs.Variables.{IsDeclared, generation_for, made_of}
+use Rattle.program_runs.specs.Variables.{IsDeclared, generation_for}
 use Rattle.program_runs.proofs.Variables.{made_becomes, variable_comes, variable_means}
 use Rattle.expression_runs.specs.Variables.{number_declared, number_shape}
 use Rattle.variable_runs.specs.Lists.{all_made, behind_made, layer_after, layer_behind, made_code}
@@ -55,8 +53,6 @@ pub record IsOwner (p : Point) : Type 0 where
   pub below : List Activation
   pub active : p.state.activations ≡ activation ∷ below
   pub some : 0 < activation.height
-
-
 
 next_owner :
     (parts : MemoryParts) (p : Point) (φ : Layer) (number place index : ℕ) → IsOwner p →
