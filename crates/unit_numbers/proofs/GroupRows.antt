@@ -102,17 +102,23 @@ group_sound = record {
       (
         (
           (
-            (tt, (record { line = omega arith; level = refl }, refl)),
             (
               (
+                (tt, (record { line = omega arith; level = refl }, refl)),
                 (
-                  record { type = Y.FixedLeaf 31; scalar = unit_scalar; fits = refl },
-                  ((unit_is, (tt, (tt, tt))), (((omega arith, omega arith), omega arith), omega arith)),
+                  (
+                    (
+                      record { type = Y.FixedLeaf 31; scalar = unit_scalar; fits = refl },
+                      ((unit_is, (tt, (tt, tt))), (((omega arith, omega arith), omega arith), omega arith)),
+                    ),
+                    tt,
+                  ),
+                  omega arith,
                 ),
-                tt,
               ),
-              omega arith,
+              tt,
             ),
+            omega arith,
           ),
           (
             (
@@ -139,7 +145,7 @@ group_sound = record {
       tt,
     ),
   );
-  labels = (tt, (tt, (((tt, (tt, tt)), (tt, tt)), tt)));
+  labels = (tt, (tt, ((((tt, (tt, tt)), tt), (tt, tt)), tt)));
   parameters = tt;
   apart = tt;
   result = tt;
@@ -251,7 +257,7 @@ statements = tt
 
 pub group_ends :
     (input : List ℕ) →
-    M.meaning group_program input 9
-    ≡ Some (record { acts = 9; output = []; raised = (C.FixedOverflow, 20) ∷ []; end = E.Finished })
+    M.meaning group_program input 10
+    ≡ Some (record { acts = 10; output = []; raised = (C.FixedOverflow, 20) ∷ []; end = E.Finished })
 unfolding M.meaning M.run M.entered M.block_run flows values makings statements
 group_ends input = refl

@@ -1,4 +1,4 @@
--- A worked row: a program of the class with ON in a group.
+-- A worked row: a program of the class with ON in a group in a group.
 use Rattle.std.specs.Prelude.{ℕ, ◌≡◌, List, [], ◌∷◌, Some, None}
 use Rattle.pli_language.specs.declared.condition.Condition.TheVariants as C
 use Rattle.pli_typing.specs.TypedTree as Y
@@ -10,7 +10,8 @@ use Rattle.expression_runs.specs.Assignments.{assignment}
 use Rattle.expression_runs.specs.Variables.{Spot, number_declared, whole}
 use Rattle.pli_headline.specs.Headline.{Headline, parts}
 
--- DECLARE X FIXED BINARY(31); X = 2147483647; DO; ON FIXEDOVERFLOW BEGIN; X = 1; END; X = X + X - X; END;
+-- DECLARE X FIXED BINARY(31); X = 2147483647; DO; DO; ON FIXEDOVERFLOW BEGIN; X = 1; END; END;
+-- X = X + X - X; END;
 
 abbrev pub group_spot : Spot
 group_spot = record { block = 1; level = 0; index = 0 }
@@ -27,10 +28,12 @@ unit_head = record { kind = Y.UnitBlock; number = 2; level = 1; line = 4 }
 abbrev pub group_sum : Y.Number
 group_sum = Y.Calculated Y.Difference (Y.Calculated Y.Sum group_value group_value) group_value
 
+abbrev pub group_inner : Y.Stmts
+group_inner = Y.StmtThen [] (Y.OnUnit C.FixedOverflow (Y.BlockOf unit_head unit_body) 4) (Y.EndOfList [])
+
 abbrev pub group_inside : Y.Stmts
 group_inside =
-    Y.StmtThen [] (Y.OnUnit C.FixedOverflow (Y.BlockOf unit_head unit_body) 4)
-    (Y.StmtThen [] (assignment group_spot group_sum 6) (Y.EndOfList []))
+    Y.StmtThen [] (Y.Do group_inner 4) (Y.StmtThen [] (assignment group_spot group_sum 6) (Y.EndOfList []))
 
 abbrev pub group_body : Y.Stmts
 group_body =
@@ -52,5 +55,5 @@ pub record GroupKept : Type 0 where
   -- it raises FIXEDOVERFLOW, and ends behind its last statement
   pub ends :
       (input : List ℕ) →
-      meaning group_program input 9
-      ≡ Some (record { acts = 9; output = []; raised = (C.FixedOverflow, 20) ∷ []; end = E.Finished })
+      meaning group_program input 10
+      ≡ Some (record { acts = 10; output = []; raised = (C.FixedOverflow, 20) ∷ []; end = E.Finished })

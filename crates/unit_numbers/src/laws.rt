@@ -32,7 +32,7 @@ pub fn guard_kept()
     unit_number_headlines_kept();
 }
 
-/// A worked row: ON in a group, whose unit is raised in it.
+/// A worked row: ON in a group in a group, whose unit is raised behind it.
 pub fn group_kept()
     ensures { GroupKept }
 {
