@@ -44,7 +44,7 @@ use Rattle.unit_numbers.proofs.Established.{InForce, IsUnitOf, error_system, in_
 use Rattle.unit_numbers.proofs.Established.{unit_stands}
 use Rattle.unit_numbers.proofs.Mains.{Main, block_for, list_of, main_held, main_number, most_for, own_known, placed}
 use Rattle.unit_numbers.proofs.Raises.{divide_with, overflow_with, past_setting}
-use Rattle.unit_numbers.proofs.Spread.{list_means, spread_code}
+use Rattle.unit_numbers.proofs.Spread.{all_means, all_code}
 use Rattle.unit_numbers.proofs.Takes.{unit_found}
 use Rattle.unit_numbers.proofs.Units.{unit_is}
 
@@ -224,12 +224,12 @@ main_ends once {program} m input acts few b p numbers f o there =
     let at = list_placed once m input acts in
     let first = b.acts in
     subst (λ flow. Comes k.call.code 0 f (services_of p) (body_aims k.call left_over) flow)
-    (list_means k.around acts m.body acts p.state refl)
+    (all_means k.around acts m.body acts p.state refl)
     (changing_ends k (list_of m) (start_of m) left_over
     (record {
       begun = b;
       linked = at.linked;
-      end = ap (λ c. start_of m + size_of c) (sym (spread_code e m.body));
+      end = ap (λ c. start_of m + size_of c) (sym (all_code e m.body));
       function = refl;
       kind = refl;
       registers = omega arith;
