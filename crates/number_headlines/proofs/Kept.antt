@@ -1,133 +1,228 @@
 -- The main procedure of a program of the class: each of its statements does what it means, and so it keeps the
 -- headline.
-use Rattle.std.proofs.Common.{◌≡◌, ℕ, ◌+◌, ◌^◌, ◌<◌, List, [], ◌++◌, None}
-use Rattle.std.proofs.Common.{false, true}
-use Rattle.std.proofs.Common.{refl, arith}
+use Rattle.std.proofs.Common.{◌≡◌, ◌⊎◌, inl, inr, ℕ, ◌+◌, ◌^◌, ◌<◌, ◌≤◌, List, [], ◌∷◌, ◌++◌, length, None}
+use Rattle.std.proofs.Common.{true, false, refl, sym, ap, ◌∙◌, subst, arith}
+use Rattle.std.specs.List.{list_any}
 use Rattle.std.proofs.lemmas.Bool.{and_parts}
-use Rattle.pli_language.specs.declared.condition.Condition.TheVariants as C
 use Rattle.pli_typing.specs.TypedTree as Y
+use Rattle.pli_meaning.specs.BasicValues.{VariableName}
+use Rattle.pli_meaning.specs.DeclaredShapes.{declared_variable, variables_of_block}
 use Rattle.pli_meaning.specs.Executing.{labels_in}
+use Rattle.pli_meaning.specs.Making.{with_binding}
 use Rattle.pli_meaning.specs.Pictures.{first_bytes}
+use Rattle.pli_meaning.specs.StorageState.{Activation, Binding, ancestor, height_of, most_activations}
+use Rattle.pli_meaning.specs.StorageState.{newest_height}
+use Rattle.pli_serving.specs.Templates.{shape_at}
+use Rattle.pli_coding.specs.Environments.{block_around}
+use Rattle.pli_coding.specs.Frames.{fixed_size}
 use Rattle.pli_coding.specs.Images.{linked_code, picture_of}
-use Rattle.pli_coding.specs.SignatureTable.{table_of}
+use Rattle.pli_coding.specs.Locating.{table_number}
+use Rattle.pli_coding.specs.SignatureTable.{number_in_table, table_of}
 use Rattle.code_marks.specs.CodeMarks.{MarkedOnce}
 use Rattle.storage_relation.specs.ServiceLaws.{TableDiffers}
+use Rattle.activation_relation.specs.Layers.{Layer, Point}
 use Rattle.program_places.specs.Constants.{constants_in}
-use Rattle.program_places.specs.Programs.{IsLoadable, body_for, code_for, environment_for}
-use Rattle.program_places.specs.Programs.{behind_body, entry_for, procedure_for}
+use Rattle.program_places.specs.Programs.{IsLoadable, behind_body, body_for, code_for, entry_for, environment_for}
+use Rattle.program_places.specs.Programs.{procedure_for}
 use Rattle.program_places.proofs.Blocks.{own_block}
-use Rattle.program_places.proofs.Callees.{end_is}
 use Rattle.program_places.proofs.Memory.{first_length}
-use Rattle.program_places.proofs.Procedures.{body_placed, raise_routines}
 use Rattle.program_places.proofs.Starts.{main_found, whole_stands}
 use Rattle.program_runs.specs.Calls.{left_over}
-use Rattle.program_runs.specs.Starts.{image_parts, no_numbers}
+use Rattle.program_runs.specs.Starts.{call_index, image_parts, no_numbers}
 use Rattle.program_runs.specs.Statements.{EachDoes, IsBegun}
-use Rattle.expression_runs.specs.Variables.{IsNumber, Spot}
+use Rattle.program_runs.specs.Variables.{Declared, generation_for}
+use Rattle.expression_runs.specs.Variables.{IsNumber, Spot, number_declared, variable_of}
+use Rattle.variable_runs.specs.Lists.{all_made, behind_made, layer_behind}
 use Rattle.variable_runs.proofs.Lists.{all_procedure}
 use Rattle.pli_headline.specs.Headline.{FitsMemory, Headline, parts}
-use Rattle.block_headlines.proofs.Constants.{constants_stand}
+use Rattle.block_headlines.proofs.Constants.{constants_stand, main_of_program}
 use Rattle.block_headlines.specs.Headlines.{HeadlinesKept, Layout, Runs}
-use Rattle.number_runs.specs.Knowledge.{IsReady, IsUnraised, KnowsCalls}
-use Rattle.number_runs.specs.Numbers.{is_known}
+use Rattle.nested_calls.specs.Nested.{IsNested}
+use Rattle.number_runs.specs.Numbers.{is_known, is_place, is_plain_if}
 use Rattle.number_runs.specs.Variables.{words_in}
-use Rattle.number_runs.proofs.Statements.{body_does, none_raised}
-use Rattle.number_runs.proofs.Puts.{puts_known}
-use Rattle.number_runs.proofs.Takes.{registers_held}
+use Rattle.number_runs.proofs.Words.{room_behind}
 use Rattle.number_headlines.specs.Headlines.{IsNumberProgram}
-use Rattle.number_headlines.specs.Programs.{are_all_plain, has_main, main_scope}
-use Rattle.number_headlines.specs.Programs.{most_words}
-use Rattle.number_headlines.proofs.Puts.{error_routine, lists_known}
-use Rattle.number_headlines.proofs.Tables.{block_plain, has_start}
-use Rattle.number_headlines.proofs.Mains.{Main, block_for, made_for, made_system, main_all, main_for, main_is}
-use Rattle.number_headlines.proofs.Mains.{main_number, main_told, main_room, most_for, own_known, run_for, start_for}
-use Rattle.number_headlines.proofs.Mains.{placed, surroundings_for}
-use Rattle.number_headlines.proofs.Calls.{procedure_called}
-use Rattle.number_headlines.proofs.Functions.{function_called}
+use Rattle.number_headlines.specs.Programs.{are_all_plain, has_main, most_words, places_to, scope_of}
+use Rattle.number_headlines.proofs.Bodies.{each_body}
+use Rattle.number_headlines.proofs.Mains.{Main, block_for, level_of, made_for, made_system, main_all, main_begun}
+use Rattle.number_headlines.proofs.Mains.{main_for}
+use Rattle.number_headlines.proofs.Mains.{main_is, main_layer, main_number, main_room, main_spare, placed, run_for}
+use Rattle.number_headlines.proofs.Mains.{spare_for, start_for, surroundings_for}
+use Rattle.number_headlines.proofs.Places.{around_is}
+use Rattle.number_headlines.proofs.Running.{IsRunning, Running}
+use Rattle.number_headlines.proofs.Tables.{has_start, has_table, word_signature}
 
-pub main_ready :
-    MarkedOnce → {program : Y.Program} (m : Main program) (input : List ℕ) (acts : ℕ) → acts + 1 < 2 ^ 64 →
-    IsBegun (block_for m input acts) →
-    KnowsCalls (main_scope program m.head) (block_for m input acts) (labels_in m.body ++ []) (most_for program)
-    left_over →
-    IsReady (main_scope program m.head) false (block_for m input acts) (labels_in m.body ++ []) (most_for program)
-    left_over
-main_ready once {program} m input acts few b calls =
-    let found = main_found program (placed m) m.main in
-    let end = end_is once program m.head m.body m.loadable found in
-    let routines = raise_routines once program m.loadable in
-    let inside = routines.linked.inside in
-    let xs = words_in (environment_for program m.head) in
-    let k = block_for m input acts in
-    let s = main_scope program m.head in
-    let u : IsUnraised k (most_for program) =
+-- ---- the main procedure as the first block that runs
+
+abbrev main_run : {program : Y.Program} → Main program → (input : List ℕ) → (acts : ℕ) → Running
+main_run {program} m input acts =
     record {
-      routines = routines;
-      overflow = made_system image_parts _ xs _ C.FixedOverflow tt;
-      divisor = made_system image_parts _ xs _ C.ZeroDivide tt;
-      error = made_system image_parts _ xs _ C.Error tt;
-      acts = few;
-      few = omega (arith, inside);
+      head = m.head;
+      body = m.body;
+      parent = 0;
+      call = call_index;
+      point = start_for program input acts;
+      numbers = no_numbers;
+    }
+
+-- the one activation, with the variables that it has by then
+abbrev lone : (level : ℕ) → List Binding → List Activation
+lone level bindings =
+    record { height = 1; level = level; parent = 0; oncode = 0; bindings = bindings; units = [] } ∷ []
+
+record Lone (level : ℕ) (as' : List Activation) : Type 0 where
+  bindings : List Binding
+  is : as' ≡ lone level bindings
+
+made_lone :
+    (level : ℕ) (φ : Layer) (xs : List Declared) (p : Point) → Lone level p.state.activations →
+    Lone level (all_made image_parts φ xs p).state.activations
+made_lone level φ [] p h = h
+made_lone level φ (x ∷ xs) p h =
+    let b : Binding = record {
+      variable = x.index;
+      name = VariableName (p.state.serials + 1);
+      shape = (generation_for x).shape;
     } in
-    let variables : (x : Spot) → is_known s x ≡ true → IsNumber k x =
-    λ x h. main_number m input acts x (own_known m input acts x h) b in
+    made_lone level (layer_behind image_parts (p.state.serials + 1) φ x) xs (behind_made image_parts φ x p)
+    (record { bindings = b ∷ h.bindings; is = ap (λ as'. with_binding b as') h.is })
+
+main_lone :
+    {program : Y.Program} (m : Main program) (input : List ℕ) (acts : ℕ) →
+    Lone m.head.level (block_for m input acts).first.state.activations
+main_lone {program} m input acts =
+    made_lone m.head.level (main_layer m input acts) (words_in (environment_for program m.head))
+    (main_begun m input acts)
+    (record { bindings = []; is = refl })
+
+-- what stays as it is while variables are made
+record Same (p q : Point) : Type 0 where
+  signatures : q.places.signatures ≡ p.places.signatures
+  waiting : q.control.waiting ≡ p.control.waiting
+
+made_same :
+    (φ : Layer) (xs : List Declared) (p : Point) → Same p (all_made image_parts φ xs p)
+made_same φ [] p = record { signatures = refl; waiting = refl }
+made_same φ (x ∷ xs) p =
+    let h = made_same (layer_behind image_parts (p.state.serials + 1) φ x) xs (behind_made image_parts φ x p) in
+    record { signatures = h.signatures; waiting = h.waiting }
+
+lone_ancestor :
+    (level : ℕ) (bs : List Binding) → level ≡ 0 → height_of (ancestor (lone level bs) 1 0) ≡ 1
+lone_ancestor level bs e = subst (λ l. height_of (ancestor (lone l bs) 1 0) ≡ 1) (sym e) refl
+
+main_nested :
+    {program : Y.Program} (m : Main program) (input : List ℕ) (acts : ℕ) → IsNested (block_for m input acts)
+main_nested {program} m input acts =
+    let one = main_lone m input acts in
+    let level = level_of m in
+    let as' = (block_for m input acts).first.state.activations in
+    let here : height_of (ancestor as' (newest_height as') 0) ≡ 1 =
+    ap (λ xs. height_of (ancestor xs (newest_height xs) 0)) one.is ∙ lone_ancestor m.head.level one.bindings level in
+    let newest : newest_height as' ≡ 1 = ap (λ xs. newest_height xs) one.is in
     record {
-      begun = b;
-      level = refl;
       own = refl;
-      block = own_block program m.head m.body None found;
-      acts = few;
-      turns = omega arith;
-      held = omega arith;
-      raises = none_raised k (labels_in m.body ++ []) (most_for program) u;
-      variables = variables;
-      calls = calls;
-      puts = λ e.
-          puts_known s k (most_for program) b u (error_routine once program m.loadable) variables
-          (lists_known program k m.memory
-          (main_told m input acts b));
-      room = omega arith;
-      returns = λ e. record {
-        owner = refl;
-        end = end.place;
-        near = end.near;
-        enough = omega arith;
-        function = refl;
-        begun = b;
-        kind = refl;
-        registers = omega arith;
-      };
-      values = λ e. absurd (cc e);
+      few = omega (arith, level);
+      some = λ n less.
+          let is : n ≡ 0 = omega (arith, less, level) in
+          subst (λ j. 0 < height_of (ancestor as' (newest_height as') j)) (sym is) (omega (arith, here));
+      same = λ outer n less high.
+          let is : outer ≡ 0 = omega (arith, high, level) in
+          ap (λ j. ancestor as' (height_of (ancestor as' (newest_height as') j)) n) is
+          ∙ ap (λ j. ancestor as' j n) (here ∙ sym newest);
     }
 
-main_calls :
-    MarkedOnce → {program : Y.Program} (m : Main program) (input : List ℕ) (acts : ℕ) → acts + 1 < 2 ^ 64 →
-    IsBegun (block_for m input acts) →
-    KnowsCalls (main_scope program m.head) (block_for m input acts) (labels_in m.body ++ []) (most_for program)
-    left_over
-main_calls once {program} m input acts few b =
+main_variable :
+    {program : Y.Program} (m : Main program) (input : List ℕ) (acts : ℕ) → IsBegun (block_for m input acts) →
+    (x : Spot) → is_known (scope_of program m.called m.head) x ≡ true → IsNumber (block_for m input acts) x
+main_variable {program} m input acts b x h =
+    let e = environment_for program m.head in
+    let plain = is_plain_if (declared_variable program (variable_of x)) in
+    let a = and_parts (list_any (is_place x) (places_to e m.head.level)) plain h in
+    let there = around_is e m.head.level x a.0 in
+    let less = there.0 in
+    let level = level_of m in
+    let same : x.level ≡ m.head.level = omega (arith, less, level) in
+    main_number m input acts x
+    (record {
+      block = there.1 ∙ ap (λ n. block_around e n) same
+          ∙ own_block program m.head m.body None (main_found program (placed m) m.main);
+      level = same;
+      plain = a.1;
+    }) b
+
+main_running :
+    {program : Y.Program} (m : Main program) (input : List ℕ) (acts : ℕ) → IsBegun (block_for m input acts) →
+    IsRunning m input acts false acts (main_run m input acts) m.called m.blocks
+main_running {program} m input acts b =
+    let w = surroundings_for program input acts in
+    let start = main_begun m input acts in
+    let φ = main_layer m input acts in
+    let xs = words_in (environment_for program m.head) in
+    let same = made_same φ xs start in
+    let first = b.acts in
+    let one = main_lone m input acts in
+    let long = ap (λ (as' : List Activation). length as') one.is in
+    let room = room_behind w start φ [] (table_number (environment_for program m.head) (number_declared []))
+    (fixed_size m.head.level 0) 0 (spare_for m m.blocks) (variables_of_block program m.head.number)
+    (main_spare m input acts) in
     record {
-      functions = λ labels line n includes h. function_called once m input acts few b labels line n h;
-      procedures = λ labels n line index includes h less l.
-          procedure_called once m input acts few b labels n line index h less l;
+      is = main_found program (placed m) m.main;
+      statements = m.statements;
+      fits = m.fits;
+      begun = b;
+      enough = omega (arith, first);
+      nested = main_nested m input acts;
+      of = main_of_program program (run_for input acts) (block_for m input acts) refl refl refl b;
+      variables = λ x h. main_variable m input acts b x h;
+      unraised = λ c. made_system image_parts _ xs _ c tt;
+      idle = same.waiting;
+      free = record {
+        layer = _;
+        below = _;
+        place = _;
+        room = record {
+          newest = room.newest;
+          here = room.here;
+          even = room.even;
+          counted = room.counted;
+          fits = room.fits;
+          low = room.low;
+          limit = room.limit;
+        };
+      };
+      shape = λ block some.
+          ap (λ t. shape_at t (number_in_table word_signature (table_of program))) same.signatures
+          ∙ (has_table program block m.plain).shape some;
+      calls = inr (record {
+        called = refl;
+        some = m.some;
+        depth = by m.depth long;
+      });
     }
+  where
+    first' : Point
+    first' = (block_for m input acts).first
 
-pub main_each :
+    by :
+        (m.inner ≡ []) ⊎ ((m.inner ≡ m.called) × (most_activations ≤ m.blocks)) →
+        length first'.state.activations ≡ 1 →
+        (m.inner ≡ [])
+        ⊎ ((m.inner ≡ m.called) × (most_activations + 1 ≤ length first'.state.activations + m.blocks))
+    by (inl none) long = inl none
+    by (inr deep) long = let enough = deep.1 in inr (deep.0, omega (arith, enough, long))
+
+main_each :
     MarkedOnce → {program : Y.Program} (m : Main program) (input : List ℕ) (acts : ℕ) → acts + 1 < 2 ^ 64 →
     IsBegun (block_for m input acts) →
     EachDoes (block_for m input acts) (labels_in m.body ++ []) m.body (body_for program m.head m.body) left_over
 main_each once {program} m input acts few b =
-    let found = main_found program (placed m) m.main in
-    let plain = block_plain program.variables m.head.number m.plain in
-    body_does (main_scope program m.head) false (block_for m input acts) m.body (body_for program m.head m.body)
-    (most_for program) left_over (main_ready once m input acts few b (main_calls once m input acts few b)) m.statements
-    (registers_held (main_scope program m.head) false (environment_for program m.head) m.head.number m.body plain.0
-    m.statements m.fits)
-    (body_placed once program m.head m.body None m.loadable found)
+    each_body once m input acts few acts false (main_run m input acts) m.called m.blocks (λ e. absurd (cc e))
+    (main_running m input acts b)
 
 -- ---- the whole
 
-abbrev pub layout_for : {program : Y.Program} → Main program → Layout
+abbrev layout_for : {program : Y.Program} → Main program → Layout
 layout_for {program} m =
     record {
       main = procedure_for program m.head m.body;
@@ -141,7 +236,7 @@ layout_for {program} m =
       made = made_for program m.head;
     }
 
-pub program_runs :
+program_runs :
     MarkedOnce → TableDiffers → {program : Y.Program} (m : Main program) → FitsMemory (picture_of parts program) →
     Runs program (layout_for m)
 program_runs once tables {program} m fits =

@@ -1,10 +1,13 @@
 pub mod Tables
 pub mod Puts
 pub mod Mains
+pub mod Places
+pub mod Running
 pub mod Inner
-pub mod Calls
-pub mod Functions
+pub mod Entered
+pub mod Bodies
 pub mod Kept
 pub mod Rows
 pub mod CallRows
 pub mod PutRows
+pub mod NestRows

@@ -1,18 +1,18 @@
 -- The main procedure of a program of the class where it begins: its variables are made, and there is room for more.
-use Rattle.std.proofs.Common.{◌≡◌, ℕ, ◌+◌, ◌≤◌, List, [], ◌∷◌, ◌++◌, Option, None, Some}
+use Rattle.std.proofs.Common.{◌≡◌, ◌⊎◌, inl, inr, ℕ, ◌+◌, ◌*◌, ◌^◌, ◌≤◌, List, [], ◌∷◌, ◌++◌, Option, None, Some}
 use Rattle.std.proofs.Common.{true, false}
 use Rattle.std.proofs.Common.{length, refl, sym, ap, ◌∙◌, subst, arith}
-use Rattle.std.specs.Prelude.{◌&&◌, ◌==◌, ◌||◌, Bool, nat_le}
-use Rattle.std.proofs.lemmas.Bool.{and_parts, eqb-true, leb-true}
+use Rattle.std.specs.Prelude.{◌&&◌, ◌||◌, Bool, nat_le}
+use Rattle.std.proofs.lemmas.Bool.{and_parts, leb-true}
 use Rattle.pli_language.specs.declared.condition.Condition.{Condition}
 use Rattle.pli_typing.specs.TypedTree as Y
-use Rattle.pli_meaning.specs.DeclaredShapes.{declared_variable, head_of, variables_of_block}
+use Rattle.pli_meaning.specs.DeclaredShapes.{head_of, variables_of_block}
 use Rattle.pli_meaning.specs.Executing.{labels_in}
 use Rattle.pli_meaning.specs.Making.{with_binding}
 use Rattle.pli_meaning.specs.StorageState.{Activation, BlockUnit, OnUnit, SystemUnit, force, first_unit, unit_for}
-use Rattle.pli_meaning.specs.StorageState.{Binding}
+use Rattle.pli_meaning.specs.StorageState.{Binding, most_activations}
 use Rattle.pli_coding.specs.Frames.{MemoryParts, fixed_size, parameters_in}
-use Rattle.pli_coding.specs.Images.{linked_code, picture_of, place_of_head}
+use Rattle.pli_coding.specs.Images.{linked_code, picture_of}
 use Rattle.pli_coding.specs.Registers.{held_registers}
 use Rattle.activation_relation.specs.Chains.{HasParent}
 use Rattle.activation_relation.specs.Layers.{Layer, Point}
@@ -28,22 +28,20 @@ use Rattle.program_runs.specs.Programs.{main_of}
 use Rattle.program_runs.specs.Starts.{image_parts, no_numbers, start_point, surroundings_of}
 use Rattle.program_runs.specs.Statements.{Block, IsBegun}
 use Rattle.program_runs.specs.Variables.{Declared}
-use Rattle.expression_runs.specs.Variables.{IsNumber, Spot, variable_of}
+use Rattle.expression_runs.specs.Variables.{IsNumber, Spot}
 use Rattle.activation_relation.specs.Points.{Surroundings}
 use Rattle.variable_runs.specs.Lists.{AreAll, all_made, behind_made, layer_behind, newest_all}
 use Rattle.well_formed_trees.specs.WellFormed.{HasMain}
 use Rattle.pli_headline.specs.Headline.{FitsMemory, parts}
-use Rattle.block_headlines.specs.Constants.{IsOf}
-use Rattle.block_headlines.proofs.Constants.{main_of_program}
-use Rattle.number_runs.specs.Numbers.{has_none, is_known, is_place, is_plain_if}
+use Rattle.number_runs.specs.Numbers.{has_none}
 use Rattle.number_runs.specs.Statements.{are_statements, statements_need}
 use Rattle.number_runs.specs.Variables.{HasWords, HaveRoom, IsOwnWord, words_in}
 use Rattle.number_runs.proofs.Takes.{words_none}
 use Rattle.number_runs.proofs.Words.{all_words, own_word, room_fewer}
 use Rattle.number_runs.proofs.Variables.{fixed_is}
-use Rattle.number_headlines.specs.Programs.{are_all_plain, body_of, has_main, has_result, is_body, main_scope}
-use Rattle.number_headlines.specs.Programs.{most_words}
-use Rattle.number_headlines.proofs.Tables.{block_plain, has_table}
+use Rattle.number_headlines.specs.Programs.{are_all_few, are_all_plain, are_inner, body_of, calling_each, calling_none}
+use Rattle.number_headlines.specs.Programs.{few_words, has_main, has_result, is_body, is_main, most_words, scope_of}
+use Rattle.number_headlines.proofs.Tables.{block_few, block_plain, has_table}
 
 -- ---- no unit comes with variables
 
@@ -108,26 +106,49 @@ pub record Main (program : Y.Program) : Type 0 where
   pub plain : are_all_plain program.variables ≡ true
   pub loadable : IsLoadable program
   pub memory : FitsMemory (picture_of parts program)
-  pub statements : are_statements (main_scope program head) false (labels_in body ++ []) body ≡ true
+  -- the numbers of the procedures that it calls, and of those that they call
+  pub called : List ℕ
+  pub inner : List ℕ
+  pub statements : are_statements (scope_of program called head) false (labels_in body ++ []) body ≡ true
   pub fits : statements_need body ≤ held_registers
+  pub inners : are_inner program inner called ≡ true
+  -- so many variables has a block at most, and for so many blocks more there is room beside it
+  pub words : ℕ
+  pub blocks : ℕ
+  pub few : (n : ℕ) → length (variables_of_block program n) ≤ words
+  pub some : 1 ≤ blocks
+  pub room : words + ((words + 16) * blocks) ≤ 2 ^ 15
+  -- what it calls calls nothing, or as many blocks have room as may be active
+  pub depth : (inner ≡ []) ⊎ ((inner ≡ called) × (most_activations ≤ blocks))
 
 -- as it is placed
 abbrev pub placed : {program : Y.Program} → Main program → Placed.Main
 placed m = record { head = m.head; body = m.body; others = m.others }
 
-pub main_is :
-    (program : Y.Program) (ps : List Y.Procedure) → program.procedures ≡ ps →
-    are_all_plain program.variables ≡ true → IsLoadable program → FitsMemory (picture_of parts program) →
-    has_main program ps ≡ true → Main program
-main_is program [] e plain load fits h = absurd (cc h)
-main_is program (p ∷ ps) e plain load fits h =
+-- how many variables its blocks have, and for how many of them there is room
+record Depth (program : Y.Program) (called inner : List ℕ) : Type 0 where
+  words : ℕ
+  blocks : ℕ
+  few : (n : ℕ) → length (variables_of_block program n) ≤ words
+  some : 1 ≤ blocks
+  room : words + ((words + 16) * blocks) ≤ 2 ^ 15
+  depth : (inner ≡ []) ⊎ ((inner ≡ called) × (most_activations ≤ blocks))
+
+main_by :
+    (program : Y.Program) (p : Y.Procedure) (ps : List Y.Procedure) (called inner : List ℕ) →
+    program.procedures ≡ p ∷ ps → are_all_plain program.variables ≡ true → IsLoadable program →
+    FitsMemory (picture_of parts program) → Depth program called inner → is_main program called inner p ≡ true →
+    Main program
+main_by program p ps called inner e plain load memory d h =
     let head = head_of p.block in
     let body = body_of p.block in
-    let inner = is_body (main_scope program head) false body in
-    let a = and_parts (has_none p.parameters) (has_result false p.result && inner) h in
-    let b = and_parts (has_result false p.result) inner a.1 in
-    let c = and_parts (are_statements (main_scope program head) false (labels_in body ++ []) body)
-    (nat_le (statements_need body) held_registers) b.1 in
+    let s = scope_of program called head in
+    let all = are_inner program inner called in
+    let a = and_parts (has_none p.parameters) (has_result false p.result && (is_body s false body && all)) h in
+    let b = and_parts (has_result false p.result) (is_body s false body && all) a.1 in
+    let c = and_parts (is_body s false body) all b.1 in
+    let f = and_parts (are_statements s false (labels_in body ++ []) body)
+    (nat_le (statements_need body) held_registers) c.0 in
     record {
       head = head;
       body = body;
@@ -135,10 +156,56 @@ main_is program (p ∷ ps) e plain load fits h =
       main = e ∙ ap (λ x. x ∷ ps) (procedure_is false p a.0 b.0);
       plain = plain;
       loadable = load;
-      memory = fits;
-      statements = c.0;
-      fits = leb-true (statements_need body) held_registers c.1;
+      memory = memory;
+      called = called;
+      inner = inner;
+      statements = f.0;
+      fits = leb-true (statements_need body) held_registers f.1;
+      inners = c.1;
+      words = d.words;
+      blocks = d.blocks;
+      few = d.few;
+      some = d.some;
+      room = d.room;
+      depth = d.depth;
     }
+
+pub main_is :
+    (program : Y.Program) (ps : List Y.Procedure) → program.procedures ≡ ps →
+    are_all_plain program.variables ≡ true → IsLoadable program → FitsMemory (picture_of parts program) →
+    has_main program ps ≡ true → Main program
+main_is program [] e plain load memory h = absurd (cc h)
+main_is program (p ∷ ps) e plain load memory h =
+    by (is_main program (calling_none program) [] p) refl h
+  where
+    deep : Bool
+    deep = are_all_few program.variables && is_main program (calling_each program) (calling_each program) p
+
+    by : (q : Bool) → is_main program (calling_none program) [] p ≡ q → (q || deep) ≡ true → Main program
+    by true is f =
+        main_by program p ps (calling_none program) [] e plain load memory
+        (record {
+          words = most_words;
+          blocks = 1;
+          few = λ n. (block_plain program.variables n plain).1;
+          some = omega arith;
+          room = omega arith;
+          depth = inl refl;
+        })
+        is
+    by false is f =
+        let a = and_parts (are_all_few program.variables)
+        (is_main program (calling_each program) (calling_each program) p) f in
+        main_by program p ps (calling_each program) (calling_each program) e plain load memory
+        (record {
+          words = few_words;
+          blocks = most_activations;
+          few = λ n. block_few program.variables n a.0;
+          some = omega arith;
+          room = omega arith;
+          depth = inr (refl, omega arith);
+        })
+        a.1
 
 -- ---- in a run
 
@@ -164,7 +231,7 @@ level_of {program} m = (subst HasMain m.main m.loadable.well_formed.main).0
 no_words : {program : Y.Program} (m : Main program) → (procedure_for program m.head m.body).words ≡ 0
 no_words {program} m =
     let plain = block_plain program.variables m.head.number m.plain in
-    words_none (main_scope program m.head) false (environment_for program m.head) m.head.number m.body plain.0
+    words_none (scope_of program m.called m.head) false (environment_for program m.head) m.head.number m.body plain.0
     m.statements m.fits
 
 parented : (level parent : ℕ) → level ≡ 0 → HasParent level parent []
@@ -185,9 +252,13 @@ main_room {program} m input acts =
       idle = refl;
     }
 
--- what stays free behind the main procedure's variables: the variables of one block more, and its frame
+-- what stays free where a block of the greatest frame is the only one beside it: its variables, and its frame
 abbrev pub spare : ℕ
 spare = most_words + 16
+
+-- and where so many blocks are
+abbrev pub spare_for : {program : Y.Program} → Main program → (blocks : ℕ) → ℕ
+spare_for m blocks = (m.words + 16) * blocks
 
 abbrev pub main_layer : {program : Y.Program} → Main program → (input : List ℕ) → (acts : ℕ) → Layer
 main_layer {program} m input acts =
@@ -205,20 +276,21 @@ pub main_spare :
     {program : Y.Program} (m : Main program) (input : List ℕ) (acts : ℕ) →
     HaveRoom (surroundings_for program input acts) (main_begun m input acts)
     (main_layer m input acts) [] (fixed_size m.head.level 0)
-    (length (variables_of_block program m.head.number) + spare)
+    (length (variables_of_block program m.head.number) + spare_for m m.blocks)
 main_spare {program} m input acts =
     let words = no_words m in
     let level = level_of m in
-    let few = (block_plain program.variables m.head.number m.plain).1 in
+    let few = m.few m.head.number in
+    let room = m.room in
     let code = m.loadable.fits in
     record {
       newest = refl;
       here = refl;
       even = omega (arith, words, level);
-      counted = omega (arith, level, few);
-      fits = omega (arith, words, level, few);
+      counted = omega (arith, level, few, room);
+      fits = omega (arith, words, level, few, room);
       low = omega (arith, code);
-      limit = omega (arith, few);
+      limit = omega (arith, few, room);
     }
 
 pub main_words :
@@ -246,7 +318,7 @@ main_words {program} m input acts =
       small = table.small;
       shape = table.shape;
       room = room_fewer (surroundings_for program input acts) (main_begun m input acts)
-          (main_layer m input acts) [] (fixed_size m.head.level 0) n (n + spare) (omega arith)
+          (main_layer m input acts) [] (fixed_size m.head.level 0) n (n + spare_for m m.blocks) (omega arith)
           (main_spare m input acts);
     }
 
@@ -266,25 +338,6 @@ block_for {program} m input acts =
     (main_for m input acts)
     (start_for program input acts) no_numbers
 
-pub own_known :
-    {program : Y.Program} (m : Main program) (input : List ℕ) (acts : ℕ) (x : Spot) →
-    is_known (main_scope program m.head) x ≡ true →
-    IsOwnWord (main_for m input acts) x
-own_known {program} m input acts x h =
-    let plain = is_plain_if (declared_variable program (variable_of x)) in
-    let a = and_parts (is_place x (place_of_head m.head) || false) plain h in
-    let b = and_parts (x.block == m.head.number) (x.level == m.head.level)
-    (one (is_place x (place_of_head m.head)) a.0) in
-    record {
-      block = eqb-true x.block m.head.number b.0;
-      level = eqb-true x.level m.head.level b.1;
-      plain = a.1;
-    }
-  where
-    one : (q : Bool) → (q || false) ≡ true → q ≡ true
-    one true e = refl
-    one false e = absurd (cc e)
-
 abbrev pub most_for : Y.Program → ℕ
 most_for program = length (linked_code (code_for program)) + 2
 
@@ -296,10 +349,3 @@ main_number {program} m input acts x own b =
     own_word (surroundings_for program input acts) (linked_code (code_for program)) (main_for m input acts)
     (start_for program input acts) (start_for program input acts) no_numbers x
     (record { high = omega arith; inside = omega arith }) (main_words m input acts, main_all m input acts) own b
-
--- what the program tells of its static data is told there
-pub main_told :
-    {program : Y.Program} (m : Main program) (input : List ℕ) (acts : ℕ) → IsBegun (block_for m input acts) →
-    IsOf program (block_for m input acts)
-main_told {program} m input acts b =
-    main_of_program program (run_for input acts) (block_for m input acts) refl refl refl b

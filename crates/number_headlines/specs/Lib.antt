@@ -3,3 +3,4 @@ pub mod Headlines
 pub mod Rows
 pub mod CallRows
 pub mod PutRows
+pub mod NestRows

@@ -1,11 +1,13 @@
 -- Programs of FIXED BINARY(31) numbers, as a class that is computed from typed trees.
-use Rattle.std.specs.Prelude.{ℕ, ◌^◌, ◌&&◌, ◌++◌, ◌==◌, Bool, true, false, List, [], ◌∷◌, length, nat_le, Option}
-use Rattle.std.specs.Prelude.{None, Some}
+use Rattle.std.specs.Prelude.{ℕ, zero, suc, ◌^◌, ◌&&◌, ◌||◌, ◌++◌, ◌==◌, Bool, true, false, List, [], ◌∷◌, length}
+use Rattle.std.specs.Prelude.{nat_le, Option, None, Some, if◌then◌else◌}
+use Rattle.std.specs.List.{list_any}
 use Rattle.pli_typing.specs.TypedTree as Y
 use Rattle.pli_meaning.specs.DeclaredShapes.{head_of, procedure_numbered}
 use Rattle.pli_meaning.specs.Executing.{labels_in}
-use Rattle.pli_coding.specs.Images.{place_of_head}
+use Rattle.pli_coding.specs.Environments.{BlockPlace, Environment, block_around}
 use Rattle.pli_coding.specs.Registers.{held_registers}
+use Rattle.program_places.specs.Programs.{environment_for}
 use Rattle.number_runs.specs.Numbers.{Scope, has_none, is_fixed}
 use Rattle.number_runs.specs.Statements.{are_statements, statements_need}
 use Rattle.number_runs.specs.Variables.{are_plain}
@@ -16,10 +18,30 @@ use Rattle.number_runs.specs.Variables.{are_plain}
 abbrev pub most_words : ℕ
 most_words = 2 ^ 13
 
+-- so many fit it where as many blocks are active as may be
+abbrev pub few_words : ℕ
+few_words = 48
+
 -- the variables of each block
 abbrev pub are_all_plain : List (List Y.DeclaredVariable) → Bool
 are_all_plain [] = true
 are_all_plain (ds ∷ rest) = (nat_le (length ds) most_words && are_plain ds) && are_all_plain rest
+
+abbrev pub are_all_few : List (List Y.DeclaredVariable) → Bool
+are_all_few [] = true
+are_all_few (ds ∷ rest) = nat_le (length ds) few_words && are_all_few rest
+
+-- ---- blocks around
+
+-- the one at each level up to that of a block's code
+abbrev pub places_to : Environment → (level : ℕ) → List BlockPlace
+places_to e zero = record { number = block_around e 0; level = 0 } ∷ []
+places_to e (suc n) = record { number = block_around e (suc n); level = suc n } ∷ places_to e n
+
+-- two blocks stand in the same ones up to a level
+abbrev pub stand_alike : (e f : Environment) → (level : ℕ) → Bool
+stand_alike e f zero = block_around e 0 == block_around f 0
+stand_alike e f (suc n) = (block_around e (suc n) == block_around f (suc n)) && stand_alike e f n
 
 -- ---- procedures
 
@@ -37,54 +59,96 @@ has_result false None = true
 has_result true (Some type) = is_fixed type
 has_result valued type = false
 
--- one of level 1 may name its own variables and those of the main procedure, and calls none
-abbrev pub inner_scope : Y.Program → (main head : Y.BlockHead) → Scope
-inner_scope program main head =
-    record {
-      program = program;
-      level = head.level;
-      blocks = place_of_head head ∷ place_of_head main ∷ [];
-      is_function = λ n. false;
-      is_procedure = λ n. false;
-      puts = true;
-    }
+abbrev pub is_valued : Option Y.LeafType → Bool
+is_valued None = false
+is_valued (Some type) = true
 
-abbrev pub is_inner : Y.Program → (main : Y.BlockHead) → (valued : Bool) → Y.Procedure → Bool
-is_inner program main valued p =
+-- a procedure that a block calls: the block of a level around it declares that
+abbrev pub is_declared : Y.Program → (caller : Y.BlockHead) → (valued : Bool) → (level : ℕ) → Y.Procedure → Bool
+is_declared program caller valued level p =
     has_none p.parameters
     && (has_result valued p.result
-    && (((head_of p.block).level == 1)
-    && is_body (inner_scope program main (head_of p.block)) valued (body_of p.block)))
+    && (((head_of p.block).level == suc level)
+    && (nat_le level caller.level
+    && stand_alike (environment_for program caller) (environment_for program (head_of p.block)) level)))
 
-abbrev pub is_inner_if : Y.Program → (main : Y.BlockHead) → (valued : Bool) → Option Y.Procedure → Bool
-is_inner_if program main valued None = false
-is_inner_if program main valued (Some p) = is_inner program main valued p
+abbrev pub is_declared_if :
+    Y.Program → (caller : Y.BlockHead) → (valued : Bool) → (level : ℕ) → Option Y.Procedure → Bool
+is_declared_if program caller valued level None = false
+is_declared_if program caller valued level (Some p) = is_declared program caller valued level p
 
--- what a number finds is one
-abbrev pub is_callable : Y.Program → (main : Y.BlockHead) → (valued : Bool) → (number : ℕ) → Bool
-is_callable program main valued number = is_inner_if program main valued (procedure_numbered number program.procedures)
+-- one of these numbers finds it
+abbrev pub is_callable :
+    Y.Program → List ℕ → (caller : Y.BlockHead) → (valued : Bool) → (level number : ℕ) → Bool
+is_callable program ns caller valued level number =
+    list_any (λ n. n == number) ns
+    && is_declared_if program caller valued level (procedure_numbered number program.procedures)
 
--- the main procedure may name its own variables, and call these
-abbrev pub main_scope : Y.Program → Y.BlockHead → Scope
-main_scope program head =
+-- a block may name its own variables and those of the blocks around it, and call these
+abbrev pub scope_of : Y.Program → List ℕ → Y.BlockHead → Scope
+scope_of program ns head =
     record {
       program = program;
       level = head.level;
-      blocks = place_of_head head ∷ [];
-      is_function = is_callable program head true;
-      is_procedure = is_callable program head false;
+      blocks = places_to (environment_for program head) head.level;
+      is_function = is_callable program ns head true;
+      is_procedure = is_callable program ns head false;
       puts = true;
     }
 
-abbrev pub is_main : Y.Program → Y.Procedure → Bool
-is_main program p =
+abbrev pub is_inner : Y.Program → List ℕ → Y.Procedure → Bool
+is_inner program ns p =
     has_none p.parameters
-    && (has_result false p.result && is_body (main_scope program (head_of p.block)) false (body_of p.block))
+    && is_body (scope_of program ns (head_of p.block)) (is_valued p.result) (body_of p.block)
 
--- the first one is the main procedure; what it doesn't call may be any
+abbrev pub is_inner_if : Y.Program → List ℕ → Option Y.Procedure → Bool
+is_inner_if program ns None = false
+is_inner_if program ns (Some p) = is_inner program ns p
+
+-- each of these numbers finds one that calls those
+abbrev pub are_inner : Y.Program → (called : List ℕ) → List ℕ → Bool
+are_inner program called [] = true
+are_inner program called (n ∷ ns) =
+    is_inner_if program called (procedure_numbered n program.procedures) && are_inner program called ns
+
+-- ---- programs
+
+abbrev pub numbers_of : List Y.Procedure → List ℕ
+numbers_of [] = []
+numbers_of (p ∷ ps) = (head_of p.block).number ∷ numbers_of ps
+
+-- those that call only these
+abbrev pub kept_of : Y.Program → List ℕ → List Y.Procedure → List ℕ
+kept_of program ns [] = []
+kept_of program ns (p ∷ ps) =
+    if is_inner program ns p then (head_of p.block).number ∷ kept_of program ns ps else kept_of program ns ps
+
+-- after as many rounds as there are procedures, those that call only one another
+abbrev pub closed_of : Y.Program → (rounds : ℕ) → List ℕ → List ℕ
+closed_of program zero ns = ns
+closed_of program (suc rounds) ns = closed_of program rounds (kept_of program ns program.procedures)
+
+abbrev pub calling_none : Y.Program → List ℕ
+calling_none program = kept_of program [] program.procedures
+
+abbrev pub calling_each : Y.Program → List ℕ
+calling_each program = closed_of program (length program.procedures) (numbers_of program.procedures)
+
+-- the main procedure calls the ones, which call the others
+abbrev pub is_main : Y.Program → (called inner : List ℕ) → Y.Procedure → Bool
+is_main program called inner p =
+    has_none p.parameters
+    && (has_result false p.result
+    && (is_body (scope_of program called (head_of p.block)) false (body_of p.block)
+    && are_inner program inner called))
+
+-- the first one is the main procedure; what it calls calls nothing, or any more of the class, and itself, if the
+-- variables of each block are few; what isn't called may be any
 abbrev pub has_main : Y.Program → List Y.Procedure → Bool
 has_main program [] = false
-has_main program (p ∷ ps) = is_main program p
+has_main program (p ∷ ps) =
+    is_main program (calling_none program) [] p
+    || (are_all_few program.variables && is_main program (calling_each program) (calling_each program) p)
 
 abbrev pub is_number_program : Y.Program → Bool
 is_number_program program = are_all_plain program.variables && has_main program program.procedures

@@ -3,6 +3,7 @@
 ghost use Rattle.number_headlines.specs.CallRows.{CallingKept};
 ghost use Rattle.number_headlines.specs.Headlines.{NumberHeadlinesKept};
 ghost use Rattle.number_headlines.specs.PutRows.{SquaresKept};
+ghost use Rattle.number_headlines.specs.NestRows.{NestKept};
 ghost use Rattle.number_headlines.specs.Rows.{TotalKept};
 
 use block_headlines::laws::headlines_kept;
@@ -35,6 +36,13 @@ pub fn calling_kept()
 /// A worked row that writes: a loop that prints a table of numbers with their squares.
 pub fn squares_kept()
     ensures { SquaresKept }
+{
+    number_headlines_kept();
+}
+
+/// A worked row with recursion: two procedures that call one another, one inside one of them, and a function.
+pub fn nest_kept()
+    ensures { NestKept }
 {
     number_headlines_kept();
 }

@@ -51,9 +51,7 @@ called_does :
     (s : Scope) (k : Setting) (c : Y.Call) → KnowsNumbers s k → is_number s (Y.NumberFrom c) ≡ true →
     Does k 0 (Y.NumberFrom c)
 called_does s k (Y.Calling number level Y.NoArgument) h is =
-    let a = and_parts (level == s.level) (s.is_function number) is in
-    subst (λ n. Does k 0 (Y.NumberFrom (Y.Calling number n Y.NoArgument))) (sym (eqb-true level s.level a.0))
-    (h.functions number a.1)
+    h.functions level number is
 called_does s k (Y.Calling number level (Y.ArgumentThen first rest)) h is = absurd (cc is)
 
 mutual

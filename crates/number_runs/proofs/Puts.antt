@@ -256,7 +256,7 @@ puts_known s k most b u raises variables lists =
               most = u.few;
             });
             variables = λ x is. number_placed k place x (variables x is);
-            functions = λ n is. absurd (cc is);
+            functions = λ level n is. absurd (cc is);
           };
       error = λ place labels line. error_ends (List ℕ) (within place (setting_of k labels line most)) (record {
         routines = u.routines;

@@ -96,7 +96,7 @@ knows h labels line includes =
       overflow = r.raises.overflow labels line includes;
       divisor = r.raises.divisor labels line includes;
       variables = r.variables;
-      functions = λ n is. r.calls.functions labels line n includes is;
+      functions = λ level n is. r.calls.functions labels line level n includes is;
     }
 
 has_test :
@@ -215,12 +215,10 @@ jumps_does h labels level label line index placed is same among =
 
 calls_does :
     (h : Home) (labels : List Label) (number level line index : ℕ) → Includes h.own labels → is_line line ≡ true →
-    (level == h.scope.level) ≡ true → h.scope.is_procedure number ≡ true →
+    h.scope.is_procedure level number ≡ true →
     Coded h labels (Y.CallProcedure (Y.Calling number level Y.NoArgument) line) index
-calls_does h labels number level line index includes is same known =
-    subst (λ n. Coded h labels (Y.CallProcedure (Y.Calling number n Y.NoArgument) line) index)
-    (sym (eqb-true level h.scope.level same))
-    (λ l. h.ready.calls.procedures labels number line index includes known (ltb-true line (2 ^ 31) is) l)
+calls_does h labels number level line index includes is known l =
+    h.ready.calls.procedures labels level number line index includes known (ltb-true line (2 ^ 31) is) l
 
 not_true : (q : Bool) → not q ≡ true → q ≡ false
 not_true true h = absurd (cc h)
@@ -365,10 +363,8 @@ mutual
       (statements_do h (labels_in body ++ labels) body i (placed_in h.block h.own body i labels in' placed) b.1
       (omega (arith, fits)) in')
   statement_does h labels (Y.CallProcedure (Y.Calling number level Y.NoArgument) line) index placed is fits at =
-      let known = h.scope.is_procedure number in
-      let a = and_parts (is_line line) ((level == h.scope.level) && known) is in
-      let b = and_parts (level == h.scope.level) known a.1 in
-      calls_does h labels number level line index placed.includes a.0 b.0 b.1 at.linked
+      let a = and_parts (is_line line) (h.scope.is_procedure level number) is in
+      calls_does h labels number level line index placed.includes a.0 a.1 at.linked
   statement_does h labels (Y.CallProcedure (Y.Calling number level (Y.ArgumentThen first rest)) line) index placed is
       fits at =
       absurd (cc is)

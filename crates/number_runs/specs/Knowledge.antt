@@ -35,8 +35,8 @@ use Rattle.number_runs.specs.Puts.{is_fixed_list, without_calls}
 
 -- ---- around expressions
 
-abbrev pub call_number : Scope → ℕ → Y.Number
-call_number s n = Y.NumberFrom (Y.Calling n s.level Y.NoArgument)
+abbrev pub call_number : (level number : ℕ) → Y.Number
+call_number level n = Y.NumberFrom (Y.Calling n level Y.NoArgument)
 
 -- raises come to what they mean, each variable that may be named is a number of the block, and calls of functions that
 -- may be called leave what they mean
@@ -45,7 +45,7 @@ pub record KnowsNumbers (s : Scope) (k : Setting) : Type 0 where
   pub overflow : OverflowComes k
   pub divisor : ZeroDivideComes k
   pub variables : (x : Spot) → is_known s x ≡ true → IsNumber k.block x
-  pub functions : (n : ℕ) → s.is_function n ≡ true → L.Does k 0 (call_number s n)
+  pub functions : (level n : ℕ) → s.is_function level n ≡ true → L.Does k 0 (call_number level n)
 
 -- each list of F items that static data have is known
 abbrev pub KnowsLists : Block → Type 0
@@ -117,20 +117,21 @@ pub record KnowsRaises (k : Block) (own : List Label) (most : ℕ) : Type 0 wher
   pub divisor :
       (labels : List Label) (line : ℕ) → Includes own labels → ZeroDivideComes (setting_of k labels line most)
 
-abbrev pub call_statement : Scope → (number line : ℕ) → Y.Stmt
-call_statement s n line = Y.CallProcedure (Y.Calling n s.level Y.NoArgument) line
+abbrev pub call_statement : (level number line : ℕ) → Y.Stmt
+call_statement level n line = Y.CallProcedure (Y.Calling n level Y.NoArgument) line
 
 -- the calls that its statements may hold do what they mean; so many instructions come at most between a call in an
 -- expression and the first act of what is called
 pub record KnowsCalls (s : Scope) (k : Block) (own : List Label) (most left' : ℕ) : Type 0 where
   pub functions :
-      (labels : List Label) (line n : ℕ) → Includes own labels → s.is_function n ≡ true →
-      L.Does (setting_of k labels line most) 0 (call_number s n)
+      (labels : List Label) (line level n : ℕ) → Includes own labels → s.is_function level n ≡ true →
+      L.Does (setting_of k labels line most) 0 (call_number level n)
   pub procedures :
-      (labels : List Label) (n line index : ℕ) → Includes own labels → s.is_procedure n ≡ true → line < 2 ^ 31 →
+      (labels : List Label) (level n line index : ℕ) → Includes own labels → s.is_procedure level n ≡ true →
+      line < 2 ^ 31 →
       Linked k.call.surroundings.links k.call.code index
-      (stmt_code k.environment none_taken (call_statement s n line)) →
-      Does k labels (call_statement s n line) index left'
+      (stmt_code k.environment none_taken (call_statement level n line)) →
+      Does k labels (call_statement level n line) index left'
 
 -- a procedure's or a function's own block, whose own list has these labels
 pub record IsReady (s : Scope) (valued : Bool) (k : Block) (labels : List Label) (most left' : ℕ) : Type 0 where
@@ -138,9 +139,9 @@ pub record IsReady (s : Scope) (valued : Bool) (k : Block) (labels : List Label)
   pub level : k.environment.level ≡ s.level
   pub own : k.environment.level ≡ k.call.beginning.layer.level
   pub block : block_around k.environment k.environment.level ≡ k.environment.block
-  -- there are turns enough for the acts that are allowed
+  -- there are turns enough for the acts that are left
   pub acts : k.call.surroundings.acts + 1 < 2 ^ 64
-  pub turns : k.call.surroundings.acts ≤ k.around.turns
+  pub turns : k.call.surroundings.acts < k.around.turns + k.first.state.world.acts
   pub held : k.registers ≤ held_registers
   pub raises : KnowsRaises k labels most
   pub variables : (x : Spot) → is_known s x ≡ true → IsNumber k x

@@ -9,15 +9,15 @@ use Rattle.expression_runs.specs.Variables.{Spot, variable_of}
 
 -- ---- what an expression may name
 
--- the program, the level of the block whose expressions these are, the blocks whose variables they may name, and by
--- their numbers the functions and the procedures without parameters that it may call; and whether its statements may
--- write numbers by format lists
+-- the program, the level of the block whose expressions these are, the blocks whose variables they may name, and the
+-- functions and the procedures without parameters that it may call: by the level of the block that declares one, and
+-- its number; and whether its statements may write numbers by format lists
 pub record Scope : Type 0 where
   pub program : Y.Program
   pub level : ℕ
   pub blocks : List BlockPlace
-  pub is_function : ℕ → Bool
-  pub is_procedure : ℕ → Bool
+  pub is_function : (level number : ℕ) → Bool
+  pub is_procedure : (level number : ℕ) → Bool
   pub puts : Bool
 
 -- ---- variables
@@ -82,7 +82,7 @@ abbrev mutual
   pub is_number : Scope → Y.Number → Bool
   is_number s (Y.NumberConstant n) = nat_lt n (2 ^ 31)
   is_number s (Y.NumberIn r) = is_variable s r
-  is_number s (Y.NumberFrom (Y.Calling number level Y.NoArgument)) = (level == s.level) && s.is_function number
+  is_number s (Y.NumberFrom (Y.Calling number level Y.NoArgument)) = s.is_function level number
   is_number s (Y.Signed sign x) = is_number s x
   is_number s (Y.Calculated operator left right) = is_number s left && is_number s right
   is_number s (Y.Absolute x) = is_number s x

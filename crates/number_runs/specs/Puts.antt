@@ -12,7 +12,8 @@ abbrev pub has_format : T.Formats → Bool
 has_format T.NoFormat = false
 has_format (T.FormatThen place repetition first rest) = true
 
--- F items, and X, SKIP and COLUMN, each as often as the language lets it stand, and as wide or as far; and lists of these
+-- F items, and X, SKIP and COLUMN, each as often as the language lets it stand, and as wide or as far; and lists of
+-- these
 abbrev mutual
   pub is_format : T.Format → Bool
   is_format (T.FormatList formats) = has_format formats && are_formats formats
@@ -35,7 +36,7 @@ is_fixed_list formats = are_formats formats && has_fixed formats
 
 -- what is written calls no function: it is evaluated while a place in a format list is in use
 abbrev pub without_calls : Scope → Scope
-without_calls s = record s { is_function = λ n. false }
+without_calls s = record s { is_function = λ level n. false }
 
 abbrev pub is_put_item : Scope → Y.PutItem → Bool
 is_put_item s (Y.PutValue (Y.NumberValue precision x)) = is_number (without_calls s) x

@@ -36,7 +36,7 @@ abbrev mutual
   is_statement s valued labels (Y.DoWhile condition body line) =
       is_line line && (is_test s condition && are_statements s valued (labels_in body ++ labels) body)
   is_statement s valued labels (Y.CallProcedure (Y.Calling number level Y.NoArgument) line) =
-      is_line line && ((level == s.level) && s.is_procedure number)
+      is_line line && s.is_procedure level number
   is_statement s valued labels (Y.Return line) = is_line line && not valued
   is_statement s valued labels (Y.ReturnValue type source line) =
       is_line line && (valued && (is_fixed type && is_stored s source))

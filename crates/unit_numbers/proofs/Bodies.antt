@@ -120,7 +120,7 @@ knows once {program} m input more past labels line few b includes known =
         most = omega (arith, inside);
       });
       variables = λ x h. past_numbers k past x (main_number m input (suc more) x (own_known m input (suc more) x h) b);
-      functions = λ n h. absurd (cc h);
+      functions = λ level n h. absurd (cc h);
     }
 
 -- ---- its statements
@@ -154,7 +154,7 @@ main_home once {program} m input more past few b known =
       tests = λ labels line x includes is still.
           test_does s (past_setting m input (suc more) past labels line) x
           (knows once m input more past labels line few b includes known) is;
-      alone = λ n. refl;
+      alone = λ level n. refl;
       puts = λ e. absurd (cc e);
       home = λ e. record {
         level = refl;

@@ -207,7 +207,7 @@ unit_home {program} m input more past labels line index x r few b' vs =
       variables = vs;
       numbers = λ ls n y includes is still. still_does s (setting_of k ls n (most_for program)) y b' vs is (still refl);
       tests = λ ls n y includes is still. still_tests s (setting_of k ls n (most_for program)) y b' vs is (still refl);
-      alone = λ n. refl;
+      alone = λ level n. refl;
       puts = λ e. absurd (cc e);
       home = λ e. absurd (cc e);
     }

@@ -66,7 +66,7 @@ pub record Home : Type 0 where
   pub left' : ℕ
   pub begun : IsBegun block
   pub acts : block.call.surroundings.acts + 1 < 2 ^ 64
-  pub turns : block.call.surroundings.acts ≤ block.around.turns
+  pub turns : block.call.surroundings.acts < block.around.turns + block.first.state.world.acts
   pub held : block.registers ≤ held_registers
   pub room : most ≤ length block.call.code + 2
   pub variables : (x : Spot) → is_known scope x ≡ true → IsNumber block x
@@ -80,7 +80,7 @@ pub record Home : Type 0 where
       (labels : List Label) (line : ℕ) (x : Y.Bit) → Includes outermost labels → is_test scope x ≡ true →
       (still ≡ true → is_still_test x ≡ true) →
       Tests (setting_of block labels line most) (test_needs x) x
-  pub alone : (n : ℕ) → scope.is_procedure n ≡ false
+  pub alone : (level n : ℕ) → scope.is_procedure level n ≡ false
   pub puts : scope.puts ≡ true → KnowsPuts scope block most
   pub home : still ≡ false → IsHome scope block left'
 
@@ -392,10 +392,8 @@ mutual
       b.1 (omega (arith, fits))
       (λ e. (and_parts none all (and_parts (is_still_test condition) (none && all) (still e)).1).1) in')
   statement_does h named labels (Y.CallProcedure (Y.Calling number level Y.NoArgument) line) index to is fits still at =
-      let known = h.scope.is_procedure number in
-      let a = and_parts (is_line line) ((level == h.scope.level) && known) is in
-      let b = and_parts (level == h.scope.level) known a.1 in
-      absurd (cc (sym b.1 ∙ h.alone number))
+      let a = and_parts (is_line line) (h.scope.is_procedure level number) is in
+      absurd (cc (sym a.1 ∙ h.alone level number))
   statement_does h named labels (Y.CallProcedure (Y.Calling number level (Y.ArgumentThen first rest)) line) index to is
       fits still at =
       absurd (cc is)

@@ -20,8 +20,8 @@ own_scope program main level =
       program = program;
       level = level;
       blocks = place_of_head main ∷ [];
-      is_function = λ n. false;
-      is_procedure = λ n. false;
+      is_function = λ level n. false;
+      is_procedure = λ level n. false;
       puts = false;
     }
 

@@ -1,0 +1,5 @@
+pub mod Nested
+pub mod NestedCalls
+pub mod NestedFunctions
+pub mod NestedVariables
+pub mod FullVariables

@@ -1,0 +1,182 @@
+-- A block of a program of the class where it runs: what is known at its first statement.
+use Rattle.std.proofs.Common.{◌≡◌, ◌⊎◌, ℕ, suc, ◌+◌, ◌<◌, ◌≤◌, List, [], ◌++◌, length, Option, None}
+use Rattle.std.proofs.Common.{Some, Bool, true, false, sym, ◌∙◌, subst, arith}
+use Rattle.rv_meaning.specs.declared.instr.Instr.{Instr}
+use Rattle.pli_language.specs.declared.condition.Condition.{Condition}
+use Rattle.pli_typing.specs.Signatures.{Fixed}
+use Rattle.pli_typing.specs.TypedTree as Y
+use Rattle.pli_meaning.specs.DeclaredShapes.{variables_of_block}
+use Rattle.pli_meaning.specs.Executing.{begun, entered, labels_in}
+use Rattle.pli_meaning.specs.Raising.{Entry, at_line}
+use Rattle.pli_meaning.specs.StorageState.{force, most_activations}
+use Rattle.pli_serving.specs.Templates.{shape_at}
+use Rattle.pli_coding.specs.Assembly.{size_of}
+use Rattle.pli_coding.specs.Frames.{result}
+use Rattle.pli_coding.specs.Images.{linked_code}
+use Rattle.pli_coding.specs.Procedures.{no_value}
+use Rattle.pli_coding.specs.Registers.{held_registers}
+use Rattle.pli_coding.specs.SignatureTable.{number_in_table, table_of}
+use Rattle.activation_relation.specs.Layers.{Layer, Point}
+use Rattle.activation_relation.specs.Points.{Surroundings}
+use Rattle.activation_relation.specs.ServiceLaws.{IsSystem}
+use Rattle.activation_relation.proofs.Returning.{in_use_later}
+use Rattle.block_runs.specs.Bodies.{Function}
+use Rattle.block_runs.specs.Machines.{acted}
+use Rattle.program_places.specs.Programs.{IsProcedure, Site, behind_body, callee_at, code_for}
+use Rattle.program_runs.specs.Calls.{Callee, begun_at}
+use Rattle.program_runs.specs.Procedures.{Procedure, block_of, layer_for}
+use Rattle.program_runs.specs.Statements.{Block, IsAmong, IsBegun}
+use Rattle.expression_runs.specs.Variables.{IsNumber, Spot, number_shape}
+use Rattle.function_runs.specs.Functions.{function_entry}
+use Rattle.block_headlines.specs.Constants.{IsOf}
+use Rattle.nested_calls.specs.Nested.{IsNested}
+use Rattle.number_runs.specs.Numbers.{is_known}
+use Rattle.number_runs.specs.Statements.{are_statements, statements_need}
+use Rattle.number_runs.specs.Variables.{HaveRoom}
+use Rattle.number_headlines.specs.Programs.{scope_of}
+use Rattle.number_headlines.proofs.Mains.{Main, made_for, result_of, spare_for, surroundings_for}
+use Rattle.number_headlines.proofs.Tables.{word_signature}
+
+-- ---- the block of a procedure or of a function
+
+abbrev pub entry_by : (valued : Bool) → Procedure → (parent : ℕ) → Entry
+entry_by false x parent = begun (block_of x) parent
+entry_by true x parent = function_entry x parent
+
+abbrev pub function_by : (valued : Bool) → Option Function
+function_by false = None
+function_by true = Some (record { place = result; kind = Fixed 31 })
+
+abbrev pub called_block : (valued : Bool) → Surroundings → List Instr → Callee → Point → (numbers : ℕ → ℕ) → Block
+called_block valued w code c p numbers =
+    record {
+      call = record {
+        surroundings = w;
+        code = code;
+        point = p;
+        numbers = numbers;
+        beginning = record {
+          head = c.procedure.head;
+          entry = entry_by valued c.procedure c.calling.parent;
+          layer = layer_for w p numbers c.procedure c.calling;
+          texts = 0;
+        };
+        call = c.calling.call;
+        entry = c.calling.entry;
+        end = c.calling.end;
+        function = function_by valued;
+      };
+      first = acted c.procedure.head.line (c.made (begun_at w c p numbers));
+      environment = c.environment;
+      around = at_line c.around c.procedure.head.line;
+      registers = c.procedure.saved;
+      outers = [];
+    }
+
+-- where it ends: behind a function's statements stands what raises ERROR
+abbrev pub end_by : (valued : Bool) → Y.Program → Y.BlockHead → Y.Stmts → ℕ
+end_by false program head body = behind_body program head body
+end_by true program head body = behind_body program head body + size_of (no_value head.line)
+
+-- ---- as it is called
+
+-- the height of its static parent, the index of its call, and the point there, with what waits in registers
+pub record Running : Type 0 where
+  pub head : Y.BlockHead
+  pub body : Y.Stmts
+  pub parent : ℕ
+  pub call : ℕ
+  pub point : Point
+  pub numbers : ℕ → ℕ
+
+-- blocks may be entered so many deep inside it
+abbrev pub site_of : Y.Program → (more : ℕ) → Running → Site
+site_of program more a =
+    record {
+      parent = a.parent;
+      call = a.call;
+      around = record { program = program; enter = entered program more; turns = suc more; line = 0 };
+      made = made_for program a.head;
+    }
+
+abbrev pub callee_of : Y.Program → (valued : Bool) → (more : ℕ) → Running → Callee
+callee_of program valued more a =
+    callee_at program a.head a.body (site_of program more a) (end_by valued program a.head a.body)
+
+abbrev pub block_of_run :
+    Y.Program → (input : List ℕ) → (acts : ℕ) → (valued : Bool) → (more : ℕ) → Running → Block
+block_of_run program input acts valued more a =
+    called_block valued (surroundings_for program input acts) (linked_code (code_for program))
+    (callee_of program valued more a) a.point a.numbers
+
+-- ---- what is known there
+
+-- so many variables more can be made above it
+pub record Free (w : Surroundings) (q : Point) (count : ℕ) : Type 0 where
+  pub layer : Layer
+  pub below : List Layer
+  pub place : ℕ
+  pub room : HaveRoom w q layer below place count
+
+-- the table has the signature of variables, if there are any
+abbrev pub HasShape : Y.Program → Point → Type 0
+HasShape program q =
+    (block : ℕ) → 0 < length (variables_of_block program block) →
+    shape_at q.places.signatures (number_in_table word_signature (table_of program)) ≡ Some number_shape
+
+-- the procedures that it may call: these are of the class, and call nothing, or the same ones, where as many blocks
+-- have room as may be active
+pub record MayCall {program : Y.Program} (m : Main program) (numbers : List ℕ) (q : Point) (blocks : ℕ) : Type 0 where
+  pub called : numbers ≡ m.called
+  pub some : 1 ≤ blocks
+  pub depth :
+      (m.inner ≡ [])
+      ⊎ ((m.inner ≡ m.called) × (most_activations + 1 ≤ length q.state.activations + blocks))
+
+pub record IsRunning {program : Y.Program} (m : Main program) (input : List ℕ) (acts : ℕ) (valued : Bool) (more : ℕ)
+    (a : Running) (numbers : List ℕ) (blocks : ℕ) : Type 0
+  where
+    pub is : IsProcedure program a.head a.body (result_of valued)
+    pub statements : are_statements (scope_of program numbers a.head) valued (labels_in a.body ++ []) a.body ≡ true
+    pub fits : statements_need a.body ≤ held_registers
+    pub begun : IsBegun (block_of_run program input acts valued more a)
+    pub enough : acts < more + (block_of_run program input acts valued more a).first.state.world.acts
+    pub nested : IsNested (block_of_run program input acts valued more a)
+    -- what the program tells of its static data is told there
+    pub of : IsOf program (block_of_run program input acts valued more a)
+    pub variables :
+        (x : Spot) → is_known (scope_of program numbers a.head) x ≡ true →
+        IsNumber (block_of_run program input acts valued more a) x
+    pub unraised :
+        (c : Condition) → IsSystem (force (block_of_run program input acts valued more a).first.state.activations c)
+    pub idle : (block_of_run program input acts valued more a).first.control.waiting ≡ None
+    pub free :
+        Free (surroundings_for program input acts) (block_of_run program input acts valued more a).first
+        (spare_for m blocks)
+    pub shape : HasShape program (block_of_run program input acts valued more a).first
+    pub calls :
+        (numbers ≡ [])
+        ⊎ MayCall m numbers (block_of_run program input acts valued more a).first blocks
+
+-- at each of its points there is as much room
+pub free_among :
+    {k : Block} {numbers : ℕ → ℕ} {p : Point} (count : ℕ) → IsBegun k → IsAmong k numbers p →
+    Free k.call.surroundings k.first count → Free k.call.surroundings p count
+free_among {k} {p = p} count b o f =
+    let w = k.call.surroundings in
+    let limit = f.room.limit in
+    let same = in_use_later w k.first p b.resumes.stands o.stands o.later in
+    record {
+      layer = f.layer;
+      below = f.below;
+      place = f.place;
+      room = record {
+        newest = o.later.layers ∙ f.room.newest;
+        here = f.room.here;
+        even = f.room.even;
+        counted = f.room.counted;
+        fits = f.room.fits;
+        low = subst (λ n. n ≤ w.parts.stack_start) (sym o.later.remains.low) f.room.low;
+        limit = omega (arith, limit, same);
+      };
+    }
