@@ -61,8 +61,8 @@ use Rattle.expression_runs.specs.Values.{behind, number_aims}
 use Rattle.expression_runs.proofs.Words.{frame_of, known_word}
 use Rattle.text_runs.specs.Texts.{ErrorComes}
 use Rattle.text_runs.proofs.TextCalls.{Asking, asks}
-use Rattle.edit_runs.specs.Edits.{AreFixed, AreListed, IsPut, IsSkipped, Item, ItemsDo, KnowsFormats, Pair, PairsDo, has_data}
-use Rattle.edit_runs.specs.Edits.{Put, placing, put_items, put_of, put_pairs, putting, within}
+use Rattle.edit_runs.specs.Edits.{AreFixed, AreListed, IsPut, IsSkipped, Item, ItemsDo, KnowsFormats, Pair, PairsDo}
+use Rattle.edit_runs.specs.Edits.{Put, has_data, placing, put_items, put_of, put_pairs, putting, within}
 use Rattle.edit_runs.specs.Writing.{with_edits}
 use Rattle.edit_runs.proofs.Items.{ArePut, HasLeft, Puts, item_code, item_coded, left_aims, left_closed}
 use Rattle.edit_runs.proofs.Items.{number_shown, setting_in, valued_comes, whole_in}
@@ -309,7 +309,8 @@ begin_reach k fs {p} {numbers} {i} h c f l knows among there =
           let call = call_at code v (g b).machine.memory in
           called code (g b) v 34 place 1 (x 12) (x 13) (x 14) (λ c' x0 x1 x2 x3 x4. E.edit_begin_served c' x0 x1)
           o.body.services o.regs.1.1.0 o.regs.0 o.regs.1.0 refl refl refl (λ c' y. refl)
-          ∙ ap (λ o'. or_bad o' (E.edit_begun call place 1 Putting)) ((knows p numbers (g b).machine.memory among o.body.memory.storage).read v);
+          ∙ ap (λ o'. or_bad o' (E.edit_begun call place 1 Putting))
+          ((knows p numbers (g b).machine.memory among o.body.memory.storage).read v);
     } in
     reach_moved {i'' = i + 5} (omega arith) (omega arith)
     (reach_then r1
