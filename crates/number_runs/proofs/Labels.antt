@@ -6,22 +6,21 @@ use Rattle.pli_language.specs.Keywords.{same_bytes}
 use Rattle.pli_typing.specs.TypedTree as Y
 use Rattle.pli_meaning.specs.Control.{Label, is_among}
 use Rattle.pli_meaning.specs.Executing.{labels_in}
-use Rattle.pli_coding.specs.Environments.{none_taken}
 use Rattle.program_places.specs.Laws.{IsLabel}
 use Rattle.program_places.proofs.Labels.{label_of}
-use Rattle.program_runs.specs.Statements.{Block}
+use Rattle.program_runs.specs.Statements.{Block, set_aside}
 use Rattle.number_runs.specs.Knowledge.{ArePlaced, AreStanding}
 
 pub placed_with :
-    (k : Block) (body : Y.Stmts) (index : ℕ) (labels : List Label) → AreStanding k body index →
+    (words : ℕ) (k : Block) (body : Y.Stmts) (index : ℕ) (labels : List Label) → AreStanding words k body index →
     ArePlaced k.call.surroundings.links k.environment.block labels →
     ArePlaced k.call.surroundings.links k.environment.block (labels_in body ++ labels)
-placed_with k body index labels at placed label among =
+placed_with words k body index labels at placed label among =
     by (or_cases (is_among label (labels_in body)) (is_among label labels)
     (sym (list_any-append (same_bytes label) (labels_in body) labels) ∙ among))
   where
     by :
         (is_among label (labels_in body) ≡ true) ⊎ (is_among label labels ≡ true) →
         IsLabel k.call.surroundings.links k.environment.block label
-    by (inl h) = label_of k.call.surroundings.links k.call.code index k.environment none_taken body at label h
+    by (inl h) = label_of k.call.surroundings.links k.call.code index k.environment (set_aside words) body at label h
     by (inr h) = placed label h

@@ -10,9 +10,9 @@ use Rattle.program_runs.specs.Statements.{AreMarked, Block, EachDoes}
 use Rattle.expression_runs.specs.Laws as L
 use Rattle.expression_runs.specs.Values.{Setting}
 use Rattle.test_runs.specs.Tests.{Tests}
-use Rattle.number_runs.specs.Knowledge.{AreStanding, IsReady, KnowsNumbers}
+use Rattle.number_runs.specs.Knowledge.{AreStanding, HasFrame, IsReady, KnowsNumbers}
 use Rattle.number_runs.specs.Numbers.{Scope, is_number, is_test, number_needs, test_needs}
-use Rattle.number_runs.specs.Statements.{are_statements, statements_need}
+use Rattle.number_runs.specs.Statements.{are_statements, statements_need, statements_set}
 use Rattle.number_runs.specs.Variables.{are_plain}
 
 pub record ExpressionsDo : Type 0 where
@@ -25,23 +25,23 @@ pub record ExpressionsDo : Type 0 where
 pub record BodiesDo : Type 0 where
   -- each statement of the body does what it means
   pub each :
-      (s : Scope) (valued : Bool) (k : Block) (body : Y.Stmts) (index most left' : ℕ) →
-      IsReady s valued k most left' → are_statements s valued (labels_in body ++ []) body ≡ true →
-      statements_need body ≤ k.registers → AreStanding k body index →
+      (s : Scope) (valued : Bool) (k : Block) (body : Y.Stmts) (index most left' : ℕ)
+      (r : IsReady s valued k most left') → are_statements s valued (labels_in body ++ []) body ≡ true →
+      statements_need body ≤ k.registers → HasFrame r 0 (statements_set body) → AreStanding 0 k body index →
       EachDoes k (labels_in body ++ []) body index left'
   -- and its labels stand where its statements do
   pub marked :
-      (k : Block) (body : Y.Stmts) (index : ℕ) → AreStanding k body index →
+      (k : Block) (body : Y.Stmts) (index : ℕ) → AreStanding 0 k body index →
       AreMarked k.call.surroundings.links k.environment body index
 
--- a block whose variables and statements are these, and whose temporaries fit registers: they take no words of its
--- frame, and no register that it doesn't save
+-- a block whose variables and statements are these, and whose temporaries fit registers: its frame has the words that
+-- loops set aside and no others, and they take no register that it doesn't save
 pub record TemporariesFit : Type 0 where
   pub words :
       (s : Scope) (valued : Bool) (e : Environment) (block : ℕ) (body : Y.Stmts) →
       are_plain (variables_of_block e.program block) ≡ true →
       are_statements s valued (labels_in body ++ []) body ≡ true → statements_need body ≤ held_registers →
-      block_words e block body ≡ 0
+      block_words e block body ≡ statements_set body
   pub registers :
       (s : Scope) (valued : Bool) (e : Environment) (block : ℕ) (body : Y.Stmts) →
       are_plain (variables_of_block e.program block) ≡ true →

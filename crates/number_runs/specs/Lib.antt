@@ -1,4 +1,5 @@
 pub mod Numbers
+pub mod Counting
 pub mod Statements
 pub mod Knowledge
 pub mod Variables

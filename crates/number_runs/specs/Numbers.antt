@@ -9,14 +9,15 @@ use Rattle.expression_runs.specs.Variables.{Spot, variable_of}
 
 -- ---- what an expression may name
 
--- the program, the level of the block whose expressions these are, the blocks whose variables they may name, and by
--- their numbers the functions and the procedures without parameters that it may call
+-- the program, the level of the block whose expressions these are, the blocks whose variables they may name, by their
+-- numbers the functions and the procedures without parameters that it may call, and whether its loops may count
 pub record Scope : Type 0 where
   pub program : Y.Program
   pub level : ℕ
   pub blocks : List BlockPlace
   pub is_function : ℕ → Bool
   pub is_procedure : ℕ → Bool
+  pub counts : Bool
 
 -- ---- variables
 

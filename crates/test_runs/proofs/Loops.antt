@@ -73,8 +73,8 @@ turns_do (suc turns) words k labels condition body line index left' need most h 
     let bit' = bit_code e (set_aside words) condition in
     let test = one ++ bit' in
     let part = stmts_code e (set_aside words) body in
-    let words = size_of test + (3 + size_of part) in
-    let jump = JumpBack words ∷ [] in
+    let back = size_of test + (3 + size_of part) in
+    let jump = JumpBack back ∷ [] in
     let met' = part ++ jump in
     let all' = loop_code words k condition body line in
     let n0 = size_append one all' in
@@ -132,7 +132,7 @@ turns_do (suc turns) words k labels condition body line index left' need most h 
     (onward closed q4.reach
     (λ g5 at5.
     onward closed
-    (back_piece {t = λ j. 0} {rs = nothing} c3 g5 words i (omega (arith, n4))
+    (back_piece {t = λ j. 0} {rs = nothing} c3 g5 back i (omega (arith, n4))
     (record { reserved_stay = λ y u. refl; known_stay = λ b y u t. t; set = λ y u. refl }) lj
     (λ b. known_in h4 (at5 b) tt))
     (λ g6 at6.
