@@ -6,3 +6,4 @@ pub mod Labels
 pub mod Counters
 pub mod Turns
 pub mod Statements
+pub mod Uncounted

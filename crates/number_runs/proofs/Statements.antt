@@ -1,6 +1,6 @@
 -- Statements of the class: each does what it means, by the law of its form.
 use Rattle.std.proofs.Common.{◌≡◌, ℕ, ◌+◌, ◌^◌, ◌≤◌, List, [], ◌∷◌, ◌++◌, true, false, refl, sym, ap}
-use Rattle.std.proofs.Common.{◌∙◌, subst, arith}
+use Rattle.std.proofs.Common.{◌∙◌, None, Some, subst, arith}
 use Rattle.std.specs.Prelude.{◌&&◌, ◌==◌, Bool, ℤ, max, not, Option}
 use Rattle.rv_meaning.specs.Words.{word}
 use Rattle.std.proofs.lemmas.Bool.{and_parts, eqb-true, ltb-true}
@@ -50,7 +50,7 @@ use Rattle.number_runs.specs.Statements.{statement_sets, statements_need, statem
 use Rattle.number_runs.proofs.Counters.{IsCounting, counting_is, counting_of, statement_is}
 use Rattle.number_runs.proofs.Expressions.{number_does, test_does}
 use Rattle.number_runs.proofs.Labels.{placed_with}
-use Rattle.number_runs.proofs.Turns.{free_above, ready_told, turn_stands}
+use Rattle.number_runs.proofs.Turns.{frame_told, free_above, ready_told, turn_stands}
 use Rattle.number_runs.proofs.Variables.{fixed_is, variable_is}
 
 -- a block, with all that is known around its statements, and how many words are set aside
@@ -314,6 +314,14 @@ fewer h m n less sets c =
     let room = q.1 in
     (q.0, omega (arith, less, room))
 
+-- nothing waits behind the limit
+turn_free :
+    (h : Home) (c : h.scope.counts ≡ true) → HasFrame h.ready h.words 3 → (y : ℤ) (n : ℕ) → h.words + 2 ≤ n →
+    with_word h.words (word y) (h.ready.loops c).layer.waits n ≡ None
+turn_free h c sets y =
+    let l = h.ready.loops c in
+    free_above l.layer.waits l.behind h.words (word y) (h.words + 2) l.free (sets c).0 (omega arith)
+
 -- the block in a turn, and what stays set aside there
 abbrev in_turn : (h : Home) → h.scope.counts ≡ true → HasFrame h.ready h.words 3 → (y : ℤ) → Home
 in_turn h c sets y =
@@ -329,8 +337,7 @@ in_turn h c sets y =
       block = N.turning h.words l.layer l.others h.block y;
       most = h.most;
       left' = h.left';
-      ready = ready_told h.ready c (with_word h.words (word y) l.layer.waits) (h.words + 2)
-          (free_above l.layer.waits l.behind h.words (word y) (h.words + 2) l.free q.0 (omega arith));
+      ready = ready_told h.ready c (with_word h.words (word y) l.layer.waits) (h.words + 2) (turn_free h c sets y);
     }
 
 -- what is known of its statements
@@ -397,7 +404,9 @@ counts_by h labels {v = v} {o = o} x body line index placed is c fits all sets e
     let stands = turn_stands h.words h.block count index x.step at in
     turn_does h.words t.block labels body i h.left'
     (record { begun = t.ready.begun; turns = h.ready.turns; marked = marked_in t body i stands })
-    (each y i (placed_with t.words t.block body i labels stands placed) (λ c'. (omega arith, omega (arith, room)))
+    (each y i (placed_with t.words t.block body i labels stands placed)
+    (frame_told h.ready c (with_word h.words (word y) l.layer.waits) (h.words + 2) (turn_free h c sets y) (h.words + 2)
+    (statements_set body) (omega arith) (omega (arith, room)))
     stands))
 
 counted_does :

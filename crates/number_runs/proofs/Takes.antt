@@ -390,8 +390,10 @@ pub block_sets :
 block_sets s valued program block body plain h fits =
     subst (λ t. Sets (statements_need body) (statements_set body) none_taken
     (most_taken t (stmts_take none_taken body))) (sym (plain_takes (variables_of_block program block) plain))
+    (subst (λ n. Sets n (statements_set body) none_taken (most_taken none_taken (stmts_take none_taken body)))
+    (omega arith)
     (sets_behind 0 (statements_need body) (statements_set body) none_taken none_taken (stmts_take none_taken body)
-    (takes_none none_taken) (statements_taken 0 s valued (labels_in body ++ []) body h fits))
+    (takes_none none_taken) (statements_taken 0 s valued (labels_in body ++ []) body h fits)))
 
 pub words_set :
     (s : Scope) (valued : Bool) (e : Environment) (block : ℕ) (body : Y.Stmts) →
@@ -399,7 +401,8 @@ pub words_set :
     are_statements s valued (labels_in body ++ []) body ≡ true → statements_need body ≤ held_registers →
     block_words e block body ≡ statements_set body
 words_set s valued e block body plain h fits =
-    (block_sets s valued e.program block body plain h fits).words
+    let n = (block_sets s valued e.program block body plain h fits).words in
+    omega (arith, n)
 
 pub registers_held :
     (s : Scope) (valued : Bool) (e : Environment) (block : ℕ) (body : Y.Stmts) →

@@ -22,7 +22,7 @@ use Rattle.counter_runs.proofs.Known.{number_told}
 use Rattle.counter_runs.proofs.Limits.{limit_size}
 use Rattle.counter_runs.proofs.Turns.{coded, starts_code}
 use Rattle.counter_runs.proofs.Words.{begun_telling}
-use Rattle.number_runs.specs.Knowledge.{AreStanding, IsReady, Standing}
+use Rattle.number_runs.specs.Knowledge.{AreStanding, HasFrame, IsReady, Standing}
 use Rattle.number_runs.specs.Numbers.{Scope}
 
 -- ---- words in which nothing waits
@@ -95,6 +95,15 @@ ready_told {k = k} r c waits behind free =
         saved = v.saved;
       };
     }
+
+-- in which its frame has as many words left as it had
+pub frame_told :
+    {s : Scope} {valued : Bool} {k : Block} {most left' : ℕ} (r : IsReady s valued k most left')
+    (c : s.counts ≡ true) (waits : ℕ → Option ℕ) (behind : ℕ) (free : (n : ℕ) → behind ≤ n → waits n ≡ None)
+    (words count : ℕ) → behind ≤ words → words + count ≤ (r.loops c).layer.words →
+    HasFrame (ready_told r c waits behind free) words count
+unfolding ready_told
+frame_told r c waits behind free words count low room c' = (low, room)
 
 -- ---- the statements of a turn
 
