@@ -1,5 +1,5 @@
 -- CALL of a procedure of level 1 in the main procedure of a program of the class.
-use Rattle.std.proofs.Common.{◌≡◌, ℕ, zero, suc, ◌+◌, ◌^◌, ◌<◌, List, [], ◌∷◌, ◌++◌, None, true}
+use Rattle.std.proofs.Common.{◌≡◌, ℕ, zero, suc, ◌+◌, ◌^◌, ◌<◌, ◌≤◌, List, [], ◌∷◌, ◌++◌, None, Option, true}
 use Rattle.std.proofs.Common.{false, refl, sym, ap, subst, arith, inl, inr, ◌⊎◌}
 use Rattle.pli_language.specs.declared.condition.Condition.{Condition}
 use Rattle.pli_language.specs.declared.condition.Condition.TheVariants as C
@@ -9,7 +9,6 @@ use Rattle.pli_meaning.specs.Executing.{labels_in}
 use Rattle.pli_meaning.specs.StorageState.{force}
 use Rattle.pli_coding.specs.Allocating.{act_code}
 use Rattle.pli_coding.specs.Assembly.{CallTo, Code, ProcedureEntry, size_of}
-use Rattle.pli_coding.specs.Environments.{none_taken}
 use Rattle.pli_coding.specs.Images.{linked_code}
 use Rattle.pli_coding.specs.Statements.{stmt_code}
 use Rattle.code_marks.specs.CodeMarks.{MarkedOnce}
@@ -23,22 +22,28 @@ use Rattle.program_places.specs.Programs.{behind_body, body_for, code_for, envir
 use Rattle.program_places.proofs.Blocks.{own_block}
 use Rattle.program_places.proofs.Callees.{callee_stands, end_is}
 use Rattle.program_places.proofs.Procedures.{body_placed, raise_routines}
-use Rattle.program_runs.specs.Calls.{Callee, block_at, left_over}
+use Rattle.program_runs.specs.Calls.{Callee, begun_at, block_at, left_over}
+use Rattle.program_runs.specs.Procedures.{layer_for}
 use Rattle.program_runs.specs.Starts.{image_parts, no_numbers}
-use Rattle.program_runs.specs.Statements.{Block, Does, EachDoes, IsAmong, IsBegun}
-use Rattle.program_runs.proofs.CallStatements.{call_does, statement_at}
-use Rattle.program_runs.proofs.Statements.{none_does}
+use Rattle.program_runs.specs.Statements.{Block, DoesWith, EachDoes, IsAmong, IsBegun, set_aside}
+use Rattle.program_runs.proofs.CallStatements.{call_with, statement_with}
 use Rattle.expression_runs.specs.Variables.{IsNumber, Spot}
 use Rattle.function_runs.proofs.OuterVariables.{procedure_number}
-use Rattle.number_runs.specs.Knowledge.{IsReady, call_statement}
+use Rattle.variable_runs.specs.Lists.{layer_after}
+use Rattle.counter_runs.specs.Words.{telling}
+use Rattle.counter_runs.proofs.Known.{number_told}
+use Rattle.number_runs.specs.Knowledge.{HasFrame, IsReady, call_statement, most_set}
 use Rattle.number_runs.specs.Numbers.{is_known}
+use Rattle.number_runs.specs.Statements.{statements_set}
 use Rattle.number_runs.specs.Variables.{words_in}
 use Rattle.number_runs.proofs.Statements.{body_does}
 use Rattle.number_runs.proofs.Takes.{registers_held}
 use Rattle.number_runs.proofs.Words.{own_word}
 use Rattle.number_headlines.specs.Programs.{inner_scope, is_callable, main_scope}
 use Rattle.number_headlines.proofs.Inner.{Inner, Named, inner_all, inner_for, inner_is, inner_made, inner_room}
-use Rattle.number_headlines.proofs.Inner.{inner_words, named_is, site_for}
+use Rattle.number_headlines.proofs.Inner.{inner_set, inner_words, layer_for_calls, named_is, site_for, told_begun}
+use Rattle.number_headlines.proofs.Inner.{told_for, told_newest}
+use Rattle.number_headlines.proofs.Loops.{after_waits, after_words, made_layers, none_with, quiet_calls}
 use Rattle.number_headlines.proofs.Mains.{Main, block_for, level_of, made_system, main_number, most_for, run_for}
 use Rattle.number_headlines.proofs.Mains.{start_for, surroundings_for}
 use Rattle.number_headlines.proofs.Tables.{block_plain}
@@ -55,13 +60,15 @@ abbrev pub inner_block :
 inner_block {program} m i input acts more call p numbers =
     block_at (surroundings_for program input acts) (linked_code (code_for program)) (called_for m i more call) p numbers
 
--- the call of a number is one moment: the acts that are allowed, and the point of the main procedure's block
+-- the call of a number is one moment: the acts that are allowed, what waits in words of the main procedure's frame, and
+-- the point of its block
 pub record Moment {program : Y.Program} (m : Main program) (input : List ℕ) (acts : ℕ) (p : Point)
     (numbers : ℕ → ℕ) : Type 0
   where
     pub few : acts + 1 < 2 ^ 64
+    pub waits : ℕ → Option ℕ
     pub begun : IsBegun (block_for m input acts)
-    pub among : IsAmong (block_for m input acts) numbers p
+    pub among : IsAmong (told_for m input acts waits) numbers p
 
 inner_number :
     {program : Y.Program} (m : Main program) {number : ℕ} (i : Inner m false number) (input : List ℕ)
@@ -88,16 +95,16 @@ inner_number {program} m i input acts more call {p} {numbers} o b x h =
         IsNumber (inner_block m i input acts more call p numbers) x
     by n (inl is) =
         own_word (surroundings_for program input acts) (linked_code (code_for program)) (called_for m i more call) p
-        (block_for m input acts).first numbers x (record { high = omega arith; inside = omega arith }) (
-          inner_words m i input acts more call end numbers,
-          inner_all m i input acts more call end p numbers o.begun o.among,
+        (told_for m input acts o.waits).first numbers x (record { high = omega arith; inside = omega arith }) (
+          inner_words m i input acts o.waits more call end numbers,
+          inner_all m i input acts o.waits more call end p numbers o.begun o.among,
         )
         (record { block = is.0; level = is.1; plain = n.plain }) b
     by n (inr is) =
         let at = is.1 in
-        procedure_number (block_for m input acts) (called_for m i more call) x
+        procedure_number (told_for m input acts o.waits) (called_for m i more call) x
         (record {
-          begun = o.begun;
+          begun = told_begun m input acts o.waits o.begun;
           level = refl;
           parent = refl;
           inner = refl;
@@ -106,8 +113,9 @@ inner_number {program} m i input acts more call {p} {numbers} o b x h =
           program = refl;
           parts = refl;
         })
-        (main_number m input acts x (record { block = is.0; level = is.1; plain = n.plain }) o.begun) p numbers o.among
-        (inner_made m i input acts more call end p numbers o.begun o.among) b
+        (number_told (block_for m input acts) (layer_for_calls m input acts) [] o.waits (told_newest m input acts) x
+        (main_number m input acts x (record { block = is.0; level = is.1; plain = n.plain }) o.begun)) p numbers o.among
+        (inner_made m i input acts o.waits more call end p numbers o.begun o.among) b
 
 inner_system :
     {program : Y.Program} (m : Main program) {number : ℕ} (i : Inner m false number) (input : List ℕ)
@@ -129,6 +137,15 @@ inner_ready once {program} m i input more call {p} {numbers} o b =
     let routines = raise_routines once program m.loadable in
     let inside = routines.linked.inside in
     let xs = words_in (environment_for program m.head) in
+    let k = inner_block m i input (suc more) more call p numbers in
+    let w = surroundings_for program input (suc more) in
+    let c' = called_for m i more call in
+    let φ = layer_for w p numbers c'.procedure c'.calling in
+    let begun' = begun_at w c' p numbers in
+    let inner = words_in (environment_for program i.head) in
+    let same = after_words (begun'.state.serials + 1) φ inner in
+    let words = inner_set m i in
+    let waiting = i.waiting in
     record {
       begun = b;
       level = refl;
@@ -146,9 +163,17 @@ inner_ready once {program} m i input more call {p} {numbers} o b =
         error = inner_system m i input (suc more) more call o C.Error (made_system image_parts _ xs _ C.Error tt);
       };
       variables = λ x h. inner_number m i input (suc more) more call o b x h;
-      calls = record {
-        functions = λ labels line n h. absurd (cc h);
-        procedures = λ labels n line index h. absurd (cc h);
+      calls = quiet_calls (inner_scope program m.head i.head) k (most_for program) left_over refl refl;
+      loops = λ c. record {
+        layer = layer_after image_parts (begun'.state.serials + 1) φ inner;
+        others = p.control.layers;
+        newest = made_layers φ p.control.layers inner begun' refl;
+        few = omega (arith, same, words, waiting);
+        behind = 0;
+        free = λ n more. ap (λ waits. waits n) (after_waits (begun'.state.serials + 1) φ inner);
+        calls = λ waits. quiet_calls (inner_scope program m.head i.head)
+            (telling waits (layer_after image_parts (begun'.state.serials + 1) φ inner) p.control.layers k)
+            (most_for program) left_over refl refl;
       };
       few = omega (arith, inside);
       room = omega arith;
@@ -165,6 +190,21 @@ inner_ready once {program} m i input more call {p} {numbers} o b =
       values = λ e. absurd (cc e);
     }
 
+inner_frame :
+    (once : MarkedOnce) {program : Y.Program} (m : Main program) {number : ℕ} (i : Inner m false number)
+    (input : List ℕ) (more call : ℕ) {p : Point} {numbers : ℕ → ℕ} (o : Moment m input (suc more) p numbers)
+    (b : IsBegun (inner_block m i input (suc more) more call p numbers)) →
+    HasFrame (inner_ready once m i input more call o b) 0 (statements_set i.body)
+unfolding inner_ready
+inner_frame once {program} m i input more call {p} {numbers} o b c =
+    let w = surroundings_for program input (suc more) in
+    let c' = called_for m i more call in
+    let begun' = begun_at w c' p numbers in
+    let same = after_words (begun'.state.serials + 1) (layer_for w p numbers c'.procedure c'.calling)
+    (words_in (environment_for program i.head)) in
+    let words = inner_set m i in
+    (omega arith, omega (arith, same, words))
+
 inner_each :
     MarkedOnce → {program : Y.Program} (m : Main program) {number : ℕ} (i : Inner m false number) (input : List ℕ)
     (more call : ℕ) {p : Point} {numbers : ℕ → ℕ} (o : Moment m input (suc more) p numbers) →
@@ -177,6 +217,7 @@ inner_each once {program} m i input more call {p} {numbers} o b =
     body_does s false (inner_block m i input (suc more) more call p numbers) i.body (body_for program i.head i.body)
     (most_for program) left_over (inner_ready once m i input more call o b) i.statements
     (registers_held s false (environment_for program i.head) i.head.number i.body plain.0 i.statements i.fits)
+    (inner_frame once m i input more call o b)
     (body_placed once program i.head i.body None m.loadable i.is)
 
 -- ---- the statement
@@ -184,29 +225,31 @@ inner_each once {program} m i input more call {p} {numbers} o b =
 -- what stands before the instruction that calls
 abbrev given_for :
     {program : Y.Program} → (m : Main program) → {number : ℕ} → Inner m false number → (input : List ℕ) →
-    (acts more line : ℕ) → Code
-given_for {program} m i input acts more line =
-    given_code (statement_at (block_for m input acts) (called_for m i more 0) line 0 (start_for program input acts)
-    no_numbers)
+    (acts words : ℕ) → (waits : ℕ → Option ℕ) → (more line : ℕ) → Code
+given_for {program} m i input acts words waits more line =
+    given_code (statement_with words (told_for m input acts waits) (called_for m i more 0) line 0
+    (start_for program input acts) no_numbers)
 
 call_by :
     MarkedOnce → {program : Y.Program} (m : Main program) {number : ℕ} (i : Inner m false number) (input : List ℕ)
-    (acts : ℕ) → acts + 1 < 2 ^ 64 → IsBegun (block_for m input acts) → (labels : List Label) (line index : ℕ) →
+    (acts : ℕ) → acts + 1 < 2 ^ 64 → IsBegun (block_for m input acts) → (words : ℕ) → words ≤ most_set →
+    (waits : ℕ → Option ℕ) → (labels : List Label) (line index : ℕ) →
     line < 2 ^ 31 →
     Linked (links_for program) (linked_code (code_for program)) index
-    (stmt_code (environment_for program m.head) none_taken
+    (stmt_code (environment_for program m.head) (set_aside words)
     (Y.CallProcedure (Y.Calling i.head.number m.head.level Y.NoArgument) line)) →
-    Does (block_for m input acts) labels (Y.CallProcedure (Y.Calling i.head.number m.head.level Y.NoArgument) line)
+    DoesWith words (told_for m input acts waits) labels (Y.CallProcedure (Y.Calling i.head.number m.head.level Y.NoArgument) line)
     index left_over
-call_by once {program} m i input zero few b labels line index less l =
-    none_does (block_for m input zero) labels
-    (Y.CallProcedure (Y.Calling i.head.number m.head.level Y.NoArgument) line) index left_over b refl
-call_by once {program} m i input (suc more) few b labels line index less l =
-    let k = block_for m input (suc more) in
+call_by once {program} m i input zero few b words low waits labels line index less l =
+    none_with words (told_for m input zero waits) labels
+    (Y.CallProcedure (Y.Calling i.head.number m.head.level Y.NoArgument) line) index left_over
+    (told_begun m input zero waits b) refl
+call_by once {program} m i input (suc more) few b words low waits labels line index less l =
+    let k = told_for m input (suc more) waits in
     let one = act_code line in
-    let given' = given_for m i input (suc more) more line in
+    let given' = given_for m i input (suc more) words waits more line in
     let last = CallTo (ProcedureEntry i.head.number) ∷ [] in
-    let z = statement_at k (called_for m i more 0) line 0 (start_for program input (suc more)) no_numbers in
+    let z = statement_with words k (called_for m i more 0) line 0 (start_for program input (suc more)) no_numbers in
     let eq = own_code z in
     let l' = subst (Linked (links_for program) (linked_code (code_for program)) index) eq l in
     let size = ap (λ u. size_of u) eq in
@@ -214,13 +257,13 @@ call_by once {program} m i input (suc more) few b labels line index less l =
     let n1 = size_append given' last in
     let call = index + size_of one + size_of given' in
     let c = called_for m i more call in
-    call_does k c line index left_over more
+    call_with words (omega (arith, low)) k c line index left_over more
     (record {
       line_fits = less;
       callee = callee_stands once program i.head i.body (run_for input (suc more))
           (site_for program i.head more call) m.loadable i.is
           (back_of given' last (back_of one (given' ++ last) l')) few;
-      room = inner_room m i input (suc more) more call (behind_body program i.head i.body);
+      room = inner_room m i input (suc more) waits more call (behind_body program i.head i.body);
       statement = l;
       call = omega (arith, size, n0, n1);
       level = refl;
@@ -230,19 +273,20 @@ call_by once {program} m i input (suc more) few b labels line index less l =
       around = refl;
       enough = omega arith;
     })
-    (λ p numbers o. inner_made m i input (suc more) more call (behind_body program i.head i.body) p numbers b o)
-    (λ p numbers o b'. inner_each once m i input more call (record { few = few; begun = b; among = o }) b') b labels
+    (λ p numbers o. inner_made m i input (suc more) waits more call (behind_body program i.head i.body) p numbers b o)
+    (λ p numbers o b'. inner_each once m i input more call (record { few = few; waits = waits; begun = b; among = o }) b')
+    (told_begun m input (suc more) waits b) labels
 
 pub procedure_called :
     MarkedOnce → {program : Y.Program} (m : Main program) (input : List ℕ) (acts : ℕ) → acts + 1 < 2 ^ 64 →
-    IsBegun (block_for m input acts) → (labels : List Label) (n line index : ℕ) →
+    IsBegun (block_for m input acts) → (words : ℕ) → words ≤ most_set → (waits : ℕ → Option ℕ) → (labels : List Label) (n line index : ℕ) →
     is_callable program m.head false n ≡ true → line < 2 ^ 31 →
     Linked (links_for program) (linked_code (code_for program)) index
-    (stmt_code (environment_for program m.head) none_taken (call_statement (main_scope program m.head) n line)) →
-    Does (block_for m input acts) labels (call_statement (main_scope program m.head) n line) index left_over
-procedure_called once {program} m input acts few b labels n line index h less =
+    (stmt_code (environment_for program m.head) (set_aside words) (call_statement (main_scope program m.head) n line)) →
+    DoesWith words (told_for m input acts waits) labels (call_statement (main_scope program m.head) n line) index left_over
+procedure_called once {program} m input acts few b words low waits labels n line index h less =
     let i = inner_is m false n h in
     subst (λ k. Linked (links_for program) (linked_code (code_for program)) index
-    (stmt_code (environment_for program m.head) none_taken (call_statement (main_scope program m.head) k line)) →
-    Does (block_for m input acts) labels (call_statement (main_scope program m.head) k line) index left_over) i.numbered
-    (λ l. call_by once m i input acts few b labels line index less l)
+    (stmt_code (environment_for program m.head) (set_aside words) (call_statement (main_scope program m.head) k line)) →
+    DoesWith words (told_for m input acts waits) labels (call_statement (main_scope program m.head) k line) index left_over) i.numbered
+    (λ l. call_by once m i input acts few b words low waits labels line index less l)

@@ -1,7 +1,7 @@
 -- Calls of functions of level 1 in expressions of the main procedure of a program of the class.
 use Rattle.std.proofs.Common.{◌≡◌, ℕ, zero, suc, ◌+◌, ◌^◌, ◌<◌, ◌≤◌, List, [], ◌∷◌, ◌++◌, true}
-use Rattle.std.proofs.Common.{false, refl, sym, subst, arith, inl, inr, ◌⊎◌}
-use Rattle.std.specs.Prelude.{Bool, cond, ◌==◌}
+use Rattle.std.proofs.Common.{false, refl, sym, ap, subst, arith, inl, inr, ◌⊎◌}
+use Rattle.std.specs.Prelude.{Bool, cond, ◌==◌, Option}
 use Rattle.pli_language.specs.declared.condition.Condition.{Condition}
 use Rattle.pli_language.specs.declared.condition.Condition.TheVariants as C
 use Rattle.pli_typing.specs.TypedTree as Y
@@ -21,24 +21,31 @@ use Rattle.program_places.specs.Programs.{entry_among, program_environment}
 use Rattle.program_places.proofs.Blocks.{own_block}
 use Rattle.program_places.proofs.Functions.{function_end_is, function_stands}
 use Rattle.program_places.proofs.Procedures.{body_placed, raise_routines}
-use Rattle.program_runs.specs.Calls.{Callee, left_over}
+use Rattle.program_runs.specs.Calls.{Callee, begun_at, left_over}
+use Rattle.program_runs.specs.Procedures.{layer_for}
 use Rattle.program_runs.specs.Starts.{image_parts}
 use Rattle.program_runs.specs.Statements.{Block, EachDoes, IsBegun}
 use Rattle.expression_runs.specs.Variables.{IsNumber, Spot}
 use Rattle.function_runs.proofs.OuterVariables.{function_number}
 use Rattle.function_runs.specs.Functions.{function_block}
 use Rattle.function_runs.proofs.FunctionCalls.{function_does}
-use Rattle.expression_runs.specs.Assignments.{setting_of}
+use Rattle.expression_runs.specs.Assignments.{setting_around}
 use Rattle.expression_runs.specs.Laws as L
-use Rattle.number_runs.specs.Knowledge.{IsReady, call_number}
+use Rattle.variable_runs.specs.Lists.{layer_after}
+use Rattle.counter_runs.specs.Words.{telling}
+use Rattle.counter_runs.proofs.Known.{number_told}
+use Rattle.number_runs.specs.Knowledge.{HasFrame, IsReady, call_number, most_set}
 use Rattle.number_runs.specs.Numbers.{is_known}
+use Rattle.number_runs.specs.Statements.{statements_set}
 use Rattle.number_runs.specs.Variables.{words_in}
 use Rattle.number_runs.proofs.Statements.{body_does}
 use Rattle.number_runs.proofs.Takes.{registers_held}
 use Rattle.number_runs.proofs.Words.{function_word}
 use Rattle.number_headlines.specs.Programs.{inner_scope, is_callable, main_scope}
 use Rattle.number_headlines.proofs.Inner.{Inner, Named, inner_all, inner_for, inner_is, inner_made, inner_room}
-use Rattle.number_headlines.proofs.Inner.{inner_words, named_is, site_for}
+use Rattle.number_headlines.proofs.Inner.{inner_set, inner_words, layer_for_calls, named_is, site_for, told_begun}
+use Rattle.number_headlines.proofs.Inner.{told_for, told_newest}
+use Rattle.number_headlines.proofs.Loops.{after_waits, after_words, made_layers, quiet_calls}
 use Rattle.number_headlines.proofs.Calls.{Moment}
 use Rattle.number_headlines.proofs.Mains.{result_of}
 use Rattle.number_headlines.proofs.Mains.{Main, block_for, level_of, made_system, main_number, most_for, run_for}
@@ -84,17 +91,17 @@ valued_number {program} m i input acts more call {p} {numbers} o b x h =
         IsNumber (valued_block m i input acts more call p numbers) x
     by n (inl is) =
         function_word (surroundings_for program input acts) (linked_code (code_for program))
-        (function_of m i more call) p (block_for m input acts).first numbers x
+        (function_of m i more call) p (told_for m input acts o.waits).first numbers x
         (record { high = omega arith; inside = omega arith }) (
-          inner_words m i input acts more call end numbers,
-          inner_all m i input acts more call end p numbers o.begun o.among,
+          inner_words m i input acts o.waits more call end numbers,
+          inner_all m i input acts o.waits more call end p numbers o.begun o.among,
         )
         (record { block = is.0; level = is.1; plain = n.plain }) b
     by n (inr is) =
         let at = is.1 in
-        function_number (block_for m input acts) (function_of m i more call) x
+        function_number (told_for m input acts o.waits) (function_of m i more call) x
         (record {
-          begun = o.begun;
+          begun = told_begun m input acts o.waits o.begun;
           level = refl;
           parent = refl;
           inner = refl;
@@ -103,8 +110,9 @@ valued_number {program} m i input acts more call {p} {numbers} o b x h =
           program = refl;
           parts = refl;
         })
-        (main_number m input acts x (record { block = is.0; level = is.1; plain = n.plain }) o.begun) p numbers o.among
-        (inner_made m i input acts more call end p numbers o.begun o.among) b
+        (number_told (block_for m input acts) (layer_for_calls m input acts) [] o.waits (told_newest m input acts) x
+        (main_number m input acts x (record { block = is.0; level = is.1; plain = n.plain }) o.begun)) p numbers o.among
+        (inner_made m i input acts o.waits more call end p numbers o.begun o.among) b
 
 valued_system :
     {program : Y.Program} (m : Main program) {number : ℕ} (i : Inner m true number) (input : List ℕ)
@@ -127,6 +135,15 @@ valued_ready once {program} m i input more call {p} {numbers} o b =
     let routines = raise_routines once program m.loadable in
     let inside = routines.linked.inside in
     let xs = words_in (environment_for program m.head) in
+    let k = valued_block m i input (suc more) more call p numbers in
+    let w = surroundings_for program input (suc more) in
+    let c' = function_of m i more call in
+    let φ = layer_for w p numbers c'.procedure c'.calling in
+    let begun' = begun_at w c' p numbers in
+    let inner = words_in (environment_for program i.head) in
+    let same = after_words (begun'.state.serials + 1) φ inner in
+    let words = inner_set m i in
+    let waiting = i.waiting in
     record {
       begun = b;
       level = refl;
@@ -144,9 +161,17 @@ valued_ready once {program} m i input more call {p} {numbers} o b =
         error = valued_system m i input (suc more) more call o C.Error (made_system image_parts _ xs _ C.Error tt);
       };
       variables = λ x h. valued_number m i input (suc more) more call o b x h;
-      calls = record {
-        functions = λ labels line n h. absurd (cc h);
-        procedures = λ labels n line index h. absurd (cc h);
+      calls = quiet_calls (inner_scope program m.head i.head) k (most_for program) left_over refl refl;
+      loops = λ c. record {
+        layer = layer_after image_parts (begun'.state.serials + 1) φ inner;
+        others = p.control.layers;
+        newest = made_layers φ p.control.layers inner begun' refl;
+        few = omega (arith, same, words, waiting);
+        behind = 0;
+        free = λ n more. ap (λ waits. waits n) (after_waits (begun'.state.serials + 1) φ inner);
+        calls = λ waits. quiet_calls (inner_scope program m.head i.head)
+            (telling waits (layer_after image_parts (begun'.state.serials + 1) φ inner) p.control.layers k)
+            (most_for program) left_over refl refl;
       };
       few = omega (arith, inside);
       room = omega arith;
@@ -162,6 +187,21 @@ valued_ready once {program} m i input more call {p} {numbers} o b =
       };
     }
 
+valued_frame :
+    (once : MarkedOnce) {program : Y.Program} (m : Main program) {number : ℕ} (i : Inner m true number)
+    (input : List ℕ) (more call : ℕ) {p : Point} {numbers : ℕ → ℕ} (o : Moment m input (suc more) p numbers)
+    (b : IsBegun (valued_block m i input (suc more) more call p numbers)) →
+    HasFrame (valued_ready once m i input more call o b) 0 (statements_set i.body)
+unfolding valued_ready
+valued_frame once {program} m i input more call {p} {numbers} o b c =
+    let w = surroundings_for program input (suc more) in
+    let c' = function_of m i more call in
+    let begun' = begun_at w c' p numbers in
+    let same = after_words (begun'.state.serials + 1) (layer_for w p numbers c'.procedure c'.calling)
+    (words_in (environment_for program i.head)) in
+    let words = inner_set m i in
+    (omega arith, omega (arith, same, words))
+
 valued_each :
     MarkedOnce → {program : Y.Program} (m : Main program) {number : ℕ} (i : Inner m true number) (input : List ℕ)
     (more call : ℕ) {p : Point} {numbers : ℕ → ℕ} (o : Moment m input (suc more) p numbers) →
@@ -174,6 +214,7 @@ valued_each once {program} m i input more call {p} {numbers} o b =
     body_does s true (valued_block m i input (suc more) more call p numbers) i.body (body_for program i.head i.body)
     (most_for program) left_over (valued_ready once m i input more call o b) i.statements
     (registers_held s true (environment_for program i.head) i.head.number i.body plain.0 i.statements i.fits)
+    (valued_frame once m i input more call o b)
     (body_placed once program i.head i.body (result_of true) m.loadable i.is)
 
 -- ---- the call
@@ -198,60 +239,62 @@ entry_low e number (p ∷ ps) index =
 
 -- no act is left where none is allowed
 none_evaluates :
-    {program : Y.Program} (m : Main program) (input : List ℕ) (labels : List Label) (line most : ℕ) (x : Y.Number) →
-    IsBegun (block_for m input 0) → L.Does (setting_of (block_for m input 0) labels line most) 0 x
-none_evaluates m input labels line most x b p numbers taken credits index f o at room l paid there =
+    (words : ℕ) (k : Block) (labels : List Label) (line most : ℕ) (x : Y.Number) → IsBegun k →
+    k.call.surroundings.acts ≡ 0 → L.Does (setting_around words k labels line most) 0 x
+none_evaluates words k labels line most x b none p numbers taken credits index f o at room l paid there =
     let more = o.later.acts in
     let first = b.acts in
     let few = o.stands.allowed in
-    absurd (omega (arith, first, more, few))
+    absurd (omega (arith, first, more, few, none))
 
 call_value :
     MarkedOnce → {program : Y.Program} (m : Main program) {number : ℕ} (i : Inner m true number) (input : List ℕ)
-    (acts : ℕ) → acts + 1 < 2 ^ 64 → IsBegun (block_for m input acts) → (labels : List Label) (line : ℕ) →
-    L.Does (setting_of (block_for m input acts) labels line (most_for program)) 0
+    (acts : ℕ) → acts + 1 < 2 ^ 64 → IsBegun (block_for m input acts) → (words : ℕ) →
+    words ≤ most_set → (waits : ℕ → Option ℕ) → (labels : List Label) (line : ℕ) →
+    L.Does (setting_around words (told_for m input acts waits) labels line (most_for program)) 0
     (Y.NumberFrom (Y.Calling i.head.number m.head.level Y.NoArgument))
-call_value once {program} m i input zero few b labels line =
-    none_evaluates m input labels line (most_for program)
-    (Y.NumberFrom (Y.Calling i.head.number m.head.level Y.NoArgument)) b
-call_value once {program} m i input (suc more) few b labels line =
-    let k = setting_of (block_for m input (suc more)) labels line (most_for program) in
+call_value once {program} m i input zero few b words low waits labels line =
+    none_evaluates words (told_for m input zero waits) labels line (most_for program)
+    (Y.NumberFrom (Y.Calling i.head.number m.head.level Y.NoArgument)) (told_begun m input zero waits b) refl
+call_value once {program} m i input (suc more) few b words low waits labels line =
+    let k = setting_around words (told_for m input (suc more) waits) labels line (most_for program) in
     let c = function_of m i more 0 in
     let end = behind_body program i.head i.body + size_of (no_value i.head.line) in
     let level = i.level in
     let is = function_stands once program i.head i.body 31 (run_for input (suc more)) (site_for program i.head more 0)
     m.loadable i.is (omega (arith, level)) few in
     let inside = is.stands.inside in
-    let low = entry_low (program_environment program) i.head.number program.procedures (procedures_index program) in
+    let behind = entry_low (program_environment program) i.head.number program.procedures (procedures_index program) in
     let xs = words_in (environment_for program m.head) in
     function_does k c more
     (record {
-      begun = b;
+      begun = told_begun m input (suc more) waits b;
       function = is;
-      room = inner_room m i input (suc more) more 0 end;
+      room = inner_room m i input (suc more) waits more 0 end;
       level = refl;
       parent = refl;
       found = i.is;
       enter = refl;
       around = refl;
       enough = omega arith;
-      most = omega (arith, inside, low);
-      words = omega arith;
+      most = omega (arith, inside, behind);
+      words = omega (arith, low);
     })
     (λ call p numbers o. (
-      inner_made m i input (suc more) more call end p numbers b o,
-      valued_system m i input (suc more) more call (record { few = few; begun = b; among = o }) C.Error
+      inner_made m i input (suc more) waits more call end p numbers b o,
+      valued_system m i input (suc more) more call (record { few = few; waits = waits; begun = b; among = o }) C.Error
           (made_system image_parts _ xs _ C.Error tt),
     ))
-    (λ call p numbers o b'. valued_each once m i input more call (record { few = few; begun = b; among = o }) b')
+    (λ call p numbers o b'. valued_each once m i input more call (record { few = few; waits = waits; begun = b; among = o }) b')
 
 pub function_called :
     MarkedOnce → {program : Y.Program} (m : Main program) (input : List ℕ) (acts : ℕ) → acts + 1 < 2 ^ 64 →
-    IsBegun (block_for m input acts) → (labels : List Label) (line n : ℕ) → is_callable program m.head true n ≡ true →
-    L.Does (setting_of (block_for m input acts) labels line (most_for program)) 0
+    IsBegun (block_for m input acts) → (words : ℕ) →
+    words ≤ most_set → (waits : ℕ → Option ℕ) → (labels : List Label) (line n : ℕ) → is_callable program m.head true n ≡ true →
+    L.Does (setting_around words (told_for m input acts waits) labels line (most_for program)) 0
     (call_number (main_scope program m.head) n)
-function_called once {program} m input acts few b labels line n h =
+function_called once {program} m input acts few b words low waits labels line n h =
     let i = inner_is m true n h in
-    subst (λ k. L.Does (setting_of (block_for m input acts) labels line (most_for program)) 0
+    subst (λ k. L.Does (setting_around words (told_for m input acts waits) labels line (most_for program)) 0
     (call_number (main_scope program m.head) k)) i.numbered
-    (call_value once m i input acts few b labels line)
+    (call_value once m i input acts few b words low waits labels line)

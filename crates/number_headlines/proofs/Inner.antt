@@ -18,7 +18,6 @@ use Rattle.pli_coding.specs.Images.{linked_code, place_of_head}
 use Rattle.pli_coding.specs.Locating.{table_number}
 use Rattle.pli_coding.specs.Registers.{held_registers}
 use Rattle.activation_relation.specs.Chains.{HasParent}
-use Rattle.activation_relation.specs.Frames.{lower_end, upper_top}
 use Rattle.activation_relation.specs.Layers.{Layer, Point}
 use Rattle.program_places.specs.Programs.{IsProcedure, Site, callee_at, code_for, environment_for}
 use Rattle.program_places.specs.Programs.{procedure_for}
@@ -26,17 +25,21 @@ use Rattle.program_places.proofs.Found.{known}
 use Rattle.program_runs.specs.Calls.{AreMade, Callee}
 use Rattle.program_runs.specs.Procedures.{HasRoom}
 use Rattle.program_runs.specs.Starts.{image_parts}
-use Rattle.program_runs.specs.Statements.{IsAmong, IsBegun}
+use Rattle.program_runs.specs.Statements.{Block, IsAmong, IsBegun}
 use Rattle.program_runs.specs.Variables.{Declared, generation_for}
 use Rattle.expression_runs.specs.Variables.{Spot, number_declared, variable_of}
 use Rattle.variable_runs.specs.Lists.{AreAll, all_made, behind_made, layer_after, layer_behind}
 use Rattle.variable_runs.proofs.Lists.{all_procedure}
 use Rattle.number_runs.specs.Numbers.{has_none, is_known, is_place, is_plain_if}
-use Rattle.number_runs.specs.Statements.{are_statements, statements_need}
+use Rattle.counter_runs.specs.Words.{telling}
+use Rattle.counter_runs.proofs.Words.{begun_telling}
+use Rattle.number_runs.specs.Statements.{are_statements, statements_need, statements_set}
 use Rattle.number_runs.specs.Variables.{HasWords, HaveRoom, words_in}
-use Rattle.number_runs.proofs.Takes.{words_none}
+use Rattle.number_runs.proofs.Takes.{words_set}
 use Rattle.number_runs.proofs.Words.{room_behind, words_anywhere}
 use Rattle.number_headlines.specs.Programs.{body_of, has_result, inner_scope, is_body, is_callable, is_inner_if}
+use Rattle.number_headlines.specs.Programs.{most_waiting}
+use Rattle.number_headlines.proofs.Loops.{made_layers}
 use Rattle.number_headlines.proofs.Mains.{Main, block_for, level_of, made_for, main_begun, main_layer}
 use Rattle.number_headlines.proofs.Mains.{main_spare, procedure_is, result_of, spare}
 use Rattle.number_headlines.proofs.Mains.{surroundings_for}
@@ -52,6 +55,7 @@ pub record Inner {program : Y.Program} (m : Main program) (valued : Bool) (numbe
   pub level : head.level ≡ 1
   pub statements : are_statements (inner_scope program m.head head) valued (labels_in body ++ []) body ≡ true
   pub fits : statements_need body ≤ held_registers
+  pub waiting : statements_set body ≤ most_waiting
 
 number_found :
     (number : ℕ) (p : Y.Procedure) (ps : List Y.Procedure) → procedure_numbered number ps ≡ Some p →
@@ -86,7 +90,9 @@ inner_is {program} m valued number h = by (procedure_numbered number program.pro
         let b = and_parts (has_result valued p.result) ((head.level == 1) && last) a.1 in
         let c = and_parts (head.level == 1) last b.1 in
         let d = and_parts (are_statements s valued (labels_in body ++ []) body)
-        (nat_le (statements_need body) held_registers) c.1 in
+        (nat_le (statements_need body) held_registers && nat_le (statements_set body) most_waiting) c.1 in
+        let g = and_parts (nat_le (statements_need body) held_registers) (nat_le (statements_set body) most_waiting) d.1
+        in
         let n = number_found number p program.procedures e in
         record {
           head = head;
@@ -97,7 +103,8 @@ inner_is {program} m valued number h = by (procedure_numbered number program.pro
           numbered = n;
           level = eqb-true head.level 1 c.0;
           statements = d.0;
-          fits = leb-true (statements_need body) held_registers d.1;
+          fits = leb-true (statements_need body) held_registers g.0;
+          waiting = leb-true (statements_set body) most_waiting g.1;
         }
 
 -- ---- the main procedure where it calls
@@ -148,7 +155,7 @@ lone_parent : (level : ℕ) (bs : List Binding) → level ≡ 0 → height_of (a
 lone_parent level bs e = subst (λ l. height_of (ancestor (lone l bs) 1 0) ≡ 1) (sym e) refl
 
 -- the layer behind its variables, with what stays free
-abbrev layer_for_calls : {program : Y.Program} → Main program → (input : List ℕ) → (acts : ℕ) → Layer
+abbrev pub layer_for_calls : {program : Y.Program} → Main program → (input : List ℕ) → (acts : ℕ) → Layer
 layer_for_calls {program} m input acts =
     layer_after image_parts ((main_begun m input acts).state.serials + 1) (main_layer m input acts)
     (words_in (environment_for program m.head))
@@ -164,6 +171,24 @@ free {program} m input acts =
     room_behind (surroundings_for program input acts) (main_begun m input acts) (main_layer m input acts) []
     (table_number (environment_for program m.head) (number_declared [])) (fixed_size m.head.level 0) 0 spare
     (variables_of_block program m.head.number) (main_spare m input acts)
+
+-- ---- the main procedure's block while words of its frame wait
+
+abbrev pub told_for :
+    {program : Y.Program} → Main program → (input : List ℕ) → (acts : ℕ) → (waits : ℕ → Option ℕ) → Block
+told_for {program} m input acts waits = telling waits (layer_for_calls m input acts) [] (block_for m input acts)
+
+pub told_newest :
+    {program : Y.Program} (m : Main program) (input : List ℕ) (acts : ℕ) →
+    (block_for m input acts).first.control.layers ≡ layer_for_calls m input acts ∷ []
+told_newest {program} m input acts =
+    made_layers (main_layer m input acts) [] (words_in (environment_for program m.head)) (main_begun m input acts) refl
+
+pub told_begun :
+    {program : Y.Program} (m : Main program) (input : List ℕ) (acts : ℕ) (waits : ℕ → Option ℕ) →
+    IsBegun (block_for m input acts) → IsBegun (told_for m input acts waits)
+told_begun m input acts waits b =
+    begun_telling (block_for m input acts) (layer_for_calls m input acts) [] waits (told_newest m input acts) b
 
 -- ---- what is called
 
@@ -181,34 +206,33 @@ abbrev pub inner_for :
     (more call end : ℕ) → Callee
 inner_for {program} m i more call end = callee_at program i.head i.body (site_for program i.head more call) end
 
-no_inner_words :
+pub inner_set :
     {program : Y.Program} (m : Main program) {valued : Bool} {number : ℕ} (i : Inner m valued number) →
-    (procedure_for program i.head i.body).words ≡ 0
-no_inner_words {program} m {valued} i =
+    (procedure_for program i.head i.body).words ≡ statements_set i.body
+inner_set {program} m {valued} i =
     let plain = block_plain program.variables i.head.number m.plain in
-    words_none (inner_scope program m.head i.head) valued (environment_for program i.head) i.head.number i.body plain.0
+    words_set (inner_scope program m.head i.head) valued (environment_for program i.head) i.head.number i.body plain.0
     i.statements i.fits
 
 pub inner_room :
     {program : Y.Program} (m : Main program) {valued : Bool} {number : ℕ} (i : Inner m valued number)
-    (input : List ℕ) (acts more call end : ℕ) →
-    HasRoom (surroundings_for program input acts) (block_for m input acts).first (procedure_for program i.head i.body)
+    (input : List ℕ) (acts : ℕ) (waits : ℕ → Option ℕ) (more call end : ℕ) →
+    HasRoom (surroundings_for program input acts) (told_for m input acts waits).first (procedure_for program i.head i.body)
     (inner_for m i more call end).calling
-inner_room {program} m i input acts more call end =
-    let words = no_inner_words m i in
+inner_room {program} m i input acts waits more call end =
+    let words = inner_set m i in
+    let waiting = i.waiting in
     let level = i.level in
     let f = free m input acts in
     let fits = f.fits in
-    let top = ap (λ ls. upper_top image_parts ls) f.newest in
-    let low = ap (λ ls. lower_end image_parts ls) f.newest in
     let one = main_lone m input acts in
     let same = made_same (main_layer m input acts) (words_in (environment_for program m.head)) (main_begun m input acts)
     in
     record {
-      room = omega (arith, words, level, fits, top, low);
+      room = omega (arith, words, waiting, level, fits);
       shallow = ap (λ (as' : List Activation). nat_lt (length as') most_activations) one.is;
       parent =
-          subst (λ l. HasParent l 1 (block_for m input acts).first.state.activations) (sym level) (
+          subst (λ l. HasParent l 1 (told_for m input acts waits).first.state.activations) (sym level) (
             omega arith,
             ap (λ as'. height_of (ancestor as' 1 0)) one.is ∙ lone_parent m.head.level one.bindings (level_of m),
           );
@@ -217,18 +241,17 @@ inner_room {program} m i input acts more call end =
 
 pub inner_words :
     {program : Y.Program} (m : Main program) {valued : Bool} {number : ℕ} (i : Inner m valued number)
-    (input : List ℕ) (acts more call end : ℕ) (numbers : ℕ → ℕ) →
-    HasWords (surroundings_for program input acts) (inner_for m i more call end) (block_for m input acts).first numbers
-inner_words {program} m {valued} i input acts more call end numbers =
-    let words = no_inner_words m i in
+    (input : List ℕ) (acts : ℕ) (waits : ℕ → Option ℕ) (more call end : ℕ) (numbers : ℕ → ℕ) →
+    HasWords (surroundings_for program input acts) (inner_for m i more call end) (told_for m input acts waits).first numbers
+inner_words {program} m {valued} i input acts waits more call end numbers =
+    let words = inner_set m i in
+    let waiting = i.waiting in
     let level = i.level in
     let f = free m input acts in
     let fits = f.fits in
     let even = f.even in
     let limit = f.limit in
     let low' = f.low in
-    let top = ap (λ ls. upper_top image_parts ls) f.newest in
-    let low = ap (λ ls. lower_end image_parts ls) f.newest in
     let kind = (known program i.head i.body (result_of valued) m.loadable.well_formed i.is).kind in
     let plain = block_plain program.variables i.head.number m.plain in
     let few = plain.1 in
@@ -253,9 +276,9 @@ inner_words {program} m {valued} i input acts more call end numbers =
       room = record {
         newest = refl;
         here = refl;
-        even = omega (arith, words, level, even, top);
+        even = omega (arith, words, waiting, level, even);
         counted = omega (arith, level, few);
-        fits = omega (arith, words, level, few, fits, top, low);
+        fits = omega (arith, words, waiting, level, few, fits);
         low = low';
         limit = omega (arith, few, limit);
       };
@@ -263,23 +286,24 @@ inner_words {program} m {valued} i input acts more call end numbers =
 
 pub inner_all :
     {program : Y.Program} (m : Main program) {valued : Bool} {number : ℕ} (i : Inner m valued number)
-    (input : List ℕ) (acts more call end : ℕ) (p : Point) (numbers : ℕ → ℕ) → IsBegun (block_for m input acts) →
-    IsAmong (block_for m input acts) numbers p →
+    (input : List ℕ) (acts : ℕ) (waits : ℕ → Option ℕ) (more call end : ℕ) (p : Point) (numbers : ℕ → ℕ) → IsBegun (block_for m input acts) →
+    IsAmong (told_for m input acts waits) numbers p →
     AreAll (surroundings_for program input acts) (inner_for m i more call end) p numbers
     (words_in (environment_for program i.head))
-inner_all {program} m i input acts more call end p numbers b o =
-    words_anywhere (block_for m input acts) (inner_for m i more call end) p numbers b o
-    (inner_words m i input acts more call end numbers)
+inner_all {program} m i input acts waits more call end p numbers b o =
+    words_anywhere (told_for m input acts waits) (inner_for m i more call end) p numbers
+    (told_begun m input acts waits b) o
+    (inner_words m i input acts waits more call end numbers)
 
 pub inner_made :
     {program : Y.Program} (m : Main program) {valued : Bool} {number : ℕ} (i : Inner m valued number)
-    (input : List ℕ) (acts more call end : ℕ) (p : Point) (numbers : ℕ → ℕ) → IsBegun (block_for m input acts) →
-    IsAmong (block_for m input acts) numbers p →
+    (input : List ℕ) (acts : ℕ) (waits : ℕ → Option ℕ) (more call end : ℕ) (p : Point) (numbers : ℕ → ℕ) → IsBegun (block_for m input acts) →
+    IsAmong (told_for m input acts waits) numbers p →
     AreMade (surroundings_for program input acts) (linked_code (code_for program)) (inner_for m i more call end) p
     numbers
-inner_made {program} m i input acts more call end p numbers b o =
+inner_made {program} m i input acts waits more call end p numbers b o =
     all_procedure (surroundings_for program input acts) (linked_code (code_for program)) (inner_for m i more call end) p
-    numbers (words_in (environment_for program i.head)) (inner_all m i input acts more call end p numbers b o)
+    numbers (words_in (environment_for program i.head)) (inner_all m i input acts waits more call end p numbers b o)
 
 -- ---- the variables that it may name
 

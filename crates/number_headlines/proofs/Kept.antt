@@ -2,7 +2,7 @@
 -- headline.
 use Rattle.std.proofs.Common.{ℕ, ◌+◌, ◌^◌, ◌<◌, List, [], ◌++◌, None}
 use Rattle.std.proofs.Common.{false}
-use Rattle.std.proofs.Common.{refl, arith}
+use Rattle.std.proofs.Common.{◌≤◌, Option, refl, ap, subst, arith}
 use Rattle.std.proofs.lemmas.Bool.{and_parts}
 use Rattle.pli_language.specs.declared.condition.Condition.TheVariants as C
 use Rattle.pli_typing.specs.TypedTree as Y
@@ -25,7 +25,8 @@ use Rattle.program_runs.specs.Statements.{EachDoes, IsBegun}
 use Rattle.variable_runs.proofs.Lists.{all_procedure}
 use Rattle.pli_headline.specs.Headline.{FitsMemory, Headline, parts}
 use Rattle.block_headlines.specs.Headlines.{HeadlinesKept, Layout, Runs}
-use Rattle.number_runs.specs.Knowledge.{IsReady, KnowsCalls}
+use Rattle.number_runs.specs.Knowledge.{HasFrame, IsReady, KnowsCalls}
+use Rattle.number_runs.specs.Statements.{statements_set}
 use Rattle.number_runs.specs.Variables.{words_in}
 use Rattle.number_runs.proofs.Statements.{body_does}
 use Rattle.number_runs.proofs.Takes.{registers_held}
@@ -35,14 +36,17 @@ use Rattle.number_headlines.specs.Programs.{most_words}
 use Rattle.number_headlines.proofs.Tables.{block_plain, has_start}
 use Rattle.number_headlines.proofs.Mains.{Main, block_for, made_for, made_system, main_all, main_for, main_is}
 use Rattle.number_headlines.proofs.Mains.{main_number, main_room, most_for, own_known, run_for, start_for}
-use Rattle.number_headlines.proofs.Mains.{placed, surroundings_for}
+use Rattle.number_headlines.proofs.Mains.{main_begun, main_layer, own_words, placed, surroundings_for}
+use Rattle.number_headlines.proofs.Inner.{layer_for_calls, told_for, told_newest}
+use Rattle.number_headlines.proofs.Loops.{after_waits, after_words, told_same}
 use Rattle.number_headlines.proofs.Calls.{procedure_called}
 use Rattle.number_headlines.proofs.Functions.{function_called}
 
 pub main_ready :
     MarkedOnce → {program : Y.Program} (m : Main program) (input : List ℕ) (acts : ℕ) → acts + 1 < 2 ^ 64 →
     IsBegun (block_for m input acts) →
-    KnowsCalls (main_scope program m.head) (block_for m input acts) (most_for program) left_over →
+    ((waits : ℕ → Option ℕ) →
+    KnowsCalls (main_scope program m.head) (told_for m input acts waits) (most_for program) left_over) →
     IsReady (main_scope program m.head) false (block_for m input acts) (most_for program) left_over
 main_ready once {program} m input acts few b calls =
     let found = main_found program (placed m) m.main in
@@ -50,6 +54,11 @@ main_ready once {program} m input acts few b calls =
     let routines = raise_routines once program m.loadable in
     let inside = routines.linked.inside in
     let xs = words_in (environment_for program m.head) in
+    let φ = layer_for_calls m input acts in
+    let serial = (main_begun m input acts).state.serials + 1 in
+    let same = after_words serial (main_layer m input acts) xs in
+    let words = own_words m in
+    let waiting = m.waiting in
     record {
       begun = b;
       level = refl;
@@ -65,7 +74,17 @@ main_ready once {program} m input acts few b calls =
         error = made_system image_parts _ xs _ C.Error tt;
       };
       variables = λ x h. main_number m input acts x (own_known m input acts x h) b;
-      calls = calls;
+      calls = subst (λ k. KnowsCalls (main_scope program m.head) k (most_for program) left_over)
+          (told_same φ [] (block_for m input acts) (told_newest m input acts)) (calls φ.waits);
+      loops = λ c. record {
+        layer = φ;
+        others = [];
+        newest = told_newest m input acts;
+        few = omega (arith, same, words, waiting);
+        behind = 0;
+        free = λ n more. ap (λ waits. waits n) (after_waits serial (main_layer m input acts) xs);
+        calls = calls;
+      };
       few = omega (arith, inside);
       room = omega arith;
       returns = λ e. record {
@@ -83,14 +102,27 @@ main_ready once {program} m input acts few b calls =
 
 main_calls :
     MarkedOnce → {program : Y.Program} (m : Main program) (input : List ℕ) (acts : ℕ) → acts + 1 < 2 ^ 64 →
-    IsBegun (block_for m input acts) →
-    KnowsCalls (main_scope program m.head) (block_for m input acts) (most_for program) left_over
-main_calls once {program} m input acts few b =
+    IsBegun (block_for m input acts) → (waits : ℕ → Option ℕ) →
+    KnowsCalls (main_scope program m.head) (told_for m input acts waits) (most_for program) left_over
+main_calls once {program} m input acts few b waits =
     record {
-      functions = λ labels line n h. function_called once m input acts few b labels line n h;
-      procedures = λ labels n line index h less l.
-          procedure_called once m input acts few b labels n line index h less l;
+      functions = λ words low labels line n h. function_called once m input acts few b words low waits labels line n h;
+      procedures = λ words low labels n line index h less l.
+          procedure_called once m input acts few b words low waits labels n line index h less l;
     }
+
+main_frame :
+    (once : MarkedOnce) {program : Y.Program} (m : Main program) (input : List ℕ) (acts : ℕ)
+    (few : acts + 1 < 2 ^ 64) (b : IsBegun (block_for m input acts))
+    (calls : (waits : ℕ → Option ℕ) →
+    KnowsCalls (main_scope program m.head) (told_for m input acts waits) (most_for program) left_over) →
+    HasFrame (main_ready once m input acts few b calls) 0 (statements_set m.body)
+unfolding main_ready
+main_frame once {program} m input acts few b calls c =
+    let same = after_words ((main_begun m input acts).state.serials + 1) (main_layer m input acts)
+    (words_in (environment_for program m.head)) in
+    let words = own_words m in
+    (omega arith, omega (arith, same, words))
 
 pub main_each :
     MarkedOnce → {program : Y.Program} (m : Main program) (input : List ℕ) (acts : ℕ) → acts + 1 < 2 ^ 64 →
@@ -103,6 +135,7 @@ main_each once {program} m input acts few b =
     (most_for program) left_over (main_ready once m input acts few b (main_calls once m input acts few b)) m.statements
     (registers_held (main_scope program m.head) false (environment_for program m.head) m.head.number m.body plain.0
     m.statements m.fits)
+    (main_frame once m input acts few b (main_calls once m input acts few b))
     (body_placed once program m.head m.body None m.loadable found)
 
 -- ---- the whole

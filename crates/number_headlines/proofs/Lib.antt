@@ -1,4 +1,5 @@
 pub mod Tables
+pub mod Loops
 pub mod Mains
 pub mod Inner
 pub mod Calls

@@ -33,13 +33,13 @@ use Rattle.activation_relation.specs.Points.{Surroundings}
 use Rattle.variable_runs.specs.Lists.{AreAll, all_made, behind_made, layer_behind, newest_all}
 use Rattle.well_formed_trees.specs.WellFormed.{HasMain}
 use Rattle.number_runs.specs.Numbers.{has_none, is_known, is_place, is_plain_if}
-use Rattle.number_runs.specs.Statements.{are_statements, statements_need}
+use Rattle.number_runs.specs.Statements.{are_statements, statements_need, statements_set}
 use Rattle.number_runs.specs.Variables.{HasWords, HaveRoom, IsOwnWord, words_in}
-use Rattle.number_runs.proofs.Takes.{words_none}
+use Rattle.number_runs.proofs.Takes.{words_set}
 use Rattle.number_runs.proofs.Words.{all_words, own_word, room_fewer}
 use Rattle.number_runs.proofs.Variables.{fixed_is}
 use Rattle.number_headlines.specs.Programs.{are_all_plain, body_of, has_main, has_result, is_body, main_scope}
-use Rattle.number_headlines.specs.Programs.{most_words}
+use Rattle.number_headlines.specs.Programs.{most_waiting, most_words}
 use Rattle.number_headlines.proofs.Tables.{block_plain, has_table}
 
 -- ---- no unit comes with variables
@@ -106,6 +106,7 @@ pub record Main (program : Y.Program) : Type 0 where
   pub loadable : IsLoadable program
   pub statements : are_statements (main_scope program head) false (labels_in body ++ []) body ≡ true
   pub fits : statements_need body ≤ held_registers
+  pub waiting : statements_set body ≤ most_waiting
 
 -- as it is placed
 abbrev pub placed : {program : Y.Program} → Main program → Placed.Main
@@ -121,8 +122,10 @@ main_is program (p ∷ ps) e plain load h =
     let inner = is_body (main_scope program head) false body in
     let a = and_parts (has_none p.parameters) (has_result false p.result && inner) h in
     let b = and_parts (has_result false p.result) inner a.1 in
+    let waiting = nat_le (statements_set body) most_waiting in
     let c = and_parts (are_statements (main_scope program head) false (labels_in body ++ []) body)
-    (nat_le (statements_need body) held_registers) b.1 in
+    (nat_le (statements_need body) held_registers && waiting) b.1 in
+    let d = and_parts (nat_le (statements_need body) held_registers) waiting c.1 in
     record {
       head = head;
       body = body;
@@ -131,7 +134,8 @@ main_is program (p ∷ ps) e plain load h =
       plain = plain;
       loadable = load;
       statements = c.0;
-      fits = leb-true (statements_need body) held_registers c.1;
+      fits = leb-true (statements_need body) held_registers d.0;
+      waiting = leb-true (statements_set body) most_waiting d.1;
     }
 
 -- ---- in a run
@@ -155,10 +159,11 @@ main_for {program} m input acts =
 pub level_of : {program : Y.Program} (m : Main program) → m.head.level ≡ 0
 level_of {program} m = (subst HasMain m.main m.loadable.well_formed.main).0
 
-no_words : {program : Y.Program} (m : Main program) → (procedure_for program m.head m.body).words ≡ 0
-no_words {program} m =
+pub own_words :
+    {program : Y.Program} (m : Main program) → (procedure_for program m.head m.body).words ≡ statements_set m.body
+own_words {program} m =
     let plain = block_plain program.variables m.head.number m.plain in
-    words_none (main_scope program m.head) false (environment_for program m.head) m.head.number m.body plain.0
+    words_set (main_scope program m.head) false (environment_for program m.head) m.head.number m.body plain.0
     m.statements m.fits
 
 parented : (level parent : ℕ) → level ≡ 0 → HasParent level parent []
@@ -170,10 +175,11 @@ pub main_room :
     (start_for program input acts) (procedure_for program m.head m.body)
     (main_for m input acts).calling
 main_room {program} m input acts =
-    let words = no_words m in
+    let words = own_words m in
+    let waiting = m.waiting in
     let level = level_of m in
     record {
-      room = omega (arith, words, level);
+      room = omega (arith, words, waiting, level);
       shallow = refl;
       parent = parented m.head.level 0 level;
       idle = refl;
@@ -181,7 +187,7 @@ main_room {program} m input acts =
 
 -- what stays free behind the main procedure's variables: the variables of one block more, and its frame
 abbrev pub spare : ℕ
-spare = most_words + 16
+spare = most_words + 32
 
 abbrev pub main_layer : {program : Y.Program} → Main program → (input : List ℕ) → (acts : ℕ) → Layer
 main_layer {program} m input acts =
@@ -201,16 +207,17 @@ pub main_spare :
     (main_layer m input acts) [] (fixed_size m.head.level 0)
     (length (variables_of_block program m.head.number) + spare)
 main_spare {program} m input acts =
-    let words = no_words m in
+    let words = own_words m in
+    let waiting = m.waiting in
     let level = level_of m in
     let few = (block_plain program.variables m.head.number m.plain).1 in
     let code = m.loadable.fits in
     record {
       newest = refl;
       here = refl;
-      even = omega (arith, words, level);
+      even = omega (arith, words, waiting, level);
       counted = omega (arith, level, few);
-      fits = omega (arith, words, level, few);
+      fits = omega (arith, words, waiting, level, few);
       low = omega (arith, code);
       limit = omega (arith, few);
     }

@@ -7,7 +7,7 @@ use Rattle.pli_meaning.specs.Executing.{labels_in}
 use Rattle.pli_coding.specs.Images.{place_of_head}
 use Rattle.pli_coding.specs.Registers.{held_registers}
 use Rattle.number_runs.specs.Numbers.{Scope, has_none, is_fixed}
-use Rattle.number_runs.specs.Statements.{are_statements, statements_need}
+use Rattle.number_runs.specs.Statements.{are_statements, statements_need, statements_set}
 use Rattle.number_runs.specs.Variables.{are_plain}
 
 -- ---- variables
@@ -23,10 +23,15 @@ are_all_plain (ds ∷ rest) = (nat_le (length ds) most_words && are_plain ds) &&
 
 -- ---- procedures
 
--- the statements of a block, whose temporaries fit registers
+-- so many words of its frame fit a block's temporaries
+abbrev pub most_waiting : ℕ
+most_waiting = 2 ^ 7
+
+-- the statements of a block, whose temporaries fit registers, and whose loops the words of its frame
 abbrev pub is_body : Scope → (valued : Bool) → Y.Stmts → Bool
 is_body s valued body =
-    are_statements s valued (labels_in body ++ []) body && nat_le (statements_need body) held_registers
+    are_statements s valued (labels_in body ++ []) body
+    && (nat_le (statements_need body) held_registers && nat_le (statements_set body) most_waiting)
 
 abbrev pub body_of : Y.Block → Y.Stmts
 body_of (Y.BlockOf head body) = body
@@ -46,6 +51,7 @@ inner_scope program main head =
       blocks = place_of_head head ∷ place_of_head main ∷ [];
       is_function = λ n. false;
       is_procedure = λ n. false;
+      counts = true;
     }
 
 abbrev pub is_inner : Y.Program → (main : Y.BlockHead) → (valued : Bool) → Y.Procedure → Bool
@@ -72,6 +78,7 @@ main_scope program head =
       blocks = place_of_head head ∷ [];
       is_function = is_callable program head true;
       is_procedure = is_callable program head false;
+      counts = true;
     }
 
 abbrev pub is_main : Y.Program → Y.Procedure → Bool
