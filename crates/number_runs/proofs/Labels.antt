@@ -9,13 +9,13 @@ use Rattle.pli_meaning.specs.Executing.{labels_in}
 use Rattle.program_places.specs.Laws.{IsLabel}
 use Rattle.program_places.proofs.Labels.{label_of}
 use Rattle.program_runs.specs.Statements.{Block, set_aside}
-use Rattle.number_runs.specs.Knowledge.{ArePlaced, AreStanding}
+use Rattle.number_runs.specs.Knowledge.{ArePlaced, AreStanding, AreStandingWith}
 
-pub placed_with :
-    (words : ℕ) (k : Block) (body : Y.Stmts) (index : ℕ) (labels : List Label) → AreStanding words k body index →
+pub labels_placed :
+    (words : ℕ) (k : Block) (body : Y.Stmts) (index : ℕ) (labels : List Label) → AreStandingWith words k body index →
     ArePlaced k.call.surroundings.links k.environment.block labels →
     ArePlaced k.call.surroundings.links k.environment.block (labels_in body ++ labels)
-placed_with words k body index labels at placed label among =
+labels_placed words k body index labels at placed label among =
     by (or_cases (is_among label (labels_in body)) (is_among label labels)
     (sym (list_any-append (same_bytes label) (labels_in body) labels) ∙ among))
   where
@@ -24,3 +24,10 @@ placed_with words k body index labels at placed label among =
         IsLabel k.call.surroundings.links k.environment.block label
     by (inl h) = label_of k.call.surroundings.links k.call.code index k.environment (set_aside words) body at label h
     by (inr h) = placed label h
+
+-- where no words are set aside
+pub placed_with :
+    (k : Block) (body : Y.Stmts) (index : ℕ) (labels : List Label) → AreStanding k body index →
+    ArePlaced k.call.surroundings.links k.environment.block labels →
+    ArePlaced k.call.surroundings.links k.environment.block (labels_in body ++ labels)
+placed_with k body index labels at placed = labels_placed 0 k body index labels at placed

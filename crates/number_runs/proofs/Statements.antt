@@ -41,15 +41,15 @@ use Rattle.counter_runs.proofs.Counts.{count_does}
 use Rattle.counter_runs.proofs.Needs.{does_more}
 use Rattle.counter_runs.proofs.Scalars.{number_counts}
 use Rattle.number_runs.specs.Counting.{count_needs, is_count, limit_needs, start_needs}
-use Rattle.number_runs.specs.Knowledge.{ArePlaced, AreStanding, HasFrame, IsReady, KnowsNumbers, Standing}
-use Rattle.number_runs.specs.Knowledge.{most_set}
+use Rattle.number_runs.specs.Knowledge.{ArePlaced, AreStanding, AreStandingWith, HasFrame, IsReady, KnowsNumbers}
+use Rattle.number_runs.specs.Knowledge.{StandingWith, most_set}
 use Rattle.number_runs.specs.Numbers.{Scope, is_fixed, is_number, is_test, is_variable, number_needs}
 use Rattle.number_runs.specs.Numbers.{test_needs}
 use Rattle.number_runs.specs.Statements.{are_statements, is_line, is_statement, is_stored, statement_needs}
 use Rattle.number_runs.specs.Statements.{statement_sets, statements_need, statements_set, stored_needs}
 use Rattle.number_runs.proofs.Counters.{IsCounting, counting_is, counting_of, statement_is}
 use Rattle.number_runs.proofs.Expressions.{number_does, test_does}
-use Rattle.number_runs.proofs.Labels.{placed_with}
+use Rattle.number_runs.proofs.Labels.{labels_placed, placed_with}
 use Rattle.number_runs.proofs.Turns.{frame_told, free_above, ready_told, turn_stands}
 use Rattle.number_runs.proofs.Variables.{fixed_is, variable_is}
 
@@ -233,8 +233,8 @@ not_true false h = refl
 
 unit_stands :
     (h : Home) (condition : Y.Bit) (unit : Y.Stmt) (line index : ℕ) →
-    Standing h.words h.block (Y.If condition unit line) index →
-    Standing h.words h.block unit (behind_test_with h.words h.block condition (behind_act line index))
+    StandingWith h.words h.block (Y.If condition unit line) index →
+    StandingWith h.words h.block unit (behind_test_with h.words h.block condition (behind_act line index))
 unit_stands h condition unit line index at =
     let one = act_code line in
     let test = bit_code h.block.environment (set_aside h.words) condition in
@@ -243,8 +243,8 @@ unit_stands h condition unit line index at =
 
 first_stands :
     (h : Home) (condition : Y.Bit) (unit otherwise : Y.Stmt) (line index : ℕ) →
-    Standing h.words h.block (Y.IfElse condition unit otherwise line) index →
-    Standing h.words h.block unit (behind_test_with h.words h.block condition (behind_act line index))
+    StandingWith h.words h.block (Y.IfElse condition unit otherwise line) index →
+    StandingWith h.words h.block unit (behind_test_with h.words h.block condition (behind_act line index))
 first_stands h condition unit otherwise line index at =
     let one = act_code line in
     let test = bit_code h.block.environment (set_aside h.words) condition in
@@ -259,8 +259,8 @@ first_stands h condition unit otherwise line index at =
 
 second_stands :
     (h : Home) (condition : Y.Bit) (unit otherwise : Y.Stmt) (line index : ℕ) →
-    Standing h.words h.block (Y.IfElse condition unit otherwise line) index →
-    Standing h.words h.block otherwise (behind_choice_with h.words h.block unit (behind_test_with h.words h.block condition (behind_act line index)))
+    StandingWith h.words h.block (Y.IfElse condition unit otherwise line) index →
+    StandingWith h.words h.block otherwise (behind_choice_with h.words h.block unit (behind_test_with h.words h.block condition (behind_act line index)))
 second_stands h condition unit otherwise line index at =
     let one = act_code line in
     let test = bit_code h.block.environment (set_aside h.words) condition in
@@ -275,14 +275,14 @@ second_stands h condition unit otherwise line index at =
     (placed_back (if_met part) second (placed_back test both (placed_back one (test ++ both) at)))
 
 group_stands :
-    (h : Home) (body : Y.Stmts) (line index : ℕ) → Standing h.words h.block (Y.Do body line) index →
-    AreStanding h.words h.block body (list_index line index)
+    (h : Home) (body : Y.Stmts) (line index : ℕ) → StandingWith h.words h.block (Y.Do body line) index →
+    AreStandingWith h.words h.block body (list_index line index)
 group_stands h body line index at = placed_back (act_code line) (stmts_code h.block.environment (set_aside h.words) body) at
 
 turns_stand :
     (h : Home) (condition : Y.Bit) (body : Y.Stmts) (line index : ℕ) →
-    Standing h.words h.block (Y.DoWhile condition body line) index →
-    AreStanding h.words h.block body (body_index_with h.words h.block condition line index)
+    StandingWith h.words h.block (Y.DoWhile condition body line) index →
+    AreStandingWith h.words h.block body (body_index_with h.words h.block condition line index)
 turns_stand h condition body line index at =
     let one = act_code line in
     let bit = bit_code h.block.environment (set_aside h.words) condition in
@@ -296,7 +296,7 @@ turns_stand h condition body line index at =
     (placed_back (past part) part (placed_back test (if_met part) (placed_back one (while_met test all) at))))
 
 marked_in :
-    (h : Home) (body : Y.Stmts) (index : ℕ) → AreStanding h.words h.block body index →
+    (h : Home) (body : Y.Stmts) (index : ℕ) → AreStandingWith h.words h.block body index →
     AreMarkedWith h.words h.block.call.surroundings.links h.block.environment body index
 marked_in h body index at =
     marked_with h.words h.block.call.surroundings.links h.block.call.code index h.block.environment body at
@@ -344,11 +344,11 @@ in_turn h c sets y =
 abbrev TurnStands : (h : Home) → List Label → Y.Stmts → Type 0
 TurnStands h labels body =
     (index : ℕ) → PlacedIn h (labels_in body ++ labels) → HasFrame h.ready h.words (statements_set body) →
-    AreStanding h.words h.block body index → EachDoesWith h.words h.block (labels_in body ++ labels) body index h.left'
+    AreStandingWith h.words h.block body index → EachDoesWith h.words h.block (labels_in body ++ labels) body index h.left'
 
 abbrev Goes : (h : Home) → List Label → (index : ℕ) → Y.Stmt → Type 0
 Goes h labels index stmt =
-    Standing h.words h.block stmt index → DoesWith h.words h.block labels stmt index h.left'
+    StandingWith h.words h.block stmt index → DoesWith h.words h.block labels stmt index h.left'
 
 counts_by :
     (h : Home) (labels : List Label) {k : Y.Counter} {v : Y.Value} {o : Option Y.Number} {n : Y.Number}
@@ -404,7 +404,7 @@ counts_by h labels {v = v} {o = o} x body line index placed is c fits all sets e
     let stands = turn_stands h.words h.block count index x.step at in
     turn_does h.words t.block labels body i h.left'
     (record { begun = t.ready.begun; turns = h.ready.turns; marked = marked_in t body i stands })
-    (each y i (placed_with t.words t.block body i labels stands placed)
+    (each y i (labels_placed t.words t.block body i labels stands placed)
     (frame_told h.ready c (with_word h.words (word y) l.layer.waits) (h.words + 2) (turn_free h c sets y) (h.words + 2)
     (statements_set body) (omega arith) (omega (arith, room)))
     stands))
@@ -427,7 +427,7 @@ mutual
       (h : Home) (labels : List Label) (stmt : Y.Stmt) (index : ℕ) → PlacedIn h labels →
       is_statement h.scope h.valued labels stmt ≡ true → statement_needs stmt ≤ h.block.registers →
       HasFrame h.ready h.words (statement_sets stmt) →
-      Standing h.words h.block stmt index → DoesWith h.words h.block labels stmt index h.left'
+      StandingWith h.words h.block stmt index → DoesWith h.words h.block labels stmt index h.left'
   statement_does h labels (Y.Null line) index placed is fits sets at =
       null_does h.block line index h.left' (act_of h line is) at.linked labels
   statement_does h labels (Y.Assign target source line) index placed is fits sets at =
@@ -473,7 +473,7 @@ mutual
         turns = omega (arith, turns);
       })
       (statements_do h (labels_in body ++ labels) body (list_index line index)
-      (placed_with h.words h.block body (list_index line index) labels in' placed) a.1 fits sets in')
+      (labels_placed h.words h.block body (list_index line index) labels in' placed) a.1 fits sets in')
   statement_does h labels (Y.DoWhile condition body line) index placed is fits sets at =
       let inner = are_statements h.scope h.valued (labels_in body ++ labels) body in
       let a = and_parts (is_line line) (is_test h.scope condition && inner) is in
@@ -484,7 +484,7 @@ mutual
       (has_test h (Y.DoWhile condition body line) condition line index a.0 (omega (arith, fits)) at.linked)
       (test_does h.scope (setting_around h.words h.block labels line h.most) condition (knows h labels line) b.0)
       (record { begun = h.ready.begun; turns = h.ready.turns; marked = marked_in h body i in' })
-      (statements_do h (labels_in body ++ labels) body i (placed_with h.words h.block body i labels in' placed) b.1
+      (statements_do h (labels_in body ++ labels) body i (labels_placed h.words h.block body i labels in' placed) b.1
       (omega (arith, fits)) sets in')
   statement_does h labels (Y.CallProcedure (Y.Calling number level Y.NoArgument) line) index placed is fits sets at =
       let known = h.scope.is_procedure number in
@@ -540,7 +540,7 @@ mutual
   pub statements_do :
       (h : Home) (labels : List Label) (body : Y.Stmts) (index : ℕ) → PlacedIn h labels →
       are_statements h.scope h.valued labels body ≡ true → statements_need body ≤ h.block.registers →
-      HasFrame h.ready h.words (statements_set body) → AreStanding h.words h.block body index → EachDoesWith h.words h.block labels body index h.left'
+      HasFrame h.ready h.words (statements_set body) → AreStandingWith h.words h.block body index → EachDoesWith h.words h.block labels body index h.left'
   statements_do h labels (Y.EndOfList own) index placed is fits sets at = tt
   statements_do h labels (Y.StmtThen own first rest) index placed is fits sets at =
       let e = h.block.environment in
@@ -563,7 +563,7 @@ mutual
 pub body_does :
     (s : Scope) (valued : Bool) (k : Block) (body : Y.Stmts) (index most left' : ℕ)
     (r : IsReady s valued k most left') → are_statements s valued (labels_in body ++ []) body ≡ true →
-    statements_need body ≤ k.registers → HasFrame r 0 (statements_set body) → AreStanding 0 k body index →
+    statements_need body ≤ k.registers → HasFrame r 0 (statements_set body) → AreStanding k body index →
     EachDoes k (labels_in body ++ []) body index left'
 body_does s valued k body index most left' ready is fits sets at =
     let h : Home =
@@ -578,10 +578,10 @@ body_does s valued k body index most left' ready is fits sets at =
       ready = ready;
     } in
     statements_do h (labels_in body ++ []) body index
-    (placed_with 0 k body index [] at (λ label among. absurd (cc among))) is fits sets at
+    (placed_with k body index [] at (λ label among. absurd (cc among))) is fits sets at
 
 pub body_marked :
-    (k : Block) (body : Y.Stmts) (index : ℕ) → AreStanding 0 k body index →
+    (k : Block) (body : Y.Stmts) (index : ℕ) → AreStanding k body index →
     AreMarked k.call.surroundings.links k.environment body index
 body_marked k body index at =
     marked_with 0 k.call.surroundings.links k.call.code index k.environment body at

@@ -22,7 +22,7 @@ use Rattle.counter_runs.proofs.Known.{number_told}
 use Rattle.counter_runs.proofs.Limits.{limit_size}
 use Rattle.counter_runs.proofs.Turns.{coded, starts_code}
 use Rattle.counter_runs.proofs.Words.{begun_telling}
-use Rattle.number_runs.specs.Knowledge.{AreStanding, HasFrame, IsReady, Standing}
+use Rattle.number_runs.specs.Knowledge.{AreStandingWith, HasFrame, IsReady, StandingWith}
 use Rattle.number_runs.specs.Numbers.{Scope}
 
 -- ---- words in which nothing waits
@@ -108,8 +108,8 @@ frame_told r c waits behind free words count low room c' = (low, room)
 -- ---- the statements of a turn
 
 pub turn_stands :
-    (words : ℕ) (k : Block) (c : Counting) (index : ℕ) → IsStep c.step c.by → Standing words k (count_of c) index →
-    AreStanding (words + 2) k c.body (body_index words k c index)
+    (words : ℕ) (k : Block) (c : Counting) (index : ℕ) → IsStep c.step c.by → StandingWith words k (count_of c) index →
+    AreStandingWith (words + 2) k c.body (body_index words k c index)
 turn_stands words k c index step at =
     let u = turn_in words k c in
     let one = act_code c.line in

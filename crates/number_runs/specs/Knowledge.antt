@@ -50,13 +50,20 @@ abbrev pub ArePlaced : Links → (block : ℕ) → List Label → Type 0
 ArePlaced links block labels = (label : Label) → is_among label labels ≡ true → IsLabel links block label
 
 -- where the code of a statement, and of a list of them, stands with its labels, while so many words are set aside
-abbrev pub Standing : (words : ℕ) → Block → Y.Stmt → (index : ℕ) → Type 0
-Standing words k stmt index =
+abbrev pub StandingWith : (words : ℕ) → Block → Y.Stmt → (index : ℕ) → Type 0
+StandingWith words k stmt index =
     Placed k.call.surroundings.links k.call.code index (stmt_code k.environment (set_aside words) stmt)
 
-abbrev pub AreStanding : (words : ℕ) → Block → Y.Stmts → (index : ℕ) → Type 0
-AreStanding words k body index =
+abbrev pub AreStandingWith : (words : ℕ) → Block → Y.Stmts → (index : ℕ) → Type 0
+AreStandingWith words k body index =
     Placed k.call.surroundings.links k.call.code index (stmts_code k.environment (set_aside words) body)
+
+-- where none are
+abbrev pub Standing : Block → Y.Stmt → (index : ℕ) → Type 0
+Standing k stmt index = StandingWith 0 k stmt index
+
+abbrev pub AreStanding : Block → Y.Stmts → (index : ℕ) → Type 0
+AreStanding k body index = AreStandingWith 0 k body index
 
 -- the block is a function's own, at whose end a RETURN goes on with a number
 pub record IsValued (k : Block) (left' : ℕ) : Type 0 where

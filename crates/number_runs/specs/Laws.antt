@@ -27,11 +27,11 @@ pub record BodiesDo : Type 0 where
   pub each :
       (s : Scope) (valued : Bool) (k : Block) (body : Y.Stmts) (index most left' : ℕ)
       (r : IsReady s valued k most left') → are_statements s valued (labels_in body ++ []) body ≡ true →
-      statements_need body ≤ k.registers → HasFrame r 0 (statements_set body) → AreStanding 0 k body index →
+      statements_need body ≤ k.registers → HasFrame r 0 (statements_set body) → AreStanding k body index →
       EachDoes k (labels_in body ++ []) body index left'
   -- and its labels stand where its statements do
   pub marked :
-      (k : Block) (body : Y.Stmts) (index : ℕ) → AreStanding 0 k body index →
+      (k : Block) (body : Y.Stmts) (index : ℕ) → AreStanding k body index →
       AreMarked k.call.surroundings.links k.environment body index
 
 -- a block whose variables and statements are these, and whose temporaries fit registers: its frame has the words that

@@ -155,6 +155,7 @@ main_home once {program} m input more past few b known =
           test_does s (past_setting m input (suc more) past labels line) x
           (knows once m input more past labels line few b includes known) is;
       alone = λ n. refl;
+      uncounted = refl;
       home = λ e. record {
         level = refl;
         own = refl;

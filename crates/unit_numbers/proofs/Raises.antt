@@ -81,7 +81,7 @@ taken_by {program} m x u =
     let s = own_scope program m.head m.head.level in
     let plain = block_plain program.variables x.head.number m.plain in
     unit_taken s program x.head x.head.kind (statements_need x.body) x.body plain.0
-    (list_taken s (labels_in m.body) x.body u.statements u.fits)
+    (list_taken s (labels_in m.body) x.body refl u.statements u.fits)
 
 -- procedures stand behind the start and the routines of raises
 entry_low :
@@ -208,6 +208,7 @@ unit_home {program} m input more past labels line index x r few b' vs =
       numbers = λ ls n y includes is still. still_does s (setting_of k ls n (most_for program)) y b' vs is (still refl);
       tests = λ ls n y includes is still. still_tests s (setting_of k ls n (most_for program)) y b' vs is (still refl);
       alone = λ n. refl;
+      uncounted = refl;
       home = λ e. absurd (cc e);
     }
 

@@ -40,6 +40,7 @@ use Rattle.number_runs.specs.Numbers.{Scope, has_none, is_known, is_number, is_t
 use Rattle.number_runs.specs.Numbers.{test_needs}
 use Rattle.number_runs.specs.Statements.{are_statements, is_line, is_statement, is_stored, statement_needs}
 use Rattle.number_runs.specs.Statements.{statements_need, stored_needs}
+use Rattle.number_runs.specs.Counting.{is_count}
 use Rattle.number_runs.proofs.Labels.{placed_with}
 use Rattle.number_runs.proofs.Variables.{variable_is}
 use Rattle.unit_numbers.proofs.Units.{none_of}
@@ -79,6 +80,7 @@ pub record Home : Type 0 where
       (still ≡ true → is_still_test x ≡ true) →
       Tests (setting_of block labels line most) (test_needs x) x
   pub alone : (n : ℕ) → scope.is_procedure n ≡ false
+  pub uncounted : scope.counts ≡ false
   pub home : still ≡ false → IsHome scope block left'
 
 -- ---- what the laws of single forms ask for
@@ -414,7 +416,10 @@ mutual
   statement_does h named labels (Y.EmptyArea target line) index to is fits still at = absurd (cc is)
   statement_does h named labels (Y.DoOnce variable start condition body line) index to is fits still at = absurd (cc is)
   statement_does h named labels (Y.DoCount counter start limit step condition body line) index to is fits still at =
-      absurd (cc is)
+      let rest = is_count h.scope counter start limit step condition
+      && are_statements h.scope false (labels_in body ++ labels) body in
+      let a = and_parts (is_line line) (h.scope.counts && rest) is in
+      absurd (cc (sym h.uncounted ∙ (and_parts h.scope.counts rest a.1).0))
   statement_does h named labels (Y.Begin block) index to is fits still at = absurd (cc is)
   statement_does h named labels (Y.OnSystem condition line) index to is fits still at = absurd (cc is)
   statement_does h named labels (Y.OnUnit condition unit line) index to is fits still at = absurd (cc is)

@@ -13,7 +13,7 @@ use Rattle.number_runs.specs.Numbers.{Scope, has_none}
 use Rattle.number_runs.specs.Statements.{are_statements, is_line, statements_need}
 
 -- the statements of the main procedure, and of units in it, may name the variables of the main procedure, and call
--- nothing
+-- nothing; no loop counts
 abbrev pub own_scope : Y.Program → (main : Y.BlockHead) → (level : ℕ) → Scope
 own_scope program main level =
     record {
@@ -22,6 +22,7 @@ own_scope program main level =
       blocks = place_of_head main ∷ [];
       is_function = λ n. false;
       is_procedure = λ n. false;
+      counts = false;
     }
 
 -- ---- what raises nothing: constants and variables, tests of them, and statements over them; groups have no labels
