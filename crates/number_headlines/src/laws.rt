@@ -1,6 +1,7 @@
 // Laws of the definitions: each function's contract is one law, and calling it does nothing.
 
 ghost use Rattle.number_headlines.specs.CallRows.{CallingKept};
+ghost use Rattle.number_headlines.specs.CountRows.{CountingKept};
 ghost use Rattle.number_headlines.specs.Headlines.{NumberHeadlinesKept};
 ghost use Rattle.number_headlines.specs.Rows.{TotalKept};
 
@@ -27,6 +28,13 @@ pub fn total_kept()
 /// A worked row with calls: the same loop, in which a procedure and a function of the main procedure are called.
 pub fn calling_kept()
     ensures { CallingKept }
+{
+    number_headlines_kept();
+}
+
+/// A worked row with loops that count: one stands in the turns of the other, where a function is called.
+pub fn counting_kept()
+    ensures { CountingKept }
 {
     number_headlines_kept();
 }

@@ -417,7 +417,7 @@ mutual
   statement_does h named labels (Y.DoOnce variable start condition body line) index to is fits still at = absurd (cc is)
   statement_does h named labels (Y.DoCount counter start limit step condition body line) index to is fits still at =
       let rest = is_count h.scope counter start limit step condition
-      && are_statements h.scope false (labels_in body ++ labels) body in
+      && are_statements h.scope false (labels_in body ++ named) body in
       let a = and_parts (is_line line) (h.scope.counts && rest) is in
       absurd (cc (sym h.uncounted ∙ (and_parts h.scope.counts rest a.1).0))
   statement_does h named labels (Y.Begin block) index to is fits still at = absurd (cc is)
