@@ -16,5 +16,5 @@ turn_does words k labels body index left' is each p numbers c wanted f o l fits 
     let most = is.turns in
     let first = o.later.acts in
     let some = is.begun.acts in
-    list_with (words + 2) k labels body index left' p numbers c wanted f is.begun (omega (arith, most, first, some)) each
-    is.marked o l fits there
+    list_with (words + 2) k labels body index left' p numbers c wanted f is.begun (omega (arith, most, first, some))
+    each is.marked o l fits there

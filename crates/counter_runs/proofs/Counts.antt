@@ -89,7 +89,8 @@ both_fewer :
 both_fewer words φ z y free i v = by (i == words) refl
   where
     by :
-        (q : Bool) → (i == words) ≡ q → cond (i == words) (Some (word y)) (φ.waits i) ≡ Some v → both_waits words φ z y i ≡ Some v
+        (q : Bool) → (i == words) ≡ q → cond (i == words) (Some (word y)) (φ.waits i) ≡ Some v →
+        both_waits words φ z y i ≡ Some v
     by true f e =
         ap (λ q. cond q (Some (word y)) (with_word (words + 2) (word z) φ.waits i)) f
         ∙ sym (ap (λ q. cond q (Some (word y)) (φ.waits i)) f) ∙ e
@@ -105,8 +106,8 @@ again_reaches :
     AreIn k.call.surroundings p numbers index f →
     Reach k.call.code c f (services_of p) (c + start_loads words)
     (services_of (with_list (with_word words (word y) φ.waits) φ φs p))
-    (λ b m. IsIn k.call.surroundings (with_list (with_word words (word y) φ.waits) φ φs p) numbers (index + start_loads words) b m
-    × (value m.machine a0 ≡ word z))
+    (λ b m. IsIn k.call.surroundings (with_list (with_word words (word y) φ.waits) φ φs p) numbers
+    (index + start_loads words) b m × (value m.machine a0 ≡ word z))
 again_reaches words k φ φs {numbers} {p} {index} z y c f wide free inside o l there =
     let room = inside.0 in
     let low = inside.1 in
@@ -197,7 +198,8 @@ pub record Parts : Type 0 where
       L.Does (setting_with (starting words layer others block z) labels count.line most (words + 3)) need count.limit
   pub counter :
       (y : ℤ) → IsWide y →
-      IsCounter (setting_with (turning words layer others block y) labels count.line most (words + 2)) need count.counter
+      IsCounter (setting_with (turning words layer others block y) labels count.line most (words + 2)) need
+      count.counter
   pub over :
       (y : ℤ) → IsWide y →
       OverflowComes (setting_with (turning words layer others block y) labels count.line most (words + 2))
@@ -254,8 +256,8 @@ limited_does :
     (x : Parts) (acts wanted debt c i : ℕ) {numbers : ℕ → ℕ} {p : Point} (f : Family) (z y : ℤ) → IsWide z →
     IsWide y → acts ≤ p.state.world.acts → 0 < p.state.world.acts →
     c + limit_stores x.words + start_loads x.words + turns_size x + x.most ≤ cost x.block.call.code →
-    turns_size x ≤ debt → i + limit_stores x.words + start_loads x.words ≡ turns_index x.words x.block x.count x.index → IsAmong (starting x.words x.layer x.others x.block z) numbers p →
-    p.control.line ≡ x.count.line →
+    turns_size x ≤ debt → i + limit_stores x.words + start_loads x.words ≡ turns_index x.words x.block x.count x.index →
+    IsAmong (starting x.words x.layer x.others x.block z) numbers p → p.control.line ≡ x.count.line →
     Linked x.block.call.surroundings.links x.block.call.code i
     (store_word frame_register a0 (limit_place (set_aside x.words))) →
     Linked x.block.call.surroundings.links x.block.call.code (i + limit_stores x.words)
@@ -292,7 +294,8 @@ limited_does x acts wanted debt c i {numbers} {p} f z y wz wy since some paid ow
     let q = with_list (both_waits x.words φ z y) φ φs p in
     let q2 = with_list less φ φs p in
     let among = told_among (starting x.words φ φs k z) ψ φs (both_waits x.words φ z y) refl o in
-    let among2 = told_among (telling (both_waits x.words φ z y) φ φs k) (with_waits (both_waits x.words φ z y) φ) φs less refl among in
+    let among2 = told_among (telling (both_waits x.words φ z y) φ φs k) (with_waits (both_waits x.words φ z y) φ) φs
+    less refl among in
     let h = point_frame o.stands o.image in
     comes_on w.acts (V.number (line_of x) x.count.step w.acts p.state) next'
     (subst (Comes code c f (services_of p) (before code goal w.acts next'))
@@ -306,11 +309,11 @@ limited_does x acts wanted debt c i {numbers} {p} f z y wz wy since some paid ow
           (omega (arith, words, low))) l1 there)
           (λ g at.
           onward closed
-          (again_reaches x.words k φ φs z y (c + limit_stores x.words) g wz x.is.free.1 (omega (arith, words), low) among
-          l2 at)
+          (again_reaches x.words k φ φs z y (c + limit_stores x.words) g wz x.is.free.1 (omega (arith, words), low)
+          among l2 at)
           (λ g2 at2.
-          started_does loop ls acts wanted debt (c + limit_stores x.words + start_loads x.words) g2 z wz since some (omega (arith, paid, size))
-          (omega (arith, owed, size)) among2 line
+          started_does loop ls acts wanted debt (c + limit_stores x.words + start_loads x.words) g2 z wz since some
+          (omega (arith, paid, size)) (omega (arith, owed, size)) among2 line
           (λ b. (subst (λ j. IsIn w q2 numbers j b (g2 b)) (omega (arith, end)) (at2 b).0, (at2 b).1))));
     }))
 
@@ -343,9 +346,10 @@ behind_start x =
 waited_does :
     (x : Parts) (acts wanted debt c i : ℕ) {numbers : ℕ → ℕ} {p : Point} (f : Family) (z : ℤ) → IsWide z →
     acts ≤ p.state.world.acts → 0 < p.state.world.acts →
-    c + start_stores x.words + size_of (behind_start x) + turns_size x + x.most ≤ cost x.block.call.code → turns_size x ≤ debt →
-    i + start_stores x.words + size_of (behind_start x) ≡ turns_index x.words x.block x.count x.index → IsAmong x.block numbers p →
-    p.control.line ≡ x.count.line →
+    c + start_stores x.words + size_of (behind_start x) + turns_size x + x.most ≤ cost x.block.call.code → turns_size x
+    ≤ debt →
+    i + start_stores x.words + size_of (behind_start x) ≡ turns_index x.words x.block x.count x.index →
+    IsAmong x.block numbers p → p.control.line ≡ x.count.line →
     Linked x.block.call.surroundings.links x.block.call.code i
     (store_word frame_register a0 (start_place (set_aside x.words))) →
     Linked x.block.call.surroundings.links x.block.call.code (i + start_stores x.words) (behind_start x) →
@@ -398,22 +402,23 @@ waited_does x acts wanted debt c i {numbers} {p} f z wz since some paid owed end
           subst (λ u. Comes code c' f' v' goal (limit_next x z (Some n) w.acts u)) (sym r.1.state)
           (onward closed r.1.reach
           (λ g2 at2.
-          limited_does x acts wanted debt (c + start_stores x.words + size_of part) (i + start_stores x.words + size_of part) g2 z n wz r.0
+          limited_does x acts wanted debt (c + start_stores x.words + size_of part) (i + start_stores x.words + size_of
+          part) g2 z n wz r.0
           (omega (arith, since, since')) (omega (arith, some, since')) (omega (arith, paid, n0, n1, n2)) owed
           (omega (arith, end, n0, n1, n2)) r.1.among (r.1.line ∙ line)
           (back_of part put' lf)
-          (linked_at (i + start_stores x.words + size_of part + limit_stores x.words) (load_word a0 frame_register (start_place (set_aside x.words)))
-          (omega (arith, n1))
-          (front_of (load_word a0 frame_register (start_place (set_aside x.words))) [] (back_of (part ++ put') back l2))) l3
-          at2));
+          (linked_at (i + start_stores x.words + size_of part + limit_stores x.words) (load_word a0 frame_register
+          (start_place (set_aside x.words))) (omega (arith, n1))
+          (front_of (load_word a0 frame_register (start_place (set_aside x.words))) []
+          (back_of (part ++ put') back l2))) l3 at2));
     })
     (λ c' f' v' height label s r. λ i0 f0 v0 from.
     jumps_repaid debt from
     (jumps_since since
     (jumps_back k φ φs waits x.is.newest (fewer_in φ.waits (x.words + 2) (word z) x.is.free.1) r)))
     (λ c' f' v' r s q. absurd q)
-    (x.limit z wz q numbers 0 (c + start_stores x.words) (i + start_stores x.words) g among line (omega (arith, need), x.is.held) (front_of part put' lf)
-    (omega (arith, paid, n0, n1)) at))))
+    (x.limit z wz q numbers 0 (c + start_stores x.words) (i + start_stores x.words) g among line
+    (omega (arith, need), x.is.held) (front_of part put' lf) (omega (arith, paid, n0, n1)) at))))
 
 -- ---- the statement
 
@@ -482,10 +487,12 @@ statement_does x p numbers c wanted f o paid there =
     (front_of part put' (front_of (part ++ put') rest l2)) (omega (arith, all, n0, n1, n2, n3, n4)) at))))))
 
 pub count_does :
-    (words : ℕ) (k : Block) (c : Counting) (φ : Layer) (φs : List Layer) (labels : List Label) (index left' need most : ℕ) →
+    (words : ℕ) (k : Block) (c : Counting) (φ : Layer) (φs : List Layer) (labels : List Label)
+    (index left' need most : ℕ) →
     IsCount words k c φ φs index need most → L.Does (setting_with k labels c.line most (words + 3)) need c.start →
     ((z : ℤ) → IsWide z → L.Does (setting_with (starting words φ φs k z) labels c.line most (words + 3)) need c.limit) →
-    ((y : ℤ) → IsWide y → IsCounter (setting_with (turning words φ φs k y) labels c.line most (words + 2)) need c.counter) →
+    ((y : ℤ) → IsWide y → IsCounter (setting_with (turning words φ φs k y) labels c.line most (words + 2)) need
+    c.counter) →
     ((y : ℤ) → IsWide y → OverflowComes (setting_with (turning words φ φs k y) labels c.line most (words + 2))) →
     ((y : ℤ) → IsWide y → TurnDoes words (turning words φ φs k y) labels c.body (body_index words k c index) left') →
     DoesWith words k labels (count_of c) index left'

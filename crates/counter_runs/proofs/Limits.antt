@@ -177,22 +177,24 @@ limit_size words by behind =
     ∙ ap (λ n. size_of a + n) (passed_size (int_lt by (pos 0)) behind)
 
 pub limit_does :
-    (words : ℕ) → words < 2 ^ 16 → (w : Surroundings) (code : List Instr) (p : Point) (φ : Layer) (φs : List Layer) {numbers : ℕ → ℕ} {index : ℕ}
+    (words : ℕ) → words < 2 ^ 16 → (w : Surroundings) (code : List Instr) (p : Point) (φ : Layer)
+    (φs : List Layer) {numbers : ℕ → ℕ} {index : ℕ}
     {aims : Aims (Unit {0})} (closed : Closed code aims) (c : ℕ) (f : Family) (h : IsFrame φ.at)
     (limit by z : ℤ) (behind : ℕ) (s : State) (k : ℕ) (one other : Meaning (Unit {0})) →
     IsWide limit × IsWide z → (words < φ.words) × (φ.waits words ≡ Some (word limit)) →
-    Linked w.links code index (limit_tested (set_aside words) (Some by) behind) → index + test_length words + behind ≤ length code →
+    Linked w.links code index (limit_tested (set_aside words) (Some by) behind) → index + test_length words + behind
+    ≤ length code →
     ((b : Base) → At b index (Known (point_ground w (layered (φ ∷ φs) p) h) (services_of (layered (φ ∷ φs) p)) numbers
     (λ j. 0) (valued (word z)) b) (f b)) →
     ((g : Family) → ((b : Base) → At b (index + test_length words) (Known (point_ground w (layered (φ ∷ φs) p) h)
     (services_of (layered (φ ∷ φs) p)) numbers (λ j. 0) nothing b) (g b)) →
     Comes code (c + test_length words) g (services_of (layered (φ ∷ φs) p)) aims (one k s)) →
-    ((g : Family) → ((b : Base) → At b (index + test_length words + behind) (Known (point_ground w (layered (φ ∷ φs) p) h)
-    (services_of (layered (φ ∷ φs) p)) numbers (λ j. 0) nothing b) (g b)) →
+    ((g : Family) → ((b : Base) → At b (index + test_length words + behind) (Known (point_ground w
+    (layered (φ ∷ φs) p) h) (services_of (layered (φ ∷ φs) p)) numbers (λ j. 0) nothing b) (g b)) →
     Comes code (c + test_length words + behind) g (services_of (layered (φ ∷ φs) p)) aims (other k s)) →
     Comes code c f (services_of (layered (φ ∷ φs) p)) aims (choose (has_not_passed limit by z) one other k s)
-limit_does words low w code p φ φs {numbers} {index} {aims} closed c f h limit by z behind s k one other wide told l inside at
-    within past' =
+limit_does words low w code p φ φs {numbers} {index} {aims} closed c f h limit by z behind s k one other wide told l
+    inside at within past' =
     let v = services_of (layered (φ ∷ φs) p) in
     let falls = int_lt by (pos 0) in
     let a = load_word u1 frame_register (limit_place (set_aside words)) in
@@ -202,9 +204,10 @@ limit_does words low w code p φ φs {numbers} {index} {aims} closed c f h limit
     (record { reserved_stay = λ y u. refl; known_stay = λ b y u o. o; set = λ y u. refl })
     (record { reserved_stay = λ y u. refl; known_stay = λ b y u o. o; set = λ y u. refl }) (front_of a last l) at)
     (λ f1 at1.
-    subst (λ q. Comes code (c + limit_loads words) f1 v aims (choose q one other k s)) (sym (not_passed falls limit by z refl))
-    (by_direction s k one other falls closed (c + limit_loads words) f1 limit z behind wide.0 wide.1 (omega (arith, inside))
-    (back_of a last l) at1
+    subst (λ q. Comes code (c + limit_loads words) f1 v aims (choose q one other k s))
+    (sym (not_passed falls limit by z refl))
+    (by_direction s k one other falls closed (c + limit_loads words) f1 limit z behind wide.0 wide.1
+    (omega (arith, inside)) (back_of a last l) at1
     (λ f2 at2. subst (λ n. Comes code n f2 v aims (one k s)) (omega arith)
     (within f2 (λ b. record { pc = (at2 b).pc ∙ ap (address b) (omega arith); holds = (at2 b).holds })))
     (λ f2 at2. subst (λ n. Comes code n f2 v aims (other k s)) (omega arith)

@@ -145,13 +145,15 @@ behind_test x = size_of (body_code x) + (step_size x + 2)
 
 -- and of a turn
 abbrev pub turn_size : Loop → ℕ
-turn_size x = size_of (put_code x) + size_of (act_code x.count.line) + (size_of (read_code x) + test_length x.words) + behind_test x
+turn_size x = size_of (put_code x) + size_of (act_code x.count.line) + (size_of (read_code x) + test_length x.words)
+    + behind_test x
 
 -- what comes before the turns, behind the act
 abbrev pub starts_code : (words : ℕ) → Block → Counting → Code
 starts_code words k c =
     start_code k.environment (set_aside words) (value_of_start c)
-    ++ (limit_code k.environment (set_aside words) (Some c.limit) ++ started_code (set_aside words) (counter_of c) (value_of_start c))
+    ++ (limit_code k.environment (set_aside words) (Some c.limit) ++ started_code (set_aside words) (counter_of c)
+    (value_of_start c))
 
 -- all of it, by the step
 abbrev coded_by : (words : ℕ) → Block → Counting → Option ℤ → Code
@@ -217,7 +219,8 @@ pub record AreLinked (x : Loop) : Type 0 where
 
 pub linked_in :
     (x : Loop) →
-    IsLinked x (turns_index x.words x.block x.count x.index) (turns_code (turn_in x.words x.block x.count)) → AreLinked x
+    IsLinked x (turns_index x.words x.block x.count x.index) (turns_code (turn_in x.words x.block x.count)) →
+    AreLinked x
 linked_in x l =
     let u = turn_in x.words x.block x.count in
     let put' = put_code x in
@@ -297,7 +300,8 @@ jumps_on x acts wanted debt more since c f v height label s q i0 f0 v0 from =
     (jumps_back x.block x.layer x.others (waits_in x) x.is.newest
     (fewer_in x.layer.waits x.words (word x.limit) x.is.free.0) q))
 
-end_is : (x : Loop) → AreLinked x → test_index x + test_length x.words + behind_test x ≡ x.index + size_with x.words x.block (count_of x.count)
+end_is : (x : Loop) → AreLinked x → test_index x + test_length x.words + behind_test x ≡ x.index + size_with x.words
+    x.block (count_of x.count)
 end_is x ls =
     let one = act_code x.count.line in
     let turns = turns_code (turn_in x.words x.block x.count) in
@@ -491,7 +495,8 @@ Limited x aims numbers c f z one other q =
     IsAmong (within x) numbers q →
     ((b : Base) → IsIn x.block.call.surroundings q numbers (test_index x) b (f b) × (value (f b).machine a0 ≡ word z)) →
     ((g : Family) → AreIn x.block.call.surroundings q numbers (test_index x + test_length x.words) g →
-    Comes x.block.call.code (c + test_length x.words) g (services_of q) aims (one x.block.call.surroundings.acts q.state)) →
+    Comes x.block.call.code (c + test_length x.words) g (services_of q) aims (one x.block.call.surroundings.acts
+    q.state)) →
     ((g : Family) → AreIn x.block.call.surroundings q numbers (test_index x + test_length x.words + behind_test x) g →
     Comes x.block.call.code (c + test_length x.words + behind_test x) g (services_of q) aims
     (other x.block.call.surroundings.acts q.state)) →
@@ -504,7 +509,8 @@ limited_does :
     IsAmong (within x) numbers p →
     ((b : Base) → IsIn x.block.call.surroundings p numbers (test_index x) b (f b) × (value (f b).machine a0 ≡ word z)) →
     ((g : Family) → AreIn x.block.call.surroundings p numbers (test_index x + test_length x.words) g →
-    Comes x.block.call.code (c + test_length x.words) g (services_of p) aims (one x.block.call.surroundings.acts p.state)) →
+    Comes x.block.call.code (c + test_length x.words) g (services_of p) aims (one x.block.call.surroundings.acts
+    p.state)) →
     ((g : Family) → AreIn x.block.call.surroundings p numbers (test_index x + test_length x.words + behind_test x) g →
     Comes x.block.call.code (c + test_length x.words + behind_test x) g (services_of p) aims
     (other x.block.call.surroundings.acts p.state)) →
@@ -533,7 +539,8 @@ limited_does x ls {aims} closed c {numbers} {p} f z one other wide o there met p
         let low = x.is.low in
         let here : x.words == x.words ≡ true = eq-eqb x.words x.words refl in
         let same = ls.far in
-        limit_does x.words (omega (arith, words, low)) w code p ψ x.others closed c f h x.limit x.count.by z far p.state w.acts one other (x.wide, wide)
+        limit_does x.words (omega (arith, words, low)) w code p ψ x.others closed c f h x.limit x.count.by z far p.state
+        w.acts one other (x.wide, wide)
         (omega (arith, words), ap (λ q. cond q (Some (word x.limit)) (x.layer.waits x.words)) here)
         (subst (λ n. IsLinked x (test_index x) (limit_tested (set_aside x.words) (Some x.count.by) n)) same ls.test)
         (omega (arith, inside)) (λ b. known_word (within x) h (there' b))
@@ -601,14 +608,14 @@ due_does x ls turns acts wanted debt {numbers} {p} f since some paid owed line o
                 (λ g at.
                 limited_does x ls closed (0 + size_of read') g z (turned x turns) (give tt) q.0 q.1.among at
                 (λ g2 at2.
-                met_does x ls turns acts wanted debt (0 + size_of read' + test_length x.words) g2 (omega (arith, since, since'))
-                (omega (arith, some, since')) (omega (arith, paid)) q.1.among at2
+                met_does x ls turns acts wanted debt (0 + size_of read' + test_length x.words) g2
+                (omega (arith, since, since')) (omega (arith, some, since')) (omega (arith, paid)) q.1.among at2
                 (subst (λ n. Again x (before code goal w.acts (λ u. turns_of turns x)) q1.state.world.acts n)
                 (omega arith) (next' q1.state.world.acts since')))
                 (λ g2 at2.
                 past_does x acts wanted debt (0 + size_of read' + test_length x.words + behind_test x)
-                (test_index x + test_length x.words + behind_test x) g2 (omega (arith, since, since')) (omega (arith, owed)) q.1.among
-                (end_is x ls) at2)));
+                (test_index x + test_length x.words + behind_test x) g2 (omega (arith, since, since'))
+                (omega (arith, owed)) q.1.among (end_is x ls) at2)));
           });
     })
     (λ c' f' v' height label s q. jumps_on x acts wanted debt more since c' f' v' height label s q)

@@ -24,10 +24,12 @@ use Rattle.counter_runs.specs.Words.{telling}
 -- whatever its limit is; it may stand in the turns of another one
 abbrev pub CountsDo : Type 0
 CountsDo =
-    (words : ℕ) (k : Block) (c : Counting) (φ : Layer) (φs : List Layer) (labels : List Label) (index left' need most : ℕ) →
+    (words : ℕ) (k : Block) (c : Counting) (φ : Layer) (φs : List Layer) (labels : List Label)
+    (index left' need most : ℕ) →
     IsCount words k c φ φs index need most → L.Does (setting_with k labels c.line most (words + 3)) need c.start →
     ((z : ℤ) → IsWide z → L.Does (setting_with (starting words φ φs k z) labels c.line most (words + 3)) need c.limit) →
-    ((y : ℤ) → IsWide y → IsCounter (setting_with (turning words φ φs k y) labels c.line most (words + 2)) need c.counter) →
+    ((y : ℤ) → IsWide y → IsCounter (setting_with (turning words φ φs k y) labels c.line most (words + 2)) need
+    c.counter) →
     ((y : ℤ) → IsWide y → OverflowComes (setting_with (turning words φ φs k y) labels c.line most (words + 2))) →
     ((y : ℤ) → IsWide y → TurnDoes words (turning words φ φs k y) labels c.body (body_index words k c index) left') →
     DoesWith words k labels (count_of c) index left'

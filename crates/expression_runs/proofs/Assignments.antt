@@ -138,8 +138,8 @@ stored_goes :
     Linked k.call.surroundings.links k.call.code y.index (stores k.environment x) →
     Comes k.call.code c' f' v' (owing k.call.code debt (statement_aims k labels acts i wanted left'))
     (put_in k x line (BasicNumber z) k.call.surroundings.acts s)
-stored_goes words k labels x source line index left' need most h acts wanted debt size i c' f' v' z s y since wide q paid end
-    l =
+stored_goes words k labels x source line index left' need most h acts wanted debt size i c' f' v' z s y since wide q
+    paid end l =
     let w = k.call.surroundings in
     let code = k.call.code in
     let aims = statement_aims k labels acts i wanted left' in
@@ -162,8 +162,8 @@ stored_goes words k labels x source line index left' need most h acts wanted deb
 
 pub assign_with :
     (words : ℕ) (k : Block) (labels : List Label) (x : Spot) (source : Y.Number) (line index left' need most : ℕ) →
-    IsAssignmentWith words k x source line index need most → L.Does (setting_around words k labels line most) need source →
-    DoesWith words k labels (assignment x source line) index left'
+    IsAssignmentWith words k x source line index need most → L.Does (setting_around words k labels line most) need
+    source → DoesWith words k labels (assignment x source line) index left'
 unfolding M.statement V.stored_value ◌>>=◌ ◌>>◌
 assign_with words k labels x source line index left' need most h ev p numbers c wanted f o paid there =
     let w = k.call.surroundings in
@@ -211,7 +211,8 @@ assign_with words k labels x source line index left' need most h ev p numbers c 
     subst (Comes code c' f' v' (before code owed w.acts (λ v. put_in k x line v)))
     (sym (fit_is around' z w.acts s q.0))
     (record {
-      to = stored_goes words k labels x source line index left' need most h acts wanted debt 0 (index + size_with words k stmt) c' f'
+      to = stored_goes words k labels x source line index left' need most h acts wanted debt 0
+          (index + size_with words k stmt) c' f'
           v' z s y (omega arith) q.0 q.1 (omega (arith, n2, n3)) (omega (arith, n0, n1, n2, n3))
           (linked_at (index + size_of one + size_of value') (stores e x) (omega (arith, n2)) ls);
     }))

@@ -78,8 +78,8 @@ use Rattle.function_runs.specs.Returns.{IsReturn, IsReturnWith, return_of}
 
 -- in the function's own block
 own_return :
-    (words : ℕ) (k : Block) (source : Y.Number) (line index left' need most : ℕ) → IsReturnWith words k source line index left' need most →
-    word_returned k.environment
+    (words : ℕ) (k : Block) (source : Y.Number) (line index left' need most : ℕ) →
+    IsReturnWith words k source line index left' need most → word_returned k.environment
     ≡ store_word frame_register a0 (pos result) ++ (JumpTo (ReturnPlace k.call.beginning.head.number) ∷ [])
 own_return words k source line index left' need most h =
     let e = k.environment in
@@ -157,7 +157,8 @@ stands_returned {k} {p = p} b m given begun o bytes stands =
 
 -- a word in a0 goes into the frame, and the jump to the end
 end_reaches :
-    (words : ℕ) (k : Block) (source : Y.Number) (line i left' need most : ℕ) (h : IsReturnWith words k source line i left' need most)
+    (words : ℕ) (k : Block) (source : Y.Number) (line i left' need most : ℕ) (h : IsReturnWith words k source line i
+    left' need most)
     {numbers : ℕ → ℕ} {p : Point} (index c : ℕ) (f : Family) (given : ℕ) → given < 2 ^ 32 → (o : IsAmong k numbers p) →
     Linked k.call.surroundings.links k.call.code index
     (store_word frame_register a0 (pos result) ++ (JumpTo (ReturnPlace k.call.beginning.head.number) ∷ [])) →
@@ -204,7 +205,8 @@ end_reaches words k source line i left' need most h {numbers} {p} index c f give
 
 -- the block has come to its end
 at_result :
-    (words : ℕ) (k : Block) (source : Y.Number) (line i left' need most : ℕ) (h : IsReturnWith words k source line i left' need most)
+    (words : ℕ) (k : Block) (source : Y.Number) (line i left' need most : ℕ) (h : IsReturnWith words k source line i
+    left' need most)
     (debt c' : ℕ) (f' : Family) (v' : Services) (z : ℤ) (s : State) (y : Stretch) → is_of_precision 31 z ≡ true →
     HasWord k y (word z) c' f' v' s → y.wanted + size_of (store_word frame_register a0 (pos result)) ≤ debt →
     Linked k.call.surroundings.links k.call.code y.index
@@ -248,8 +250,8 @@ returned_value v = returns (Some (kept (kind_of [] (Y.FixedLeaf 31)) (BasicText 
 
 pub return_with :
     (words : ℕ) (k : Block) (labels : List Label) (source : Y.Number) (line index left' need most : ℕ) →
-    IsReturnWith words k source line index left' need most → L.Does (setting_around words k labels line most) need source →
-    DoesWith words k labels (return_of source line) index left'
+    IsReturnWith words k source line index left' need most → L.Does (setting_around words k labels line most) need
+    source → DoesWith words k labels (return_of source line) index left'
 unfolding M.statement V.stored_value ◌>>=◌ ◌>>◌ returns
 return_with words k labels source line index left' need most h ev p numbers c wanted f o paid there =
     let w = k.call.surroundings in

@@ -48,4 +48,5 @@ abbrev pub ReturnsDo : Type 0
 ReturnsDo =
     (words : ℕ) (k : Block) (labels : List Label) (source : Y.Number) (line index left' need most : ℕ) →
     IsReturnWith words k source line index left' need most →
-    L.Does (setting_around words k labels line most) need source → DoesWith words k labels (return_of source line) index left'
+    L.Does (setting_around words k labels line most) need source → DoesWith words k labels (return_of source line) index
+    left'

@@ -21,7 +21,8 @@ use Rattle.program_runs.proofs.Statements.{acted_among, statement_closed}
 use Rattle.group_runs.specs.Groups.{IsGroup, IsGroupWith, list_index}
 
 pub group_with :
-    (words : ℕ) (k : Block) (labels : List Label) (body : Y.Stmts) (line index left' : ℕ) → IsGroupWith words k body line index →
+    (words : ℕ) (k : Block) (labels : List Label) (body : Y.Stmts) (line index left' : ℕ) →
+    IsGroupWith words k body line index →
     EachDoesWith words k (M.labels_in body ++ labels) body (list_index line index) left' →
     DoesWith words k labels (Y.Do body line) index left'
 unfolding M.statement M.list ◌>>=◌ ◌>>◌
@@ -56,7 +57,8 @@ group_with words k labels body line index left' h each p numbers c wanted f o pa
     })
     (λ c' f' v' height label s q. jumps_since (omega arith) q)
     (λ c' f' v' r s q. q)
-    (list_with words k labels body (list_index line index) left' p' numbers 0 wanted g h.begun (omega (arith, turns, later))
+    (list_with words k labels body (list_index line index) left' p' numbers 0 wanted g h.begun
+    (omega (arith, turns, later))
     each h.marks (acted_among line o less) (back_of one all h.statement) (omega arith, omega (arith, paid, n0)) at)))
 
 -- where no words are set aside

@@ -13,7 +13,8 @@ use Rattle.program_runs.specs.Statements.{AreMarkedWith, Block, DoesWith, EachDo
 abbrev pub list_index : (line index : ℕ) → ℕ
 list_index line index = index + size_of (act_code line)
 
--- where it stands while so many words are set aside, with the labels of its list; and turns enough for the jumps to these
+-- where it stands while so many words are set aside, with the labels of its list; and turns enough for the jumps to
+-- these
 pub record IsGroupWith (words : ℕ) (k : Block) (body : Y.Stmts) (line index : ℕ) : Type 0 where
   pub act : HasAct k line
   pub begun : IsBegun k
@@ -28,6 +29,7 @@ IsGroup k body line index = IsGroupWith 0 k body line index
 -- a group does what it means if each of its statements does, which may jump to labels of its list, too
 abbrev pub GroupsDo : Type 0
 GroupsDo =
-    (words : ℕ) (k : Block) (labels : List Label) (body : Y.Stmts) (line index left' : ℕ) → IsGroupWith words k body line index →
+    (words : ℕ) (k : Block) (labels : List Label) (body : Y.Stmts) (line index left' : ℕ) →
+    IsGroupWith words k body line index →
     EachDoesWith words k (labels_in body ++ labels) body (list_index line index) left' →
     DoesWith words k labels (Y.Do body line) index left'

@@ -238,8 +238,8 @@ call_by :
     Linked (links_for program) (linked_code (code_for program)) index
     (stmt_code (environment_for program m.head) (set_aside words)
     (Y.CallProcedure (Y.Calling i.head.number m.head.level Y.NoArgument) line)) →
-    DoesWith words (told_for m input acts waits) labels (Y.CallProcedure (Y.Calling i.head.number m.head.level Y.NoArgument) line)
-    index left_over
+    DoesWith words (told_for m input acts waits) labels (Y.CallProcedure (Y.Calling i.head.number m.head.level
+    Y.NoArgument) line) index left_over
 call_by once {program} m i input zero few b words low waits labels line index less l =
     none_with words (told_for m input zero waits) labels
     (Y.CallProcedure (Y.Calling i.head.number m.head.level Y.NoArgument) line) index left_over
@@ -274,19 +274,20 @@ call_by once {program} m i input (suc more) few b words low waits labels line in
       enough = omega arith;
     })
     (λ p numbers o. inner_made m i input (suc more) waits more call (behind_body program i.head i.body) p numbers b o)
-    (λ p numbers o b'. inner_each once m i input more call (record { few = few; waits = waits; begun = b; among = o }) b')
-    (told_begun m input (suc more) waits b) labels
+    (λ p numbers o b'. inner_each once m i input more call (record { few = few; waits = waits; begun = b; among = o })
+    b') (told_begun m input (suc more) waits b) labels
 
 pub procedure_called :
     MarkedOnce → {program : Y.Program} (m : Main program) (input : List ℕ) (acts : ℕ) → acts + 1 < 2 ^ 64 →
-    IsBegun (block_for m input acts) → (words : ℕ) → words ≤ most_set → (waits : ℕ → Option ℕ) → (labels : List Label) (n line index : ℕ) →
-    is_callable program m.head false n ≡ true → line < 2 ^ 31 →
+    IsBegun (block_for m input acts) → (words : ℕ) → words ≤ most_set → (waits : ℕ → Option ℕ) → (labels : List Label)
+    (n line index : ℕ) → is_callable program m.head false n ≡ true → line < 2 ^ 31 →
     Linked (links_for program) (linked_code (code_for program)) index
     (stmt_code (environment_for program m.head) (set_aside words) (call_statement (main_scope program m.head) n line)) →
-    DoesWith words (told_for m input acts waits) labels (call_statement (main_scope program m.head) n line) index left_over
+    DoesWith words (told_for m input acts waits) labels (call_statement (main_scope program m.head) n line) index
+    left_over
 procedure_called once {program} m input acts few b words low waits labels n line index h less =
     let i = inner_is m false n h in
     subst (λ k. Linked (links_for program) (linked_code (code_for program)) index
     (stmt_code (environment_for program m.head) (set_aside words) (call_statement (main_scope program m.head) k line)) →
-    DoesWith words (told_for m input acts waits) labels (call_statement (main_scope program m.head) k line) index left_over) i.numbered
-    (λ l. call_by once m i input acts few b words low waits labels line index less l)
+    DoesWith words (told_for m input acts waits) labels (call_statement (main_scope program m.head) k line) index
+    left_over) i.numbered (λ l. call_by once m i input acts few b words low waits labels line index less l)

@@ -14,13 +14,13 @@ use Rattle.pli_coding.specs.Images.{code_of, picture_of}
 use Rattle.pli_coding.specs.Linking.{links_of}
 use Rattle.well_formed_trees.specs.Blocks.{times}
 use Rattle.well_formed_trees.specs.Declarations.{SoundVariable}
-use Rattle.well_formed_trees.specs.References.{Designates, IsNumberScalar, IsScalar}
+use Rattle.well_formed_trees.specs.References.{Designates, IsScalar}
 use Rattle.well_formed_trees.specs.Surroundings.{Around, Returns, Table, Where}
 use Rattle.well_formed_trees.specs.WellFormed.{AreNested, AreNumbered, DeclaresSound, IsBehind, IsEntry, IsWellFormed}
 use Rattle.well_formed_trees.specs.WellFormed.{SoundProcedure}
 use Rattle.storage_relation.proofs.Holders.{eqb-other}
 use Rattle.run_steps.proofs.Linking.{linked_length}
-use Rattle.expression_runs.specs.Variables.{Spot, number_declared, whole}
+use Rattle.expression_runs.specs.Variables.{number_declared, whole}
 use Rattle.pli_headline.specs.Headline.{FitsMemory, parts}
 use Rattle.number_headlines.specs.CountRows.{added_body, added_function, block_at_level, counting_body, counting_main}
 use Rattle.number_headlines.specs.CountRows.{counting_program, spot_of_main}
@@ -167,7 +167,19 @@ main_sound = record {
               (
                 (
                   (inner_main, (inner_in_main, (tt, (tt, tt)))),
-                  (((omega arith, omega arith), (record { precision = 31; scalar = outer_main }, (outer_in_main, (tt, (tt, tt))))), (omega arith, omega arith)),
+                  (
+                    (
+                      (omega arith, omega arith),
+                      (
+                        record { precision = 31; scalar = outer_main },
+                        (
+                          outer_in_main,
+                          (tt, (tt, tt)),
+                        ),
+                      ),
+                    ),
+                    (omega arith, omega arith),
+                  ),
                 ),
                 (
                   tt,
@@ -241,7 +253,16 @@ added_sound = record {
       refl,
       (
         refl,
-        (((omega arith, omega arith), ((record { precision = 31; scalar = sum_added }, (sum_in_added, (tt, (tt, tt)))), (record { precision = 31; scalar = outer_added }, (outer_in_added, (tt, (tt, tt)))))), omega arith),
+        (
+          (
+            (omega arith, omega arith),
+            (
+              (record { precision = 31; scalar = sum_added }, (sum_in_added, (tt, (tt, tt)))),
+              (record { precision = 31; scalar = outer_added }, (outer_in_added, (tt, (tt, tt)))),
+            ),
+          ),
+          omega arith,
+        ),
       ),
     ),
     tt,
@@ -341,7 +362,8 @@ unfolding F.give F.◌>>=◌ F.◌>>◌ F.looked F.stored F.act F.finish F.retur
 flows = tt
 
 unfoldable values : Unit {0}
-unfolding V.number V.computational V.designated V.located V.numbers V.variable_designated V.part_designated V.stored_value
+unfolding V.number V.computational V.designated V.located V.numbers V.variable_designated V.part_designated
+    V.stored_value
     R.or_error R.demanded R.value_of R.raised R.unit_run R.error R.error_unit_run P.element_stored M.assigned
 values = tt
 

@@ -285,13 +285,19 @@ call_value once {program} m i input (suc more) few b words low waits labels line
       valued_system m i input (suc more) more call (record { few = few; waits = waits; begun = b; among = o }) C.Error
           (made_system image_parts _ xs _ C.Error tt),
     ))
-    (λ call p numbers o b'. valued_each once m i input more call (record { few = few; waits = waits; begun = b; among = o }) b')
+    (λ call p numbers o b'. valued_each once m i input more call (record {
+      few = few;
+      waits = waits;
+      begun = b;
+      among =
+          o;
+    }) b')
 
 pub function_called :
     MarkedOnce → {program : Y.Program} (m : Main program) (input : List ℕ) (acts : ℕ) → acts + 1 < 2 ^ 64 →
     IsBegun (block_for m input acts) → (words : ℕ) →
-    words ≤ most_set → (waits : ℕ → Option ℕ) → (labels : List Label) (line n : ℕ) → is_callable program m.head true n ≡ true →
-    L.Does (setting_around words (told_for m input acts waits) labels line (most_for program)) 0
+    words ≤ most_set → (waits : ℕ → Option ℕ) → (labels : List Label) (line n : ℕ) → is_callable program m.head true n
+    ≡ true → L.Does (setting_around words (told_for m input acts waits) labels line (most_for program)) 0
     (call_number (main_scope program m.head) n)
 function_called once {program} m input acts few b words low waits labels line n h =
     let i = inner_is m true n h in

@@ -217,8 +217,8 @@ inner_set {program} m {valued} i =
 pub inner_room :
     {program : Y.Program} (m : Main program) {valued : Bool} {number : ℕ} (i : Inner m valued number)
     (input : List ℕ) (acts : ℕ) (waits : ℕ → Option ℕ) (more call end : ℕ) →
-    HasRoom (surroundings_for program input acts) (told_for m input acts waits).first (procedure_for program i.head i.body)
-    (inner_for m i more call end).calling
+    HasRoom (surroundings_for program input acts) (told_for m input acts waits).first
+    (procedure_for program i.head i.body) (inner_for m i more call end).calling
 inner_room {program} m i input acts waits more call end =
     let words = inner_set m i in
     let waiting = i.waiting in
@@ -242,7 +242,8 @@ inner_room {program} m i input acts waits more call end =
 pub inner_words :
     {program : Y.Program} (m : Main program) {valued : Bool} {number : ℕ} (i : Inner m valued number)
     (input : List ℕ) (acts : ℕ) (waits : ℕ → Option ℕ) (more call end : ℕ) (numbers : ℕ → ℕ) →
-    HasWords (surroundings_for program input acts) (inner_for m i more call end) (told_for m input acts waits).first numbers
+    HasWords (surroundings_for program input acts) (inner_for m i more call end) (told_for m input acts waits).first
+    numbers
 inner_words {program} m {valued} i input acts waits more call end numbers =
     let words = inner_set m i in
     let waiting = i.waiting in
@@ -286,8 +287,8 @@ inner_words {program} m {valued} i input acts waits more call end numbers =
 
 pub inner_all :
     {program : Y.Program} (m : Main program) {valued : Bool} {number : ℕ} (i : Inner m valued number)
-    (input : List ℕ) (acts : ℕ) (waits : ℕ → Option ℕ) (more call end : ℕ) (p : Point) (numbers : ℕ → ℕ) → IsBegun (block_for m input acts) →
-    IsAmong (told_for m input acts waits) numbers p →
+    (input : List ℕ) (acts : ℕ) (waits : ℕ → Option ℕ) (more call end : ℕ) (p : Point) (numbers : ℕ → ℕ) →
+    IsBegun (block_for m input acts) → IsAmong (told_for m input acts waits) numbers p →
     AreAll (surroundings_for program input acts) (inner_for m i more call end) p numbers
     (words_in (environment_for program i.head))
 inner_all {program} m i input acts waits more call end p numbers b o =
@@ -297,8 +298,8 @@ inner_all {program} m i input acts waits more call end p numbers b o =
 
 pub inner_made :
     {program : Y.Program} (m : Main program) {valued : Bool} {number : ℕ} (i : Inner m valued number)
-    (input : List ℕ) (acts : ℕ) (waits : ℕ → Option ℕ) (more call end : ℕ) (p : Point) (numbers : ℕ → ℕ) → IsBegun (block_for m input acts) →
-    IsAmong (told_for m input acts waits) numbers p →
+    (input : List ℕ) (acts : ℕ) (waits : ℕ → Option ℕ) (more call end : ℕ) (p : Point) (numbers : ℕ → ℕ) →
+    IsBegun (block_for m input acts) → IsAmong (told_for m input acts waits) numbers p →
     AreMade (surroundings_for program input acts) (linked_code (code_for program)) (inner_for m i more call end) p
     numbers
 inner_made {program} m i input acts waits more call end p numbers b o =

@@ -2,7 +2,7 @@
 -- headline.
 use Rattle.std.proofs.Common.{ℕ, ◌+◌, ◌^◌, ◌<◌, List, [], ◌++◌, None}
 use Rattle.std.proofs.Common.{false}
-use Rattle.std.proofs.Common.{◌≤◌, Option, refl, ap, subst, arith}
+use Rattle.std.proofs.Common.{Option, refl, ap, subst, arith}
 use Rattle.std.proofs.lemmas.Bool.{and_parts}
 use Rattle.pli_language.specs.declared.condition.Condition.TheVariants as C
 use Rattle.pli_typing.specs.TypedTree as Y

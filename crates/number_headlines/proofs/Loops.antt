@@ -1,6 +1,7 @@
--- The newest layer where a block of a program of the class begins: its frame has the words that its loops set aside, and
+-- The newest layer where a block of a program of the class begins: its frame has the words that its loops set aside,
+-- and
 -- nothing waits in them.
-use Rattle.std.proofs.Common.{◌≡◌, ℕ, ◌+◌, ◌≤◌, List, [], ◌∷◌, None, Option, false, refl, sym, ap, ◌∙◌, arith}
+use Rattle.std.proofs.Common.{◌≡◌, ℕ, ◌+◌, List, [], ◌∷◌, false, refl, sym, ap, ◌∙◌, arith}
 use Rattle.pli_typing.specs.TypedTree as Y
 use Rattle.pli_meaning.specs.Control.{Label}
 use Rattle.activation_relation.specs.Layers.{Layer, Point}
@@ -10,7 +11,7 @@ use Rattle.program_runs.specs.Variables.{Declared}
 use Rattle.variable_runs.specs.Lists.{all_made, behind_made, layer_after, layer_behind, made_now}
 use Rattle.activation_relation.specs.Variables.{newest_grown}
 use Rattle.counter_runs.specs.Words.{telling}
-use Rattle.number_runs.specs.Knowledge.{KnowsCalls, KnowsLoops, most_set}
+use Rattle.number_runs.specs.Knowledge.{KnowsCalls}
 use Rattle.number_runs.specs.Numbers.{Scope}
 
 -- ---- behind its variables

@@ -1,12 +1,12 @@
 -- The parts of a DO that counts, as the class admits them.
 use Rattle.std.proofs.Common.{◌≡◌, ℕ, ◌≤◌, Option, None, Some, true, refl, ap, ◌∙◌, arith}
-use Rattle.std.specs.Prelude.{◌&&◌, ◌==◌, ◌^◌, ℤ, max, neg_ℤ, pos}
+use Rattle.std.specs.Prelude.{◌&&◌, ◌==◌, ◌^◌, ℤ, neg_ℤ, pos}
 use Rattle.std.proofs.lemmas.Bool.{and_parts, eqb-true, ltb-true}
 use Rattle.pli_typing.specs.TypedTree as Y
 use Rattle.expression_runs.specs.Variables.{Spot, whole}
 use Rattle.counter_runs.specs.Counts.{Counting, IsStep, count_of}
 use Rattle.counter_runs.proofs.StepConstants.{down_step, up_step}
-use Rattle.number_runs.specs.Counting.{is_count, is_counter, is_limit, is_start, is_step, limit_needs, start_needs}
+use Rattle.number_runs.specs.Counting.{is_count, is_counter, is_limit, is_start, is_step}
 use Rattle.number_runs.specs.Numbers.{Scope, is_known, is_number, is_variable, number_needs}
 use Rattle.number_runs.proofs.Variables.{variable_is}
 

@@ -1,6 +1,6 @@
 -- Statements of the class: each does what it means, by the law of its form.
 use Rattle.std.proofs.Common.{◌≡◌, ℕ, ◌+◌, ◌^◌, ◌≤◌, List, [], ◌∷◌, ◌++◌, true, false, refl, sym, ap}
-use Rattle.std.proofs.Common.{◌∙◌, None, Some, subst, arith}
+use Rattle.std.proofs.Common.{◌∙◌, None, subst, arith}
 use Rattle.std.specs.Prelude.{◌&&◌, ◌==◌, Bool, ℤ, max, not, Option}
 use Rattle.rv_meaning.specs.Words.{word}
 use Rattle.std.proofs.lemmas.Bool.{and_parts, eqb-true, ltb-true}
@@ -71,8 +71,8 @@ act_of h line is = record { line_fits = ltb-true line (2 ^ 31) is; acts = h.read
 
 paid_for :
     (h : Home) (stmt : Y.Stmt) (index : ℕ) →
-    Linked h.block.call.surroundings.links h.block.call.code index (stmt_code h.block.environment (set_aside h.words) stmt) →
-    size_with h.words h.block stmt + h.most ≤ cost h.block.call.code
+    Linked h.block.call.surroundings.links h.block.call.code index (stmt_code h.block.environment
+    (set_aside h.words) stmt) → size_with h.words h.block stmt + h.most ≤ cost h.block.call.code
 paid_for h stmt index l = let inside = l.inside in let room = h.ready.room in omega (arith, inside, room)
 
 knows_in :
@@ -101,14 +101,15 @@ knows_in {k = k} {most = most} r words few labels line =
     }
 
 knows :
-    (h : Home) (labels : List Label) (line : ℕ) → KnowsNumbers h.scope (setting_around h.words h.block labels line h.most)
+    (h : Home) (labels : List Label) (line : ℕ) → KnowsNumbers h.scope (setting_around h.words h.block labels line
+    h.most)
 knows h labels line = knows_in h.ready h.words h.few labels line
 
 has_test :
     (h : Home) (stmt : Y.Stmt) (condition : Y.Bit) (line index : ℕ) → is_line line ≡ true →
     test_needs condition ≤ h.block.registers →
-    Linked h.block.call.surroundings.links h.block.call.code index (stmt_code h.block.environment (set_aside h.words) stmt) →
-    HasTestWith h.words h.block stmt line index (test_needs condition) h.most
+    Linked h.block.call.surroundings.links h.block.call.code index (stmt_code h.block.environment
+    (set_aside h.words) stmt) → HasTestWith h.words h.block stmt line index (test_needs condition) h.most
 has_test h stmt condition line index is fits l =
     record {
       act = act_of h line is;
@@ -137,8 +138,8 @@ storing s (Y.StoredOffset x) h = absurd (cc h)
 
 abbrev Coded : Home → List Label → Y.Stmt → (index : ℕ) → Type 0
 Coded h labels stmt index =
-    Linked h.block.call.surroundings.links h.block.call.code index (stmt_code h.block.environment (set_aside h.words) stmt) →
-    DoesWith h.words h.block labels stmt index h.left'
+    Linked h.block.call.surroundings.links h.block.call.code index (stmt_code h.block.environment
+    (set_aside h.words) stmt) → DoesWith h.words h.block labels stmt index h.left'
 
 assigned_does :
     (h : Home) (labels : List Label) (target : Y.Reference) (source : Y.Stored) (line index : ℕ) →
@@ -260,7 +261,8 @@ first_stands h condition unit otherwise line index at =
 second_stands :
     (h : Home) (condition : Y.Bit) (unit otherwise : Y.Stmt) (line index : ℕ) →
     StandingWith h.words h.block (Y.IfElse condition unit otherwise line) index →
-    StandingWith h.words h.block otherwise (behind_choice_with h.words h.block unit (behind_test_with h.words h.block condition (behind_act line index)))
+    StandingWith h.words h.block otherwise (behind_choice_with h.words h.block unit
+    (behind_test_with h.words h.block condition (behind_act line index)))
 second_stands h condition unit otherwise line index at =
     let one = act_code line in
     let test = bit_code h.block.environment (set_aside h.words) condition in
@@ -277,7 +279,8 @@ second_stands h condition unit otherwise line index at =
 group_stands :
     (h : Home) (body : Y.Stmts) (line index : ℕ) → StandingWith h.words h.block (Y.Do body line) index →
     AreStandingWith h.words h.block body (list_index line index)
-group_stands h body line index at = placed_back (act_code line) (stmts_code h.block.environment (set_aside h.words) body) at
+group_stands h body line index at = placed_back (act_code line) (stmts_code h.block.environment
+    (set_aside h.words) body) at
 
 turns_stand :
     (h : Home) (condition : Y.Bit) (body : Y.Stmts) (line index : ℕ) →
@@ -344,7 +347,8 @@ in_turn h c sets y =
 abbrev TurnStands : (h : Home) → List Label → Y.Stmts → Type 0
 TurnStands h labels body =
     (index : ℕ) → PlacedIn h (labels_in body ++ labels) → HasFrame h.ready h.words (statements_set body) →
-    AreStandingWith h.words h.block body index → EachDoesWith h.words h.block (labels_in body ++ labels) body index h.left'
+    AreStandingWith h.words h.block body index → EachDoesWith h.words h.block (labels_in body ++ labels) body index
+    h.left'
 
 abbrev Goes : (h : Home) → List Label → (index : ℕ) → Y.Stmt → Type 0
 Goes h labels index stmt =
@@ -456,7 +460,8 @@ mutual
       (statement_does h labels unit chosen placed c.0 (omega (arith, fits))
       (fewer h (statement_sets unit) (max (statement_sets unit) (statement_sets otherwise)) (omega arith) sets)
       (first_stands h condition unit otherwise line index at))
-      (statement_does h labels otherwise (behind_choice_with h.words h.block unit chosen) placed c.1 (omega (arith, fits))
+      (statement_does h labels otherwise (behind_choice_with h.words h.block unit chosen) placed c.1
+      (omega (arith, fits))
       (fewer h (statement_sets otherwise) (max (statement_sets unit) (statement_sets otherwise)) (omega arith) sets)
       (second_stands h condition unit otherwise line index at))
   statement_does h labels (Y.Do body line) index placed is fits sets at =
@@ -525,8 +530,8 @@ mutual
       let three = fewer h 3 (max 3 (2 + statements_set body)) (omega arith) sets in
       counted_does h labels x body line index placed a.0 b.0 (omega (arith, fits)) sets three
       (λ y i placed' sets' at'.
-      statements_do (in_turn h b.0 three y) (labels_in body ++ labels) body i placed' c.1 (omega (arith, fits)) sets' at')
-      at
+      statements_do (in_turn h b.0 three y) (labels_in body ++ labels) body i placed' c.1 (omega (arith, fits)) sets'
+      at') at
   statement_does h labels (Y.Begin block) index placed is fits sets at = absurd (cc is)
   statement_does h labels (Y.OnSystem condition line) index placed is fits sets at = absurd (cc is)
   statement_does h labels (Y.OnUnit condition unit line) index placed is fits sets at = absurd (cc is)
@@ -540,7 +545,8 @@ mutual
   pub statements_do :
       (h : Home) (labels : List Label) (body : Y.Stmts) (index : ℕ) → PlacedIn h labels →
       are_statements h.scope h.valued labels body ≡ true → statements_need body ≤ h.block.registers →
-      HasFrame h.ready h.words (statements_set body) → AreStandingWith h.words h.block body index → EachDoesWith h.words h.block labels body index h.left'
+      HasFrame h.ready h.words (statements_set body) → AreStandingWith h.words h.block body index →
+      EachDoesWith h.words h.block labels body index h.left'
   statements_do h labels (Y.EndOfList own) index placed is fits sets at = tt
   statements_do h labels (Y.StmtThen own first rest) index placed is fits sets at =
       let e = h.block.environment in

@@ -221,8 +221,8 @@ stored_taken words s (Y.StoredPointer x) h fits = absurd (cc h)
 stored_taken words s (Y.StoredOffset x) h fits = absurd (cc h)
 
 assigned_taken :
-    (words : ℕ) (s : Scope) (target : Y.Reference) (source : Y.Stored) → is_variable s target ≡ true → is_stored s source ≡ true →
-    stored_needs source ≤ held_registers →
+    (words : ℕ) (s : Scope) (target : Y.Reference) (source : Y.Stored) → is_variable s target ≡ true →
+    is_stored s source ≡ true → stored_needs source ≤ held_registers →
     Takes (stored_needs source) (set_aside words) (assigned_takes (set_aside words) target source)
 assigned_taken words s target (Y.StoredNumber precision x) h g fits =
     let a = variable_takes_none s target (with_number (set_aside words)) h in
@@ -242,8 +242,8 @@ counting_taken :
     (is_number s first ≡ true) × (number_needs first ≤ held_registers) →
     (is_number s last ≡ true) × (number_needs last ≤ held_registers) →
     (is_number s n ≡ true) × (number_needs n ≤ 1) →
-    Sets (statements_need body) (statements_set body) (set_aside (words + 2)) (stmts_take (set_aside (words + 2)) body) →
-    Sets (max (max 1 (max (number_needs first) (number_needs last))) (statements_need body))
+    Sets (statements_need body) (statements_set body) (set_aside (words + 2)) (stmts_take (set_aside (words + 2)) body)
+    → Sets (max (max 1 (max (number_needs first) (number_needs last))) (statements_need body))
     (max 3 (2 + statements_set body)) (set_aside words)
     (stmt_takes (set_aside words)
     (Y.DoCount (Y.NumberCounter 31 (whole spot)) (Y.NumberValue precision first) (Some last) n None body line))
@@ -267,13 +267,14 @@ counting_taken words s spot precision first last n body line x y z inner =
 count_taken :
     (words : ℕ) (s : Scope) {k : Y.Counter} {v : Y.Value} {o : Option Y.Number} {n : Y.Number} {w : Option Y.Bit}
     (x : IsCounting s k v o n w) (body : Y.Stmts) (line : ℕ) → count_needs v o ≤ held_registers →
-    Sets (statements_need body) (statements_set body) (set_aside (words + 2)) (stmts_take (set_aside (words + 2)) body) →
-    Sets (max (count_needs v o) (statements_need body)) (max 3 (2 + statements_set body)) (set_aside words)
+    Sets (statements_need body) (statements_set body) (set_aside (words + 2)) (stmts_take (set_aside (words + 2)) body)
+    → Sets (max (count_needs v o) (statements_need body)) (max 3 (2 + statements_set body)) (set_aside words)
     (stmt_takes (set_aside words) (Y.DoCount k v o n w body line))
 count_taken words s {v = v} {o = o} {n = n} x body line fits inner =
     let first : start_needs v ≡ number_needs x.first = ap start_needs x.start in
     let last : limit_needs o ≡ number_needs x.last = ap limit_needs x.limit in
-    let needs : max 1 (max (number_needs x.first) (number_needs x.last)) ≡ count_needs v o = omega (arith, first, last) in
+    let needs : max 1 (max (number_needs x.first) (number_needs x.last)) ≡ count_needs v o =
+    omega (arith, first, last) in
     subst (λ stmt. Sets (max (count_needs v o) (statements_need body)) (max 3 (2 + statements_set body))
     (set_aside words) (stmt_takes (set_aside words) stmt)) (sym (statement_is x body line))
     (subst (λ m. Sets (max m (statements_need body)) (max 3 (2 + statements_set body)) (set_aside words)
@@ -284,8 +285,10 @@ count_taken words s {v = v} {o = o} {n = n} x body line fits inner =
 
 mutual
   statement_taken :
-      (words : ℕ) (s : Scope) (valued : Bool) (labels : List Label) (x : Y.Stmt) → is_statement s valued labels x ≡ true →
-      statement_needs x ≤ held_registers → Sets (statement_needs x) (statement_sets x) (set_aside words) (stmt_takes (set_aside words) x)
+      (words : ℕ) (s : Scope) (valued : Bool) (labels : List Label) (x : Y.Stmt) → is_statement s valued labels x
+      ≡ true →
+      statement_needs x ≤ held_registers → Sets (statement_needs x) (statement_sets x) (set_aside words) (stmt_takes
+      (set_aside words) x)
   statement_taken words s valued labels (Y.Null line) h fits = sets_none (set_aside words)
   statement_taken words s valued labels (Y.Assign target source line) h fits =
       let a = and_parts (is_line line) (is_variable s target && is_stored s source) h in
@@ -308,8 +311,8 @@ mutual
       let c = and_parts first second b.1 in
       sets_behind (test_needs condition) (max (statement_needs unit) (statement_needs otherwise))
       (max (statement_sets unit) (statement_sets otherwise)) (set_aside words)
-      (bit_takes (set_aside words) condition) (most_taken (stmt_takes (set_aside words) unit) (stmt_takes (set_aside words) otherwise))
-      (test_taken s condition (set_aside words) b.0 (omega (arith, fits)))
+      (bit_takes (set_aside words) condition) (most_taken (stmt_takes (set_aside words) unit) (stmt_takes
+      (set_aside words) otherwise)) (test_taken s condition (set_aside words) b.0 (omega (arith, fits)))
       (sets_either (statement_needs unit) (statement_needs otherwise) (statement_sets unit) (statement_sets otherwise)
       (set_aside words) (stmt_takes (set_aside words) unit)
       (stmt_takes (set_aside words) otherwise)
@@ -328,7 +331,8 @@ mutual
       (statements_taken words s valued (labels_in body ++ labels) body b.1 (omega (arith, fits)))
   statement_taken words s valued labels (Y.CallProcedure (Y.Calling number level Y.NoArgument) line) h fits =
       record { registers = omega arith; words = omega arith }
-  statement_taken words s valued labels (Y.CallProcedure (Y.Calling number level (Y.ArgumentThen first rest)) line) h fits =
+  statement_taken words s valued labels (Y.CallProcedure (Y.Calling number level (Y.ArgumentThen first rest)) line) h
+      fits =
       absurd (cc h)
   statement_taken words s valued labels (Y.Return line) h fits = sets_none (set_aside words)
   statement_taken words s valued labels (Y.ReturnValue type source line) h fits =
@@ -363,8 +367,10 @@ mutual
   statement_taken words s valued labels (Y.Put skip pairs line) h fits = absurd (cc h)
 
   statements_taken :
-      (words : ℕ) (s : Scope) (valued : Bool) (labels : List Label) (xs : Y.Stmts) → are_statements s valued labels xs ≡ true →
-      statements_need xs ≤ held_registers → Sets (statements_need xs) (statements_set xs) (set_aside words) (stmts_take (set_aside words) xs)
+      (words : ℕ) (s : Scope) (valued : Bool) (labels : List Label) (xs : Y.Stmts) → are_statements s valued labels xs
+      ≡ true →
+      statements_need xs ≤ held_registers → Sets (statements_need xs) (statements_set xs) (set_aside words) (stmts_take
+      (set_aside words) xs)
   statements_taken words s valued labels (Y.EndOfList own) h fits = sets_none (set_aside words)
   statements_taken words s valued labels (Y.StmtThen own first rest) h fits =
       let a = and_parts (is_statement s valued labels first) (are_statements s valued labels rest) h in

@@ -1,12 +1,10 @@
 -- A block while limits wait in words of its frame: it is as ready as it was, and the statements of a turn stand there.
-use Rattle.std.proofs.Common.{◌≡◌, ℕ, ◌+◌, ◌<◌, ◌≤◌, List, [], ◌∷◌, ◌++◌, Bool, true, false, None, Option, Some}
-use Rattle.std.proofs.Common.{refl, sym, ap, ◌∙◌, subst, arith}
-use Rattle.std.proofs.lemmas.Bool.{eq-eqb}
-use Rattle.std.specs.Prelude.{cond, ◌==◌}
+use Rattle.std.proofs.Common.{◌≡◌, ℕ, ◌+◌, ◌<◌, ◌≤◌, [], ◌∷◌, ◌++◌, Bool, true, None, Option, Some}
+use Rattle.std.proofs.Common.{refl, ap, ◌∙◌, subst, arith}
+use Rattle.std.specs.Prelude.{cond}
 use Rattle.pli_typing.specs.TypedTree as Y
-use Rattle.pli_meaning.specs.Control.{Label}
 use Rattle.pli_coding.specs.Allocating.{act_code}
-use Rattle.pli_coding.specs.Assembly.{JumpBack, size_of}
+use Rattle.pli_coding.specs.Assembly.{JumpBack}
 use Rattle.pli_coding.specs.Expressions.{number_code}
 use Rattle.pli_coding.specs.Statements.{limit_tested, turns_code, words_back, words_behind_limit}
 use Rattle.run_steps.proofs.Linking.{size_append}
@@ -16,7 +14,7 @@ use Rattle.program_places.specs.Placed.{Placed}
 use Rattle.program_places.proofs.Marks.{placed_back, placed_front}
 use Rattle.program_runs.specs.Statements.{Block, set_aside}
 use Rattle.expression_runs.specs.Values.{in_registers}
-use Rattle.counter_runs.specs.Counts.{Counting, IsStep, begun_in, body_index, count_of, turn_in, turns_index}
+use Rattle.counter_runs.specs.Counts.{Counting, IsStep, body_index, count_of, turn_in}
 use Rattle.counter_runs.specs.Words.{telling, with_word}
 use Rattle.counter_runs.proofs.Known.{number_told}
 use Rattle.counter_runs.proofs.Limits.{limit_size}
@@ -31,7 +29,8 @@ pub free_behind :
     (waits : ℕ → Option ℕ) (n given m : ℕ) → ((i : ℕ) → n ≤ i → waits i ≡ None) → n < m → (i : ℕ) → m ≤ i →
     with_word n given waits i ≡ None
 free_behind waits n given m free less i more =
-    ap (λ q. cond q (Some given) (waits i)) (eqb-other i n (omega (arith, less, more))) ∙ free i (omega (arith, less, more))
+    ap (λ q. cond q (Some given) (waits i)) (eqb-other i n (omega (arith, less, more))) ∙ free i
+    (omega (arith, less, more))
 
 pub free_above :
     (waits : ℕ → Option ℕ) (b n given m : ℕ) → ((i : ℕ) → b ≤ i → waits i ≡ None) → b ≤ n → n < m → (i : ℕ) →

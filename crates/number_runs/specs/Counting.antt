@@ -1,6 +1,6 @@
 -- DO with a FIXED BINARY(31) variable that counts up to a limit, by a step that is a constant: its parts, as a class
 -- that is computed from typed trees.
-use Rattle.std.specs.Prelude.{ℕ, ◌^◌, ◌==◌, ◌&&◌, Bool, true, false, max, nat_lt, Option, None, Some}
+use Rattle.std.specs.Prelude.{ℕ, ◌^◌, ◌==◌, ◌&&◌, Bool, false, max, nat_lt, Option, None, Some}
 use Rattle.pli_typing.specs.TypedTree as Y
 use Rattle.number_runs.specs.Numbers.{Scope, is_number, is_variable, number_needs}
 

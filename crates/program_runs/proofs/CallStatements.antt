@@ -45,8 +45,8 @@ use Rattle.program_runs.proofs.Statements.{acted_among, statement_closed}
 -- ---- the running block is the static parent
 
 parent_height :
-    {words : ℕ} {k : Block} {c : Callee} {line index more : ℕ} {p : Point} → IsCallWith words k c line index more → Newest k p →
-    height_of (ancestor_at p.state k.environment.level) ≡ c.calling.parent
+    {words : ℕ} {k : Block} {c : Callee} {line index more : ℕ} {p : Point} → IsCallWith words k c line index more →
+    Newest k p → height_of (ancestor_at p.state k.environment.level) ≡ c.calling.parent
 parent_height {k} h n =
     let height = n.height in
     let parent = h.parent in
@@ -59,8 +59,8 @@ pub newest_frame_at :
 newest_frame_at φ φs n e = ap (λ q. cond q φ.at (frame_at φs n)) (eq-eqb n (suc (length φs)) e)
 
 parent_frame :
-    {words : ℕ} {k : Block} {c : Callee} {line index more : ℕ} {p : Point} → IsCallWith words k c line index more → Newest k p →
-    frame_at p.control.layers c.calling.parent ≡ frame_under k.call.surroundings.parts p.control.layers
+    {words : ℕ} {k : Block} {c : Callee} {line index more : ℕ} {p : Point} → IsCallWith words k c line index more →
+    Newest k p → frame_at p.control.layers c.calling.parent ≡ frame_under k.call.surroundings.parts p.control.layers
 parent_frame {k} {c} h n =
     let parts = k.call.surroundings.parts in
     let many = n.many in
@@ -71,8 +71,8 @@ parent_frame {k} {c} h n =
 -- ---- at each of the block's points
 
 room_among :
-    {words : ℕ} {k : Block} {c : Callee} {line index more : ℕ} {numbers : ℕ → ℕ} {p : Point} → IsCallWith words k c line index more →
-    IsAmong k numbers p → HasRoom k.call.surroundings p c.procedure c.calling
+    {words : ℕ} {k : Block} {c : Callee} {line index more : ℕ} {numbers : ℕ → ℕ} {p : Point} →
+    IsCallWith words k c line index more → IsAmong k numbers p → HasRoom k.call.surroundings p c.procedure c.calling
 room_among {k} {c} h o =
     let parts = k.call.surroundings.parts in
     let x = c.procedure in
@@ -86,8 +86,8 @@ room_among {k} {c} h o =
 
 -- what the call means
 called_means :
-    {words : ℕ} {k : Block} {c : Callee} {line index more : ℕ} {p : Point} → IsCallWith words k c line index more → Newest k p →
-    V.called (at_line k.around line) (Y.Calling c.procedure.head.number k.environment.level Y.NoArgument)
+    {words : ℕ} {k : Block} {c : Callee} {line index more : ℕ} {p : Point} → IsCallWith words k c line index more →
+    Newest k p → V.called (at_line k.around line) (Y.Calling c.procedure.head.number k.environment.level Y.NoArgument)
     k.call.surroundings.acts p.state
     ≡ M.block_run c.around (block_of c.procedure) (begun (block_of c.procedure) c.calling.parent)
     k.call.surroundings.acts p.state
@@ -127,7 +127,8 @@ behind_call r = give tt
 
 -- behind the call its block goes on
 behind_goes :
-    {words : ℕ} {k : Block} {c : Callee} {acts line index more wanted credits : ℕ} {numbers : ℕ → ℕ} {p : Point} {f : Family}
+    {words : ℕ} {k : Block} {c : Callee} {acts line index more wanted credits : ℕ} {numbers : ℕ → ℕ} {p : Point}
+    {f : Family}
     {r : Option BasicValue} {s : State} {v : _} (h : IsCallWith words k c line index more) (o : IsAmong k numbers p) →
     acts ≤ p.state.world.acts →
     IsBehind (called_at k.call.surroundings k.call.code c p numbers) wanted credits f v r s →
@@ -153,13 +154,14 @@ behind_goes {k} {numbers = numbers} {p = p} h o since q =
     }
 
 call_goes :
-    (words : ℕ) → words < 2 ^ 20 → (k : Block) (c : Callee) (labels : List Label) (acts line index left' more : ℕ) (h : IsCallWith words k c line index more)
+    (words : ℕ) → words < 2 ^ 20 → (k : Block) (c : Callee) (labels : List Label) (acts line index left' more : ℕ)
+    (h : IsCallWith words k c line index more)
     (p : Point) (numbers : ℕ → ℕ) (wanted : ℕ) (f : Family) (o : IsAmong k numbers p) → IsBegun k →
     acts ≤ p.state.world.acts → AreMade k.call.surroundings k.call.code c p numbers →
     BodyComes k.call.surroundings k.call.code c p numbers →
     Linked k.call.surroundings.links k.call.code (index + size_of (act_code line))
-    (given_code (statement_with words k c line index p numbers) ++ call_code_of (statement_with words k c line index p numbers)) →
-    size_with words k (call_of k c line)
+    (given_code (statement_with words k c line index p numbers) ++ call_code_of (statement_with words k c line index p
+    numbers)) → size_with words k (call_of k c line)
     ≡ size_of (act_code line)
     + size_of (given_code (statement_with words k c line index p numbers)
     ++ call_code_of (statement_with words k c line index p numbers)) →
@@ -199,8 +201,8 @@ call_goes words low k c labels acts line index left' more h p numbers wanted f o
 
 -- if the procedure's body comes to its end
 pub comes_with :
-    (words : ℕ) → words < 2 ^ 20 → (k : Block) (c : Callee) (line index left' more : ℕ) → IsCallWith words k c line index more →
-    ((p : Point) (numbers : ℕ → ℕ) → IsAmong k numbers p →
+    (words : ℕ) → words < 2 ^ 20 → (k : Block) (c : Callee) (line index left' more : ℕ) →
+    IsCallWith words k c line index more → ((p : Point) (numbers : ℕ → ℕ) → IsAmong k numbers p →
     AreMade k.call.surroundings k.call.code c p numbers) →
     ((p : Point) (numbers : ℕ → ℕ) → IsAmong k numbers p →
     BodyComes k.call.surroundings k.call.code c p numbers) → IsBegun k → (labels : List Label) →
@@ -227,11 +229,11 @@ comes_with words low k c line index left' more h made' body b labels p numbers c
     let o' = acted_among line o less in
     comes_on w.acts (V.called (at_line k.around line) tree w.acts p'.state) behind_call
     (subst (Comes k.call.code 0 g (services_of p')
-    (before k.call.code (statement_aims k labels acts (index + size_with words k (call_of k c line)) wanted left') w.acts
-    behind_call))
+    (before k.call.code (statement_aims k labels acts (index + size_with words k (call_of k c line)) wanted left')
+    w.acts behind_call))
     (sym (called_means h (newest_at b o')))
-    (call_goes words low k c labels acts line index left' more h p' numbers wanted g o' b (omega arith) (made' p' numbers o')
-    (body p' numbers o') (back_of one (given' ++ call) l) (size ∙ n0) at))))
+    (call_goes words low k c labels acts line index left' more h p' numbers wanted g o' b (omega arith)
+    (made' p' numbers o') (body p' numbers o') (back_of one (given' ++ call) l) (size ∙ n0) at))))
 
 -- where no words are set aside
 pub call_comes :
@@ -244,8 +246,8 @@ pub call_comes :
 call_comes k c line index left' more h made' body = comes_with 0 (omega arith) k c line index left' more h made' body
 
 pub call_with :
-    (words : ℕ) → words < 2 ^ 20 → (k : Block) (c : Callee) (line index left' more : ℕ) → IsCallWith words k c line index more →
-    ((p : Point) (numbers : ℕ → ℕ) → IsAmong k numbers p →
+    (words : ℕ) → words < 2 ^ 20 → (k : Block) (c : Callee) (line index left' more : ℕ) →
+    IsCallWith words k c line index more → ((p : Point) (numbers : ℕ → ℕ) → IsAmong k numbers p →
     AreMade k.call.surroundings k.call.code c p numbers) →
     ((p : Point) (numbers : ℕ → ℕ) → IsAmong k numbers p →
     IsBegun (block_at k.call.surroundings k.call.code c p numbers) →

@@ -101,7 +101,8 @@ unfolding M.statements give choose ◌>>◌
 statements_do words k labels (Y.EndOfList own) acts index left' c wanted p numbers f since each o l fits there =
     let n = marked_size k.environment.block own in
     record { to = none_left k acts _ c wanted p numbers f since o fits.0 (moved_in k f (omega (arith, n)) there) }
-statements_do words k labels (Y.StmtThen own first rest) acts index left' c wanted p numbers f since each o l fits there =
+statements_do words k labels (Y.StmtThen own first rest) acts index left' c wanted p numbers f since each o l fits
+    there =
     let w = k.call.surroundings in
     let marks = marked k.environment.block own in
     let one = stmt_code k.environment (set_aside words) first in
@@ -126,8 +127,8 @@ statements_do words k labels (Y.StmtThen own first rest) acts index left' c want
     subst (λ u. Comes k.call.code c' f' v' goal (M.statements k.around rest None w.acts u)) (sym q.state)
     (onward (statement_closed k labels acts (i + size_of one + size_of more) wanted left') q.reach
     (λ g at.
-    statements_do words k labels rest acts (i + size_of one) left' 0 wanted q.point q.numbers g (omega (arith, since, later))
-    each.1 q.among l2 (omega arith, omega (arith, n0, n1, inside)) at)))
+    statements_do words k labels rest acts (i + size_of one) left' 0 wanted q.point q.numbers g
+    (omega (arith, since, later)) each.1 q.among l2 (omega arith, omega (arith, n0, n1, inside)) at)))
     (λ c' f' v' height label s q. jumps_since since q)
     (λ c' f' v' r s q. q)
     (each.0 p numbers c 0 f o (omega (arith, n0, n1, paid)) (moved_in k f (omega (arith, n)) there))))
@@ -147,16 +148,16 @@ or_else label (x ∷ xs) ys e f = by (same_bytes label x) e f (λ a b. or_else l
     by false e f rest = rest e f
 
 sought_do :
-    (words : ℕ) (k : Block) (labels : List Label) (label : Label) (body : Y.Stmts) (index left' wanted at : ℕ) (p : Point)
-    (numbers : ℕ → ℕ) (f : Family) → EachDoesWith words k labels body index left' →
+    (words : ℕ) (k : Block) (labels : List Label) (label : Label) (body : Y.Stmts) (index left' wanted at : ℕ)
+    (p : Point) (numbers : ℕ → ℕ) (f : Family) → EachDoesWith words k labels body index left' →
     AreMarkedWith words k.call.surroundings.links k.environment body index → IsAmong k numbers p →
     Linked k.call.surroundings.links k.call.code index (stmts_code k.environment (set_aside words) body) →
     is_among label (M.labels_in body) ≡ true →
     place_of k.call.surroundings.links (LabelPlace k.environment.block label) ≡ 4 * at →
     AreIn k.call.surroundings p numbers at f →
     Comes k.call.code 0 f (services_of p)
-    (statement_aims k labels p.state.world.acts (index + size_of (stmts_code k.environment (set_aside words) body)) wanted
-    left')
+    (statement_aims k labels p.state.world.acts (index + size_of (stmts_code k.environment (set_aside words) body))
+    wanted left')
     (M.statements k.around body (Some label) k.call.surroundings.acts p.state)
 unfolding M.statements give choose ◌>>◌
 sought_do words k labels label (Y.EndOfList own) index left' wanted at p numbers f each marks o l among place there =
@@ -173,7 +174,8 @@ sought_do words k labels label (Y.StmtThen own first rest) index left' wanted at
     + size_of (stmt_code k.environment (set_aside words) first)) left' wanted at p numbers f each.1 marks.1 o
     (back_of (stmt_code k.environment (set_aside words) first) (stmts_code k.environment (set_aside words) rest)
     (back_of (marked k.environment.block own)
-    (stmt_code k.environment (set_aside words) first ++ stmts_code k.environment (set_aside words) rest) l)) among' place there)
+    (stmt_code k.environment (set_aside words) first ++ stmts_code k.environment (set_aside words) rest) l)) among'
+    place there)
   where
     w : Surroundings
     w = k.call.surroundings
@@ -350,8 +352,8 @@ jumped_on n words k labels body index left' wanted height l acts few c' f' v' s 
     subst (λ u. Comes k.call.code c' f' v' (list_aims words k labels body acts index wanted left')
     (list_from n height (M.labels_in body) (M.statements k.around body) (Some l) k.call.surroundings.acts u))
     (sym q.state)
-    (onward (statement_closed k labels acts (index + size_of (stmts_code k.environment (set_aside words) body)) wanted left')
-    q.reach (λ g at'. comes_since (omega (arith, more)) (rest (omega (arith, few, more)) g at')))
+    (onward (statement_closed k labels acts (index + size_of (stmts_code k.environment (set_aside words) body)) wanted
+    left') q.reach (λ g at'. comes_since (omega (arith, more)) (rest (omega (arith, few, more)) g at')))
 
 -- from a label, in so many turns
 turns_do :
@@ -375,8 +377,8 @@ turns_do (suc n) words k labels body index left' wanted height label at p number
     (λ l c' f' v' s q. jumped_on n words k labels body index left' wanted height l p.state.world.acts few c' f' v' s q
     (λ m g at'. turns_do n words k labels body index left' wanted height l q.index q.point q.numbers g x same m q.among
     q.carried q.place at'))
-    (sought_do words k (M.labels_in body ++ labels) label body index left' wanted at p numbers f x.each x.marks o x.linked
-    among place there)
+    (sought_do words k (M.labels_in body ++ labels) label body index left' wanted at p numbers f x.each x.marks o
+    x.linked among place there)
 
 -- and from the start
 starts_do :
@@ -398,8 +400,8 @@ starts_do (suc n) words k labels body index left' wanted c height p numbers f x 
     (λ l c' f' v' s q. jumped_on n words k labels body index left' wanted height l p.state.world.acts few c' f' v' s q
     (λ m g at'. turns_do n words k labels body index left' wanted height l q.index q.point q.numbers g x same m q.among
     q.carried q.place at'))
-    (statements_do words k (M.labels_in body ++ labels) body p.state.world.acts index left' c wanted p numbers f (omega arith)
-    x.each o x.linked fits there)
+    (statements_do words k (M.labels_in body ++ labels) body p.state.world.acts index left' c wanted p numbers f
+    (omega arith) x.each o x.linked fits there)
 
 pub list_with :
     (words : ℕ) (k : Block) (labels : List Label) (body : Y.Stmts) (index left' : ℕ) (p : Point) (numbers : ℕ → ℕ)
@@ -411,8 +413,8 @@ pub list_with :
     (c ≤ wanted) × (c + size_of (stmts_code k.environment (set_aside words) body) ≤ cost k.call.code) →
     AreIn k.call.surroundings p numbers index f →
     Comes k.call.code c f (services_of p)
-    (statement_aims k labels p.state.world.acts (index + size_of (stmts_code k.environment (set_aside words) body)) wanted
-    left')
+    (statement_aims k labels p.state.world.acts (index + size_of (stmts_code k.environment (set_aside words) body))
+    wanted left')
     (M.list k.around body k.call.surroundings.acts p.state)
 unfolding M.list M.list_with looked ◌>>=◌
 list_with words k labels body index left' p numbers c wanted f begun few each marks o l fits there =

@@ -94,15 +94,16 @@ met_with words k labels condition unit line index left' need most h tests does p
     (omega (arith, all, n0, n1, n2)) at)))))
 
 pub one_of_with :
-    (words : ℕ) (k : Block) (labels : List Label) (condition : Y.Bit) (unit otherwise : Y.Stmt) (line index left' need most : ℕ) →
+    (words : ℕ) (k : Block) (labels : List Label) (condition : Y.Bit) (unit otherwise : Y.Stmt)
+    (line index left' need most : ℕ) →
     HasTestWith words k (Y.IfElse condition unit otherwise line) line index need most →
     Tests (setting_around words k labels line most) need condition →
     DoesWith words k labels unit (behind_test_with words k condition (behind_act line index)) left' →
-    DoesWith words k labels otherwise (behind_choice_with words k unit (behind_test_with words k condition (behind_act line index))) left' →
-    DoesWith words k labels (Y.IfElse condition unit otherwise line) index left'
+    DoesWith words k labels otherwise (behind_choice_with words k unit (behind_test_with words k condition
+    (behind_act line index))) left' → DoesWith words k labels (Y.IfElse condition unit otherwise line) index left'
 unfolding M.statement ◌>>=◌ ◌>>◌
-one_of_with words k labels condition unit otherwise line index left' need most h tests does other p numbers c wanted f o paid
-    there =
+one_of_with words k labels condition unit otherwise line index left' need most h tests does other p numbers c wanted f o
+    paid there =
     let w = k.call.surroundings in
     let code = k.call.code in
     let e = k.environment in

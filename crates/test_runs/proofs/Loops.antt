@@ -46,7 +46,8 @@ loop_code words k condition body line =
 turns_do :
     (turns words : ℕ) (k : Block) (labels : List Label) (condition : Y.Bit) (body : Y.Stmts)
     (line index left' need most : ℕ) → HasTestWith words k (Y.DoWhile condition body line) line index need most →
-    Tests (setting_around words k labels line most) need condition → IsInnerWith words k body (body_index_with words k condition line index) →
+    Tests (setting_around words k labels line most) need condition → IsInnerWith words k body
+    (body_index_with words k condition line index) →
     EachDoesWith words k (M.labels_in body ++ labels) body (body_index_with words k condition line index) left' →
     (p : Point) (numbers : ℕ → ℕ) (acts c wanted : ℕ) (f : Family) → IsAmong k numbers p →
     acts ≤ p.state.world.acts → k.call.surroundings.acts < turns + p.state.world.acts →
@@ -58,12 +59,12 @@ turns_do :
     (repeated_while turns (M.met_after_act (at_line k.around line) condition) (M.list k.around body)
     k.call.surroundings.acts p.state)
 unfolding repeated_while M.met_after_act ◌>>=◌ ◌>>◌ stuck
-turns_do zero words k labels condition body line index left' need most h tests is each p numbers acts c wanted f o since few
-    paid there =
+turns_do zero words k labels condition body line index left' need most h tests is each p numbers acts c wanted f o since
+    few paid there =
     let allowed = o.stands.allowed in
     absurd (omega (arith, allowed, few))
-turns_do (suc turns) words k labels condition body line index left' need most h tests is each p numbers acts c wanted f o
-    since few paid there =
+turns_do (suc turns) words k labels condition body line index left' need most h tests is each p numbers acts c wanted f
+    o since few paid there =
     let w = k.call.surroundings in
     let code = k.call.code in
     let e = k.environment in
@@ -136,8 +137,8 @@ turns_do (suc turns) words k labels condition body line index left' need most h 
     (record { reserved_stay = λ y u. refl; known_stay = λ b y u t. t; set = λ y u. refl }) lj
     (λ b. known_in h4 (at5 b) tt))
     (λ g6 at6.
-    turns_do turns words k labels condition body line index left' need most h tests is each q4.point q4.numbers acts (c3 + 2)
-    wanted g6 q4.among (omega (arith, since, since1, since4)) (omega (arith, few, since1, since4))
+    turns_do turns words k labels condition body line index left' need most h tests is each q4.point q4.numbers acts
+    (c3 + 2) wanted g6 q4.among (omega (arith, since, since1, since4)) (omega (arith, few, since1, since4))
     (omega (arith, all, n0, n1, n2, n3, n4))
     (λ b. in_known h4 q4.among.image.parts (at6 b))))))
     (λ c4 f4 v4 height label s4 q4.
@@ -157,9 +158,10 @@ turns_do (suc turns) words k labels condition body line index left' need most h 
 -- ---- DO WHILE
 
 pub loop_with :
-    (words : ℕ) (k : Block) (labels : List Label) (condition : Y.Bit) (body : Y.Stmts) (line index left' need most : ℕ) →
-    HasTestWith words k (Y.DoWhile condition body line) line index need most →
-    Tests (setting_around words k labels line most) need condition → IsInnerWith words k body (body_index_with words k condition line index) →
+    (words : ℕ) (k : Block) (labels : List Label) (condition : Y.Bit) (body : Y.Stmts) (line index left' need most : ℕ)
+    → HasTestWith words k (Y.DoWhile condition body line) line index need most →
+    Tests (setting_around words k labels line most) need condition → IsInnerWith words k body
+    (body_index_with words k condition line index) →
     EachDoesWith words k (M.labels_in body ++ labels) body (body_index_with words k condition line index) left' →
     DoesWith words k labels (Y.DoWhile condition body line) index left'
 unfolding M.statement M.list ◌>>◌
@@ -183,7 +185,8 @@ loop_with words k labels condition body line index left' need most h tests is ea
     (act_comes (before_closed w.acts next' closed) line (c + debt) 0 f (o.stands, o.image)
     (h.act.line_fits, h.act.acts, omega (arith, paid, n0)) (front_of one all' h.statement) there
     (λ g less at.
-    turns_do k.around.turns words k labels condition body line index left' need most h tests is each (acted line p) numbers
+    turns_do k.around.turns words k labels condition body line index left' need most h tests is each
+    (acted line p) numbers
     acts 0 wanted g (acted_among line o less) (omega arith) (omega (arith, few)) (omega (arith, all, n0)) at)))
 
 -- where no words are set aside

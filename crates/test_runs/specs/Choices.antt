@@ -66,8 +66,8 @@ IsInner k body index = IsInnerWith 0 k body index
 -- each does what it means if its test and its statements do
 pub record ChoicesDo : Type 0 where
   pub met :
-      (words : ℕ) (k : Block) (labels : List Label) (condition : Y.Bit) (unit : Y.Stmt) (line index left' need most : ℕ) →
-      HasTestWith words k (Y.If condition unit line) line index need most →
+      (words : ℕ) (k : Block) (labels : List Label) (condition : Y.Bit) (unit : Y.Stmt) (line index left' need most : ℕ)
+      → HasTestWith words k (Y.If condition unit line) line index need most →
       Tests (setting_around words k labels line most) need condition →
       DoesWith words k labels unit (behind_test_with words k condition (behind_act line index)) left' →
       DoesWith words k labels (Y.If condition unit line) index left'
@@ -77,12 +77,12 @@ pub record ChoicesDo : Type 0 where
       HasTestWith words k (Y.IfElse condition unit otherwise line) line index need most →
       Tests (setting_around words k labels line most) need condition →
       DoesWith words k labels unit (behind_test_with words k condition (behind_act line index)) left' →
-      DoesWith words k labels otherwise (behind_choice_with words k unit (behind_test_with words k condition (behind_act line index))) left' →
-      DoesWith words k labels (Y.IfElse condition unit otherwise line) index left'
+      DoesWith words k labels otherwise (behind_choice_with words k unit (behind_test_with words k condition
+      (behind_act line index))) left' → DoesWith words k labels (Y.IfElse condition unit otherwise line) index left'
   -- each turn makes an act
   pub loop :
-      (words : ℕ) (k : Block) (labels : List Label) (condition : Y.Bit) (body : Y.Stmts) (line index left' need most : ℕ) →
-      HasTestWith words k (Y.DoWhile condition body line) line index need most →
+      (words : ℕ) (k : Block) (labels : List Label) (condition : Y.Bit) (body : Y.Stmts)
+      (line index left' need most : ℕ) → HasTestWith words k (Y.DoWhile condition body line) line index need most →
       Tests (setting_around words k labels line most) need condition →
       IsInnerWith words k body (body_index_with words k condition line index) →
       EachDoesWith words k (labels_in body ++ labels) body (body_index_with words k condition line index) left' →

@@ -61,7 +61,8 @@ nothing = record { variables = []; procedures = [] }
 
 -- as in a block that declares nothing
 list_by :
-    (s : Scope) (valued : Bool) (body : Y.Stmts) → s.counts ≡ false → are_statements s valued (labels_in body ++ []) body ≡ true →
+    (s : Scope) (valued : Bool) (body : Y.Stmts) → s.counts ≡ false → are_statements s valued (labels_in body
+    ++ []) body ≡ true →
     statements_need body ≤ held_registers → Takes (statements_need body) none_taken (stmts_take none_taken body)
 list_by s valued body none h fits =
     let n = block_taken s valued nothing 0 body none refl h fits in
