@@ -4,4 +4,7 @@ pub mod Takes
 pub mod Expressions
 pub mod Puts
 pub mod Labels
+pub mod Counters
+pub mod Turns
 pub mod Statements
+pub mod Uncounted

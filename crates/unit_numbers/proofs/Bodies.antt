@@ -1,7 +1,7 @@
 -- The list of the main procedure comes to its end: each of its statements does what it means, whatever units it has by
 -- then.
 use Rattle.std.proofs.Common.{◌≡◌, inl, inr, ℕ, zero, suc, ◌+◌, ◌^◌, ◌<◌, ◌≤◌, List, [], ◌∷◌, ◌++◌, Option}
-use Rattle.std.proofs.Common.{Some, None, true, false, refl, arith}
+use Rattle.std.proofs.Common.{Some, None, true, false, refl, sym, subst, arith}
 use Rattle.std.proofs.lemmas.Bool.{and_parts}
 use Rattle.pli_language.specs.declared.condition.Condition.TheVariants as C
 use Rattle.pli_typing.specs.TypedTree as Y
@@ -22,6 +22,7 @@ use Rattle.program_places.proofs.Starts.{main_found}
 use Rattle.program_runs.specs.Calls.{left_over}
 use Rattle.program_runs.specs.Statements.{Does, IsBegun}
 use Rattle.program_runs.proofs.Statements.{none_does}
+use Rattle.expression_runs.specs.Assignments.{setting_around}
 use Rattle.expression_runs.specs.Values.{OverflowComes}
 use Rattle.expression_runs.proofs.Raises.{overflow_ends}
 use Rattle.operator_runs.specs.Divisors.{ZeroDivideComes}
@@ -104,16 +105,21 @@ main_ready once {program} m input more past few b known =
       turns = omega (arith, first);
       held = omega arith;
       raises = record {
-        overflow = λ may labels line includes.
-            overflow_known once m input more past labels line few b includes known
-            (in_force once m input (suc more) past known C.FixedOverflow);
-        divisor = λ may labels line includes.
-            divisor_known once m input more past labels line few b includes known
-            (in_force once m input (suc more) past known C.ZeroDivide);
+        overflow = λ may words set labels line includes.
+            subst (λ w. OverflowComes (setting_around w (after k past) labels line (most_for program)))
+            (sym (set.1 refl))
+            (overflow_known once m input more past labels line few b includes known
+            (in_force once m input (suc more) past known C.FixedOverflow));
+        divisor = λ may words set labels line includes.
+            subst (λ w. ZeroDivideComes (setting_around w (after k past) labels line (most_for program)))
+            (sym (set.1 refl))
+            (divisor_known once m input more past labels line few b includes known
+            (in_force once m input (suc more) past known C.ZeroDivide));
       };
       variables = λ x h. past_numbers k past x (main_number m input (suc more) x (own_known m input (suc more) x h) b);
       calls = main_calls once m input more past few b known;
       puts = λ e. absurd (cc e);
+      loops = λ e. absurd (cc e);
       jumps = λ labels level label line index includes h. absurd (cc h);
       room = omega arith;
       home = λ may. record {
@@ -155,7 +161,7 @@ main_does once {program} m input (suc more) few b stmt index is fits at past kno
           none_taken m.body (list_placed once m input (suc more)) label among;
       includes = λ label among. among;
     })
-    is (omega (arith, fits, held)) at
+    is (omega (arith, fits, held)) (λ e. absurd (cc e)) at
 
 -- ---- the list
 
