@@ -127,6 +127,7 @@ puts_of :
     MarkedOnce → {program : Y.Program} (m : Main program) (input : List ℕ) (acts : ℕ) (valued : Bool) (more : ℕ)
     (a : Running) (ns : List ℕ) (blocks : ℕ) → acts + 1 < 2 ^ 64 → IsRunning m input acts valued more a ns blocks →
     KnowsPuts (scope_of program ns a.head) (block_of_run program input acts valued more a) (most_for program)
+unfolding unraised_of
 puts_of once {program} m input acts valued more a ns blocks few h =
     let k = block_of_run program input acts valued more a in
     puts_known (scope_of program ns a.head) k (most_for program) h.begun

@@ -76,6 +76,7 @@ called_block valued w code c p numbers =
       outers = [];
     }
 
+-- the block, with other layers told at its first statement
 abbrev pub with_layers : (List Layer → List Layer) → Block → Block
 with_layers layers k =
     record k { first = record k.first { control = record k.first.control { layers = layers k.first.control.layers } } }
