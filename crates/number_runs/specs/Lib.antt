@@ -1,4 +1,5 @@
 pub mod Numbers
+pub mod Counting
 pub mod Puts
 pub mod Statements
 pub mod Knowledge

@@ -25,6 +25,7 @@ use Rattle.program_places.proofs.Starts.{main_found}
 use Rattle.program_runs.specs.Calls.{left_over}
 use Rattle.program_runs.specs.Statements.{Does, IsBegun}
 use Rattle.program_runs.proofs.Statements.{none_does}
+use Rattle.expression_runs.specs.Assignments.{setting_around}
 use Rattle.expression_runs.specs.Values.{OverflowComes}
 use Rattle.expression_runs.proofs.Raises.{overflow_ends}
 use Rattle.operator_runs.specs.Divisors.{ZeroDivideComes}
@@ -108,16 +109,21 @@ main_ready once {program} m input more past few b known =
       turns = omega (arith, first);
       held = omega arith;
       raises = record {
-        overflow = λ may labels line includes.
-            overflow_known once m input more past labels line few b includes known
-            (in_force once m input (suc more) past known C.FixedOverflow);
-        divisor = λ may labels line includes.
-            divisor_known once m input more past labels line few b includes known
-            (in_force once m input (suc more) past known C.ZeroDivide);
+        overflow = λ may words set labels line includes.
+            subst (λ w. OverflowComes (setting_around w (after k past) labels line (most_for program)))
+            (sym (set.1 refl))
+            (overflow_known once m input more past labels line few b includes known
+            (in_force once m input (suc more) past known C.FixedOverflow));
+        divisor = λ may words set labels line includes.
+            subst (λ w. ZeroDivideComes (setting_around w (after k past) labels line (most_for program)))
+            (sym (set.1 refl))
+            (divisor_known once m input more past labels line few b includes known
+            (in_force once m input (suc more) past known C.ZeroDivide));
       };
       variables = λ x h. past_numbers k past x (main_number m input (suc more) x (own_known m input (suc more) x h) b);
       calls = main_calls once m input more past few b known;
       puts = λ e. absurd (cc e);
+      loops = λ e. absurd (cc e);
       jumps = λ labels level label line index includes h. absurd (cc h);
       room = omega arith;
       home = λ may. record {
@@ -159,7 +165,7 @@ main_does once {program} m input (suc more) few b stmt index is fits at past kno
           none_taken (list_of m) (list_placed once m input (suc more)) label among;
       includes = λ label among. among;
     })
-    is (omega (arith, fits, held)) at
+    is (omega (arith, fits, held)) (λ e. absurd (cc e)) at
 
 -- ---- the list
 
