@@ -37,7 +37,7 @@ stand_alike e f (suc n) = (block_around e (suc n) == block_around f (suc n)) && 
 
 -- ---- procedures
 
--- so many words of its frame a block's loops may set aside: those of sixty-four, one in the turns of another
+-- so many words of its frame may the loops of a block set aside, one in the turns of another
 abbrev pub most_waiting : ℕ
 most_waiting = 128
 
