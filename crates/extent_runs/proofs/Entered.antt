@@ -45,7 +45,14 @@ begins_entered k labels x index more p numbers h o less =
         resumes = record {
           stands = new.0;
           idle = refl;
-          changed = record { units = φ.units; waits = φ.waits; told = φ.told; top = φ.top; carried = φ.carried };
+          changed = record {
+            units = φ.units;
+            waits = φ.waits;
+            told = φ.told;
+            top = φ.top;
+            lower = φ.lower;
+            carried = φ.carried;
+          };
           layers = refl;
           own = [];
           activations = refl;
@@ -101,7 +108,14 @@ procedures_entered w code c p numbers known few h words less =
         resumes = record {
           stands = new.0;
           idle = refl;
-          changed = record { units = φ.units; waits = φ.waits; told = φ.told; top = φ.top; carried = φ.carried };
+          changed = record {
+            units = φ.units;
+            waits = φ.waits;
+            told = φ.told;
+            top = φ.top;
+            lower = φ.lower;
+            carried = φ.carried;
+          };
           layers = refl;
           own = [];
           activations = refl;
