@@ -13,10 +13,10 @@ use Rattle.edit_runs.specs.Edits.{IsFixed}
 use Rattle.edit_runs.specs.FormatRows.{fixed_then, shown_program}
 
 pub one_fixed : IsFixed (fixed_then 1 8 T.NoFormat)
-one_fixed = record { fixed = refl; text = refl; first = 8; more = _; items = refl; are = tt }
+one_fixed = record { fixed = refl; text = refl; are = tt; some = refl }
 
 pub repeated_fixed : IsFixed (fixed_then 2 3 (fixed_then 1 5 T.NoFormat))
-repeated_fixed = record { fixed = refl; text = refl; first = 3; more = _; items = refl; are = tt }
+repeated_fixed = record { fixed = refl; text = refl; are = tt; some = refl }
 
 -- what the program is computed with
 unfoldable flows : Unit {0}

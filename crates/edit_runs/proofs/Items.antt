@@ -3,34 +3,32 @@ use Rattle.std.proofs.Common.{◌≡◌, ℕ, ◌+◌, ◌^◌, ◌<◌, ◌≤�
 use Rattle.std.proofs.Common.{true, false, refl, sym, ap, ◌∙◌, subst, arith, lit<}
 use Rattle.std.proofs.lemmas.Bool.Decides.{nat_tests}
 use Rattle.std.proofs.lemmas.Int.{ints}
-use Rattle.std.specs.Prelude.{ℤ, cond, ◌&&◌, ◌==◌}
+use Rattle.std.specs.Prelude.{ℤ, cond, ◌&&◌}
 use Rattle.rv_meaning.specs.declared.instr.Instr.TheVariants as I
 use Rattle.rv_meaning.specs.declared.instr.BranchTest.TheVariants as Test
 use Rattle.rv_meaning.specs.Words.{signed, word}
 use Rattle.pli_language.specs.Tree as T
 use Rattle.pli_typing.specs.TypedTree as Y
 use Rattle.pli_meaning.specs.Codes.{too_wide_code}
-use Rattle.pli_meaning.specs.Control.{Flow, Label, Meaning, Normal, act, flow_on, give, given, ◌>>=◌, ◌>>◌}
+use Rattle.pli_meaning.specs.Control.{Flow, Label, Meaning, act, give, given, ◌>>=◌, ◌>>◌}
 use Rattle.pli_meaning.specs.Evaluating.{ComputationalNumber}
 use Rattle.pli_meaning.specs.Raising as R
-use Rattle.pli_meaning.specs.Raising.{Around}
 use Rattle.pli_meaning.specs.StorageState.{State}
 use Rattle.pli_meaning.specs.Stream.{fixed_field, with_field}
 use Rattle.pli_meaning.specs.Streaming as P
 use Rattle.pli_meaning.specs.Streaming.{DataFormat, DataItem, FixedItem, FormatItem}
 use Rattle.pli_meaning.specs.World.{written}
-use Rattle.pli_serving.specs.Answers.{Answer, Done}
+use Rattle.pli_serving.specs.Answers.{Done}
 use Rattle.pli_serving.specs.Edits as E
-use Rattle.pli_serving.specs.Edits.{NextItem}
 use Rattle.pli_serving.specs.Finding.{Call}
 use Rattle.pli_serving.specs.ServiceState.{EditPlace, Services}
-use Rattle.pli_coding.specs.Assembly.{Code, JumpBack, Plain, size_of}
+use Rattle.pli_coding.specs.Assembly.{Code, Plain, size_of}
 use Rattle.pli_coding.specs.Environments.{fetch, none_taken, save}
 use Rattle.pli_coding.specs.Expressions.{number_code}
-use Rattle.pli_coding.specs.Instructions.{choice, service, skip_where, small, tested_service}
-use Rattle.pli_coding.specs.Registers.{a0, a1, a7, held_registers, u1, zero_register}
+use Rattle.pli_coding.specs.Instructions.{choice, service, small, tested_service}
+use Rattle.pli_coding.specs.Registers.{a0, a1, a7, held_registers, u1}
 use Rattle.pli_coding.specs.Streams as C
-use Rattle.pli_coding.specs.Streams.{by_item, controls_carried_out, has_fixed, has_text, number_written}
+use Rattle.pli_coding.specs.Streams.{controls_carried_out, has_fixed, has_text, number_written}
 use Rattle.activation_relation.specs.Layers.{Point, services_of}
 use Rattle.activation_relation.specs.Points.{AreOver}
 use Rattle.run_steps.specs.Bodies.{Free, Known}
@@ -40,16 +38,16 @@ use Rattle.run_steps.proofs.Calls.{acts, called}
 use Rattle.run_steps.specs.Engine.{Base, address, call_at}
 use Rattle.run_steps.specs.Items.{At, Linked}
 use Rattle.run_steps.proofs.Items.{straight}
-use Rattle.run_steps.proofs.Jumps.{back_of, front_of, linked_at, skip_taken}
+use Rattle.run_steps.proofs.Jumps.{back_of, front_of, linked_at}
 use Rattle.run_steps.proofs.Linking.{size_append}
 use Rattle.run_steps.specs.Numbers.{IsWide}
 use Rattle.run_steps.proofs.Numbers.{word_small}
-use Rattle.run_steps.specs.Reach.{Aims, Closed, Comes, Family, Reach, before, cost, reached}
-use Rattle.run_steps.proofs.Reach.{before_closed, comes_on, onward, reach_map, reach_then, reached_holds, stay}
-use Rattle.run_steps.proofs.Reaching.{reach_moved}
+use Rattle.run_steps.specs.Reach.{Aims, Closed, Comes, Family, Reach, before, cost}
+use Rattle.run_steps.proofs.Reach.{before_closed, comes_on, onward, reach_then, stay}
 use Rattle.run_steps.specs.Temporaries.{nothing}
 use Rattle.block_runs.specs.Machines.{IsIn}
 use Rattle.block_runs.proofs.BlockEntries.{small_is}
+use Rattle.block_runs.proofs.CallStatements.{comes_map}
 use Rattle.block_runs.proofs.PointGrounds.{in_known, point_ground}
 use Rattle.program_runs.specs.Statements.{Block, IsAmong, JumpsTo}
 use Rattle.program_runs.proofs.JumpsOut.{jumps_later, jumps_since}
@@ -58,57 +56,13 @@ use Rattle.expression_runs.specs.Values.{Setting}
 use Rattle.expression_runs.proofs.Saving.{fetched_reach, held_after, held_among, held_is_given, saved_reach}
 use Rattle.expression_runs.proofs.Words.{frame_of, valued}
 use Rattle.text_runs.specs.Texts.{ErrorComes}
-use Rattle.text_runs.proofs.TextCalls.{Asking, asks, three, told, two}
+use Rattle.text_runs.proofs.TextCalls.{three, told, two}
 use Rattle.text_runs.proofs.Tested.{Place, Tested, tested_comes}
-use Rattle.edit_runs.specs.Edits.{AreFixed, Item, placing, putting, within}
+use Rattle.edit_runs.specs.Edits.{AreFixed, Item, has_data, placing, putting, within}
 use Rattle.edit_runs.specs.Writing.{writing}
+use Rattle.edit_runs.proofs.Controls.{Finds, Loop, current, current_found, found_aims, next_comes}
 use Rattle.edit_runs.proofs.Places.{edits_among, jumps_down, over_place}
 use Rattle.edit_runs.proofs.Writing.{writing_among, writing_comes}
-
--- ---- the next item
-
-abbrev pub width_of : FormatItem → ℕ
-width_of (DataFormat (FixedItem width)) = width
-width_of x = 0
-
-abbrev pub next_width : (first : ℕ) → (rest : List FormatItem) → ℕ
-next_width first [] = first
-next_width first (x ∷ xs) = width_of x
-
-abbrev pub behind_next : (more rest : List FormatItem) → List FormatItem
-behind_next more [] = more
-behind_next more (x ∷ xs) = xs
-
-abbrev pub whole_of : (first : ℕ) → (more : List FormatItem) → List FormatItem
-whole_of first more = DataFormat (FixedItem first) ∷ more
-
--- an item is next at the newest place, with what is left of the list behind it
-abbrev pub Finds : List EditPlace → FormatItem → (whole left : List FormatItem) → (below : List EditPlace) → Type 0
-Finds edits item whole left below =
-    (next : NextItem → List EditPlace → Answer) →
-    E.on_next edits next ≡ next (record { item = item; behind = putting whole left }) below
-
-finds_next :
-    (first : ℕ) (more rest : List FormatItem) (edits below : List EditPlace) → AreFixed rest →
-    edits ≡ putting (whole_of first more) rest ∷ below →
-    Finds edits (DataFormat (FixedItem (next_width first rest))) (whole_of first more) (behind_next more rest) below
-finds_next first more [] edits below are e = λ next. ap (λ u. E.on_next u next) e
-finds_next first more (DataFormat (FixedItem width) ∷ rest) edits below are e = λ next. ap (λ u. E.on_next u next) e
-finds_next first more (x ∷ rest) edits below are e = absurd are
-
-next_is :
-    (first : ℕ) (more rest : List FormatItem) (k : ℕ) (s : State) → AreFixed rest →
-    P.next_item P.control_put (whole_of first more) rest k s
-    ≡ Normal (FixedItem (next_width first rest), behind_next more rest) s
-unfolding P.next_item P.controls ◌>>=◌ give given
-next_is first more [] k s are = refl
-next_is first more (DataFormat (FixedItem width) ∷ rest) k s are = refl
-next_is first more (x ∷ rest) k s are = absurd are
-
-left_fixed : (more rest : List FormatItem) → AreFixed more → AreFixed rest → AreFixed (behind_next more rest)
-left_fixed more [] are is = are
-left_fixed more (DataFormat (FixedItem width) ∷ rest) are is = is
-left_fixed more (x ∷ rest) are is = absurd is
 
 signed-word : (z : ℤ) → IsWide z → signed (word z) ≡ z
 signed-word z h = grind (arith, ints, nat_tests)
@@ -123,21 +77,22 @@ pub record Puts : Type 0 where
   pub most : ℕ
   pub need : ℕ
   pub formats : T.Formats
-  pub first : ℕ
+  pub first : FormatItem
   pub more : List FormatItem
 
 abbrev pub setting_in : Puts → Setting
 setting_in u = setting_of u.block u.labels u.line u.most
 
 abbrev pub whole_in : Puts → List FormatItem
-whole_in u = whole_of u.first u.more
+whole_in u = u.first ∷ u.more
 
 pub record ArePut (u : Puts) : Type 0 where
   pub acts : u.block.call.surroundings.acts + 1 < 2 ^ 64
   pub over : AreOver u.block.first.control.entries u.block.first.control.edits u.block.first.control.layers
   pub fixed : has_fixed u.formats ≡ true
   pub text : has_text u.formats ≡ false
-  pub are : AreFixed u.more
+  pub are : AreFixed (whole_in u)
+  pub some : has_data (whole_in u) ≡ true
   pub registers : u.need ≤ u.block.registers
   pub one : 1 ≤ u.block.registers
   pub held : u.block.registers ≤ held_registers
@@ -160,56 +115,6 @@ item_coded u a x =
     let both = small u1 1 ∷ choice Test.Equal a0 u1 shows texts in
     ap (λ q. rest (cond (q && has_text u.formats) both (cond q shows texts))) a.fixed
     ∙ ap (λ q. rest (cond (true && q) both shows)) a.text
-
--- ---- a data item is next
-
-one_not_zero : (x y : ℕ) → x ≡ 1 → y ≡ 0 → cond (x == y) false true ≡ true
-one_not_zero x y e e' = ap (λ u. cond (u == y) false true) e ∙ ap (λ u. cond (1 == u) false true) e'
-
-abbrev asked_again : Code
-asked_again = skip_where Test.NotEqual a0 zero_register (JumpBack (size_of (service 35) + 1) ∷ [])
-
-controls_reach :
-    (k : Block) {p : Point} {numbers : ℕ → ℕ} {i : ℕ} (h : frame_of k p) (width : ℕ) (whole left : List FormatItem)
-    (below : List EditPlace) → Finds p.control.edits (DataFormat (FixedItem width)) whole left below → (c : ℕ)
-    (f : Family) → Linked k.call.surroundings.links k.call.code i controls_carried_out →
-    ((b : Base) → At b i (Known (point_ground k.call.surroundings p h) (services_of p) numbers (λ j. 0) nothing b)
-    (f b)) →
-    Reach k.call.code c f (services_of p) (c + 5) (services_of p)
-    (λ b y. At b (i + 5) (Known (point_ground k.call.surroundings p h) (services_of p) numbers (λ j. 0) nothing b) y)
-controls_reach k {p} {numbers} {i} h width whole left below found c f l at =
-    let v = services_of p in
-    let x : Base → ℕ = λ b. (f b).machine.registers 10 in
-    let y : Base → ℕ = λ b. (f b).machine.registers 11 in
-    let z : Base → ℕ = λ b. (f b).machine.registers 12 in
-    let asking : Asking = record {
-      number = 35;
-      x = x;
-      y = y;
-      z = z;
-      first = λ b. 1;
-      second = y;
-      answer = λ call x0 x1 x2. E.control_served call x1;
-    } in
-    let g = point_ground k.call.surroundings p h in
-    let r1 = asks {g' = g} {t = λ j. 0} asking c f
-    (record {
-      small' = lit< tt;
-      serves = λ call r. refl;
-      answers = λ b m.
-          let call = call_at k.call.code v m in
-          found (λ n below'. E.control_carried_out call (y b) n.item n.behind below')
-          ∙ found (λ n below'. Done v m (E.item_number n.behind.direction v.input n.item) (y b));
-      more = omega arith;
-    })
-    (record { reserved = λ b. refl; memory = λ b m is. is }) (front_of (service 35) asked_again l)
-    (λ b. record { pc = (at b).pc; holds = record { body = (at b).holds.body; regs = (refl, (refl, (refl, tt))) } }) in
-    let r2 = skip_taken (c + 2) (reached r1) Test.NotEqual a0 zero_register (JumpBack (size_of (service 35) + 1) ∷ [])
-    (back_of (service 35) asked_again l) (reached_holds r1)
-    (λ b. one_not_zero _ _ (reached_holds r1 b).holds.regs.0 (zero_is (reached_holds r1 b).holds.body)) in
-    reach_moved {i'' = i + 5} (omega arith) (omega arith)
-    (reach_map _ (reach_then r1 r2)
-    (λ b m o. record { pc = o.pc; holds = record { body = o.holds.body; regs = tt } }))
 
 -- ---- its field
 
@@ -280,11 +185,13 @@ status_answer :
 status_answer c x v None e = ap (λ u. Done u c.memory x too_wide_code) e
 status_answer c x v (Some field) e = ap (λ u. Done u c.memory x 0) e
 
--- ---- where a number has been evaluated
+-- ---- where an F item is next
 
--- the place, the point, and the number's word, that waits
+-- the place, the item's width and what is left behind it, the point, and the number's word, that waits
 pub record Ready : Type 0 where
   pub rest : List FormatItem
+  pub width : ℕ
+  pub left' : List FormatItem
   pub point : Point
   pub numbers : ℕ → ℕ
   pub z : ℤ
@@ -292,20 +199,11 @@ pub record Ready : Type 0 where
   pub index : ℕ
   pub family : Family
 
-abbrev pub place_of : Puts → Ready → EditPlace
-place_of u r = putting (whole_in u) r.rest
-
-abbrev pub inner : Puts → Ready → Block
-inner u r = placing (place_of u r) u.block
-
-abbrev pub width_in : Puts → Ready → ℕ
-width_in u r = next_width u.first r.rest
-
-abbrev pub left_in : Puts → Ready → List FormatItem
-left_in u r = behind_next u.more r.rest
+abbrev pub place_of : Puts → (rest : List FormatItem) → EditPlace
+place_of u rest = putting (whole_in u) rest
 
 abbrev pub next_place : Puts → Ready → EditPlace
-next_place u r = putting (whole_in u) (left_in u r)
+next_place u r = putting (whole_in u) r.left'
 
 abbrev pub places : Puts → Ready → List EditPlace
 places u r = next_place u r ∷ u.block.first.control.edits
@@ -313,9 +211,10 @@ places u r = next_place u r ∷ u.block.first.control.edits
 pub record IsReady (u : Puts) (r : Ready) (h : frame_of u.block r.point) (rs : Base → List (ℕ × ℕ))
     (code : Code) : Type 0
   where
-    pub among : IsAmong (inner u r) r.numbers r.point
+    pub among : IsAmong (placing (place_of u r.rest) u.block) r.numbers r.point
     pub line : r.point.control.line ≡ u.line
-    pub fixed : AreFixed r.rest
+    pub next : current (whole_in u) r.rest ≡ DataFormat (FixedItem r.width) ∷ r.left'
+    pub fixed : AreFixed r.left'
     pub wide : IsWide r.z
     pub linked : Linked u.block.call.surroundings.links u.block.call.code r.index code
     pub paid : r.credits + size_of code + u.most ≤ cost u.block.call.code
@@ -331,10 +230,11 @@ shown_point u r field = writing (with_field field) (places u r) r.point
 found_in :
     (u : Puts) (r : Ready) {h : frame_of u.block r.point} {rs : Base → List (ℕ × ℕ)} {code : Code} →
     IsReady u r h rs code →
-    Finds r.point.control.edits (DataFormat (FixedItem (width_in u r))) (whole_in u) (left_in u r)
+    Finds r.point.control.edits (DataFormat (FixedItem r.width)) (whole_in u) r.left'
     u.block.first.control.edits
 found_in u r is =
-    finds_next u.first u.more r.rest r.point.control.edits u.block.first.control.edits is.fixed is.among.later.edits
+    current_found (whole_in u) r.rest r.left' (DataFormat (FixedItem r.width)) r.point.control.edits
+    u.block.first.control.edits is.next is.among.later.edits
 
 field_among :
     (u : Puts) → ArePut u → (r : Ready) {h : frame_of u.block r.point} {rs : Base → List (ℕ × ℕ)} {code : Code} →
@@ -343,17 +243,17 @@ field_among :
 field_among u a r is field less =
     let first = u.block.first.control in
     writing_among (with_field field)
-    (edits_among u.block (place_of u r ∷ first.edits) (places u r) (places u r) is.among refl
+    (edits_among u.block (place_of u r.rest ∷ first.edits) (places u r) (places u r) is.among refl
     (over_place (next_place u r) first.entries first.edits first.layers a.over)) less
 
 -- it is written, an act
 field_comes :
     (u : Puts) → ArePut u → (r : Ready) (h : frame_of u.block r.point) (acts' wanted : ℕ) →
     IsReady u r h (two (λ b. word r.z) (λ b. 0)) (small a1 1 ∷ service 36) → (field : List ℕ) →
-    fixed_field (width_in u r) r.z ≡ Some field → acts' ≤ r.point.state.world.acts →
+    fixed_field r.width r.z ≡ Some field → acts' ≤ r.point.state.world.acts →
     Comes u.block.call.code r.credits r.family (services_of r.point)
     (before u.block.call.code (left_aims u acts' (r.index + 3) wanted) u.block.call.surroundings.acts
-    (λ t. give (left_in u r)))
+    (λ t. give r.left'))
     (act (written (with_field field)) u.block.call.surroundings.acts r.point.state)
 unfolding give
 field_comes u a r h acts' wanted is field wide since =
@@ -361,7 +261,7 @@ field_comes u a r h acts' wanted is field wide since =
     let code = u.block.call.code in
     let p = r.point in
     let v = services_of p in
-    let next' : Unit {0} → Meaning (List FormatItem) = λ t. give (left_in u r) in
+    let next' : Unit {0} → Meaning (List FormatItem) = λ t. give r.left' in
     let closed = before_closed w.acts next' (left_closed u acts' (r.index + 3) wanted) in
     let front = small a1 1 ∷ small a7 36 ∷ [] in
     let last = Plain I.Ecall ∷ [] in
@@ -398,10 +298,10 @@ field_comes u a r h acts' wanted is field wide since =
           o.body.services o.regs.1.1.0 o.regs.0 o.regs.1.0 refl refl refl (λ c y'. refl)
           ∙ found_in u r is (λ n below. E.fixed_by call x 1 n.behind.direction n.item (n.behind ∷ below))
           ∙ ap (λ o'. E.number_put call x 1 o' (places u r))
-          (ap (fixed_field (width_in u r)) (signed-word r.z is.wide) ∙ wide)
+          (ap (fixed_field r.width) (signed-word r.z is.wide) ∙ wide)
           ∙ acts v w.acts _ is.among.stands.allowed a.acts;
     } in
-    writing_comes closed (record { item = with_field field; edits = places u r; first = x; second = 1 })
+    writing_comes closed (record { item = with_field field; edits = places u r; first = λ b. x; second = λ b. 1 })
     (r.credits + 2) wanted g h is.among.stands (omega (arith, paid)) at calling
     (λ f' less at'.
     record {
@@ -412,7 +312,7 @@ field_comes u a r h acts' wanted is field wide since =
         since = omega (arith, since);
         line = is.line;
         state = refl;
-        fixed = left_fixed u.more r.rest a.are is.fixed;
+        fixed = is.fixed;
         reach = stay code wanted f' (services_of (shown_point u r field)) _
             (λ b. in_known h is.among.image.parts
             (record { pc = (at' b).pc ∙ ap (address b) (three_more r.index); holds = (at' b).holds }));
@@ -430,8 +330,8 @@ number_comes :
     IsReady u r h (valued (word r.z)) number_written → acts' ≤ r.point.state.world.acts →
     Comes u.block.call.code r.credits r.family (services_of r.point)
     (before u.block.call.code (left_aims u acts' (r.index + 9) wanted) u.block.call.surroundings.acts
-    (λ t. give (left_in u r)))
-    (((R.or_error (setting_in u).around too_wide_code (fixed_field (width_in u r) r.z))
+    (λ t. give r.left'))
+    (((R.or_error (setting_in u).around too_wide_code (fixed_field r.width r.z))
     >>= (λ field. act (written (with_field field)))) u.block.call.surroundings.acts r.point.state)
 unfolding ◌>>=◌
 number_comes u a r h acts' wanted is since =
@@ -442,7 +342,7 @@ number_comes u a r h acts' wanted is since =
     let x = word r.z in
     let paid = is.paid in
     let left' = left_closed u acts' (r.index + 9) wanted in
-    let last : Unit {0} → Meaning (List FormatItem) = λ t. give (left_in u r) in
+    let last : Unit {0} → Meaning (List FormatItem) = λ t. give r.left' in
     let shows : List ℕ → Meaning (Unit {0}) = λ field. act (written (with_field field)) in
     let closed = before_closed w.acts shows (before_closed w.acts last left') in
     let front = small a1 0 ∷ [] in
@@ -461,13 +361,13 @@ number_comes u a r h acts' wanted is since =
       };
       regs = (o.regs.0, (small_is _ 0 (zero_is o.body) (omega arith), (refl, tt)));
     }) in
-    comes_on w.acts (R.or_error (setting_in u).around too_wide_code (fixed_field (width_in u r) r.z) w.acts p.state)
+    comes_on w.acts (R.or_error (setting_in u).around too_wide_code (fixed_field r.width r.z) w.acts p.state)
     shows
     (onward closed r1
     (λ g at.
     let place : Place = record {
       entries = [];
-      setting = within (place_of u r) (setting_in u);
+      setting = within (place_of u r.rest) (setting_in u);
       point = p;
       numbers = r.numbers;
       credits = r.credits + 1;
@@ -481,7 +381,7 @@ number_comes u a r h acts' wanted is since =
       y = λ b. 0;
       z = third;
       answer = λ call x0 x1 x2. E.fixed_served call x0 x1;
-      outcome = fixed_field (width_in u r) r.z;
+      outcome = fixed_field r.width r.z;
       texts = λ field. p.control.entries;
       result = λ field b. x;
     } in
@@ -501,15 +401,17 @@ number_comes u a r h acts' wanted is since =
       answers = λ b m.
           let call = call_at code v m in
           found_in u r is (λ n below. E.fixed_by call x 0 n.behind.direction n.item (n.behind ∷ below))
-          ∙ status_answer call x v (fixed_field (width_in u r) (signed x)) refl
-          ∙ ap (λ n. told v m x too_wide_code (λ t. v) (λ t. x) (fixed_field (width_in u r) n))
+          ∙ status_answer call x v (fixed_field r.width (signed x)) refl
+          ∙ ap (λ n. told v m x too_wide_code (λ t. v) (λ t. x) (fixed_field r.width n))
           (signed-word r.z is.wide);
     })
-    (a.error (place_of u r))
-    (λ c f v' height label s q. jumps_since since (jumps_down (place_of u r) u.block u.labels q))
+    (a.error (place_of u r.rest))
+    (λ c f v' height label s q. jumps_since since (jumps_down (place_of u r.rest) u.block u.labels q))
     (λ field g' e at'.
     let r' : Ready = record {
       rest = r.rest;
+      width = r.width;
+      left' = r.left';
       point = p;
       numbers = r.numbers;
       z = r.z;
@@ -522,6 +424,7 @@ number_comes u a r h acts' wanted is since =
     (record {
       among = is.among;
       line = is.line;
+      next = is.next;
       fixed = is.fixed;
       wide = is.wide;
       linked = linked_at (r.index + 6) behind' (omega arith) (back_of (tested_service 36) behind' l1);
@@ -535,11 +438,32 @@ number_comes u a r h acts' wanted is since =
 
 -- ---- one number
 
--- it has been evaluated, and is in a0
+-- it has been evaluated, and so much of the list is left
+pub record Valued : Type 0 where
+  pub rest : List FormatItem
+  pub point : Point
+  pub numbers : ℕ → ℕ
+  pub z : ℤ
+  pub credits : ℕ
+  pub index : ℕ
+  pub family : Family
+
+-- its word is in a0
+pub record IsValued (u : Puts) (r : Valued) (h : frame_of u.block r.point) : Type 0 where
+  pub among : IsAmong (placing (place_of u r.rest) u.block) r.numbers r.point
+  pub line : r.point.control.line ≡ u.line
+  pub fixed : AreFixed r.rest
+  pub wide : IsWide r.z
+  pub linked : Linked u.block.call.surroundings.links u.block.call.code r.index number_shown
+  pub paid : r.credits + size_of number_shown + u.most ≤ cost u.block.call.code
+  pub there :
+      (b : Base) →
+      At b r.index (Known (point_ground u.block.call.surroundings r.point h) (services_of r.point) r.numbers (λ j. 0)
+      (valued (word r.z)) b) (r.family b)
+
 pub valued_comes :
-    (u : Puts) → ArePut u → (x : Item) (r : Ready) (h : frame_of u.block r.point) (acts' wanted i : ℕ) →
-    IsReady u r h (valued (word r.z)) number_shown → acts' ≤ r.point.state.world.acts →
-    r.index + size_of number_shown ≡ i →
+    (u : Puts) → ArePut u → (x : Item) (r : Valued) (h : frame_of u.block r.point) (acts' wanted i : ℕ) →
+    IsValued u r h → acts' ≤ r.point.state.world.acts → r.index + size_of number_shown ≡ i →
     Comes u.block.call.code r.credits r.family (services_of r.point) (left_aims u acts' i wanted)
     (((P.next_item P.control_put (whole_in u) r.rest)
     >>= (λ next. (P.shown_by (setting_in u).around (ComputationalNumber x.precision r.z) next.0) >> give next.1))
@@ -549,8 +473,7 @@ valued_comes u a x r h acts' wanted i is since end =
     let w = u.block.call.surroundings in
     let code = u.block.call.code in
     let p = r.point in
-    let v = services_of p in
-    let s = within (place_of u r) (setting_in u) in
+    let s = within (place_of u r.rest) (setting_in u) in
     let z = r.z in
     let small' = word_small z is.wide in
     let paid = is.paid in
@@ -566,39 +489,78 @@ valued_comes u a x r h acts' wanted i is since end =
     let numbers' = held_after r.numbers 0 (word z) in
     let free : Free nothing 10 = record { reserved_stay = λ y t. refl; known_stay = λ b y t q. q; set = λ y t. refl } in
     let far : Free nothing 31 = record { reserved_stay = λ y t. refl; known_stay = λ b y t q. q; set = λ y t. refl } in
-    let r1 = saved_reach s 0 0 h registers r.credits r.family (word z) small'
-    (front_of put' (controls_carried_out ++ (back ++ number_written)) is.linked) is.there in
-    let r2 = controls_reach u.block h (width_in u r) (whole_in u) (left_in u r) u.block.first.control.edits
-    (found_in u r is) (r.credits + size_of put') (reached r1)
-    (front_of controls_carried_out (back ++ number_written) l1) (reached_holds r1) in
-    let r3 = fetched_reach s 0 0 h registers (r.credits + size_of put' + 5) (reached r2) a0 (word z) small'
-    (held_is_given r.numbers 0 (word z)) free far (front_of back number_written l2) (reached_holds r2) in
+    let goal = left_aims u acts' i wanted in
+    let closed = left_closed u acts' i wanted in
+    let loop : Loop = record {
+      block = u.block;
+      line = u.line;
+      acts = acts';
+      first = u.first;
+      more = u.more;
+      numbers = numbers';
+      index = r.index + size_of put';
+      credits = r.credits + size_of put';
+    } in
     let next' : DataItem × List FormatItem → Meaning (List FormatItem) =
     λ next. (P.shown_by (setting_in u).around (ComputationalNumber x.precision z) next.0) >> give next.1 in
-    let last : Unit {0} → Meaning (List FormatItem) = λ t. give (left_in u r) in
+    let flow = P.next_item P.control_put (whole_in u) r.rest w.acts p.state in
+    onward closed
+    (saved_reach s 0 0 h registers r.credits r.family (word z) small'
+    (front_of put' (controls_carried_out ++ (back ++ number_written)) is.linked) is.there)
+    (λ g at.
+    comes_on w.acts flow next'
+    (comes_map (found_aims loop) (before code goal w.acts next') flow
+    (λ c1 f1 v1 next s1 o.
+    let few = o.few in
+    let last : Unit {0} → Meaning (List FormatItem) = λ t. give o.left' in
+    subst (λ n. Comes code c1 f1 v1 goal (next' n w.acts s1)) (sym o.next_is)
+    (subst (λ s2. Comes code c1 f1 v1 goal (next' (FixedItem o.width, o.left') w.acts s2)) (sym o.state)
+    (onward closed o.reach
+    (λ g2 at2.
+    onward closed
+    (fetched_reach (within (place_of u o.rest) (setting_in u)) 0 0 o.frame registers o.credits g2 a0 (word z) small'
+    (held_is_given r.numbers 0 (word z)) free far (front_of back number_written l2) at2)
+    (λ g3 at3.
     let r' : Ready = record {
-      rest = r.rest;
-      point = p;
+      rest = o.rest;
+      width = o.width;
+      left' = o.left';
+      point = o.point;
       numbers = numbers';
       z = z;
-      credits = r.credits + size_of put' + 5 + size_of back;
+      credits = o.credits + size_of back;
       index = r.index + size_of put' + 5 + size_of back;
-      family = reached r3;
+      family = g3;
     } in
-    subst (Comes code r.credits r.family v (left_aims u acts' i wanted))
-    (sym (ap (λ flow. flow_on w.acts flow next') (next_is u.first u.more r.rest w.acts p.state is.fixed)))
-    (onward (left_closed u acts' i wanted) (reach_then r1 (reach_then r2 r3))
-    (λ g at.
     moved_flow u acts' wanted (r'.index + 9) i (omega (arith, n1, n2, n3, end))
     (comes_on w.acts _ last
-    (number_comes u a (record r' { family = g }) h acts' wanted
+    (number_comes u a r' o.frame acts' wanted
     (record {
-      among = held_among s 0 1 (word z) registers (omega arith) small' is.among;
-      line = is.line;
-      fixed = is.fixed;
+      among = o.here.among;
+      line = o.here.line;
+      next = o.current_is;
+      fixed = o.are;
       wide = is.wide;
       linked = back_of back number_written l2;
-      paid = omega (arith, paid, n1, n2, n3);
-      there = at;
+      paid = omega (arith, paid, few, n1, n2, n3);
+      there = at3;
     })
-    since))))
+    o.here.since)))))))
+    (λ c1 f1 v1 height label s1 q. absurd q)
+    (λ c1 f1 v1 r' s1 q. absurd q)
+    (next_comes loop
+    (record {
+      acts = a.acts;
+      over = a.over;
+      linked = front_of controls_carried_out (back ++ number_written) l1;
+      paid = omega (arith, paid, n1, n2, n3);
+      are = a.are;
+      some = a.some;
+    })
+    r.rest is.fixed h
+    (record {
+      among = held_among s 0 1 (word z) registers (omega arith) small' is.among;
+      since = since;
+      line = is.line;
+    })
+    g at)))

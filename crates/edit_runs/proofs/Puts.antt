@@ -1,7 +1,7 @@
 -- PUT EDIT of numbers: lines end, if any; for each list its place begins, its numbers are shown one behind the other,
 -- and it ends.
 use Rattle.std.proofs.Common.{◌≡◌, ℕ, ◌+◌, ◌^◌, ◌<◌, ◌≤◌, List, [], ◌∷◌, ◌++◌, None, Some, refl, sym, ap, ◌∙◌}
-use Rattle.std.proofs.Common.{subst, arith, lit<}
+use Rattle.std.proofs.Common.{subst, arith, lit<, true}
 use Rattle.std.specs.Prelude.{ℤ, Option}
 use Rattle.rv_meaning.specs.declared.instr.Instr.TheVariants as I
 use Rattle.pli_language.specs.Tree as T
@@ -61,7 +61,7 @@ use Rattle.expression_runs.specs.Values.{behind, number_aims}
 use Rattle.expression_runs.proofs.Words.{frame_of, known_word}
 use Rattle.text_runs.specs.Texts.{ErrorComes}
 use Rattle.text_runs.proofs.TextCalls.{Asking, asks}
-use Rattle.edit_runs.specs.Edits.{AreFixed, AreListed, IsPut, IsSkipped, Item, ItemsDo, KnowsFormats, Pair, PairsDo}
+use Rattle.edit_runs.specs.Edits.{AreFixed, AreListed, IsPut, IsSkipped, Item, ItemsDo, KnowsFormats, Pair, PairsDo, has_data}
 use Rattle.edit_runs.specs.Edits.{Put, placing, put_items, put_of, put_pairs, putting, within}
 use Rattle.edit_runs.specs.Writing.{with_edits}
 use Rattle.edit_runs.proofs.Items.{ArePut, HasLeft, Puts, item_code, item_coded, left_aims, left_closed}
@@ -363,8 +363,18 @@ end_reach k {p} {numbers} h place below e c f l there =
 moved_at : {P : Whole → Type 0} {n j : ℕ} (b : Base) (y : Whole) → n ≡ j → At b n P y → At b j P y
 moved_at b y e o = record { pc = o.pc ∙ ap (address b) e; holds = o.holds }
 
+-- a list that has an item
+record Opened (xs : List FormatItem) : Type 0 where
+  first : FormatItem
+  more : List FormatItem
+  is : xs ≡ first ∷ more
+
+opened : (xs : List FormatItem) → has_data xs ≡ true → Opened xs
+opened [] h = absurd (cc h)
+opened (x ∷ xs) h = record { first = x; more = xs; is = refl }
+
 abbrev puts_of :
-    Block → List Label → Pair → (line need most first : ℕ) → (more : List FormatItem) → Puts
+    Block → List Label → Pair → (line need most : ℕ) → (first : FormatItem) → (more : List FormatItem) → Puts
 puts_of k labels x line need most first more =
     record {
       block = k;
@@ -422,7 +432,8 @@ lists_come k labels line need most left' a (x ∷ xs) known does acts' c wanted 
     let code = k.call.code in
     let fs = x.formats in
     let fixed = known.0.0 in
-    let u = puts_of k labels x line need most fixed.first fixed.more in
+    let list = opened (format_items fs) fixed.some in
+    let u = puts_of k labels x line need most list.first list.more in
     let here = at_line k.around line in
     let first = k.first.control in
     let begun = edit_begun fs 1 in
@@ -448,7 +459,8 @@ lists_come k labels line need most left' a (x ∷ xs) known does acts' c wanted 
       over = a.over;
       fixed = fixed.fixed;
       text = fixed.text;
-      are = fixed.are;
+      are = subst AreFixed list.is fixed.are;
+      some = subst (λ ws. has_data ws ≡ true) list.is fixed.some;
       registers = a.registers;
       one = a.one;
       held = a.held;
@@ -483,14 +495,14 @@ lists_come k labels line need most left' a (x ∷ xs) known does acts' c wanted 
     (λ c1 f1 v1 height label s e. λ i0 f0 v0 from. jumps_repaid debt from e)
     (λ c1 f1 v1 r' s e. absurd e)
     (subst (λ ws. Comes code (c + 5) g1 (services_of q1) (items_aims u acts' i2 0)
-    (P.items_put here ws ws shown w.acts q1.state)) (sym fixed.items)
+    (P.items_put here ws ws shown w.acts q1.state)) (sym list.is)
     (items_comes u b x.first x.more does.0
     (record { rest = whole_in u; point = q1; numbers = numbers; credits = c + 5; index = i1; family = g1 })
     acts' 0 i2
     (record {
-      among = subst (λ ws. IsAmong (placing (putting ws ws) k) numbers q1) fixed.items among1;
+      among = subst (λ ws. IsAmong (placing (putting ws ws) k) numbers q1) list.is among1;
       line = at;
-      fixed = fixed.are;
+      fixed = subst AreFixed list.is fixed.are;
       since = since;
       paid = omega (arith, all, n1, n2, n3);
       there = λ b'. in_known h o.image.parts (at1 b');

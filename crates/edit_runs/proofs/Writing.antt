@@ -110,15 +110,15 @@ writing_among {k} {numbers} {p} item o less =
 pub record Shown : Type 0 where
   pub item : List ℕ → List ℕ
   pub edits : List EditPlace
-  pub first : ℕ
-  pub second : ℕ
+  pub first : Base → ℕ
+  pub second : Base → ℕ
 
 abbrev pub shown : Shown → Point → Point
 shown x p = writing x.item x.edits p
 
 -- a0 and a1
-abbrev pub answered_regs : (x y : ℕ) → Base → List (ℕ × ℕ)
-answered_regs x y b = (10, x) ∷ (11, y) ∷ []
+abbrev pub answered_regs : (x y : Base → ℕ) → Base → List (ℕ × ℕ)
+answered_regs x y b = (10, x b) ∷ (11, y b) ∷ []
 
 -- before the call of a service that makes an act; the run pauses there, or comes behind it with any credits
 pub writing_comes :
@@ -126,7 +126,7 @@ pub writing_comes :
     {rs : Base → List (ℕ × ℕ)} (closed : Closed code aims) (x : Shown) (c wanted : ℕ) (f : Family)
     (h : IsFrame (frame_under w.parts p.control.layers)) → Stands w p → c < cost code →
     ((b : Base) → At b i (Known (point_ground w p h) (services_of p) numbers (λ n. 0) rs b) (f b)) →
-    Calling w.links code i f (λ b. Done (services_of (shown x p)) (f b).machine.memory x.first x.second) →
+    Calling w.links code i f (λ b. Done (services_of (shown x p)) (f b).machine.memory (x.first b) (x.second b)) →
     ((f' : Family) → p.state.world.acts < w.acts →
     ((b : Base) →
     At b (i + 1)
@@ -140,10 +140,10 @@ writing_comes {w} {code} {p} {numbers} {i} closed x c wanted f h stands few at c
     let v' = services_of q in
     let more : v'.world.acts ≡ suc v.world.acts = add-one v.world.acts in
     comes_act (written x.item) w.acts p.state refl
-    (call_pauses c f v v' (λ b. (f b).machine.memory) (λ b. x.first) (λ b. x.second) few stands.running
+    (call_pauses c f v v' (λ b. (f b).machine.memory) x.first x.second few stands.running
     (λ b. (at b).holds.body.services) more calling)
     (λ less.
-    let r = call_acts c wanted f v v' (λ b. (f b).machine.memory) (λ b. x.first) (λ b. x.second)
+    let r = call_acts c wanted f v v' (λ b. (f b).machine.memory) x.first x.second
     (λ b y. Known (point_ground w q h) v' numbers (λ n. 0) (answered_regs x.first x.second) b y) few more calling
     (λ b. let o = (at b).holds.body in
     record {

@@ -1,9 +1,9 @@
 -- PUT EDIT of numbers by F: places in format lists at the points of a block, and where the format lists stand.
-use Rattle.std.specs.Prelude.{ℕ, ◌+◌, ◌^◌, ◌<◌, ◌≤◌, ◌≡◌, List, [], ◌∷◌, Option, None, Some, true, false, ⊤}
+use Rattle.std.specs.Prelude.{ℕ, Bool, ◌+◌, ◌^◌, ◌<◌, ◌≤◌, ◌≡◌, List, [], ◌∷◌, Option, None, Some, true, false, ⊤}
 use Rattle.pli_language.specs.Tree as T
 use Rattle.pli_typing.specs.TypedTree as Y
 use Rattle.pli_meaning.specs.Control.{Label}
-use Rattle.pli_meaning.specs.Streaming.{FormatItem, DataFormat, FixedItem, format_items}
+use Rattle.pli_meaning.specs.Streaming.{ControlFormat, DataFormat, FixedItem, FormatItem, format_items}
 use Rattle.pli_serving.specs.FormatLists.{formats_at}
 use Rattle.pli_serving.specs.ServiceState.{EditPlace, Putting, Services}
 use Rattle.pli_coding.specs.Assembly.{DataPlace}
@@ -55,20 +55,24 @@ pub record PlacesWait : Type 0 where
 
 -- ---- format lists
 
--- of F items alone
+-- their data items are F items
 abbrev pub AreFixed : List FormatItem → Type 0
 AreFixed [] = ⊤
 AreFixed (DataFormat (FixedItem width) ∷ items) = AreFixed items
+AreFixed (ControlFormat item ∷ items) = AreFixed items
 AreFixed (x ∷ items) = ⊥
 
--- and there is one
+abbrev pub has_data : List FormatItem → Bool
+has_data [] = false
+has_data (DataFormat item ∷ items) = true
+has_data (ControlFormat item ∷ items) = has_data items
+
+-- a list of F items, one at least, and of control items
 pub record IsFixed (fs : T.Formats) : Type 0 where
   pub fixed : has_fixed fs ≡ true
   pub text : has_text fs ≡ false
-  pub first : ℕ
-  pub more : List FormatItem
-  pub items : format_items fs ≡ DataFormat (FixedItem first) ∷ more
-  pub are : AreFixed more
+  pub are : AreFixed (format_items fs)
+  pub some : has_data (format_items fs) ≡ true
 
 -- service 34 finds the list where code looks for it, whatever else the services know
 pub record HasFormats (k : Block) (fs : T.Formats) (m : List ℕ) : Type 0 where

@@ -1,11 +1,12 @@
 -- Calls of what has variables that pass the limit on what is AUTOMATIC end the run.
-use Rattle.std.proofs.Common.{◌≡◌, ℕ, ◌+◌, ◌^◌, ◌<◌, ◌≤◌, List, [], ◌∷◌, ◌++◌, length, Option, Bool, true, false, refl, sym, ap}
+use Rattle.std.proofs.Common.{◌≡◌, ℕ, ◌+◌, List, [], ◌∷◌, ◌++◌, length, Option, Bool, true, false, refl, sym, ap}
 use Rattle.std.proofs.Common.{◌∙◌, subst, arith}
 use Rattle.std.specs.Prelude.{cond, nat_lt, ◌==◌}
 use Rattle.pli_typing.specs.TypedTree as Y
 use Rattle.pli_meaning.specs.BasicValues.{BasicValue}
 use Rattle.pli_meaning.specs.Control as F
-use Rattle.pli_meaning.specs.Control.{Flow, Label, Meaning, act, choose, finish, flow_on, give, leaving, left, looked, stored}
+use Rattle.pli_meaning.specs.Control.{Flow, Label, Meaning, act, choose, finish, flow_on, give, leaving, left, looked}
+use Rattle.pli_meaning.specs.Control.{stored}
 use Rattle.pli_meaning.specs.Control.{◌>>=◌, ◌>>◌}
 use Rattle.pli_meaning.specs.Evaluating as V
 use Rattle.pli_meaning.specs.Executing as M
@@ -33,8 +34,8 @@ use Rattle.block_runs.specs.Machines.{IsIn, acted}
 use Rattle.block_runs.proofs.BlockEntries.{Premises, begun_stands}
 use Rattle.block_runs.proofs.PointActs.{act_comes}
 use Rattle.block_runs.proofs.PointCalls.{calls}
-use Rattle.program_runs.specs.Calls.{Callee, begun_at}
-use Rattle.program_runs.specs.Procedures.{beginning_for, begin_of, block_of, end_of}
+use Rattle.program_runs.specs.Calls.{Callee}
+use Rattle.program_runs.specs.Procedures.{beginning_for, begin_of, end_of}
 use Rattle.program_runs.specs.Statements.{Block, Does, IsAmong, IsBegun, size_in, statement_aims}
 use Rattle.program_runs.proofs.Procedures.{layer_begins}
 use Rattle.program_runs.proofs.Statements.{acted_among, statement_closed}
@@ -42,7 +43,7 @@ use Rattle.expression_runs.specs.Laws as L
 use Rattle.expression_runs.specs.Values.{Setting, behind, in_registers, number_aims}
 use Rattle.expression_runs.proofs.Words.{number_closed}
 use Rattle.function_runs.specs.FunctionCalls.{called_from}
-use Rattle.function_runs.specs.Functions.{function_beginning, function_entry, function_tail}
+use Rattle.function_runs.specs.Functions.{function_beginning, function_tail}
 use Rattle.function_runs.proofs.Beginnings.{function_begins}
 use Rattle.nested_calls.specs.FullVariables.{AreFull}
 use Rattle.nested_calls.specs.Nested.{parent_at}
@@ -229,8 +230,8 @@ full_function_ends k c level more h few full p numbers taken credits index f o l
       stands = o.stands;
       image = o.image;
       is = function_begins w code p numbers c' (o.stands, o.image)
-          (function_from k c call h.function, N.room_among k c level more h few o call) (omega (arith, inside, small', n))
-          o.words;
+          (function_from k c call h.function, N.room_among k c level more h few o call)
+          (omega (arith, inside, small', n)) o.words;
     } in
     comes_on w.acts (V.called k.around tree w.acts p.state) as_number
     (subst (Comes code credits f (services_of p) (before code goal w.acts as_number))

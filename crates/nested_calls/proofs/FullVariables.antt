@@ -1,5 +1,5 @@
 -- A variable that passes the limit on what is AUTOMATIC: service 7 ends the run, as the meaning does.
-use Rattle.std.proofs.Common.{◌≡◌, ◌≢◌, ℕ, suc, ◌+◌, ◌^◌, ◌<◌, ◌≤◌, List, [], ◌∷◌, ◌++◌, length, map, Option, None, Some, Bool}
+use Rattle.std.proofs.Common.{◌≡◌, ℕ, suc, ◌+◌, ◌^◌, ◌<◌, ◌≤◌, List, [], ◌∷◌, ◌++◌, length, map, None, Some, Bool}
 use Rattle.std.proofs.Common.{true, false, refl, sym, ap, ◌∙◌, subst, arith}
 use Rattle.std.proofs.lemmas.Bool.{lt-ltb}
 use Rattle.std.proofs.lemmas.Bool.Decides.{nat_tests}
@@ -58,7 +58,7 @@ use Rattle.run_steps.specs.Unlimited as U
 use Rattle.block_runs.specs.Machines.{AreIn, IsImage, IsIn}
 use Rattle.block_runs.proofs.BlockEntries.{small_is, word_fits, word_is}
 use Rattle.block_runs.proofs.Places.{IsFrame}
-use Rattle.block_runs.proofs.PointGrounds.{call_is, known_in, point_frame, point_ground}
+use Rattle.block_runs.proofs.PointGrounds.{known_in, point_frame, point_ground}
 use Rattle.program_runs.specs.Variables.{Declared, generation_for, place_behind}
 use Rattle.program_runs.proofs.Variables.{own_code, own_coded, own_comes}
 use Rattle.nested_calls.specs.FullVariables.{Over, PassesLimit}

@@ -5,7 +5,8 @@ ghost use Rattle.nested_calls.specs.NestedCalls.{NestedCallsDo};
 ghost use Rattle.nested_calls.specs.NestedFunctions.{NestedFunctionsDo};
 ghost use Rattle.nested_calls.specs.NestedVariables.{NestedNumbers};
 
-/// CALL does what it means, of a procedure of the running block or of one around it; one block too many ends the run.
+/// CALL does what it means, of a procedure of the running block or of one around it; one that passes a limit ends the
+/// run.
 pub fn nested_calls_do()
     ensures { NestedCallsDo }
 {}

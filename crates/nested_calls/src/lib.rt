@@ -1,4 +1,4 @@
-// Calls from further in: of what a block around declares, and those that find too many blocks active.
+// Calls from further in: of what a block around declares, and those that pass a limit, of blocks or of variables.
 #![tactic(auto)]
 
 pub mod laws;

@@ -1,14 +1,16 @@
 -- The statements of each block of a program of the class do what they mean, and so do the calls in them, as deep as
 -- they go.
-use Rattle.std.proofs.Common.{◌≡◌, ◌⊎◌, inl, inr, ℕ, zero, suc, ◌+◌, ◌^◌, ◌<◌, ◌≤◌, List, [], ◌∷◌, ◌++◌, length}
+use Rattle.std.proofs.Common.{◌≡◌, ℕ, zero, suc, ◌+◌, ◌*◌, ◌^◌, ◌<◌, ◌≤◌, List, [], ◌∷◌, ◌++◌, length}
 use Rattle.std.proofs.Common.{Bool, true, false, refl, sym, ap, subst, arith}
-use Rattle.std.specs.Prelude.{cond, nat_lt, ◌==◌}
+use Rattle.std.specs.Prelude.{cond, nat_le, nat_lt, ◌==◌}
+use Rattle.std.proofs.lemmas.Bool.{leb-true}
+use Rattle.std.proofs.lemmas.Bool.Decides.{nat_tests}
 use Rattle.pli_language.specs.declared.condition.Condition.TheVariants as C
 use Rattle.pli_typing.specs.TypedTree as Y
 use Rattle.pli_meaning.specs.Control.{Label}
-use Rattle.pli_meaning.specs.DeclaredShapes.{head_of}
+use Rattle.pli_meaning.specs.DeclaredShapes.{head_of, variables_of_block}
 use Rattle.pli_meaning.specs.Executing.{labels_in}
-use Rattle.pli_meaning.specs.StorageState.{most_activations}
+use Rattle.pli_meaning.specs.StorageState.{automatic_in_use, most_activations, most_automatic}
 use Rattle.pli_coding.specs.Allocating.{act_code}
 use Rattle.pli_coding.specs.Assembly.{size_of}
 use Rattle.pli_coding.specs.Environments.{Environment, none_taken}
@@ -30,24 +32,26 @@ use Rattle.program_places.proofs.Functions.{function_end_is, function_stands}
 use Rattle.program_places.proofs.Procedures.{body_placed, raise_routines}
 use Rattle.program_runs.specs.Calls.{left_over}
 use Rattle.program_runs.specs.Starts.{image_parts}
-use Rattle.program_runs.specs.Statements.{Block, Does, EachDoes, IsBegun, IsOwn}
+use Rattle.program_runs.specs.Statements.{Does, EachDoes, IsBegun, IsOwn}
 use Rattle.expression_runs.specs.Assignments.{setting_of}
 use Rattle.expression_runs.specs.Laws as L
 use Rattle.nested_calls.specs.NestedCalls.{HasFrame, IsNestedCall}
 use Rattle.nested_calls.specs.NestedFunctions.{IsNestedFunction}
 use Rattle.nested_calls.proofs.DeepCalls.{deep_call_ends}
+use Rattle.nested_calls.proofs.FullCalls.{full_call_ends, full_function_ends}
 use Rattle.nested_calls.proofs.NestedCalls.{call_coded, call_of, given_in, nested_call_does}
 use Rattle.nested_calls.proofs.NestedFunctions.{deep_function_ends, nested_function_does}
 use Rattle.number_runs.specs.Knowledge.{IsReady, IsUnraised, IsValued, KnowsCalls, call_number, call_statement}
 use Rattle.number_runs.proofs.Statements.{body_does, none_raised}
 use Rattle.number_runs.proofs.Puts.{puts_known}
 use Rattle.number_runs.proofs.Takes.{registers_held}
-use Rattle.number_headlines.specs.Programs.{is_callable, scope_of}
+use Rattle.number_headlines.specs.Programs.{scope_of}
 use Rattle.number_headlines.proofs.Entered.{are_made, entered, entered_at, none_waits, unraised_there}
+use Rattle.number_headlines.proofs.Full.{are_full}
 use Rattle.number_headlines.proofs.Inner.{Inner, inner_is}
 use Rattle.number_headlines.proofs.Mains.{Main, most_for, result_of, run_for}
 use Rattle.number_headlines.proofs.Puts.{error_routine, lists_known}
-use Rattle.number_headlines.proofs.Running.{IsRunning, MayCall, Running, block_of_run, callee_of, site_of}
+use Rattle.number_headlines.proofs.Running.{IsRunning, Running, block_of_run, callee_of, site_of}
 use Rattle.number_headlines.proofs.Tables.{block_plain}
 
 -- ---- at the end of a block
@@ -93,18 +97,18 @@ values_by once {program} m input acts true more a is inner e =
 
 ready :
     MarkedOnce → {program : Y.Program} (m : Main program) (input : List ℕ) (acts : ℕ) (valued : Bool) (more : ℕ)
-    (a : Running) (ns : List ℕ) (blocks : ℕ) → acts + 1 < 2 ^ 64 → (valued ≡ true → 1 ≤ a.head.level) →
-    IsRunning m input acts valued more a ns blocks →
-    KnowsCalls (scope_of program ns a.head) (block_of_run program input acts valued more a) (labels_in a.body ++ [])
-    (most_for program) left_over →
-    IsReady (scope_of program ns a.head) valued (block_of_run program input acts valued more a)
+    (a : Running) (blocks : ℕ) → acts + 1 < 2 ^ 64 → (valued ≡ true → 1 ≤ a.head.level) →
+    IsRunning m input acts valued more a blocks →
+    KnowsCalls (scope_of program m.called a.head) (block_of_run program input acts valued more a)
+    (labels_in a.body ++ []) (most_for program) left_over →
+    IsReady (scope_of program m.called a.head) valued (block_of_run program input acts valued more a)
     (labels_in a.body ++ []) (most_for program) left_over
-ready once {program} m input acts valued more a ns blocks few inner h calls =
+ready once {program} m input acts valued more a blocks few inner h calls =
     let routines = raise_routines once program m.loadable in
     let inside = routines.linked.inside in
     let enough = h.enough in
     let k = block_of_run program input acts valued more a in
-    let s = scope_of program ns a.head in
+    let s = scope_of program m.called a.head in
     let u : IsUnraised k (most_for program) =
     record {
       routines = routines;
@@ -138,17 +142,17 @@ ready once {program} m input acts valued more a ns blocks few inner h calls =
 
 body_each :
     MarkedOnce → {program : Y.Program} (m : Main program) (input : List ℕ) (acts : ℕ) (valued : Bool) (more : ℕ)
-    (a : Running) (ns : List ℕ) (blocks : ℕ) → acts + 1 < 2 ^ 64 → (valued ≡ true → 1 ≤ a.head.level) →
-    IsRunning m input acts valued more a ns blocks →
-    KnowsCalls (scope_of program ns a.head) (block_of_run program input acts valued more a) (labels_in a.body ++ [])
-    (most_for program) left_over →
+    (a : Running) (blocks : ℕ) → acts + 1 < 2 ^ 64 → (valued ≡ true → 1 ≤ a.head.level) →
+    IsRunning m input acts valued more a blocks →
+    KnowsCalls (scope_of program m.called a.head) (block_of_run program input acts valued more a)
+    (labels_in a.body ++ []) (most_for program) left_over →
     EachDoes (block_of_run program input acts valued more a) (labels_in a.body ++ []) a.body
     (body_for program a.head a.body) left_over
-body_each once {program} m input acts valued more a ns blocks few inner h calls =
-    let s = scope_of program ns a.head in
+body_each once {program} m input acts valued more a blocks few inner h calls =
+    let s = scope_of program m.called a.head in
     let plain = block_plain program.variables a.head.number m.plain in
     body_does s valued (block_of_run program input acts valued more a) a.body (body_for program a.head a.body)
-    (most_for program) left_over (ready once m input acts valued more a ns blocks few inner h calls) h.statements
+    (most_for program) left_over (ready once m input acts valued more a blocks few inner h calls) h.statements
     (registers_held s valued (environment_for program a.head) a.head.number a.body plain.0 h.statements h.fits)
     (body_placed once program a.head a.body (result_of valued) m.loadable h.is)
 
@@ -156,40 +160,45 @@ body_each once {program} m input acts valued more a ns blocks few inner h calls 
 
 abbrev EachBody : {program : Y.Program} → Main program → (input : List ℕ) → (acts more : ℕ) → Type 0
 EachBody {program} m input acts more =
-    (valued : Bool) (a : Running) (ns : List ℕ) (blocks : ℕ) → (valued ≡ true → 1 ≤ a.head.level) →
-    IsRunning m input acts valued more a ns blocks →
+    (valued : Bool) (a : Running) (blocks : ℕ) → (valued ≡ true → 1 ≤ a.head.level) →
+    IsRunning m input acts valued more a blocks →
     EachDoes (block_of_run program input acts valued more a) (labels_in a.body ++ []) a.body
     (body_for program a.head a.body) left_over
 
 -- the frame of what is called has room
 frame_fits :
-    {program : Y.Program} (m : Main program) (input : List ℕ) (acts : ℕ) (valued : Bool) (more b : ℕ) (a : Running)
-    (ns : List ℕ) → IsRunning m input acts valued (suc more) a ns (suc b) → {v : Bool} {level number : ℕ}
+    {program : Y.Program} (m : Main program) (input : List ℕ) (acts : ℕ) (valued : Bool) (more b : ℕ) (a : Running) →
+    IsRunning m input acts valued (suc more) a (suc b) → {v : Bool} {level number : ℕ}
     (i : Inner m a.head v level number) (call : ℕ) (p : Point) (numbers : ℕ → ℕ) →
     HasFrame (block_of_run program input acts valued (suc more) a)
     (callee_of program v more (entered_at i (block_of_run program input acts valued (suc more) a) call p numbers))
-frame_fits {program} m input acts valued more b a ns h {v} i call p numbers =
+frame_fits {program} m input acts valued more b a h {v} i call p numbers =
     let words = none_waits m i in
     let level = (known program i.head i.body (result_of v) m.loadable.well_formed i.is).level in
-    let fits = h.free.room.fits in
-    let top = ap (λ ls. upper_top image_parts ls) h.free.room.newest in
-    let low = ap (λ ls. lower_end image_parts ls) h.free.room.newest in
-    omega (arith, words, level, fits, top, low)
+    let fits = h.free.fits in
+    let used = h.free.used in
+    let top = ap (λ ls. upper_top image_parts ls) h.free.newest in
+    let low = ap (λ ls. lower_end image_parts ls) h.free.newest in
+    omega (arith, words, level, fits, used, top, low)
 
 by_decision : (q : Bool) {P : Type 0} → (q ≡ true → P) → (q ≡ false → P) → P
 by_decision true one other = one refl
 by_decision false one other = other refl
 
+past : (used : ℕ) → nat_le used most_automatic ≡ false → most_automatic < used
+past used e = grind (arith, e, nat_tests)
+
 call_by :
     MarkedOnce → {program : Y.Program} (m : Main program) (input : List ℕ) (acts : ℕ) (valued : Bool) (more b : ℕ)
-    (a : Running) (ns : List ℕ) → acts + 1 < 2 ^ 64 → IsRunning m input acts valued (suc more) a ns (suc b) →
-    MayCall m ns (block_of_run program input acts valued (suc more) a).first (suc b) → EachBody m input acts more →
+    (a : Running) → acts + 1 < 2 ^ 64 → IsRunning m input acts valued (suc more) a (suc b) →
+    EachBody m input acts more →
     (labels : List Label) (level number line index : ℕ) → Inner m a.head false level number → line < 2 ^ 31 →
     Linked (links_for program) (linked_code (code_for program)) index
     (stmt_code (environment_for program a.head) none_taken (call_statement level number line)) →
     Does (block_of_run program input acts valued (suc more) a) labels (call_statement level number line) index left_over
-call_by once {program} m input acts valued more b a ns few h may each labels level number line index i less l =
+call_by once {program} m input acts valued more b a few h each labels level number line index i less l =
     let k = block_of_run program input acts valued (suc more) a in
+    let used = automatic_in_use k.first.state.living + 32 * length (variables_of_block program i.head.number) in
     let one = act_code line in
     let given' = given_in k level in
     let c0 = callee_of program false more (entered_at i k 0 k.first (λ n. 0)) in
@@ -208,7 +217,7 @@ call_by once {program} m input acts valued more b a ns few h may each labels lev
       callee = callee_stands once program i.head i.body (run_for input acts)
           (site_of program more (entered_at i k call k.first (λ n. 0))) m.loadable i.is
           (back_of given' last (back_of one (given' ++ last) l')) few;
-      frame = frame_fits m input acts valued more b a ns h i call k.first (λ n. 0);
+      frame = frame_fits m input acts valued more b a h i call k.first (λ n. 0);
       idle = h.idle;
       statement = l0;
       call = omega (arith, size, n0, n1);
@@ -224,11 +233,17 @@ call_by once {program} m input acts valued more b a ns few h may each labels lev
     subst (λ n. Does k labels (call_statement level n line) index left_over) i.numbered
     (by_decision (nat_lt (length k.first.state.activations) most_activations)
     (λ shallow.
+    by_decision (nat_le used most_automatic)
+    (λ e.
+    let pass = leb-true used most_automatic e in
     nested_call_does k c level line index left_over more is shallow
-    (λ p numbers o. are_made m (record { running = h; among = o }) i call)
+    (λ p numbers o. are_made m (record { running = h; among = o }) i call pass)
     (λ p numbers o b'.
-    each false (entered_at i k call p numbers) m.inner b (λ e. absurd (cc e))
-    (entered m (record { running = h; among = o }) i call may shallow b')) h.begun labels)
+    each false (entered_at i k call p numbers) b (λ e'. absurd (cc e'))
+    (entered m (record { running = h; among = o }) i call pass shallow b')) h.begun labels)
+    (λ e.
+    full_call_ends k c level line index left_over more is shallow
+    (λ p numbers o. are_full m (record { running = h; among = o }) i call few (past used e)) h.begun labels))
     (λ deep. deep_call_ends k c level line index left_over more is deep h.begun labels))
 
 -- procedures stand behind the start and the routines of raises
@@ -251,14 +266,15 @@ entry_low e number (p ∷ ps) index =
 
 value_by :
     MarkedOnce → {program : Y.Program} (m : Main program) (input : List ℕ) (acts : ℕ) (valued : Bool) (more b : ℕ)
-    (a : Running) (ns : List ℕ) → acts + 1 < 2 ^ 64 → IsRunning m input acts valued (suc more) a ns (suc b) →
-    MayCall m ns (block_of_run program input acts valued (suc more) a).first (suc b) → EachBody m input acts more →
+    (a : Running) → acts + 1 < 2 ^ 64 → IsRunning m input acts valued (suc more) a (suc b) →
+    EachBody m input acts more →
     (labels : List Label) (line level number : ℕ) → Inner m a.head true level number →
     L.Does (setting_of (block_of_run program input acts valued (suc more) a) labels line (most_for program)) 0
     (call_number level number)
-value_by once {program} m input acts valued more b a ns few h may each labels line level number i =
+value_by once {program} m input acts valued more b a few h each labels line level number i =
     let k = block_of_run program input acts valued (suc more) a in
     let z = setting_of k labels line (most_for program) in
+    let used = automatic_in_use k.first.state.living + 32 * length (variables_of_block program i.head.number) in
     let c = callee_of program true more (entered_at i k 0 k.first (λ n. 0)) in
     let inside = i.inside in
     let stands = function_stands once program i.head i.body 31 (run_for input acts)
@@ -268,7 +284,7 @@ value_by once {program} m input acts valued more b a ns few h may each labels li
     let is : IsNestedFunction z c level more = record {
       begun = h.begun;
       function = stands;
-      frame = frame_fits m input acts valued more b a ns h i 0 k.first (λ n. 0);
+      frame = frame_fits m input acts valued more b a h i 0 k.first (λ n. 0);
       idle = h.idle;
       nested = h.nested;
       around_it = i.around_it;
@@ -284,65 +300,48 @@ value_by once {program} m input acts valued more b a ns few h may each labels li
     subst (λ n. L.Does z 0 (call_number level n)) i.numbered
     (by_decision (nat_lt (length k.first.state.activations) most_activations)
     (λ shallow.
+    by_decision (nat_le used most_automatic)
+    (λ e.
+    let pass = leb-true used most_automatic e in
     nested_function_does z c level more is shallow
     (λ call p numbers o. (
-      are_made m (record { running = h; among = o }) i call,
+      are_made m (record { running = h; among = o }) i call pass,
       unraised_there m (record { running = h; among = o }) i call C.Error,
     ))
     (λ call p numbers o b'.
-    each true (entered_at i k call p numbers) m.inner b (λ e. omega (arith, inside))
-    (entered m (record { running = h; among = o }) i call may shallow b')))
+    each true (entered_at i k call p numbers) b (λ e'. omega (arith, inside))
+    (entered m (record { running = h; among = o }) i call pass shallow b')))
+    (λ e.
+    full_function_ends z c level more is shallow
+    (λ call p numbers o. are_full m (record { running = h; among = o }) i call few (past used e))))
     (λ deep. deep_function_ends z c level more is deep))
 
 -- ---- as deep as they go
 
-no_calls :
-    {program : Y.Program} (head : Y.BlockHead) (k : Block) (own : List Label) (most : ℕ) (ns : List ℕ) → ns ≡ [] →
-    KnowsCalls (scope_of program ns head) k own most left_over
-no_calls {program} head k own most ns e =
-    subst (λ xs. KnowsCalls (scope_of program xs head) k own most left_over) (sym e)
-    (record {
-      functions = λ labels line level n includes h. absurd (cc h);
-      procedures = λ labels level n line index includes h. absurd (cc h);
-    })
-
 knows_calls :
     MarkedOnce → {program : Y.Program} (m : Main program) (input : List ℕ) (acts : ℕ) (valued : Bool)
-    (more blocks : ℕ) (a : Running) (ns : List ℕ) → acts + 1 < 2 ^ 64 →
-    IsRunning m input acts valued (suc more) a ns blocks → EachBody m input acts more →
-    KnowsCalls (scope_of program ns a.head) (block_of_run program input acts valued (suc more) a)
+    (more blocks : ℕ) (a : Running) → acts + 1 < 2 ^ 64 → IsRunning m input acts valued (suc more) a blocks →
+    EachBody m input acts more →
+    KnowsCalls (scope_of program m.called a.head) (block_of_run program input acts valued (suc more) a)
     (labels_in a.body ++ []) (most_for program) left_over
-knows_calls once {program} m input acts valued more blocks a ns few h each = by blocks h h.calls
-  where
-    k : Block
-    k = block_of_run program input acts valued (suc more) a
-
-    by :
-        (blocks : ℕ) → IsRunning m input acts valued (suc more) a ns blocks →
-        (ns ≡ []) ⊎ MayCall m ns (block_of_run program input acts valued (suc more) a).first blocks →
-        KnowsCalls (scope_of program ns a.head) (block_of_run program input acts valued (suc more) a)
-        (labels_in a.body ++ []) (most_for program) left_over
-    by n h (inl none) = no_calls a.head k (labels_in a.body ++ []) (most_for program) ns none
-    by zero h (inr may) = let some = may.some in absurd (omega (arith, some))
-    by (suc b) h (inr may) =
-        record {
-          functions = λ labels line level n includes f.
-              value_by once m input acts valued more b a ns few h may each labels line level n
-              (inner_is m a.head true level n
-              (subst (λ xs. is_callable program xs a.head true level n ≡ true) may.called f));
-          procedures = λ labels level n line index includes f less l.
-              call_by once m input acts valued more b a ns few h may each labels level n line index
-              (inner_is m a.head false level n
-              (subst (λ xs. is_callable program xs a.head false level n ≡ true) may.called f)) less l;
-        }
+knows_calls once m input acts valued more zero a few h each =
+    let some = h.depth.some in absurd (omega (arith, some))
+knows_calls once m input acts valued more (suc b) a few h each =
+    record {
+      functions = λ labels line level n includes f.
+          value_by once m input acts valued more b a few h each labels line level n (inner_is m a.head true level n f);
+      procedures = λ labels level n line index includes f less l.
+          call_by once m input acts valued more b a few h each labels level n line index
+          (inner_is m a.head false level n f) less l;
+    }
 
 pub each_body :
     MarkedOnce → {program : Y.Program} (m : Main program) (input : List ℕ) (acts : ℕ) → acts + 1 < 2 ^ 64 →
     (more : ℕ) → EachBody m input acts more
-each_body once m input acts few zero valued a ns blocks inner h =
+each_body once m input acts few zero valued a blocks inner h =
     let enough = h.enough in
     let allowed = h.begun.resumes.stands.allowed in
     absurd (omega (arith, enough, allowed))
-each_body once m input acts few (suc more) valued a ns blocks inner h =
-    body_each once m input acts valued (suc more) a ns blocks few inner h
-    (knows_calls once m input acts valued more blocks a ns few h (each_body once m input acts few more))
+each_body once m input acts few (suc more) valued a blocks inner h =
+    body_each once m input acts valued (suc more) a blocks few inner h
+    (knows_calls once m input acts valued more blocks a few h (each_body once m input acts few more))

@@ -1,5 +1,5 @@
 -- A block of the class that is called from another: its variables are made, and what is known there is known of it.
-use Rattle.std.proofs.Common.{◌≡◌, ◌⊎◌, inl, inr, ℕ, suc, ◌+◌, ◌<◌, ◌≤◌, List, [], ◌∷◌, length}
+use Rattle.std.proofs.Common.{◌≡◌, ℕ, suc, ◌+◌, ◌*◌, ◌<◌, ◌≤◌, List, [], ◌∷◌, length}
 use Rattle.std.proofs.Common.{Bool, true, false, refl, sym, ap, ◌∙◌, subst, arith}
 use Rattle.std.specs.Prelude.{nat_le, nat_lt}
 use Rattle.std.specs.List.{list_any}
@@ -8,7 +8,7 @@ use Rattle.std.proofs.lemmas.Bool.Decides.{nat_tests}
 use Rattle.pli_language.specs.declared.condition.Condition.{Condition}
 use Rattle.pli_typing.specs.TypedTree as Y
 use Rattle.pli_meaning.specs.DeclaredShapes.{declared_variable, variables_of_block}
-use Rattle.pli_meaning.specs.StorageState.{force, most_activations}
+use Rattle.pli_meaning.specs.StorageState.{Activation, automatic_in_use, force, most_activations, most_automatic}
 use Rattle.pli_meaning.specs.World.{World}
 use Rattle.pli_coding.specs.Environments.{block_around}
 use Rattle.pli_coding.specs.Frames.{fixed_size, parameters_in, temporary_bytes}
@@ -20,6 +20,7 @@ use Rattle.activation_relation.specs.Frames.{lower_end, upper_top}
 use Rattle.activation_relation.specs.Layers.{Layer, Point}
 use Rattle.activation_relation.specs.ServiceLaws.{IsSystem}
 use Rattle.activation_relation.proofs.Remaining.{shapes_remain}
+use Rattle.activation_relation.proofs.Returning.{in_use_later}
 use Rattle.program_places.specs.Programs.{code_for, environment_for, procedure_for}
 use Rattle.program_places.proofs.Blocks.{own_block}
 use Rattle.program_places.proofs.Found.{known}
@@ -40,18 +41,19 @@ use Rattle.number_runs.specs.Variables.{HasWords, HaveRoom, words_in}
 use Rattle.number_runs.proofs.Takes.{words_none}
 use Rattle.number_runs.proofs.Words.{all_words, function_word, own_word, room_behind, room_fewer}
 use Rattle.number_headlines.specs.Programs.{places_to, scope_of}
+use Rattle.number_headlines.proofs.FullWords.{words_at, words_count, words_lower}
 use Rattle.number_headlines.proofs.Inner.{Inner}
-use Rattle.number_headlines.proofs.Mains.{Main, made_system, result_of, spare_for, surroundings_for}
+use Rattle.number_headlines.proofs.Mains.{Main, made_system, result_of, surroundings_for}
 use Rattle.number_headlines.proofs.Places.{alike_at, around_is, is_around}
-use Rattle.number_headlines.proofs.Running.{IsRunning, MayCall, Running, block_of_run, callee_of, free_among}
+use Rattle.number_headlines.proofs.Running.{IsRunning, Running, block_of_run, callee_of, free_among}
 use Rattle.number_headlines.proofs.Tables.{block_plain, has_table, word_signature}
 
 -- ---- what is called at a point of a block
 
 pub record Moment {program : Y.Program} (m : Main program) (input : List ℕ) (acts : ℕ) (valued : Bool) (more : ℕ)
-    (a : Running) (ns : List ℕ) (blocks : ℕ) (p : Point) (numbers : ℕ → ℕ) : Type 0
+    (a : Running) (blocks : ℕ) (p : Point) (numbers : ℕ → ℕ) : Type 0
   where
-    pub running : IsRunning m input acts valued more a ns blocks
+    pub running : IsRunning m input acts valued more a blocks
     pub among : IsAmong (block_of_run program input acts valued more a) numbers p
 
 abbrev pub entered_at :
@@ -67,50 +69,59 @@ pub none_waits :
     (i : Inner m caller valued level number) → (procedure_for program i.head i.body).words ≡ 0
 none_waits {program} m {valued = valued} i =
     let plain = block_plain program.variables i.head.number m.plain in
-    words_none (scope_of program m.inner i.head) valued (environment_for program i.head) i.head.number i.body plain.0
+    words_none (scope_of program m.called i.head) valued (environment_for program i.head) i.head.number i.body plain.0
     i.statements i.fits
 
--- where it begins there is room for them, and for as many more as fit beside a block fewer
+-- they don't pass the limit on what is AUTOMATIC
+abbrev pub DontPass : {program : Y.Program} → Block → {m : Main program} → {caller : Y.BlockHead} → {valued : Bool} →
+    {level number : ℕ} → Inner m caller valued level number → Type 0
+DontPass {program} k i =
+    automatic_in_use k.first.state.living + 32 * length (variables_of_block program i.head.number) ≤ most_automatic
+
+-- then there is room for them where it begins
 pub begun_room :
     {program : Y.Program} (m : Main program) {input : List ℕ} {acts : ℕ} {valued : Bool} {more b : ℕ} {a : Running}
-    {ns : List ℕ} {p : Point} {numbers : ℕ → ℕ} (o : Moment m input acts valued (suc more) a ns (suc b) p numbers)
-    {caller : Y.BlockHead} {v : Bool} {level number : ℕ} (i : Inner m caller v level number) (c : Callee) →
+    {p : Point} {numbers : ℕ → ℕ} (o : Moment m input acts valued (suc more) a (suc b) p numbers)
+    {v : Bool} {level number : ℕ} (i : Inner m a.head v level number) (c : Callee) →
     c.procedure ≡ procedure_for program i.head i.body →
+    DontPass (block_of_run program input acts valued (suc more) a) i →
     HaveRoom (surroundings_for program input acts) (begun_at (surroundings_for program input acts) c p numbers)
     (layer_for (surroundings_for program input acts) p numbers c.procedure c.calling) p.control.layers
-    (fixed_size i.head.level 0) (length (variables_of_block program i.head.number) + spare_for m b)
-begun_room {program} m {b = b} {p = p} {numbers = numbers} o {v = v} i c is =
+    (fixed_size i.head.level 0) (length (variables_of_block program i.head.number) + 0)
+begun_room {program} m {input} {acts} {valued} {more} {b} {a} {p} {numbers} o {v} i c is pass =
     let k = o.running in
-    let f = free_among (spare_for m (suc b)) k.begun o.among k.free in
+    let block = block_of_run program input acts valued (suc more) a in
+    let f = free_among (suc b) k.begun o.among k.free in
+    let same = in_use_later (surroundings_for program input acts) block.first p k.begun.resumes.stands o.among.stands
+    o.among.later in
     let words = ap (λ (x : Procedure). x.words) is ∙ none_waits m i in
     let inside = ap (λ (x : Procedure). x.head.level) is in
     let level = (known program i.head i.body (result_of v) m.loadable.well_formed i.is).level in
-    let few = m.few i.head.number in
-    let fits = f.room.fits in
-    let even = f.room.even in
-    let limit = f.room.limit in
-    let counted = f.room.counted in
-    let top = ap (λ ls. upper_top image_parts ls) f.room.newest in
-    let low = ap (λ ls. lower_end image_parts ls) f.room.newest in
+    let few = (block_plain program.variables i.head.number m.plain).1 in
+    let fits = f.fits in
+    let even = f.even in
+    let top = ap (λ ls. upper_top image_parts ls) f.newest in
+    let low = ap (λ ls. lower_end image_parts ls) f.newest in
     record {
       newest = refl;
       here = ap (λ n. upper_top image_parts p.control.layers + temporary_bytes c.procedure.words + fixed_size n 0)
           (sym inside);
       even = omega (arith, words, level, inside, even, top);
-      counted = omega (arith, level, few, counted);
-      fits = omega (arith, words, level, inside, few, fits, top, low);
-      low = f.room.low;
-      limit = omega (arith, few, limit);
+      counted = omega (arith, level, few);
+      fits = omega (arith, words, level, inside, fits, pass, same, top, low);
+      low = f.low;
+      limit = omega (arith, pass, same);
     }
 
 pub has_words :
     {program : Y.Program} (m : Main program) {input : List ℕ} {acts : ℕ} {valued : Bool} {more b : ℕ} {a : Running}
-    {ns : List ℕ} {p : Point} {numbers : ℕ → ℕ} (o : Moment m input acts valued (suc more) a ns (suc b) p numbers)
+    {p : Point} {numbers : ℕ → ℕ} (o : Moment m input acts valued (suc more) a (suc b) p numbers)
     {v : Bool} {level number : ℕ} (i : Inner m a.head v level number) (call : ℕ) →
+    DontPass (block_of_run program input acts valued (suc more) a) i →
     HasWords (surroundings_for program input acts)
     (callee_of program v more (entered_at i (block_of_run program input acts valued (suc more) a) call p numbers)) p
     numbers
-has_words {program} m {input} {acts} {valued} {more} {b} {a} {p = p} {numbers = numbers} o {v = v} i call =
+has_words {program} m {input} {acts} {valued} {more} {b} {a} {p = p} {numbers = numbers} o {v = v} i call pass =
     let w = surroundings_for program input acts in
     let k = block_of_run program input acts valued (suc more) a in
     let c = callee_of program v more (entered_at i k call p numbers) in
@@ -131,32 +142,34 @@ has_words {program} m {input} {acts} {valued} {more} {b} {a} {p = p} {numbers = 
       shape = λ some. shapes_remain o.among.later.remains
           (number_in_table word_signature (table_of program)) number_shape (o.running.shape i.head.number some);
       room = room_fewer w (begun_at w c p numbers) (layer_for w p numbers c.procedure c.calling) p.control.layers
-          (fixed_size i.head.level 0) n (n + spare_for m b) (omega arith) (begun_room m o i c refl);
+          (fixed_size i.head.level 0) n (n + 0) (omega arith) (begun_room m o i c refl pass);
     }
 
 pub has_all :
     {program : Y.Program} (m : Main program) {input : List ℕ} {acts : ℕ} {valued : Bool} {more b : ℕ} {a : Running}
-    {ns : List ℕ} {p : Point} {numbers : ℕ → ℕ} (o : Moment m input acts valued (suc more) a ns (suc b) p numbers)
+    {p : Point} {numbers : ℕ → ℕ} (o : Moment m input acts valued (suc more) a (suc b) p numbers)
     {v : Bool} {level number : ℕ} (i : Inner m a.head v level number) (call : ℕ) →
+    DontPass (block_of_run program input acts valued (suc more) a) i →
     AreAll (surroundings_for program input acts)
     (callee_of program v more (entered_at i (block_of_run program input acts valued (suc more) a) call p numbers)) p
     numbers (words_in (environment_for program i.head))
-has_all {program} m {input} {acts} {valued} {more} {a = a} {p = p} {numbers = numbers} o {v = v} i call =
+has_all {program} m {input} {acts} {valued} {more} {a = a} {p = p} {numbers = numbers} o {v = v} i call pass =
     all_words (surroundings_for program input acts)
     (callee_of program v more (entered_at i (block_of_run program input acts valued (suc more) a) call p numbers)) p
-    numbers (has_words m o i call)
+    numbers (has_words m o i call pass)
 
 pub are_made :
     {program : Y.Program} (m : Main program) {input : List ℕ} {acts : ℕ} {valued : Bool} {more b : ℕ} {a : Running}
-    {ns : List ℕ} {p : Point} {numbers : ℕ → ℕ} (o : Moment m input acts valued (suc more) a ns (suc b) p numbers)
+    {p : Point} {numbers : ℕ → ℕ} (o : Moment m input acts valued (suc more) a (suc b) p numbers)
     {v : Bool} {level number : ℕ} (i : Inner m a.head v level number) (call : ℕ) →
+    DontPass (block_of_run program input acts valued (suc more) a) i →
     AreMade (surroundings_for program input acts) (linked_code (code_for program))
     (callee_of program v more (entered_at i (block_of_run program input acts valued (suc more) a) call p numbers)) p
     numbers
-are_made {program} m {input} {acts} {valued} {more} {a = a} {p = p} {numbers = numbers} o {v = v} i call =
+are_made {program} m {input} {acts} {valued} {more} {a = a} {p = p} {numbers = numbers} o {v = v} i call pass =
     all_procedure (surroundings_for program input acts) (linked_code (code_for program))
     (callee_of program v more (entered_at i (block_of_run program input acts valued (suc more) a) call p numbers)) p
-    numbers (words_in (environment_for program i.head)) (has_all m o i call)
+    numbers (words_in (environment_for program i.head)) (has_all m o i call pass)
 
 -- ---- what stays as it is while variables are made
 
@@ -175,8 +188,8 @@ made_same φ (x ∷ xs) p =
 
 pub is_inside :
     {program : Y.Program} (m : Main program) {input : List ℕ} {acts : ℕ} {valued : Bool} {more blocks : ℕ}
-    {a : Running} {ns : List ℕ} {p : Point} {numbers : ℕ → ℕ}
-    (o : Moment m input acts valued (suc more) a ns blocks p numbers) {v : Bool} {level number : ℕ}
+    {a : Running} {p : Point} {numbers : ℕ → ℕ}
+    (o : Moment m input acts valued (suc more) a blocks p numbers) {v : Bool} {level number : ℕ}
     (i : Inner m a.head v level number) (call : ℕ) →
     IsInside (block_of_run program input acts valued (suc more) a)
     (callee_of program v more (entered_at i (block_of_run program input acts valued (suc more) a) call p numbers)) level
@@ -196,80 +209,88 @@ is_inside {program} m o {v = v} i call =
 
 nested_by :
     (v : Bool) {program : Y.Program} (m : Main program) {input : List ℕ} {acts : ℕ} {valued : Bool} {more b : ℕ}
-    {a : Running} {ns : List ℕ} {p : Point} {numbers : ℕ → ℕ}
-    (o : Moment m input acts valued (suc more) a ns (suc b) p numbers) {level number : ℕ}
+    {a : Running} {p : Point} {numbers : ℕ → ℕ}
+    (o : Moment m input acts valued (suc more) a (suc b) p numbers) {level number : ℕ}
     (i : Inner m a.head v level number) (call : ℕ) →
+    DontPass (block_of_run program input acts valued (suc more) a) i →
     IsBegun (block_of_run program input acts v more
     (entered_at i (block_of_run program input acts valued (suc more) a) call p numbers)) →
     IsNested (block_of_run program input acts v more
     (entered_at i (block_of_run program input acts valued (suc more) a) call p numbers))
-nested_by false {program} m {input} {acts} {valued} {more} {a = a} {p = p} {numbers = numbers} o {level} i call b' =
+nested_by false {program} m {input} {acts} {valued} {more} {a = a} {p = p} {numbers = numbers} o {level} i call pass
+    b' =
     let k = block_of_run program input acts valued (suc more) a in
     procedure_nested k (callee_of program false more (entered_at i k call p numbers)) level (is_inside m o i call) p
-    numbers o.among (are_made m o i call) b'
-nested_by true {program} m {input} {acts} {valued} {more} {a = a} {p = p} {numbers = numbers} o {level} i call b' =
+    numbers o.among (are_made m o i call pass) b'
+nested_by true {program} m {input} {acts} {valued} {more} {a = a} {p = p} {numbers = numbers} o {level} i call pass
+    b' =
     let k = block_of_run program input acts valued (suc more) a in
     function_nested k (callee_of program true more (entered_at i k call p numbers)) level (is_inside m o i call) p
-    numbers o.among (are_made m o i call) b'
+    numbers o.among (are_made m o i call pass) b'
 
 -- a variable of a block around is the one of the calling block
 outer_by :
     (v : Bool) {program : Y.Program} (m : Main program) {input : List ℕ} {acts : ℕ} {valued : Bool} {more b : ℕ}
-    {a : Running} {ns : List ℕ} {p : Point} {numbers : ℕ → ℕ}
-    (o : Moment m input acts valued (suc more) a ns (suc b) p numbers) {level number : ℕ}
+    {a : Running} {p : Point} {numbers : ℕ → ℕ}
+    (o : Moment m input acts valued (suc more) a (suc b) p numbers) {level number : ℕ}
     (i : Inner m a.head v level number) (call : ℕ) →
+    DontPass (block_of_run program input acts valued (suc more) a) i →
     IsBegun (block_of_run program input acts v more
     (entered_at i (block_of_run program input acts valued (suc more) a) call p numbers)) → (x : Spot) →
     x.level ≤ level → IsNumber (block_of_run program input acts valued (suc more) a) x →
     IsNumber (block_of_run program input acts v more
     (entered_at i (block_of_run program input acts valued (suc more) a) call p numbers)) x
-outer_by false {program} m {input} {acts} {valued} {more} {a = a} {p = p} {numbers = numbers} o {level} i call b' x low
-    is =
+outer_by false {program} m {input} {acts} {valued} {more} {a = a} {p = p} {numbers = numbers} o {level} i call pass
+    b' x low is =
     let k = block_of_run program input acts valued (suc more) a in
     procedure_number k (callee_of program false more (entered_at i k call p numbers)) level x (is_inside m o i call) low
-    is p numbers o.among (are_made m o i call) b'
-outer_by true {program} m {input} {acts} {valued} {more} {a = a} {p = p} {numbers = numbers} o {level} i call b' x low
-    is =
+    is p numbers o.among (are_made m o i call pass) b'
+outer_by true {program} m {input} {acts} {valued} {more} {a = a} {p = p} {numbers = numbers} o {level} i call pass
+    b' x low is =
     let k = block_of_run program input acts valued (suc more) a in
     function_number k (callee_of program true more (entered_at i k call p numbers)) level x (is_inside m o i call) low
-    is p numbers o.among (are_made m o i call) b'
+    is p numbers o.among (are_made m o i call pass) b'
 
 -- one of its own stands in its frame
 own_by :
     (v : Bool) {program : Y.Program} (m : Main program) {input : List ℕ} {acts : ℕ} {valued : Bool} {more b : ℕ}
-    {a : Running} {ns : List ℕ} {p : Point} {numbers : ℕ → ℕ}
-    (o : Moment m input acts valued (suc more) a ns (suc b) p numbers) {level number : ℕ}
+    {a : Running} {p : Point} {numbers : ℕ → ℕ}
+    (o : Moment m input acts valued (suc more) a (suc b) p numbers) {level number : ℕ}
     (i : Inner m a.head v level number) (call : ℕ) →
+    DontPass (block_of_run program input acts valued (suc more) a) i →
     IsBegun (block_of_run program input acts v more
     (entered_at i (block_of_run program input acts valued (suc more) a) call p numbers)) → (x : Spot) →
     (x.block ≡ i.head.number) × (x.level ≡ i.head.level) →
     is_plain_if (declared_variable program (variable_of x)) ≡ true →
     IsNumber (block_of_run program input acts v more
     (entered_at i (block_of_run program input acts valued (suc more) a) call p numbers)) x
-own_by false {program} m {input} {acts} {valued} {more} {a = a} {p = p} {numbers = numbers} o i call b' x is plain =
+own_by false {program} m {input} {acts} {valued} {more} {a = a} {p = p} {numbers = numbers} o i call pass b' x is
+    plain =
     let k = block_of_run program input acts valued (suc more) a in
     own_word (surroundings_for program input acts) (linked_code (code_for program))
     (callee_of program false more (entered_at i k call p numbers)) p p numbers x
-    (record { high = omega arith; inside = omega arith }) (has_words m o i call, has_all m o i call)
+    (record { high = omega arith; inside = omega arith }) (has_words m o i call pass, has_all m o i call pass)
     (record { block = is.0; level = is.1; plain = plain }) b'
-own_by true {program} m {input} {acts} {valued} {more} {a = a} {p = p} {numbers = numbers} o i call b' x is plain =
+own_by true {program} m {input} {acts} {valued} {more} {a = a} {p = p} {numbers = numbers} o i call pass b' x is
+    plain =
     let k = block_of_run program input acts valued (suc more) a in
     function_word (surroundings_for program input acts) (linked_code (code_for program))
     (callee_of program true more (entered_at i k call p numbers)) p p numbers x
-    (record { high = omega arith; inside = omega arith }) (has_words m o i call, has_all m o i call)
+    (record { high = omega arith; inside = omega arith }) (has_words m o i call pass, has_all m o i call pass)
     (record { block = is.0; level = is.1; plain = plain }) b'
 
 each_number :
     {program : Y.Program} (m : Main program) {input : List ℕ} {acts : ℕ} {valued : Bool} {more b : ℕ}
-    {a : Running} {ns : List ℕ} {p : Point} {numbers : ℕ → ℕ}
-    (o : Moment m input acts valued (suc more) a ns (suc b) p numbers) {v : Bool} {level number : ℕ}
+    {a : Running} {p : Point} {numbers : ℕ → ℕ}
+    (o : Moment m input acts valued (suc more) a (suc b) p numbers) {v : Bool} {level number : ℕ}
     (i : Inner m a.head v level number) (call : ℕ) →
+    DontPass (block_of_run program input acts valued (suc more) a) i →
     IsBegun (block_of_run program input acts v more
     (entered_at i (block_of_run program input acts valued (suc more) a) call p numbers)) → (x : Spot) →
-    is_known (scope_of program m.inner i.head) x ≡ true →
+    is_known (scope_of program m.called i.head) x ≡ true →
     IsNumber (block_of_run program input acts v more
     (entered_at i (block_of_run program input acts valued (suc more) a) call p numbers)) x
-each_number {program} m {input} {acts} {valued} {more} {b} {a} {ns} {p} {numbers} o {v} {level} i call b' x h =
+each_number {program} m {input} {acts} {valued} {more} {b} {a} {p} {numbers} o {v} {level} i call pass b' x h =
     by (nat_le x.level level) refl
   where
     plain : Bool
@@ -291,7 +312,7 @@ each_number {program} m {input} {acts} {valued} {more} {b} {a} {ns} {p} {numbers
         let within = i.around_it in
         let same = alike_at (environment_for program a.head) (environment_for program i.head) level x.level i.alike
         low in
-        outer_by v m o i call b' x low
+        outer_by v m o i call pass b' x low
         (o.running.variables x
         (and_from (list_any (is_place x) (places_to (environment_for program a.head) a.head.level)) plain
         (is_around (environment_for program a.head) a.head.level x
@@ -302,7 +323,7 @@ each_number {program} m {input} {acts} {valued} {more} {b} {a} {ns} {p} {numbers
         let inside = i.inside in
         let high : level < x.level = grind (arith, nat_tests) in
         let same : x.level ≡ i.head.level = omega (arith, less, inside, high) in
-        own_by v m o i call b' x (
+        own_by v m o i call pass b' x (
           there.1 ∙ ap (λ n. block_around (environment_for program i.head) n) same
               ∙ own_block program i.head i.body (result_of v) i.is,
           same,
@@ -311,8 +332,8 @@ each_number {program} m {input} {acts} {valued} {more} {b} {a} {ns} {p} {numbers
 -- no unit is in force there either
 pub unraised_there :
     {program : Y.Program} (m : Main program) {input : List ℕ} {acts : ℕ} {valued : Bool} {more blocks : ℕ}
-    {a : Running} {ns : List ℕ} {p : Point} {numbers : ℕ → ℕ}
-    (o : Moment m input acts valued (suc more) a ns blocks p numbers) {v : Bool} {level number : ℕ}
+    {a : Running} {p : Point} {numbers : ℕ → ℕ}
+    (o : Moment m input acts valued (suc more) a blocks p numbers) {v : Bool} {level number : ℕ}
     (i : Inner m a.head v level number) (call : ℕ) (c : Condition) →
     IsSystem (force (block_of_run program input acts v more
     (entered_at i (block_of_run program input acts valued (suc more) a) call p numbers)).first.state.activations c)
@@ -324,43 +345,56 @@ unraised_there {program} m o i call c =
 
 pub entered :
     {program : Y.Program} (m : Main program) {input : List ℕ} {acts : ℕ} {valued : Bool} {more b : ℕ}
-    {a : Running} {ns : List ℕ} {p : Point} {numbers : ℕ → ℕ}
-    (o : Moment m input acts valued (suc more) a ns (suc b) p numbers) {v : Bool} {level number : ℕ}
-    (i : Inner m a.head v level number) (call : ℕ) →
-    MayCall m ns (block_of_run program input acts valued (suc more) a).first (suc b) →
+    {a : Running} {p : Point} {numbers : ℕ → ℕ} (o : Moment m input acts valued (suc more) a (suc b) p numbers)
+    {v : Bool} {level number : ℕ} (i : Inner m a.head v level number) (call : ℕ) →
+    DontPass (block_of_run program input acts valued (suc more) a) i →
     nat_lt (length (block_of_run program input acts valued (suc more) a).first.state.activations) most_activations
     ≡ true →
     IsBegun (block_of_run program input acts v more
     (entered_at i (block_of_run program input acts valued (suc more) a) call p numbers)) →
-    IsRunning m input acts v more (entered_at i (block_of_run program input acts valued (suc more) a) call p numbers)
-    m.inner b
-entered {program} m {input} {acts} {valued} {more} {b} {a} {ns} {p} {numbers} o {v} i call may few b' =
+    IsRunning m input acts v more (entered_at i (block_of_run program input acts valued (suc more) a) call p numbers) b
+entered {program} m {input} {acts} {valued} {more} {b} {a} {p} {numbers} o {v} i call pass few b' =
     let w = surroundings_for program input acts in
     let k = block_of_run program input acts valued (suc more) a in
     let c = callee_of program v more (entered_at i k call p numbers) in
-    let first = (block_of_run program input acts v more (entered_at i k call p numbers)).first in
     let φ = layer_for w p numbers c.procedure c.calling in
     let start = begun_at w c p numbers in
+    let ds = variables_of_block program i.head.number in
+    let word = table_number (environment_for program i.head) (number_declared []) in
+    let first = fixed_size i.head.level 0 in
     let xs = words_in (environment_for program i.head) in
-    let made = are_made m o i call in
+    let made = are_made m o i call pass in
     let same = made_same φ xs start in
     let later = o.among.later.acts in
     let enough = o.running.enough in
     let world = ap (λ (u : World). u.acts) made.world in
-    let there = ap (λ (as' : List _). length as') made.activations in
-    let here = ap (λ (as' : List _). length as') o.among.later.activations in
+    let there = ap (λ (as' : List Activation). length as') made.activations in
+    let here = ap (λ (as' : List Activation). length as') o.among.later.activations in
     let shallow = ltb-true (length k.first.state.activations) most_activations few in
-    let room = room_behind w start φ p.control.layers (table_number (environment_for program i.head)
-    (number_declared [])) (fixed_size i.head.level 0) 0 (spare_for m b) (variables_of_block program i.head.number)
-    (begun_room m o i c refl) in
+    let deep = o.running.depth.all in
+    let begun' = begun_room m o i c refl pass in
+    let room = room_behind w start φ p.control.layers word first 0 0 ds begun' in
+    let f = free_among (suc b) o.running.begun o.among o.running.free in
+    let words = none_waits m i in
+    let level = (known program i.head i.body (result_of v) m.loadable.well_formed i.is).level in
+    let used = f.used in
+    let fits = f.fits in
+    let top = ap (λ ls. upper_top image_parts ls) f.newest in
+    let low = ap (λ ls. lower_end image_parts ls) f.newest in
+    let place = room.here in
+    let lower = words_lower image_parts (start.state.serials + 1) φ word first 0 ds in
+    let at = words_at image_parts (start.state.serials + 1) φ word first 0 ds in
+    let limit = begun'.limit in
+    let counts = words_count image_parts start φ word first 0 ds
+    (record { activation = _; below = _; active = refl; some = omega arith }) in
     record {
       is = i.is;
       statements = i.statements;
       fits = i.fits;
       begun = b';
       enough = omega (arith, later, enough, world);
-      nested = nested_by v m o i call b';
-      variables = λ x h. each_number m o i call b' x h;
+      nested = nested_by v m o i call pass b';
+      variables = λ x h. each_number m o i call pass b' x h;
       unraised = λ condition. unraised_there m o i call condition;
       idle = same.waiting;
       told = called_of_program program k (block_of_run program input acts v more (entered_at i k call p numbers)) numbers
@@ -368,44 +402,18 @@ entered {program} m {input} {acts} {valued} {more} {b} {a} {ns} {p} {numbers} o 
       free = record {
         layer = _;
         below = _;
-        place = _;
-        room = record {
-          newest = room.newest;
-          here = room.here;
-          even = room.even;
-          counted = room.counted;
-          fits = room.fits;
-          low = room.low;
-          limit = room.limit;
-        };
+        newest = room.newest;
+        even = room.even;
+        low = room.low;
+        used = omega (arith, counts, limit);
+        fits = omega (arith, words, level, fits, top, low, place, at, lower, counts);
       };
       shape = λ block some.
           ap (λ t. shape_at t (number_in_table word_signature (table_of program))) same.signatures
           ∙ shapes_remain o.among.later.remains (number_in_table word_signature (table_of program)) number_shape
           (o.running.shape block some);
-      calls = by may.depth shallow (there, here);
+      depth = record {
+        some = omega (arith, shallow, deep);
+        all = omega (arith, deep, there, here);
+      };
     }
-  where
-    k' : Block
-    k' = block_of_run program input acts valued (suc more) a
-
-    first' : Point
-    first' = (block_of_run program input acts v more (entered_at i k' call p numbers)).first
-
-    by :
-        (m.inner ≡ [])
-        ⊎ ((m.inner ≡ m.called) × (most_activations + 1 ≤ length k'.first.state.activations + suc b)) →
-        length k'.first.state.activations < most_activations →
-        (length first'.state.activations ≡ suc (length p.state.activations))
-        × (length p.state.activations ≡ length k'.first.state.activations) →
-        (m.inner ≡ []) ⊎ MayCall m m.inner first' b
-    by (inl none) shallow e = inl none
-    by (inr deep) shallow e =
-        let enough = deep.1 in
-        let there = e.0 in
-        let here = e.1 in
-        inr (record {
-          called = deep.0;
-          some = omega (arith, shallow, enough);
-          depth = inr (deep.0, omega (arith, enough, there, here));
-        })

@@ -26,7 +26,7 @@ pub record Inner {program : Y.Program} (m : Main program) (caller : Y.BlockHead)
     pub inside : head.level ≡ suc level
     pub around_it : level ≤ caller.level
     pub alike : stand_alike (environment_for program caller) (environment_for program head) level ≡ true
-    pub statements : are_statements (scope_of program m.inner head) valued (labels_in body ++ []) body ≡ true
+    pub statements : are_statements (scope_of program m.called head) valued (labels_in body ++ []) body ≡ true
     pub fits : statements_need body ≤ held_registers
 
 number_found :
@@ -80,7 +80,7 @@ pub inner_is :
     is_callable program m.called caller valued level number ≡ true → Inner m caller valued level number
 inner_is {program} m caller valued level number h =
     by (procedure_numbered number program.procedures) refl parts.1
-    (listed_inner program m.inner number m.called m.inners parts.0)
+    (listed_inner program m.called number m.called m.inners parts.0)
   where
     parts :
         (list_any (λ n. n == number) m.called ≡ true)
@@ -90,14 +90,14 @@ inner_is {program} m caller valued level number h =
 
     by :
         (o : Option Y.Procedure) → procedure_numbered number program.procedures ≡ o →
-        is_declared_if program caller valued level o ≡ true → is_inner_if program m.inner o ≡ true →
+        is_declared_if program caller valued level o ≡ true → is_inner_if program m.called o ≡ true →
         Inner m caller valued level number
     by None e f g = absurd (cc f)
     by (Some p) e f g =
         let head = head_of p.block in
         let body = body_of p.block in
         let alike = stand_alike (environment_for program caller) (environment_for program head) level in
-        let s = scope_of program m.inner head in
+        let s = scope_of program m.called head in
         let a = and_parts (has_none p.parameters)
         (has_result valued p.result && ((head.level == suc level) && (nat_le level caller.level && alike))) f in
         let b = and_parts (has_result valued p.result)

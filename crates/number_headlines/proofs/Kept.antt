@@ -1,6 +1,6 @@
 -- The main procedure of a program of the class: each of its statements does what it means, and so it keeps the
 -- headline.
-use Rattle.std.proofs.Common.{◌≡◌, ◌⊎◌, inl, inr, ℕ, ◌+◌, ◌^◌, ◌<◌, ◌≤◌, List, [], ◌∷◌, ◌++◌, length, None}
+use Rattle.std.proofs.Common.{◌≡◌, ℕ, ◌+◌, ◌^◌, ◌<◌, List, [], ◌∷◌, ◌++◌, length, None}
 use Rattle.std.proofs.Common.{true, false, refl, sym, ap, ◌∙◌, subst, arith}
 use Rattle.std.specs.List.{list_any}
 use Rattle.std.proofs.lemmas.Bool.{and_parts}
@@ -44,14 +44,15 @@ use Rattle.number_runs.proofs.Words.{room_behind}
 use Rattle.number_headlines.specs.Headlines.{IsNumberProgram}
 use Rattle.number_headlines.specs.Programs.{are_all_plain, has_main, most_words, places_to, scope_of}
 use Rattle.number_headlines.proofs.Bodies.{each_body}
+use Rattle.number_headlines.proofs.FullWords.{words_at, words_count, words_lower}
 use Rattle.number_headlines.proofs.Mains.{Main, block_for, level_of, made_for, made_system, main_all, main_begun}
 use Rattle.number_headlines.proofs.Mains.{main_for}
-use Rattle.number_headlines.proofs.Mains.{main_is, main_layer, main_number, main_room, main_spare, main_told, placed}
-use Rattle.number_headlines.proofs.Mains.{run_for}
-use Rattle.number_headlines.proofs.Mains.{spare_for, start_for, surroundings_for}
+use Rattle.number_headlines.proofs.Mains.{main_is, main_layer, main_number, main_room, main_spare, main_told, no_words}
+use Rattle.number_headlines.proofs.Mains.{placed, run_for}
+use Rattle.number_headlines.proofs.Mains.{spare, start_for, surroundings_for}
 use Rattle.number_headlines.proofs.Places.{around_is}
 use Rattle.number_headlines.proofs.Running.{IsRunning, Running}
-use Rattle.number_headlines.proofs.Tables.{has_start, has_table, word_signature}
+use Rattle.number_headlines.proofs.Tables.{block_plain, has_start, has_table, word_signature}
 
 -- ---- the main procedure as the first block that runs
 
@@ -154,7 +155,7 @@ main_variable {program} m input acts b x h =
 
 main_running :
     {program : Y.Program} (m : Main program) (input : List ℕ) (acts : ℕ) → IsBegun (block_for m input acts) →
-    IsRunning m input acts false acts (main_run m input acts) m.called m.blocks
+    IsRunning m input acts false acts (main_run m input acts) most_activations
 main_running {program} m input acts b =
     let w = surroundings_for program input acts in
     let start = main_begun m input acts in
@@ -164,9 +165,19 @@ main_running {program} m input acts b =
     let first = b.acts in
     let one = main_lone m input acts in
     let long = ap (λ (as' : List Activation). length as') one.is in
-    let room = room_behind w start φ [] (table_number (environment_for program m.head) (number_declared []))
-    (fixed_size m.head.level 0) 0 (spare_for m m.blocks) (variables_of_block program m.head.number)
-    (main_spare m input acts) in
+    let ds = variables_of_block program m.head.number in
+    let word = table_number (environment_for program m.head) (number_declared []) in
+    let spot = fixed_size m.head.level 0 in
+    let spared = main_spare m input acts in
+    let room = room_behind w start φ [] word spot 0 spare ds spared in
+    let place = room.here in
+    let lower = words_lower image_parts (start.state.serials + 1) φ word spot 0 ds in
+    let counts = words_count image_parts start φ word spot 0 ds
+    (record { activation = _; below = _; active = refl; some = omega arith }) in
+    let at = words_at image_parts (start.state.serials + 1) φ word spot 0 ds in
+    let few = (block_plain program.variables m.head.number m.plain).1 in
+    let level = level_of m in
+    let words = no_words m in
     record {
       is = main_found program (placed m) m.main;
       statements = m.statements;
@@ -181,44 +192,24 @@ main_running {program} m input acts b =
       free = record {
         layer = _;
         below = _;
-        place = _;
-        room = record {
-          newest = room.newest;
-          here = room.here;
-          even = room.even;
-          counted = room.counted;
-          fits = room.fits;
-          low = room.low;
-          limit = room.limit;
-        };
+        newest = room.newest;
+        even = room.even;
+        low = room.low;
+        used = omega (arith, counts, few);
+        fits = omega (arith, words, level, place, at, lower, counts);
       };
       shape = λ block some.
           ap (λ t. shape_at t (number_in_table word_signature (table_of program))) same.signatures
           ∙ (has_table program block m.plain).shape some;
-      calls = inr (record {
-        called = refl;
-        some = m.some;
-        depth = by m.depth long;
-      });
+      depth = record { some = omega arith; all = omega (arith, long) };
     }
-  where
-    first' : Point
-    first' = (block_for m input acts).first
-
-    by :
-        (m.inner ≡ []) ⊎ ((m.inner ≡ m.called) × (most_activations ≤ m.blocks)) →
-        length first'.state.activations ≡ 1 →
-        (m.inner ≡ [])
-        ⊎ ((m.inner ≡ m.called) × (most_activations + 1 ≤ length first'.state.activations + m.blocks))
-    by (inl none) long = inl none
-    by (inr deep) long = let enough = deep.1 in inr (deep.0, omega (arith, enough, long))
 
 main_each :
     MarkedOnce → {program : Y.Program} (m : Main program) (input : List ℕ) (acts : ℕ) → acts + 1 < 2 ^ 64 →
     IsBegun (block_for m input acts) →
     EachDoes (block_for m input acts) (labels_in m.body ++ []) m.body (body_for program m.head m.body) left_over
 main_each once {program} m input acts few b =
-    each_body once m input acts few acts false (main_run m input acts) m.called m.blocks (λ e. absurd (cc e))
+    each_body once m input acts few acts false (main_run m input acts) most_activations (λ e. absurd (cc e))
     (main_running m input acts b)
 
 -- ---- the whole

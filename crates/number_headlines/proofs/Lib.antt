@@ -4,7 +4,9 @@ pub mod Mains
 pub mod Places
 pub mod Running
 pub mod Inner
+pub mod FullWords
 pub mod Entered
+pub mod Full
 pub mod Bodies
 pub mod Kept
 pub mod Rows

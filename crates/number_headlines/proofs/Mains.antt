@@ -1,8 +1,8 @@
 -- The main procedure of a program of the class where it begins: its variables are made, and there is room for more.
-use Rattle.std.proofs.Common.{◌≡◌, ◌⊎◌, inl, inr, ℕ, ◌+◌, ◌*◌, ◌^◌, ◌≤◌, List, [], ◌∷◌, ◌++◌, Option, None, Some}
+use Rattle.std.proofs.Common.{◌≡◌, ℕ, ◌+◌, ◌≤◌, List, [], ◌∷◌, ◌++◌, Option, None, Some}
 use Rattle.std.proofs.Common.{true, false}
 use Rattle.std.proofs.Common.{length, refl, sym, ap, ◌∙◌, subst, arith}
-use Rattle.std.specs.Prelude.{◌&&◌, ◌||◌, Bool, nat_le}
+use Rattle.std.specs.Prelude.{◌&&◌, Bool, nat_le}
 use Rattle.std.proofs.lemmas.Bool.{and_parts, leb-true}
 use Rattle.pli_language.specs.declared.condition.Condition.{Condition}
 use Rattle.pli_typing.specs.TypedTree as Y
@@ -10,7 +10,7 @@ use Rattle.pli_meaning.specs.DeclaredShapes.{head_of, variables_of_block}
 use Rattle.pli_meaning.specs.Executing.{labels_in}
 use Rattle.pli_meaning.specs.Making.{with_binding}
 use Rattle.pli_meaning.specs.StorageState.{Activation, BlockUnit, OnUnit, SystemUnit, force, first_unit, unit_for}
-use Rattle.pli_meaning.specs.StorageState.{Binding, most_activations}
+use Rattle.pli_meaning.specs.StorageState.{Binding}
 use Rattle.pli_coding.specs.Frames.{MemoryParts, fixed_size, parameters_in}
 use Rattle.pli_coding.specs.Images.{linked_code, picture_of}
 use Rattle.pli_coding.specs.Registers.{held_registers}
@@ -41,9 +41,9 @@ use Rattle.number_runs.specs.Variables.{HasWords, HaveRoom, IsOwnWord, words_in}
 use Rattle.number_runs.proofs.Takes.{words_none}
 use Rattle.number_runs.proofs.Words.{all_words, own_word, room_fewer}
 use Rattle.number_runs.proofs.Variables.{fixed_is}
-use Rattle.number_headlines.specs.Programs.{are_all_few, are_all_plain, are_inner, body_of, calling_each, calling_none}
-use Rattle.number_headlines.specs.Programs.{few_words, has_main, has_result, is_body, is_main, most_words, scope_of}
-use Rattle.number_headlines.proofs.Tables.{block_few, block_plain, has_table}
+use Rattle.number_headlines.specs.Programs.{are_all_plain, are_inner, body_of, callable_ones, has_main, has_result}
+use Rattle.number_headlines.specs.Programs.{is_body, most_words, scope_of}
+use Rattle.number_headlines.proofs.Tables.{block_plain, has_table}
 
 -- ---- no unit comes with variables
 
@@ -108,44 +108,27 @@ pub record Main (program : Y.Program) : Type 0 where
   pub plain : are_all_plain program.variables ≡ true
   pub loadable : IsLoadable program
   pub memory : FitsMemory (picture_of parts program)
-  -- the numbers of the procedures that it calls, and of those that they call
+  -- the numbers of the procedures that it calls, and that they call
   pub called : List ℕ
-  pub inner : List ℕ
   pub statements : are_statements (scope_of program called head) false (labels_in body ++ []) body ≡ true
   pub fits : statements_need body ≤ held_registers
-  pub inners : are_inner program inner called ≡ true
-  -- so many variables has a block at most, and for so many blocks more there is room beside it
-  pub words : ℕ
-  pub blocks : ℕ
-  pub few : (n : ℕ) → length (variables_of_block program n) ≤ words
-  pub some : 1 ≤ blocks
-  pub room : words + ((words + 16) * blocks) ≤ 2 ^ 15
-  -- what it calls calls nothing, or as many blocks have room as may be active
-  pub depth : (inner ≡ []) ⊎ ((inner ≡ called) × (most_activations ≤ blocks))
+  pub inners : are_inner program called called ≡ true
 
 -- as it is placed
 abbrev pub placed : {program : Y.Program} → Main program → Placed.Main
 placed m = record { head = m.head; body = m.body; others = m.others }
 
--- how many variables its blocks have, and for how many of them there is room
-record Depth (program : Y.Program) (called inner : List ℕ) : Type 0 where
-  words : ℕ
-  blocks : ℕ
-  few : (n : ℕ) → length (variables_of_block program n) ≤ words
-  some : 1 ≤ blocks
-  room : words + ((words + 16) * blocks) ≤ 2 ^ 15
-  depth : (inner ≡ []) ⊎ ((inner ≡ called) × (most_activations ≤ blocks))
-
-main_by :
-    (program : Y.Program) (p : Y.Procedure) (ps : List Y.Procedure) (called inner : List ℕ) →
-    program.procedures ≡ p ∷ ps → are_all_plain program.variables ≡ true → IsLoadable program →
-    FitsMemory (picture_of parts program) → Depth program called inner →
-    is_main program called inner p ≡ true → Main program
-main_by program p ps called inner e plain load fits d h =
+pub main_is :
+    (program : Y.Program) (ps : List Y.Procedure) → program.procedures ≡ ps →
+    are_all_plain program.variables ≡ true → IsLoadable program → FitsMemory (picture_of parts program) →
+    has_main program ps ≡ true → Main program
+main_is program [] e plain load fits h = absurd (cc h)
+main_is program (p ∷ ps) e plain load fits h =
     let head = head_of p.block in
     let body = body_of p.block in
+    let called = callable_ones program in
     let s = scope_of program called head in
-    let all = are_inner program inner called in
+    let all = are_inner program called called in
     let a = and_parts (has_none p.parameters) (has_result false p.result && (is_body s false body && all)) h in
     let b = and_parts (has_result false p.result) (is_body s false body && all) a.1 in
     let c = and_parts (is_body s false body) all b.1 in
@@ -160,54 +143,10 @@ main_by program p ps called inner e plain load fits d h =
       loadable = load;
       memory = fits;
       called = called;
-      inner = inner;
       statements = f.0;
       fits = leb-true (statements_need body) held_registers f.1;
       inners = c.1;
-      words = d.words;
-      blocks = d.blocks;
-      few = d.few;
-      some = d.some;
-      room = d.room;
-      depth = d.depth;
     }
-
-pub main_is :
-    (program : Y.Program) (ps : List Y.Procedure) → program.procedures ≡ ps →
-    are_all_plain program.variables ≡ true → IsLoadable program → FitsMemory (picture_of parts program) →
-    has_main program ps ≡ true → Main program
-main_is program [] e plain load fits h = absurd (cc h)
-main_is program (p ∷ ps) e plain load fits h =
-    by (is_main program (calling_none program) [] p) refl h
-  where
-    deep : Bool
-    deep = are_all_few program.variables && is_main program (calling_each program) (calling_each program) p
-
-    by : (q : Bool) → is_main program (calling_none program) [] p ≡ q → (q || deep) ≡ true → Main program
-    by true is f =
-        main_by program p ps (calling_none program) [] e plain load fits
-        (record {
-          words = most_words;
-          blocks = 1;
-          few = λ n. (block_plain program.variables n plain).1;
-          some = omega arith;
-          room = omega arith;
-          depth = inl refl;
-        })
-        is
-    by false is f =
-        let a = and_parts (are_all_few program.variables)
-        (is_main program (calling_each program) (calling_each program) p) f in
-        main_by program p ps (calling_each program) (calling_each program) e plain load fits
-        (record {
-          words = few_words;
-          blocks = most_activations;
-          few = λ n. block_few program.variables n a.0;
-          some = omega arith;
-          room = omega arith;
-          depth = inr (refl, omega arith);
-        })
-        a.1
 
 -- ---- in a run
 
@@ -230,7 +169,7 @@ main_for {program} m input acts =
 pub level_of : {program : Y.Program} (m : Main program) → m.head.level ≡ 0
 level_of {program} m = (subst HasMain m.main m.loadable.well_formed.main).0
 
-no_words : {program : Y.Program} (m : Main program) → (procedure_for program m.head m.body).words ≡ 0
+pub no_words : {program : Y.Program} (m : Main program) → (procedure_for program m.head m.body).words ≡ 0
 no_words {program} m =
     let plain = block_plain program.variables m.head.number m.plain in
     words_none (scope_of program m.called m.head) false (environment_for program m.head) m.head.number m.body plain.0
@@ -258,10 +197,6 @@ main_room {program} m input acts =
 abbrev pub spare : ℕ
 spare = most_words + 16
 
--- and where so many blocks are
-abbrev pub spare_for : {program : Y.Program} → Main program → (blocks : ℕ) → ℕ
-spare_for m blocks = (m.words + 16) * blocks
-
 abbrev pub main_layer : {program : Y.Program} → Main program → (input : List ℕ) → (acts : ℕ) → Layer
 main_layer {program} m input acts =
     layer_for (surroundings_for program input acts)
@@ -278,21 +213,20 @@ pub main_spare :
     {program : Y.Program} (m : Main program) (input : List ℕ) (acts : ℕ) →
     HaveRoom (surroundings_for program input acts) (main_begun m input acts)
     (main_layer m input acts) [] (fixed_size m.head.level 0)
-    (length (variables_of_block program m.head.number) + spare_for m m.blocks)
+    (length (variables_of_block program m.head.number) + spare)
 main_spare {program} m input acts =
     let words = no_words m in
     let level = level_of m in
-    let few = m.few m.head.number in
-    let room = m.room in
+    let few = (block_plain program.variables m.head.number m.plain).1 in
     let code = m.loadable.fits in
     record {
       newest = refl;
       here = refl;
       even = omega (arith, words, level);
-      counted = omega (arith, level, few, room);
-      fits = omega (arith, words, level, few, room);
+      counted = omega (arith, level, few);
+      fits = omega (arith, words, level, few);
       low = omega (arith, code);
-      limit = omega (arith, few, room);
+      limit = omega (arith, few);
     }
 
 pub main_words :
@@ -320,7 +254,7 @@ main_words {program} m input acts =
       small = table.small;
       shape = table.shape;
       room = room_fewer (surroundings_for program input acts) (main_begun m input acts)
-          (main_layer m input acts) [] (fixed_size m.head.level 0) n (n + spare_for m m.blocks) (omega arith)
+          (main_layer m input acts) [] (fixed_size m.head.level 0) n (n + spare) (omega arith)
           (main_spare m input acts);
     }
 

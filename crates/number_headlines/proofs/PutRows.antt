@@ -27,8 +27,8 @@ use Rattle.run_steps.proofs.Linking.{linked_length}
 use Rattle.expression_runs.specs.Variables.{number_declared, whole}
 use Rattle.pli_headline.specs.Headline.{FitsMemory, parts}
 use Rattle.number_headlines.specs.Headlines.{IsNumberProgram}
-use Rattle.number_headlines.specs.PutRows.{entry_spot, of_width, squares_body, squares_head, squares_main}
-use Rattle.number_headlines.specs.PutRows.{squares_program}
+use Rattle.number_headlines.specs.PutRows.{entry_formats, entry_spot, of_width, one_space_twice, squares_body}
+use Rattle.number_headlines.specs.PutRows.{squares_head, squares_main, squares_program}
 
 -- ---- it is well formed
 
@@ -70,12 +70,18 @@ entry_scalar = record {
 entry_number : IsNumberScalar in_squares (whole entry_spot)
 entry_number = record { precision = 31; scalar = entry_scalar }
 
-two_formats : IsFormatList Putting (of_width 5 3 (of_width 5 5 T.NoFormat))
+two_formats : IsFormatList Putting entry_formats
 unfolding formats_move_data format_moves_data
 two_formats = record {
   formats_are = (
     (omega arith, omega arith),
-    ((omega arith, omega arith), ((omega arith, omega arith), ((omega arith, omega arith), tt))),
+    (
+      (omega arith, omega arith),
+      (
+        (omega arith, omega arith),
+        ((omega arith, omega arith), ((omega arith, omega arith), ((omega arith, omega arith), tt))),
+      ),
+    ),
   );
   moves_data = refl;
 }
@@ -87,10 +93,16 @@ first_format = record {
   moves_data = refl;
 }
 
-second_format : IsFormatList Putting (of_width 9 4 T.NoFormat)
+second_format : IsFormatList Putting one_space_twice
 unfolding formats_move_data format_moves_data
 second_format = record {
-  formats_are = ((omega arith, omega arith), ((omega arith, omega arith), tt));
+  formats_are = (
+    (omega arith, omega arith),
+    (
+      (tt, ((omega arith, omega arith), ((omega arith, omega arith), tt))),
+      ((omega arith, omega arith), ((omega arith, omega arith), tt)),
+    ),
+  );
   moves_data = refl;
 }
 
@@ -289,9 +301,9 @@ statements = tt
 
 pub squares_end :
     (input : List ℕ) →
-    M.meaning squares_program input 30
+    M.meaning squares_program input 35
     ≡ Some (record {
-      acts = 30;
+      acts = 35;
       output =
           32 ∷ 32 ∷ 49 ∷ 32 ∷ 32 ∷ 32 ∷ 32 ∷ 49 ∷ 10
           ∷ 32 ∷ 32 ∷ 50 ∷ 32 ∷ 32 ∷ 32 ∷ 32 ∷ 52 ∷ 10

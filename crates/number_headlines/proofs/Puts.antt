@@ -1,23 +1,24 @@
 -- What a block of a program of the class knows where it writes numbers: no unit is in force, and its static data stand.
-use Rattle.std.proofs.Common.{◌≡◌, ℕ, ◌+◌, ◌*◌, ◌≤◌, true, false, refl, arith}
-use Rattle.std.specs.Prelude.{◌&&◌, nat_le}
-use Rattle.std.proofs.lemmas.Bool.{and_parts, leb-true}
-use Rattle.pli_language.specs.Formats.{format_moves_data, formats_move_data, is_times, is_width}
+use Rattle.std.proofs.Common.{◌≡◌, ◌⊎◌, inl, inr, ℕ, ◌+◌, ◌*◌, ◌≤◌, true, refl, arith}
+use Rattle.std.specs.Prelude.{◌&&◌, ◌||◌, nat_le}
+use Rattle.std.proofs.lemmas.Bool.{and_parts, leb-true, or_cases, or_left, or_right}
+use Rattle.pli_language.specs.Formats.{format_moves_data, formats_move_data, is_times}
 use Rattle.pli_language.specs.Tree as T
 use Rattle.pli_typing.specs.TypedTree as Y
 use Rattle.pli_coding.specs.Assembly.{RaiseError}
 use Rattle.pli_coding.specs.Images.{picture_of}
 use Rattle.pli_coding.specs.Linking.{place_of}
+use Rattle.pli_coding.specs.Streams.{has_fixed, is_fixed}
 use Rattle.code_marks.specs.CodeMarks.{MarkedOnce}
 use Rattle.program_places.specs.Programs.{IsLoadable, links_for}
 use Rattle.program_places.proofs.Procedures.{error_place, raise_routines, routines_at}
 use Rattle.program_runs.specs.Statements.{Block}
 use Rattle.pli_headline.specs.Headline.{FitsMemory, parts}
-use Rattle.pli_headline.specs.ProvedSoFar.{AreProvedFormats, HasData}
+use Rattle.pli_headline.specs.ProvedSoFar.{AreProvedFormats, HasData, HasFormat, IsProvedFormat}
 use Rattle.block_headlines.specs.Constants.{IsOf}
 use Rattle.edit_headlines.proofs.Formats.{list_placed}
 use Rattle.number_runs.specs.Knowledge.{KnowsLists}
-use Rattle.number_runs.specs.Puts.{are_fixed_items, is_fixed_list}
+use Rattle.number_runs.specs.Puts.{are_formats, has_format, is_format}
 
 -- ---- format lists
 
@@ -26,37 +27,57 @@ in_range n most h =
     let a = and_parts (nat_le 1 n) (nat_le n most) h in
     (leb-true 1 n a.0, leb-true n most a.1)
 
-items_proved : (fs : T.Formats) → are_fixed_items fs ≡ true → AreProvedFormats fs
-items_proved T.NoFormat h = tt
-items_proved (T.FormatThen place n (T.FixedFormat width) rest) h =
-    let a = and_parts (is_times n) (is_width width && are_fixed_items rest) h in
-    let b = and_parts (is_width width) (are_fixed_items rest) a.1 in
-    (in_range n 1000 a.0, (in_range width 1024 b.0, items_proved rest b.1))
-items_proved (T.FormatThen place n (T.FormatList fs) rest) h = absurd (cc (and_parts (is_times n) false h).1)
-items_proved (T.FormatThen place n (T.TextFormat width) rest) h = absurd (cc (and_parts (is_times n) false h).1)
-items_proved (T.FormatThen place n (T.SpaceFormat m) rest) h = absurd (cc (and_parts (is_times n) false h).1)
-items_proved (T.FormatThen place n (T.SkipFormat m) rest) h = absurd (cc (and_parts (is_times n) false h).1)
-items_proved (T.FormatThen place n (T.ColumnFormat m) rest) h = absurd (cc (and_parts (is_times n) false h).1)
+some_format : (fs : T.Formats) → has_format fs ≡ true → HasFormat fs
+some_format T.NoFormat h = absurd (cc h)
+some_format (T.FormatThen place n first rest) h = tt
 
-list_proved : (fs : T.Formats) → is_fixed_list fs ≡ true → AreProvedFormats fs
-list_proved T.NoFormat h = absurd (cc h)
-list_proved (T.FormatThen place n first rest) h = items_proved (T.FormatThen place n first rest) h
+mutual
+  formats_proved : (fs : T.Formats) → are_formats fs ≡ true → AreProvedFormats fs
+  formats_proved T.NoFormat h = tt
+  formats_proved (T.FormatThen place n first rest) h =
+      let a = and_parts (is_times n) (is_format first && are_formats rest) h in
+      let b = and_parts (is_format first) (are_formats rest) a.1 in
+      (in_range n 1000 a.0, (format_proved first b.0, formats_proved rest b.1))
 
-list_has_data : (fs : T.Formats) → is_fixed_list fs ≡ true → HasData fs
-unfolding formats_move_data format_moves_data
-list_has_data T.NoFormat h = absurd (cc h)
-list_has_data (T.FormatThen place n (T.FixedFormat width) rest) h = refl
-list_has_data (T.FormatThen place n (T.FormatList fs) rest) h = absurd (cc (and_parts (is_times n) false h).1)
-list_has_data (T.FormatThen place n (T.TextFormat width) rest) h = absurd (cc (and_parts (is_times n) false h).1)
-list_has_data (T.FormatThen place n (T.SpaceFormat m) rest) h = absurd (cc (and_parts (is_times n) false h).1)
-list_has_data (T.FormatThen place n (T.SkipFormat m) rest) h = absurd (cc (and_parts (is_times n) false h).1)
-list_has_data (T.FormatThen place n (T.ColumnFormat m) rest) h = absurd (cc (and_parts (is_times n) false h).1)
+  format_proved : (f : T.Format) → is_format f ≡ true → IsProvedFormat f
+  format_proved (T.FormatList fs) h =
+      let a = and_parts (has_format fs) (are_formats fs) h in
+      (formats_proved fs a.1, some_format fs a.0)
+  format_proved (T.FixedFormat width) h = in_range width 1024 h
+  format_proved (T.TextFormat width) h = absurd (cc h)
+  format_proved (T.SpaceFormat n) h = in_range n 1000 h
+  format_proved (T.SkipFormat n) h = in_range n 1000 h
+  format_proved (T.ColumnFormat n) h = in_range n 1000 h
+
+mutual
+  unfolding formats_move_data format_moves_data
+
+  formats_move : (fs : T.Formats) → has_fixed fs ≡ true → HasData fs
+  formats_move T.NoFormat h = absurd (cc h)
+  formats_move (T.FormatThen place n first rest) h =
+      by (or_cases (is_fixed first) (has_fixed rest) h) (format_moves first) (formats_move rest)
+    where
+      by :
+          (is_fixed first ≡ true) ⊎ (has_fixed rest ≡ true) →
+          (is_fixed first ≡ true → format_moves_data first ≡ true) → (has_fixed rest ≡ true → HasData rest) →
+          (format_moves_data first || formats_move_data rest) ≡ true
+      by (inl e) one more = or_left (format_moves_data first) (formats_move_data rest) (one e)
+      by (inr e) one more = or_right (format_moves_data first) (formats_move_data rest) (more e)
+
+  format_moves : (f : T.Format) → is_fixed f ≡ true → format_moves_data f ≡ true
+  format_moves (T.FormatList fs) h = formats_move fs h
+  format_moves (T.FixedFormat width) h = refl
+  format_moves (T.TextFormat width) h = absurd (cc h)
+  format_moves (T.SpaceFormat n) h = absurd (cc h)
+  format_moves (T.SkipFormat n) h = absurd (cc h)
+  format_moves (T.ColumnFormat n) h = absurd (cc h)
 
 -- each that static data have stands at each point of a block
 pub lists_known :
     (program : Y.Program) (k : Block) → FitsMemory (picture_of parts program) → IsOf program k → KnowsLists k
 lists_known program k fits of fs fixed placed =
-    list_placed program k fs fits of (list_proved fs fixed) (list_has_data fs fixed) placed
+    let a = and_parts (are_formats fs) (has_fixed fs) fixed in
+    list_placed program k fs fits of (formats_proved fs a.0) (formats_move fs a.1) placed
 
 -- ---- raises
 

@@ -1,5 +1,5 @@
 -- A block of a program of the class where it runs: what is known at its first statement.
-use Rattle.std.proofs.Common.{◌≡◌, ◌⊎◌, ℕ, suc, ◌+◌, ◌<◌, ◌≤◌, List, [], ◌++◌, length, Option, None}
+use Rattle.std.proofs.Common.{◌≡◌, ℕ, suc, ◌+◌, ◌*◌, ◌%◌, ◌<◌, ◌≤◌, List, [], ◌∷◌, ◌++◌, length, Option, None}
 use Rattle.std.proofs.Common.{Some, Bool, true, false, sym, ◌∙◌, subst, arith}
 use Rattle.rv_meaning.specs.declared.instr.Instr.{Instr}
 use Rattle.pli_language.specs.declared.condition.Condition.{Condition}
@@ -8,7 +8,7 @@ use Rattle.pli_typing.specs.TypedTree as Y
 use Rattle.pli_meaning.specs.DeclaredShapes.{variables_of_block}
 use Rattle.pli_meaning.specs.Executing.{begun, entered, labels_in}
 use Rattle.pli_meaning.specs.Raising.{Entry, at_line}
-use Rattle.pli_meaning.specs.StorageState.{force, most_activations}
+use Rattle.pli_meaning.specs.StorageState.{automatic_in_use, force, most_activations, most_automatic}
 use Rattle.pli_serving.specs.Templates.{shape_at}
 use Rattle.pli_coding.specs.Assembly.{size_of}
 use Rattle.pli_coding.specs.Frames.{result}
@@ -32,9 +32,8 @@ use Rattle.block_headlines.specs.Constants.{IsOf}
 use Rattle.nested_calls.specs.Nested.{IsNested}
 use Rattle.number_runs.specs.Numbers.{is_known}
 use Rattle.number_runs.specs.Statements.{are_statements, statements_need}
-use Rattle.number_runs.specs.Variables.{HaveRoom}
 use Rattle.number_headlines.specs.Programs.{scope_of}
-use Rattle.number_headlines.proofs.Mains.{Main, made_for, result_of, spare_for, surroundings_for}
+use Rattle.number_headlines.proofs.Mains.{Main, made_for, result_of, surroundings_for}
 use Rattle.number_headlines.proofs.Tables.{word_signature}
 
 -- ---- the block of a procedure or of a function
@@ -111,12 +110,20 @@ block_of_run program input acts valued more a =
 
 -- ---- what is known there
 
--- so many variables more can be made above it
-pub record Free (w : Surroundings) (q : Point) (count : ℕ) : Type 0 where
+-- what a frame takes at most beside variables
+abbrev pub frame_bytes : ℕ
+frame_bytes = 512
+
+-- above it there is room for the frames of so many blocks, and for all that may be AUTOMATIC yet
+pub record Free (w : Surroundings) (q : Point) (blocks : ℕ) : Type 0 where
   pub layer : Layer
   pub below : List Layer
-  pub place : ℕ
-  pub room : HaveRoom w q layer below place count
+  pub newest : q.control.layers ≡ layer ∷ below
+  pub even : layer.top % 16 ≡ 0
+  pub low : q.places.low ≤ w.parts.stack_start
+  pub used : automatic_in_use q.state.living ≤ most_automatic
+  pub fits :
+      layer.top + frame_bytes * blocks + most_automatic ≤ layer.lower + automatic_in_use q.state.living
 
 -- the table has the signature of variables, if there are any
 abbrev pub HasShape : Y.Program → Point → Type 0
@@ -124,26 +131,22 @@ HasShape program q =
     (block : ℕ) → 0 < length (variables_of_block program block) →
     shape_at q.places.signatures (number_in_table word_signature (table_of program)) ≡ Some number_shape
 
--- the procedures that it may call: these are of the class, and call nothing, or the same ones, where as many blocks
--- have room as may be active
-pub record MayCall {program : Y.Program} (m : Main program) (numbers : List ℕ) (q : Point) (blocks : ℕ) : Type 0 where
-  pub called : numbers ≡ m.called
+-- as many blocks have room as may be active, and one more, which is one too many
+pub record HasDepth (q : Point) (blocks : ℕ) : Type 0 where
   pub some : 1 ≤ blocks
-  pub depth :
-      (m.inner ≡ [])
-      ⊎ ((m.inner ≡ m.called) × (most_activations + 1 ≤ length q.state.activations + blocks))
+  pub all : most_activations + 1 ≤ length q.state.activations + blocks
 
 pub record IsRunning {program : Y.Program} (m : Main program) (input : List ℕ) (acts : ℕ) (valued : Bool) (more : ℕ)
-    (a : Running) (numbers : List ℕ) (blocks : ℕ) : Type 0
+    (a : Running) (blocks : ℕ) : Type 0
   where
     pub is : IsProcedure program a.head a.body (result_of valued)
-    pub statements : are_statements (scope_of program numbers a.head) valued (labels_in a.body ++ []) a.body ≡ true
+    pub statements : are_statements (scope_of program m.called a.head) valued (labels_in a.body ++ []) a.body ≡ true
     pub fits : statements_need a.body ≤ held_registers
     pub begun : IsBegun (block_of_run program input acts valued more a)
     pub enough : acts < more + (block_of_run program input acts valued more a).first.state.world.acts
     pub nested : IsNested (block_of_run program input acts valued more a)
     pub variables :
-        (x : Spot) → is_known (scope_of program numbers a.head) x ≡ true →
+        (x : Spot) → is_known (scope_of program m.called a.head) x ≡ true →
         IsNumber (block_of_run program input acts valued more a) x
     pub unraised :
         (c : Condition) → IsSystem (force (block_of_run program input acts valued more a).first.state.activations c)
@@ -151,32 +154,25 @@ pub record IsRunning {program : Y.Program} (m : Main program) (input : List ℕ)
     -- what the program tells of its static data is told there
     pub told : IsOf program (block_of_run program input acts valued more a)
     pub free :
-        Free (surroundings_for program input acts) (block_of_run program input acts valued more a).first
-        (spare_for m blocks)
+        Free (surroundings_for program input acts) (block_of_run program input acts valued more a).first blocks
     pub shape : HasShape program (block_of_run program input acts valued more a).first
-    pub calls :
-        (numbers ≡ [])
-        ⊎ MayCall m numbers (block_of_run program input acts valued more a).first blocks
+    pub depth : HasDepth (block_of_run program input acts valued more a).first blocks
 
 -- at each of its points there is as much room
 pub free_among :
-    {k : Block} {numbers : ℕ → ℕ} {p : Point} (count : ℕ) → IsBegun k → IsAmong k numbers p →
-    Free k.call.surroundings k.first count → Free k.call.surroundings p count
-free_among {k} {p = p} count b o f =
+    {k : Block} {numbers : ℕ → ℕ} {p : Point} (blocks : ℕ) → IsBegun k → IsAmong k numbers p →
+    Free k.call.surroundings k.first blocks → Free k.call.surroundings p blocks
+free_among {k} {p = p} blocks b o f =
     let w = k.call.surroundings in
-    let limit = f.room.limit in
+    let used = f.used in
+    let fits = f.fits in
     let same = in_use_later w k.first p b.resumes.stands o.stands o.later in
     record {
       layer = f.layer;
       below = f.below;
-      place = f.place;
-      room = record {
-        newest = o.later.layers ∙ f.room.newest;
-        here = f.room.here;
-        even = f.room.even;
-        counted = f.room.counted;
-        fits = f.room.fits;
-        low = subst (λ n. n ≤ w.parts.stack_start) (sym o.later.remains.low) f.room.low;
-        limit = omega (arith, limit, same);
-      };
+      newest = o.later.layers ∙ f.newest;
+      even = f.even;
+      low = subst (λ n. n ≤ w.parts.stack_start) (sym o.later.remains.low) f.low;
+      used = omega (arith, used, same);
+      fits = omega (arith, fits, same);
     }

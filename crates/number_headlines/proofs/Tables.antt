@@ -16,7 +16,7 @@ use Rattle.expression_runs.specs.Variables.{number_declared, number_shape}
 use Rattle.number_runs.specs.Numbers.{is_plain}
 use Rattle.number_runs.specs.Variables.{are_plain}
 use Rattle.number_runs.proofs.Variables.{plain_is}
-use Rattle.number_headlines.specs.Programs.{are_all_few, are_all_plain, few_words, most_words}
+use Rattle.number_headlines.specs.Programs.{are_all_plain, most_words}
 
 abbrev pub word_signature : TableSignature
 word_signature = signature_of (number_declared [])
@@ -79,15 +79,6 @@ block_plain (ds ∷ vs) zero h =
 block_plain (ds ∷ vs) (suc n) h =
     let a = and_parts (nat_le (length ds) most_words && are_plain ds) (are_all_plain vs) h in
     block_plain vs n a.1
-
--- and how many they are, where they are few
-pub block_few :
-    (vs : List (List Y.DeclaredVariable)) (n : ℕ) → are_all_few vs ≡ true →
-    length (unwrap_or (slice_get vs n) []) ≤ few_words
-block_few [] n h = omega arith
-block_few (ds ∷ vs) zero h =
-    leb-true (length ds) few_words (and_parts (nat_le (length ds) few_words) (are_all_few vs) h).0
-block_few (ds ∷ vs) (suc n) h = block_few vs n (and_parts (nat_le (length ds) few_words) (are_all_few vs) h).1
 
 -- ---- the table
 

@@ -1,5 +1,5 @@
 -- Programs of FIXED BINARY(31) numbers, as a class that is computed from typed trees.
-use Rattle.std.specs.Prelude.{ℕ, zero, suc, ◌^◌, ◌&&◌, ◌||◌, ◌++◌, ◌==◌, Bool, true, false, List, [], ◌∷◌, length}
+use Rattle.std.specs.Prelude.{ℕ, zero, suc, ◌^◌, ◌&&◌, ◌++◌, ◌==◌, Bool, true, false, List, [], ◌∷◌, length}
 use Rattle.std.specs.Prelude.{nat_le, Option, None, Some, if◌then◌else◌}
 use Rattle.std.specs.List.{list_any}
 use Rattle.pli_typing.specs.TypedTree as Y
@@ -18,18 +18,10 @@ use Rattle.number_runs.specs.Variables.{are_plain}
 abbrev pub most_words : ℕ
 most_words = 2 ^ 13
 
--- so many fit it where as many blocks are active as may be
-abbrev pub few_words : ℕ
-few_words = 48
-
 -- the variables of each block
 abbrev pub are_all_plain : List (List Y.DeclaredVariable) → Bool
 are_all_plain [] = true
 are_all_plain (ds ∷ rest) = (nat_le (length ds) most_words && are_plain ds) && are_all_plain rest
-
-abbrev pub are_all_few : List (List Y.DeclaredVariable) → Bool
-are_all_few [] = true
-are_all_few (ds ∷ rest) = nat_le (length ds) few_words && are_all_few rest
 
 -- ---- blocks around
 
@@ -132,27 +124,21 @@ abbrev pub closed_of : Y.Program → (rounds : ℕ) → List ℕ → List ℕ
 closed_of program zero ns = ns
 closed_of program (suc rounds) ns = closed_of program rounds (kept_of program ns program.procedures)
 
-abbrev pub calling_none : Y.Program → List ℕ
-calling_none program = kept_of program [] program.procedures
+abbrev pub callable_ones : Y.Program → List ℕ
+callable_ones program = closed_of program (length program.procedures) (numbers_of program.procedures)
 
-abbrev pub calling_each : Y.Program → List ℕ
-calling_each program = closed_of program (length program.procedures) (numbers_of program.procedures)
-
--- the main procedure calls the ones, which call the others
-abbrev pub is_main : Y.Program → (called inner : List ℕ) → Y.Procedure → Bool
-is_main program called inner p =
+-- the main procedure calls these, which call one another and themselves
+abbrev pub is_main : Y.Program → (called : List ℕ) → Y.Procedure → Bool
+is_main program called p =
     has_none p.parameters
     && (has_result false p.result
     && (is_body (scope_of program called (head_of p.block)) false (body_of p.block)
-    && are_inner program inner called))
+    && are_inner program called called))
 
--- the first one is the main procedure; what it calls calls nothing, or any more of the class, and itself, if the
--- variables of each block are few; what isn't called may be any
+-- the first one is the main procedure; what isn't called may be any
 abbrev pub has_main : Y.Program → List Y.Procedure → Bool
 has_main program [] = false
-has_main program (p ∷ ps) =
-    is_main program (calling_none program) [] p
-    || (are_all_few program.variables && is_main program (calling_each program) (calling_each program) p)
+has_main program (p ∷ ps) = is_main program (callable_ones program) p
 
 abbrev pub is_number_program : Y.Program → Bool
 is_number_program program = are_all_plain program.variables && has_main program program.procedures

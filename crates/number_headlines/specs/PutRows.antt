@@ -10,8 +10,8 @@ use Rattle.expression_runs.specs.Assignments.{assignment}
 use Rattle.expression_runs.specs.Variables.{Spot, number_declared, whole}
 use Rattle.pli_headline.specs.Headline.{Headline, parts}
 
--- DECLARE X FIXED BINARY(31); X = 1; DO WHILE (X < 4); PUT EDIT (X, X * X) (F(3), F(5)); PUT SKIP; X = X + 1; END;
--- PUT SKIP(2) EDIT (X) (F(1)) (X - 5) (F(4));
+-- DECLARE X FIXED BINARY(31); X = 1; DO WHILE (X < 4); PUT EDIT (X, X * X) (F(3), X(2), F(3)); PUT SKIP;
+-- X = X + 1; END; PUT SKIP(2) EDIT (X) (F(1)) (X - 5) (2 (X(1)), F(2));
 
 abbrev pub entry_spot : Spot
 entry_spot = record { block = 1; level = 0; index = 0 }
@@ -25,17 +25,17 @@ shown x = Y.PutValue (Y.NumberValue 31 x)
 abbrev pub of_width : (line width : ℕ) → T.Formats → T.Formats
 of_width line width rest = T.FormatThen (record { line = line; column = 30 }) 1 (T.FixedFormat width) rest
 
+abbrev pub entry_formats : T.Formats
+entry_formats =
+    of_width 5 3 (T.FormatThen (record { line = 5; column = 34 }) 1 (T.SpaceFormat 2) (of_width 5 3 T.NoFormat))
+
 abbrev pub square : Y.Number
 square = Y.Calculated Y.Product entry_value entry_value
 
 abbrev pub entry_put : Y.Stmt
 entry_put =
     Y.Put None
-    (record {
-      items = shown entry_value ∷ shown square ∷ [];
-      formats = of_width 5 3 (of_width 5 5 T.NoFormat);
-    }
-    ∷ []) 5
+    (record { items = shown entry_value ∷ shown square ∷ []; formats = entry_formats } ∷ []) 5
 
 abbrev pub squares_turns : Y.Stmts
 squares_turns =
@@ -46,13 +46,19 @@ squares_turns =
 abbrev pub squares_loop : Y.Stmt
 squares_loop = Y.DoWhile (Y.NumbersCompared Y.IsLess entry_value (Y.NumberConstant 4)) squares_turns 4
 
+abbrev pub one_space_twice : T.Formats
+one_space_twice =
+    T.FormatThen (record { line = 9; column = 40 }) 2
+    (T.FormatList (T.FormatThen (record { line = 9; column = 43 }) 1 (T.SpaceFormat 1) T.NoFormat))
+    (of_width 9 2 T.NoFormat)
+
 abbrev pub last_put : Y.Stmt
 last_put =
     Y.Put (Some 2)
     (record { items = shown entry_value ∷ []; formats = of_width 9 1 T.NoFormat }
     ∷ record {
       items = shown (Y.Calculated Y.Difference entry_value (Y.NumberConstant 5)) ∷ [];
-      formats = of_width 9 4 T.NoFormat;
+      formats = one_space_twice;
     }
     ∷ []) 9
 
@@ -76,9 +82,9 @@ pub record SquaresKept : Type 0 where
   -- three lines, two more that are empty, and a last one
   pub ends :
       (input : List ℕ) →
-      meaning squares_program input 30
+      meaning squares_program input 35
       ≡ Some (record {
-        acts = 30;
+        acts = 35;
         output =
             32 ∷ 32 ∷ 49 ∷ 32 ∷ 32 ∷ 32 ∷ 32 ∷ 49 ∷ 10
             ∷ 32 ∷ 32 ∷ 50 ∷ 32 ∷ 32 ∷ 32 ∷ 32 ∷ 52 ∷ 10

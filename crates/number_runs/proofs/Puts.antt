@@ -1,13 +1,11 @@
 -- PUT SKIP, and PUT EDIT of numbers by lists of F items, do what they mean.
-use Rattle.std.proofs.Common.{◌≡◌, ℕ, zero, suc, ◌+◌, ◌*◌, ◌≤◌, List, [], ◌∷◌, ◌++◌, true, false, refl, sym, ap}
+use Rattle.std.proofs.Common.{◌≡◌, ℕ, zero, ◌+◌, ◌*◌, ◌≤◌, List, [], ◌∷◌, ◌++◌, true, refl, sym, ap}
 use Rattle.std.proofs.Common.{◌∙◌, subst, arith, inl, None, Some}
 use Rattle.std.specs.Prelude.{◌&&◌, map, max, nat_le, Option}
 use Rattle.std.proofs.lemmas.Bool.{and_parts, leb-true}
-use Rattle.pli_language.specs.Formats.{is_times, is_width}
-use Rattle.pli_language.specs.Tree as T
+use Rattle.pli_language.specs.Formats.{is_times}
 use Rattle.pli_typing.specs.TypedTree as Y
 use Rattle.pli_meaning.specs.Control.{Label}
-use Rattle.pli_meaning.specs.Streaming.{DataFormat, FixedItem, FormatItem, format_items, repeated}
 use Rattle.pli_serving.specs.ServiceState.{EditPlace}
 use Rattle.pli_coding.specs.Allocating.{act_code}
 use Rattle.pli_coding.specs.Assembly.{RaiseError, size_of}
@@ -17,7 +15,6 @@ use Rattle.pli_coding.specs.Registers.{held_registers}
 use Rattle.pli_coding.specs.Statements.{stmt_code}
 use Rattle.pli_coding.specs.StaticForms.{formats_datum}
 use Rattle.pli_coding.specs.Streams as C
-use Rattle.pli_coding.specs.Streams.{has_text}
 use Rattle.run_steps.specs.Items.{Linked}
 use Rattle.run_steps.specs.Reach.{cost}
 use Rattle.run_steps.proofs.Jumps.{back_of}
@@ -28,78 +25,22 @@ use Rattle.expression_runs.specs.Variables.{IsNumber, Spot}
 use Rattle.expression_runs.proofs.Raises.{overflow_ends}
 use Rattle.operator_runs.proofs.Divisors.{zero_divide_ends}
 use Rattle.text_runs.proofs.Errors.{error_ends}
-use Rattle.edit_runs.specs.Edits.{AreFixed, AreListed, IsFixed, IsSkipped, Item, ItemsDo, Pair, PairsDo, Put}
+use Rattle.edit_runs.specs.Edits.{AreListed, IsSkipped, Item, ItemsDo, Pair, PairsDo, Put}
 use Rattle.edit_runs.specs.Edits.{put_items, put_pairs, within}
 use Rattle.edit_runs.proofs.Places.{begun_placed, number_placed}
 use Rattle.edit_runs.proofs.Puts.{put_does}
 use Rattle.edit_runs.proofs.Skips.{skip_does}
 use Rattle.number_runs.specs.Knowledge.{IsUnraised, KnowsLists, KnowsNumbers, KnowsPuts}
 use Rattle.number_runs.specs.Numbers.{Scope, is_known, is_number, number_needs}
-use Rattle.number_runs.specs.Puts.{are_fixed_items, are_pairs, are_put_items, is_fixed_list, is_put, is_put_item}
+use Rattle.number_runs.specs.Puts.{are_pairs, are_put_items, is_fixed_list, is_put, is_put_item}
 use Rattle.number_runs.specs.Puts.{is_put_list, is_skip, put_items_need, put_needs, without_calls}
 use Rattle.number_runs.proofs.Expressions.{more_registers, number_does}
-
--- ---- format lists
+use Rattle.number_runs.proofs.Formats.{list_fixed}
 
 times_are : (n : ℕ) → is_times n ≡ true → (1 ≤ n) × (n ≤ 1000)
 times_are n h =
     let a = and_parts (nat_le 1 n) (nat_le n 1000) h in
     (leb-true 1 n a.0, leb-true n 1000 a.1)
-
-abbrev one_item : (width : ℕ) → List FormatItem
-one_item width = DataFormat (FixedItem width) ∷ []
-
-are_repeated :
-    (n width : ℕ) (items : List FormatItem) → AreFixed items → AreFixed (repeated n (one_item width) ++ items)
-are_repeated zero width items h = h
-are_repeated (suc n) width items h = are_repeated n width items h
-
--- a list of F items has no others, and no texts
-record Fixed (fs : T.Formats) : Type 0 where
-  are : AreFixed (format_items fs)
-  text : has_text fs ≡ false
-
-items_fixed : (fs : T.Formats) → are_fixed_items fs ≡ true → Fixed fs
-items_fixed T.NoFormat h = record { are = tt; text = refl }
-items_fixed (T.FormatThen place n (T.FixedFormat width) rest) h =
-    let a = and_parts (is_times n) (is_width width && are_fixed_items rest) h in
-    let r = items_fixed rest (and_parts (is_width width) (are_fixed_items rest) a.1).1 in
-    record { are = are_repeated n width (format_items rest) r.are; text = r.text }
-items_fixed (T.FormatThen place n (T.FormatList fs) rest) h =
-    absurd (cc (and_parts (is_times n) false h).1)
-items_fixed (T.FormatThen place n (T.TextFormat width) rest) h =
-    absurd (cc (and_parts (is_times n) false h).1)
-items_fixed (T.FormatThen place n (T.SpaceFormat m) rest) h =
-    absurd (cc (and_parts (is_times n) false h).1)
-items_fixed (T.FormatThen place n (T.SkipFormat m) rest) h =
-    absurd (cc (and_parts (is_times n) false h).1)
-items_fixed (T.FormatThen place n (T.ColumnFormat m) rest) h =
-    absurd (cc (and_parts (is_times n) false h).1)
-
-pub list_fixed : (fs : T.Formats) → is_fixed_list fs ≡ true → IsFixed fs
-list_fixed T.NoFormat h = absurd (cc h)
-list_fixed (T.FormatThen place zero (T.FixedFormat width) rest) h = absurd (cc h)
-list_fixed (T.FormatThen place (suc n) (T.FixedFormat width) rest) h =
-    let a = and_parts (is_times (suc n)) (is_width width && are_fixed_items rest) h in
-    let r = items_fixed rest (and_parts (is_width width) (are_fixed_items rest) a.1).1 in
-    record {
-      fixed = refl;
-      text = r.text;
-      first = width;
-      more = repeated n (one_item width) ++ format_items rest;
-      items = refl;
-      are = are_repeated n width (format_items rest) r.are;
-    }
-list_fixed (T.FormatThen place n (T.FormatList fs) rest) h =
-    absurd (cc (and_parts (is_times n) false h).1)
-list_fixed (T.FormatThen place n (T.TextFormat width) rest) h =
-    absurd (cc (and_parts (is_times n) false h).1)
-list_fixed (T.FormatThen place n (T.SpaceFormat m) rest) h =
-    absurd (cc (and_parts (is_times n) false h).1)
-list_fixed (T.FormatThen place n (T.SkipFormat m) rest) h =
-    absurd (cc (and_parts (is_times n) false h).1)
-list_fixed (T.FormatThen place n (T.ColumnFormat m) rest) h =
-    absurd (cc (and_parts (is_times n) false h).1)
 
 -- ---- data lists
 

@@ -36,7 +36,7 @@ use Rattle.number_runs.proofs.Variables.{plain_is}
 
 -- ---- where they are made
 
-one_declared :
+pub one_declared :
     (w : Surroundings) (p : Point) (φ : Layer) (φs : List Layer) (number place index n : ℕ) →
     shape_at p.places.signatures number ≡ Some number_shape → number < 2 ^ 31 → HaveRoom w p φ φs place (suc n) →
     IsDeclared w p (word_made number place index) φ φs
@@ -195,10 +195,10 @@ words_listed e number place index (d ∷ ds) is = (
 
 -- ---- their code
 
-abbrev PlacesAre : (parts : MemoryParts) → (at : ℕ) → List Y.DeclaredVariable → Type 0
+abbrev pub PlacesAre : (parts : MemoryParts) → (at : ℕ) → List Y.DeclaredVariable → Type 0
 PlacesAre parts at ds = (i : ℕ) → i < length ds → variable_place parts at ds i ≡ at + 32 * i
 
-places_are :
+pub places_are :
     (parts : MemoryParts) (at : ℕ) (ds : List Y.DeclaredVariable) → are_plain ds ≡ true →
     at + 32 * length ds ≤ last_place → PlacesAre parts at ds
 places_are parts at [] h fits i less = absurd (omega (arith, less))
@@ -210,7 +210,7 @@ places_are parts at (d ∷ ds) h fits (suc i) less =
     let rest = places_are parts (at + 32) ds a.1 (omega (arith, fits)) i (omega (arith, less)) in
     ap (λ n. variable_place parts n ds i) next' ∙ rest ∙ omega arith
 
-words_code :
+pub words_code :
     (e : Environment) (line number place index : ℕ) (ds : List Y.DeclaredVariable) → are_plain ds ≡ true →
     ((i : ℕ) → i < length ds → automatic_place e.parts e.program e.block e.level (index + i) ≡ place + 32 * i) →
     variables_made e line index ds ≡ made_code e (words_from number place index ds)

@@ -1,26 +1,35 @@
--- PUT SKIP, and PUT EDIT of numbers by F items, as classes that are computed from typed trees.
+-- PUT SKIP, and PUT EDIT of numbers by lists with F items, as classes that are computed from typed trees.
 use Rattle.std.specs.Prelude.{ℕ, ◌&&◌, Bool, true, false, List, [], ◌∷◌, max, Option, None, Some}
 use Rattle.pli_language.specs.Formats.{is_times, is_width}
 use Rattle.pli_language.specs.Tree as T
 use Rattle.pli_typing.specs.TypedTree as Y
+use Rattle.pli_coding.specs.Streams.{has_fixed}
 use Rattle.number_runs.specs.Numbers.{Scope, is_number, number_needs}
 
 -- ---- format lists
 
-abbrev pub is_fixed_item : T.Format → Bool
-is_fixed_item (T.FixedFormat width) = is_width width
-is_fixed_item _ = false
+abbrev pub has_format : T.Formats → Bool
+has_format T.NoFormat = false
+has_format (T.FormatThen place repetition first rest) = true
 
-abbrev pub are_fixed_items : T.Formats → Bool
-are_fixed_items T.NoFormat = true
-are_fixed_items (T.FormatThen place repetition first rest) =
-    is_times repetition && (is_fixed_item first && are_fixed_items rest)
+-- F items, and X, SKIP and COLUMN, each as often as the language lets it stand, and as wide or as far; and lists of these
+abbrev mutual
+  pub is_format : T.Format → Bool
+  is_format (T.FormatList formats) = has_format formats && are_formats formats
+  is_format (T.FixedFormat width) = is_width width
+  is_format (T.TextFormat width) = false
+  is_format (T.SpaceFormat n) = is_times n
+  is_format (T.SkipFormat n) = is_times n
+  is_format (T.ColumnFormat n) = is_times n
 
--- F items, one at least, each as often as the language lets it stand and as wide
+  pub are_formats : T.Formats → Bool
+  are_formats T.NoFormat = true
+  are_formats (T.FormatThen place repetition first rest) =
+      is_times repetition && (is_format first && are_formats rest)
+
+-- with an F item, at any depth
 abbrev pub is_fixed_list : T.Formats → Bool
-is_fixed_list T.NoFormat = false
-is_fixed_list (T.FormatThen place repetition first rest) =
-    are_fixed_items (T.FormatThen place repetition first rest)
+is_fixed_list formats = are_formats formats && has_fixed formats
 
 -- ---- data lists
 

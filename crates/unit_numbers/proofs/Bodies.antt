@@ -1,7 +1,7 @@
 -- The list of the main procedure comes to its end: each of its statements does what it means, whatever units it has by
 -- then.
 use Rattle.std.proofs.Common.{◌≡◌, inl, inr, ℕ, zero, suc, ◌+◌, ◌^◌, ◌<◌, ◌≤◌, List, [], ◌∷◌, ◌++◌, Option}
-use Rattle.std.proofs.Common.{Some, None, true, false, refl, arith}
+use Rattle.std.proofs.Common.{Some, None, true, false, refl, sym, ap, subst, arith}
 use Rattle.std.proofs.lemmas.Bool.{and_parts}
 use Rattle.pli_language.specs.declared.condition.Condition.TheVariants as C
 use Rattle.pli_typing.specs.TypedTree as Y
@@ -12,6 +12,9 @@ use Rattle.pli_coding.specs.Environments.{none_taken}
 use Rattle.pli_coding.specs.Images.{linked_code}
 use Rattle.pli_coding.specs.Statements.{marked, stmt_code, stmts_code}
 use Rattle.code_marks.specs.CodeMarks.{MarkedOnce}
+use Rattle.activation_relation.specs.Layers.{services_of}
+use Rattle.run_steps.specs.Reach.{Comes}
+use Rattle.block_runs.specs.Bodies.{body_aims}
 use Rattle.program_places.specs.Programs.{code_for, environment_for, links_for}
 use Rattle.program_places.proofs.Blocks.{own_block}
 use Rattle.program_places.proofs.Callees.{end_is}
@@ -39,8 +42,9 @@ use Rattle.unit_numbers.specs.Units.{own_scope, unit_in}
 use Rattle.unit_numbers.proofs.Calls.{main_calls}
 use Rattle.unit_numbers.proofs.Established.{InForce, IsUnitOf, error_system, in_force, list_placed, start_of}
 use Rattle.unit_numbers.proofs.Established.{unit_stands}
-use Rattle.unit_numbers.proofs.Mains.{Main, block_for, main_held, main_number, most_for, own_known, placed}
+use Rattle.unit_numbers.proofs.Mains.{Main, block_for, list_of, main_held, main_number, most_for, own_known, placed}
 use Rattle.unit_numbers.proofs.Raises.{divide_with, overflow_with, past_setting}
+use Rattle.unit_numbers.proofs.Spread.{all_means, all_code}
 use Rattle.unit_numbers.proofs.Takes.{unit_found}
 use Rattle.unit_numbers.proofs.Units.{unit_is}
 
@@ -49,7 +53,7 @@ use Rattle.unit_numbers.proofs.Units.{unit_is}
 overflow_known :
     MarkedOnce → {program : Y.Program} (m : Main program) (input : List ℕ) (more : ℕ) (past : Past)
     (labels : List Label) (line : ℕ) → suc more + 1 < 2 ^ 64 → IsBegun (block_for m input (suc more)) →
-    Includes (labels_in m.body) labels → IsPast (block_for m input (suc more)) m.body (start_of m) past →
+    Includes (labels_in (list_of m)) labels → IsPast (block_for m input (suc more)) (list_of m) (start_of m) past →
     InForce m input (suc more) past C.FixedOverflow → OverflowComes (past_setting m input (suc more) past labels line)
 overflow_known once {program} m input more past labels line few b includes known (inl system) =
     let routines = raise_routines once program m.loadable in
@@ -68,7 +72,7 @@ overflow_known once m input more past labels line few b includes known (inr n) =
 divisor_known :
     MarkedOnce → {program : Y.Program} (m : Main program) (input : List ℕ) (more : ℕ) (past : Past)
     (labels : List Label) (line : ℕ) → suc more + 1 < 2 ^ 64 → IsBegun (block_for m input (suc more)) →
-    Includes (labels_in m.body) labels → IsPast (block_for m input (suc more)) m.body (start_of m) past →
+    Includes (labels_in (list_of m)) labels → IsPast (block_for m input (suc more)) (list_of m) (start_of m) past →
     InForce m input (suc more) past C.ZeroDivide → ZeroDivideComes (past_setting m input (suc more) past labels line)
 divisor_known once {program} m input more past labels line few b includes known (inl system) =
     let routines = raise_routines once program m.loadable in
@@ -89,14 +93,14 @@ divisor_known once m input more past labels line few b includes known (inr n) =
 main_ready :
     MarkedOnce → {program : Y.Program} (m : Main program) (input : List ℕ) (more : ℕ) (past : Past) →
     suc more + 1 < 2 ^ 64 → IsBegun (block_for m input (suc more)) →
-    IsPast (block_for m input (suc more)) m.body (start_of m) past →
-    IsReady (own_scope program m.head) false (after (block_for m input (suc more)) past) (labels_in m.body)
+    IsPast (block_for m input (suc more)) (list_of m) (start_of m) past →
+    IsReady (own_scope program m.head) false (after (block_for m input (suc more)) past) (labels_in (list_of m))
     (most_for program) left_over
 main_ready once {program} m input more past few b known =
     let k = block_for m input (suc more) in
     let found = main_found program (placed m) m.main in
     let end = end_is once program m.head m.body m.loadable found in
-    let b' = begun_after k m.body (start_of m) past b known in
+    let b' = begun_after k (list_of m) (start_of m) past b known in
     let first = b'.acts in
     record {
       begun = b';
@@ -137,22 +141,22 @@ main_ready once {program} m input more past few b known =
 main_does :
     MarkedOnce → {program : Y.Program} (m : Main program) (input : List ℕ) (acts : ℕ) → acts + 1 < 2 ^ 64 →
     IsBegun (block_for m input acts) → (stmt : Y.Stmt) (index : ℕ) →
-    is_statement (own_scope program m.head) false (labels_in m.body) stmt ≡ true →
-    statement_needs stmt ≤ statements_need m.body → Standing (block_for m input acts) stmt index → (past : Past) →
-    IsPast (block_for m input acts) m.body (start_of m) past →
-    Does (after (block_for m input acts) past) (labels_in m.body) stmt index left_over
+    is_statement (own_scope program m.head) false (labels_in (list_of m)) stmt ≡ true →
+    statement_needs stmt ≤ statements_need (list_of m) → Standing (block_for m input acts) stmt index → (past : Past) →
+    IsPast (block_for m input acts) (list_of m) (start_of m) past →
+    Does (after (block_for m input acts) past) (labels_in (list_of m)) stmt index left_over
 main_does once m input zero few b stmt index is fits at past known =
     let k = block_for m input zero in
-    none_does (after k past) (labels_in m.body) stmt index left_over (begun_after k m.body (start_of m) past b known)
-    refl
+    none_does (after k past) (labels_in (list_of m)) stmt index left_over
+    (begun_after k (list_of m) (start_of m) past b known) refl
 main_does once {program} m input (suc more) few b stmt index is fits at past known =
     let held = main_held m in
-    form_does (own_scope program m.head) false (after (block_for m input (suc more)) past) (labels_in m.body)
-    (labels_in m.body) stmt index (most_for program) left_over (main_ready once m input more past few b known)
+    form_does (own_scope program m.head) false (after (block_for m input (suc more)) past) (labels_in (list_of m))
+    (labels_in (list_of m)) stmt index (most_for program) left_over (main_ready once m input more past few b known)
     (record {
       at = λ label among.
           label_of (links_for program) (linked_code (code_for program)) (start_of m) (environment_for program m.head)
-          none_taken m.body (list_placed once m input (suc more)) label among;
+          none_taken (list_of m) (list_placed once m input (suc more)) label among;
       includes = λ label among. among;
     })
     is (omega (arith, fits, held)) at
@@ -162,11 +166,11 @@ main_does once {program} m input (suc more) few b stmt index is fits at past kno
 is_on :
     MarkedOnce → {program : Y.Program} (m : Main program) (input : List ℕ) (acts : ℕ) → acts + 1 < 2 ^ 64 →
     IsBegun (block_for m input acts) → (x : OnUnit) (index : ℕ) → IsUnitOf m input acts x index → (past : Past) →
-    IsPast (block_for m input acts) m.body (start_of m) past → IsOn (after (block_for m input acts) past) x index
+    IsPast (block_for m input acts) (list_of m) (start_of m) past → IsOn (after (block_for m input acts) past) x index
 is_on once {program} m input acts few b x index h past known =
     record {
-      act = record { line_fits = (unit_is program m.head m.body x h.is).line; acts = few };
-      begun = begun_after (block_for m input acts) m.body (start_of m) past b known;
+      act = record { line_fits = (unit_is program m.head (list_of m) x h.is).line; acts = few };
+      begun = begun_after (block_for m input acts) (list_of m) (start_of m) past b known;
       statement = h.placed.linked;
       place = h.stands;
     }
@@ -174,15 +178,15 @@ is_on once {program} m input acts few b x index h past known =
 step_does :
     MarkedOnce → {program : Y.Program} (m : Main program) (input : List ℕ) (acts : ℕ) → acts + 1 < 2 ^ 64 →
     IsBegun (block_for m input acts) → (stmt : Y.Stmt) (index : ℕ) →
-    is_step program m.head m.body stmt ≡ true → statement_needs stmt ≤ statements_need m.body →
+    is_step program m.head (list_of m) stmt ≡ true → statement_needs stmt ≤ statements_need (list_of m) →
     Standing (block_for m input acts) stmt index →
     ((x : OnUnit) → stmt ≡ on_of x → IsUnitOf m input acts x index) →
-    StepDoes (block_for m input acts) m.body (start_of m) stmt index left_over
+    StepDoes (block_for m input acts) (list_of m) (start_of m) stmt index left_over
 step_does once {program} m input acts few b stmt index is fits at units = by (unit_in stmt) refl is
   where
     by :
-        (o : Option OnUnit) → unit_in stmt ≡ o → is_step_with program m.head m.body o stmt ≡ true →
-        StepDoes (block_for m input acts) m.body (start_of m) stmt index left_over
+        (o : Option OnUnit) → unit_in stmt ≡ o → is_step_with program m.head (list_of m) o stmt ≡ true →
+        StepDoes (block_for m input acts) (list_of m) (start_of m) stmt index left_over
     by None e is = inr (λ past known. main_does once m input acts few b stmt index is fits at past known)
     by (Some x) e is =
         let same = unit_found stmt x e in
@@ -191,11 +195,11 @@ step_does once {program} m input acts few b stmt index is fits at units = by (un
 all_do :
     MarkedOnce → {program : Y.Program} (m : Main program) (input : List ℕ) (acts : ℕ) → acts + 1 < 2 ^ 64 →
     IsBegun (block_for m input acts) → (rest : Y.Stmts) (index : ℕ) →
-    are_steps program m.head m.body rest ≡ true → statements_need rest ≤ statements_need m.body →
+    are_steps program m.head (list_of m) rest ≡ true → statements_need rest ≤ statements_need (list_of m) →
     AreStanding (block_for m input acts) rest index →
     ((e : OnUnit × ℕ) → StandsIn (block_for m input acts) rest index e →
-    StandsIn (block_for m input acts) m.body (start_of m) e) →
-    AllDo (block_for m input acts) m.body (start_of m) rest index left_over
+    StandsIn (block_for m input acts) (list_of m) (start_of m) e) →
+    AllDo (block_for m input acts) (list_of m) (start_of m) rest index left_over
 all_do once m input acts few b (Y.EndOfList own) index is fits at there = tt
 all_do once {program} m input acts few b (Y.StmtThen own first rest) index is fits at there =
     let e = environment_for program m.head in
@@ -203,8 +207,8 @@ all_do once {program} m input acts few b (Y.StmtThen own first rest) index is fi
     let more = stmts_code e none_taken rest in
     let at' = placed_back (marked e.block own) (one ++ more) at in
     let here = index + size_of (marked e.block own) in
-    let labels = labels_in m.body in
-    let a = and_parts (is_step program m.head m.body first) (are_steps program m.head m.body rest) is in (
+    let labels = labels_in (list_of m) in
+    let a = and_parts (is_step program m.head (list_of m) first) (are_steps program m.head (list_of m) rest) is in (
       step_does once m input acts few b first here a.0 (omega (arith, fits)) (placed_front one more at')
           (λ x same. unit_stands once m input acts (x, here) (there (x, here) (inl (same, refl)))),
       all_do once m input acts few b rest (here + size_of one) a.1 (omega (arith, fits)) (placed_back one more at')
@@ -214,21 +218,23 @@ all_do once {program} m input acts few b (Y.StmtThen own first rest) index is fi
 pub main_ends :
     MarkedOnce → {program : Y.Program} (m : Main program) (input : List ℕ) (acts : ℕ) → acts + 1 < 2 ^ 64 →
     IsBegun (block_for m input acts) → BodyDoes (block_for m input acts) m.body (start_of m) left_over
-main_ends once {program} m input acts few b =
+main_ends once {program} m input acts few b p numbers f o there =
     let k = block_for m input acts in
+    let e = environment_for program m.head in
     let at = list_placed once m input acts in
     let first = b.acts in
-    changing_ends k m.body (start_of m) left_over
+    subst (λ flow. Comes k.call.code 0 f (services_of p) (body_aims k.call left_over) flow)
+    (all_means k.around acts m.body acts p.state refl)
+    (changing_ends k (list_of m) (start_of m) left_over
     (record {
       begun = b;
       linked = at.linked;
-      end = refl;
+      end = ap (λ c. start_of m + size_of c) (sym (all_code e m.body));
       function = refl;
       kind = refl;
       registers = omega arith;
       outers = refl;
       enough = omega (arith, first);
     })
-    (are_marked (links_for program) (linked_code (code_for program)) (start_of m) (environment_for program m.head)
-    m.body at)
-    (all_do once m input acts few b m.body (start_of m) m.steps (omega arith) at (λ e h. h))
+    (are_marked (links_for program) (linked_code (code_for program)) (start_of m) e (list_of m) at)
+    (all_do once m input acts few b (list_of m) (start_of m) m.steps (omega arith) at (λ e h. h)) p numbers f o there)

@@ -40,7 +40,8 @@ use Rattle.unit_runs.specs.Changing.{IsPast, Past}
 use Rattle.unit_runs.proofs.Changing.{begun_after}
 use Rattle.unit_runs.proofs.OwnRaises.{past_like}
 use Rattle.unit_numbers.specs.Calls.{called_scope, is_called_if, may_call}
-use Rattle.unit_numbers.proofs.Mains.{Main, block_for, free, level_of, main_begun, main_layer, surroundings_for}
+use Rattle.unit_numbers.proofs.Mains.{Main, block_for, free, level_of, list_of, main_begun, main_layer}
+use Rattle.unit_numbers.proofs.Mains.{surroundings_for}
 use Rattle.unit_numbers.proofs.Past.{alone_parent, made_same, main_alone, main_past, past_living, past_lower, past_same}
 
 -- ---- what a number finds
@@ -221,8 +222,8 @@ pub record Visit : Type 0 where
 pub record IsVisit {program : Y.Program} (m : Main program) (v : Visit) (more : ℕ) (past : Past) : Type 0 where
   pub few : suc more + 1 < 2 ^ 64
   pub begun : IsBegun (block_for m v.input (suc more))
-  pub known : IsPast (block_for m v.input (suc more)) m.body (body_for program m.head m.body) past
-  pub includes : Includes (labels_in m.body) v.labels
+  pub known : IsPast (block_for m v.input (suc more)) (list_of m) (body_for program m.head m.body) past
+  pub includes : Includes (labels_in (list_of m)) v.labels
   pub among : IsAmong (main_past m v.input (suc more) past) v.numbers v.point
 
 abbrev pub visit_callee :
@@ -234,7 +235,7 @@ pub visit_begun :
     {program : Y.Program} (m : Main program) (v : Visit) (more : ℕ) (past : Past) → IsVisit m v more past →
     IsBegun (main_past m v.input (suc more) past)
 visit_begun {program} m v more past h =
-    begun_after (block_for m v.input (suc more)) m.body (body_for program m.head m.body) past h.begun h.known
+    begun_after (block_for m v.input (suc more)) (list_of m) (body_for program m.head m.body) past h.begun h.known
 
 pub visit_all :
     {program : Y.Program} (m : Main program) {valued : Bool} {number : ℕ} (i : Inner m valued number) (v : Visit)

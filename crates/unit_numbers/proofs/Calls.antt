@@ -62,7 +62,7 @@ use Rattle.unit_numbers.proofs.Called.{Inner, IsVisit, Visit, inner_for, inner_i
 use Rattle.unit_numbers.proofs.Called.{visit_begun, visit_callee, visit_made}
 use Rattle.unit_numbers.proofs.Established.{InForce, error_system, in_force}
 use Rattle.unit_numbers.proofs.Past.{main_past}
-use Rattle.unit_numbers.proofs.Mains.{Main, block_for, most_for, run_for, start_for, surroundings_for}
+use Rattle.unit_numbers.proofs.Mains.{Main, block_for, list_of, most_for, run_for, start_for, surroundings_for}
 use Rattle.unit_numbers.proofs.Raises.{entry_low}
 use Rattle.unit_numbers.proofs.Visits.{visit_block, visit_divides, visit_number, visit_overflow, visit_system}
 
@@ -258,8 +258,8 @@ given_for {program} m i input more line past =
 call_by :
     MarkedOnce → {program : Y.Program} (m : Main program) {number : ℕ} (i : Inner m false number) (input : List ℕ)
     (more : ℕ) (past : Past) → suc more + 1 < 2 ^ 64 → IsBegun (block_for m input (suc more)) →
-    IsPast (block_for m input (suc more)) m.body (body_for program m.head m.body) past → (labels : List Label) →
-    Includes (labels_in m.body) labels → (line index : ℕ) → line < 2 ^ 31 →
+    IsPast (block_for m input (suc more)) (list_of m) (body_for program m.head m.body) past → (labels : List Label) →
+    Includes (labels_in (list_of m)) labels → (line index : ℕ) → line < 2 ^ 31 →
     Linked (links_for program) (linked_code (code_for program)) index
     (stmt_code (environment_for program m.head) none_taken
     (Y.CallProcedure (Y.Calling i.head.number m.head.level Y.NoArgument) line)) →
@@ -282,7 +282,7 @@ call_by once {program} m i input more past few b known labels includes line inde
     let visit : (p : Point) (numbers : ℕ → ℕ) → IsAmong k numbers p →
     IsVisit m (procedure_visit m i input labels call p numbers) more past =
     λ p numbers o. record { few = few; begun = b; known = known; includes = includes; among = o } in
-    let b' = begun_after (block_for m input (suc more)) m.body (body_for program m.head m.body) past b known in
+    let b' = begun_after (block_for m input (suc more)) (list_of m) (body_for program m.head m.body) past b known in
     let first = b'.acts in
     jump_call_does k labels c line index left_over more
     (record {
@@ -312,8 +312,9 @@ call_by once {program} m i input more past few b known labels includes line inde
 procedure_called :
     MarkedOnce → {program : Y.Program} (m : Main program) (input : List ℕ) (more : ℕ) (past : Past) →
     suc more + 1 < 2 ^ 64 → IsBegun (block_for m input (suc more)) →
-    IsPast (block_for m input (suc more)) m.body (body_for program m.head m.body) past → (labels : List Label) →
-    Includes (labels_in m.body) labels → (n line index : ℕ) → may_call program m.head false n ≡ true → line < 2 ^ 31 →
+    IsPast (block_for m input (suc more)) (list_of m) (body_for program m.head m.body) past → (labels : List Label) →
+    Includes (labels_in (list_of m)) labels → (n line index : ℕ) → may_call program m.head false n ≡ true →
+    line < 2 ^ 31 →
     Linked (links_for program) (linked_code (code_for program)) index
     (stmt_code (environment_for program m.head) none_taken (call_statement m.head.level n line)) →
     Does (main_past m input (suc more) past) labels (call_statement m.head.level n line) index left_over
@@ -375,8 +376,8 @@ function_home once {program} m i input labels call p numbers more past =
 call_value :
     MarkedOnce → {program : Y.Program} (m : Main program) {number : ℕ} (i : Inner m true number) (input : List ℕ)
     (more : ℕ) (past : Past) → suc more + 1 < 2 ^ 64 → IsBegun (block_for m input (suc more)) →
-    IsPast (block_for m input (suc more)) m.body (body_for program m.head m.body) past → (labels : List Label) →
-    Includes (labels_in m.body) labels → (line : ℕ) →
+    IsPast (block_for m input (suc more)) (list_of m) (body_for program m.head m.body) past → (labels : List Label) →
+    Includes (labels_in (list_of m)) labels → (line : ℕ) →
     L.Does (setting_of (main_past m input (suc more) past) labels line (most_for program)) 0
     (Y.NumberFrom (Y.Calling i.head.number m.head.level Y.NoArgument))
 call_value once {program} m i input more past few b known labels includes line =
@@ -388,7 +389,7 @@ call_value once {program} m i input more past few b known labels includes line =
     (site_for program i.head more 0) m.loadable i.is (omega (arith, level)) few in
     let inside = is.stands.inside in
     let low = entry_low (program_environment program) i.head.number program.procedures (procedures_index program) in
-    let b' = begun_after (block_for m input (suc more)) m.body (body_for program m.head m.body) past b known in
+    let b' = begun_after (block_for m input (suc more)) (list_of m) (body_for program m.head m.body) past b known in
     let first = b'.acts in
     let visit : (call : ℕ) (p : Point) (numbers : ℕ → ℕ) →
     IsAmong (main_past m input (suc more) past) numbers p →
@@ -425,8 +426,8 @@ call_value once {program} m i input more past few b known labels includes line =
 function_called :
     MarkedOnce → {program : Y.Program} (m : Main program) (input : List ℕ) (more : ℕ) (past : Past) →
     suc more + 1 < 2 ^ 64 → IsBegun (block_for m input (suc more)) →
-    IsPast (block_for m input (suc more)) m.body (body_for program m.head m.body) past → (labels : List Label) →
-    Includes (labels_in m.body) labels → (line n : ℕ) → may_call program m.head true n ≡ true →
+    IsPast (block_for m input (suc more)) (list_of m) (body_for program m.head m.body) past → (labels : List Label) →
+    Includes (labels_in (list_of m)) labels → (line n : ℕ) → may_call program m.head true n ≡ true →
     L.Does (setting_of (main_past m input (suc more) past) labels line (most_for program)) 0
     (call_number m.head.level n)
 function_called once {program} m input more past few b known labels includes line n h =
@@ -440,8 +441,8 @@ function_called once {program} m input more past few b known labels includes lin
 pub main_calls :
     MarkedOnce → {program : Y.Program} (m : Main program) (input : List ℕ) (more : ℕ) (past : Past) →
     suc more + 1 < 2 ^ 64 → IsBegun (block_for m input (suc more)) →
-    IsPast (block_for m input (suc more)) m.body (body_for program m.head m.body) past →
-    KnowsCalls (own_scope program m.head) (main_past m input (suc more) past) (labels_in m.body) (most_for program)
+    IsPast (block_for m input (suc more)) (list_of m) (body_for program m.head m.body) past →
+    KnowsCalls (own_scope program m.head) (main_past m input (suc more) past) (labels_in (list_of m)) (most_for program)
     left_over
 main_calls once {program} m input more past few b known =
     let k = main_past m input (suc more) past in

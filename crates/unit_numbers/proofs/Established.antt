@@ -10,7 +10,9 @@ use Rattle.pli_meaning.specs.Executing.{labels_in}
 use Rattle.pli_meaning.specs.StorageState.{BlockUnit, force, same_condition}
 use Rattle.code_marks.specs.CodeMarks.{MarkedOnce}
 use Rattle.activation_relation.specs.ServiceLaws.{IsSystem}
-use Rattle.program_places.specs.Programs.{body_for, environment_for}
+use Rattle.pli_coding.specs.Images.{linked_code}
+use Rattle.program_places.specs.Placed.{Placed}
+use Rattle.program_places.specs.Programs.{body_for, code_for, environment_for, links_for}
 use Rattle.program_places.proofs.Procedures.{body_placed}
 use Rattle.program_places.proofs.Starts.{main_found}
 use Rattle.program_runs.specs.Starts.{image_parts}
@@ -23,7 +25,8 @@ use Rattle.unit_runs.specs.Establishing.{OnUnit, unit_of}
 use Rattle.unit_runs.proofs.Establishing.{unit_forced}
 use Rattle.unit_numbers.specs.Units.{has_unit}
 use Rattle.unit_numbers.proofs.Forces.{Forced, forced_still, same_is, system_still}
-use Rattle.unit_numbers.proofs.Mains.{Main, block_for, placed, units_for}
+use Rattle.unit_numbers.proofs.Mains.{Main, block_for, list_of, placed, units_for}
+use Rattle.unit_numbers.proofs.Spread.{all_code}
 use Rattle.unit_numbers.proofs.Past.{main_past}
 use Rattle.unit_numbers.proofs.Places.{IsPlaced, on_placed, unit_listed}
 use Rattle.unit_numbers.proofs.Units.{not_error, unit_is}
@@ -32,7 +35,7 @@ use Rattle.unit_numbers.proofs.Units.{not_error, unit_is}
 abbrev pub IsUnitOf : {program : Y.Program} → Main program → (input : List ℕ) → (acts : ℕ) → OnUnit → (index : ℕ) →
     Type 0
 IsUnitOf {program} m input acts x index =
-    IsPlaced program m.head m.body (block_for m input acts) (units_for m) (body_for program m.head m.body) x
+    IsPlaced program m.head (list_of m) (block_for m input acts) (units_for m) (body_for program m.head m.body) x
     index
 
 abbrev pub start_of : {program : Y.Program} → Main program → ℕ
@@ -40,15 +43,17 @@ start_of {program} m = body_for program m.head m.body
 
 pub list_placed :
     MarkedOnce → {program : Y.Program} (m : Main program) (input : List ℕ) (acts : ℕ) →
-    AreStanding (block_for m input acts) m.body (start_of m)
+    AreStanding (block_for m input acts) (list_of m) (start_of m)
 list_placed once {program} m input acts =
-    body_placed once program m.head m.body None m.loadable (main_found program (placed m) m.main)
+    subst (λ c. Placed (links_for program) (linked_code (code_for program)) (start_of m) c)
+    (sym (all_code (environment_for program m.head) m.body))
+    (body_placed once program m.head m.body None m.loadable (main_found program (placed m) m.main))
 
 pub unit_stands :
     MarkedOnce → {program : Y.Program} (m : Main program) (input : List ℕ) (acts : ℕ) (e : OnUnit × ℕ) →
-    StandsIn (block_for m input acts) m.body (start_of m) e → IsUnitOf m input acts e.0 e.1
+    StandsIn (block_for m input acts) (list_of m) (start_of m) e → IsUnitOf m input acts e.0 e.1
 unit_stands once {program} m input acts e there =
-    on_placed program m.head m.body (block_for m input acts) m.body (start_of m) e m.steps
+    on_placed program m.head (list_of m) (block_for m input acts) (list_of m) (start_of m) e m.steps
     (list_placed once m input acts) there
 
 -- ---- the unit in force for a condition: the last one for it that the main procedure has established
@@ -58,7 +63,7 @@ pub record Newest {program : Y.Program} (m : Main program) (input : List ℕ) (a
   where
     pub unit : OnUnit
     pub index : ℕ
-    pub stands : StandsIn (block_for m input acts) m.body (start_of m) (unit, index)
+    pub stands : StandsIn (block_for m input acts) (list_of m) (start_of m) (unit, index)
     pub placed : IsUnitOf m input acts unit index
     pub condition : unit.condition ≡ c
     pub forced : Forced (force (main_past m input acts past).first.state.activations c) unit
@@ -70,7 +75,7 @@ InForce m input acts past c =
 
 pub in_force :
     MarkedOnce → {program : Y.Program} (m : Main program) (input : List ℕ) (acts : ℕ) (past : Past) →
-    IsPast (block_for m input acts) m.body (start_of m) past → (c : Condition) → InForce m input acts past c
+    IsPast (block_for m input acts) (list_of m) (start_of m) past → (c : Condition) → InForce m input acts past c
 in_force once {program} m input acts [] known c =
     inl (made_system image_parts _ (words_in (environment_for program m.head)) _ c tt)
 in_force once {program} m input acts (e ∷ past) known c =
@@ -114,7 +119,7 @@ in_force once {program} m input acts (e ∷ past) known c =
 -- none is for ERROR
 pub error_system :
     MarkedOnce → {program : Y.Program} (m : Main program) (input : List ℕ) (acts : ℕ) (past : Past) →
-    IsPast (block_for m input acts) m.body (start_of m) past →
+    IsPast (block_for m input acts) (list_of m) (start_of m) past →
     IsSystem (force (main_past m input acts past).first.state.activations C.Error)
 error_system once {program} m input acts past known = by (in_force once m input acts past known C.Error)
   where
@@ -123,18 +128,19 @@ error_system once {program} m input acts past known = by (in_force once m input 
         IsSystem (force (main_past m input acts past).first.state.activations C.Error)
     by (inl system) = system
     by (inr n) =
-        absurd (not_error n.condition (unit_is program m.head m.body n.unit n.placed.is).condition)
+        absurd (not_error n.condition (unit_is program m.head (list_of m) n.unit n.placed.is).condition)
 
 -- nor for a condition for which the list has none
 pub none_system :
     MarkedOnce → {program : Y.Program} (m : Main program) (input : List ℕ) (acts : ℕ) (past : Past) →
-    IsPast (block_for m input acts) m.body (start_of m) past → (c : Condition) → not (has_unit c m.body) ≡ true →
+    IsPast (block_for m input acts) (list_of m) (start_of m) past → (c : Condition) →
+    not (has_unit c (list_of m)) ≡ true →
     IsSystem (force (main_past m input acts past).first.state.activations c)
 none_system once {program} m input acts past known c none = by (in_force once m input acts past known c)
   where
     by : InForce m input acts past c → IsSystem (force (main_past m input acts past).first.state.activations c)
     by (inl system) = system
     by (inr n) =
-        let listed = unit_listed (block_for m input acts) m.body (start_of m) (n.unit, n.index) n.stands in
-        let there = subst (λ d. has_unit d m.body ≡ true) n.condition listed in
+        let listed = unit_listed (block_for m input acts) (list_of m) (start_of m) (n.unit, n.index) n.stands in
+        let there = subst (λ d. has_unit d (list_of m) ≡ true) n.condition listed in
         absurd (cc (sym (ap not there) ∙ none))

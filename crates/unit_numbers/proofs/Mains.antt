@@ -3,17 +3,19 @@ use Rattle.std.proofs.Common.{◌≡◌, ℕ, ◌+◌, ◌*◌, ◌≤◌, List,
 use Rattle.std.proofs.Common.{length, refl, sym, ap, ◌∙◌, subst, arith}
 use Rattle.std.specs.Prelude.{◌&&◌, ◌==◌, ◌||◌, Bool, nat_le}
 use Rattle.std.proofs.lemmas.Bool.{and_parts, eqb-true, leb-true}
+use Rattle.pli_language.specs.declared.condition.Condition.{Condition}
 use Rattle.pli_typing.specs.TypedTree as Y
 use Rattle.pli_meaning.specs.BasicValues.{VariableName}
 use Rattle.pli_meaning.specs.DeclaredShapes.{declared_variable, head_of, variables_of_block}
 use Rattle.pli_meaning.specs.Executing.{labels_in}
 use Rattle.pli_meaning.specs.Making.{with_binding}
-use Rattle.pli_meaning.specs.StorageState.{Activation, Binding}
+use Rattle.pli_meaning.specs.StorageState.{Activation, Binding, OnUnit}
 use Rattle.pli_coding.specs.Frames.{fixed_size, parameters_in}
 use Rattle.pli_coding.specs.Images.{linked_code, place_of_head}
 use Rattle.pli_coding.specs.Locating.{table_number}
 use Rattle.pli_coding.specs.Registers.{held_registers}
-use Rattle.pli_coding.specs.Statements.{block_held}
+use Rattle.pli_coding.specs.Environments.{none_taken}
+use Rattle.pli_coding.specs.Statements.{block_held, stmts_take}
 use Rattle.activation_relation.specs.Chains.{HasParent, UnitPlaces}
 use Rattle.activation_relation.specs.Layers.{Layer, Point}
 use Rattle.activation_relation.specs.Points.{Surroundings}
@@ -34,6 +36,7 @@ use Rattle.well_formed_trees.specs.WellFormed.{HasMain}
 use Rattle.number_runs.specs.Numbers.{has_none, is_known, is_place, is_plain_if}
 use Rattle.number_runs.specs.Statements.{statements_need}
 use Rattle.number_runs.specs.Variables.{HasWords, HaveRoom, IsOwnWord, words_in}
+use Rattle.number_runs.proofs.Takes.{Takes}
 use Rattle.number_runs.proofs.Words.{all_words, own_word, room_behind, room_fewer}
 use Rattle.number_headlines.specs.Programs.{are_all_plain, body_of, has_result, most_words}
 use Rattle.number_headlines.proofs.Mains.{made_for, procedure_is, spare}
@@ -41,6 +44,8 @@ use Rattle.number_headlines.proofs.Tables.{block_plain, has_table}
 use Rattle.unit_numbers.specs.Programs.{are_apart, are_steps, has_unit_main, is_unit_body}
 use Rattle.unit_numbers.specs.Units.{own_scope}
 use Rattle.unit_numbers.proofs.Places.{units_of}
+use Rattle.unit_numbers.specs.Groups.{spread_all}
+use Rattle.unit_numbers.proofs.Spread.{all_takes}
 use Rattle.unit_numbers.proofs.Takes.{behind_variables, steps_taken}
 
 -- its program, with what the class says of it
@@ -51,9 +56,13 @@ pub record Main (program : Y.Program) : Type 0 where
   pub main : IsMain program (record { head = head; body = body; others = others })
   pub plain : are_all_plain program.variables ≡ true
   pub loadable : IsLoadable program
-  pub steps : are_steps program head body body ≡ true
-  pub apart : are_apart body ≡ true
-  pub fits : statements_need body ≤ held_registers
+  pub steps : are_steps program head (spread_all body) (spread_all body) ≡ true
+  pub apart : are_apart (spread_all body) ≡ true
+  pub fits : statements_need (spread_all body) ≤ held_registers
+
+-- its list, in which groups with ON stand for their statements
+abbrev pub list_of : {program : Y.Program} → Main program → Y.Stmts
+list_of m = spread_all m.body
 
 -- as it is placed
 abbrev pub placed : {program : Y.Program} → Main program → Placed.Main
@@ -66,12 +75,13 @@ main_is program [] e plain load h = absurd (cc h)
 main_is program (p ∷ ps) e plain load h =
     let head = head_of p.block in
     let body = body_of p.block in
-    let inner = is_unit_body program head body in
-    let fits = nat_le (statements_need body) held_registers in
+    let list' = spread_all body in
+    let inner = is_unit_body program head list' in
+    let fits = nat_le (statements_need list') held_registers in
     let a = and_parts (has_none p.parameters) (has_result false p.result && inner) h in
     let b = and_parts (has_result false p.result) inner a.1 in
-    let c = and_parts (are_steps program head body body) (are_apart body && fits) b.1 in
-    let d = and_parts (are_apart body) fits c.1 in
+    let c = and_parts (are_steps program head list' list') (are_apart list' && fits) b.1 in
+    let d = and_parts (are_apart list') fits c.1 in
     record {
       head = head;
       body = body;
@@ -81,14 +91,14 @@ main_is program (p ∷ ps) e plain load h =
       loadable = load;
       steps = c.0;
       apart = d.0;
-      fits = leb-true (statements_need body) held_registers d.1;
+      fits = leb-true (statements_need list') held_registers d.1;
     }
 
 -- ---- in a run
 
 -- with the units of its main procedure
 abbrev pub units_for : {program : Y.Program} → Main program → UnitPlaces
-units_for {program} m = units_of (environment_for program m.head) m.body (body_for program m.head m.body)
+units_for {program} m = units_of (environment_for program m.head) (list_of m) (body_for program m.head m.body)
 
 abbrev pub run_for : {program : Y.Program} → Main program → (input : List ℕ) → (acts : ℕ) → Run
 run_for m input acts = record { units = units_for m; input = input; acts = acts; serials = most_words }
@@ -106,21 +116,34 @@ main_for {program} m input acts =
 pub level_of : {program : Y.Program} (m : Main program) → m.head.level ≡ 0
 level_of {program} m = (subst HasMain m.main m.loadable.well_formed.main).0
 
+-- what its temporaries take
+list_takes :
+    {program : Y.Program} (m : Main program) →
+    Takes (statements_need (list_of m)) none_taken (stmts_take none_taken m.body)
+list_takes {program} m =
+    let x = steps_taken program m.head (list_of m) (list_of m) m.steps m.fits in
+    let y = all_takes m.body in
+    let p = x.registers in
+    let q = y.registers in
+    let u = x.words in
+    let v = y.words in
+    record { registers = omega (arith, p, q); words = omega (arith, u, v) }
+
 no_words : {program : Y.Program} (m : Main program) → (procedure_for program m.head m.body).words ≡ 0
 no_words {program} m =
     let plain = block_plain program.variables m.head.number m.plain in
-    (behind_variables (own_scope program m.head) program m.head.number (statements_need m.body) m.body
-    plain.0 (steps_taken program m.head m.body m.body m.steps m.fits)).words
+    (behind_variables (own_scope program m.head) program m.head.number (statements_need (list_of m)) m.body
+    plain.0 (list_takes m)).words
 
 -- it saves as many registers as they take
 pub main_held :
     {program : Y.Program} (m : Main program) →
-    statements_need m.body ≤ block_held (environment_for program m.head) m.head.number m.body
+    statements_need (list_of m) ≤ block_held (environment_for program m.head) m.head.number m.body
 main_held {program} m =
     let plain = block_plain program.variables m.head.number m.plain in
     let s = own_scope program m.head in
-    let n = (behind_variables s program m.head.number (statements_need m.body) m.body plain.0
-    (steps_taken program m.head m.body m.body m.steps m.fits)).registers in
+    let n = (behind_variables s program m.head.number (statements_need (list_of m)) m.body plain.0
+    (list_takes m)).registers in
     let fits = m.fits in
     omega (arith, n, fits)
 
@@ -252,35 +275,36 @@ main_number {program} m input acts x own b =
 
 -- ---- where units are raised in it
 
--- the one activation, with the variables that it has by then
-abbrev pub lone : (level : ℕ) → List Binding → List Activation
-lone level bindings =
-    record { height = 1; level = level; parent = 0; oncode = 0; bindings = bindings; units = [] } ∷ []
+-- the one activation, with the variables and the units that it has by then
+abbrev pub alone : (level : ℕ) → List Binding → List (Condition × OnUnit) → List Activation
+alone level bindings units =
+    record { height = 1; level = level; parent = 0; oncode = 0; bindings = bindings; units = units } ∷ []
 
-pub record Lone (level : ℕ) (as' : List Activation) : Type 0 where
+pub record Alone (level : ℕ) (as' : List Activation) : Type 0 where
   pub bindings : List Binding
-  pub is : as' ≡ lone level bindings
+  pub units : List (Condition × OnUnit)
+  pub is : as' ≡ alone level bindings units
 
-made_lone :
-    (level : ℕ) (φ : Layer) (xs : List Declared) (p : Point) → Lone level p.state.activations →
-    Lone level (all_made image_parts φ xs p).state.activations
-made_lone level φ [] p h = h
-made_lone level φ (x ∷ xs) p h =
+made_alone :
+    (level : ℕ) (φ : Layer) (xs : List Declared) (p : Point) → Alone level p.state.activations →
+    Alone level (all_made image_parts φ xs p).state.activations
+made_alone level φ [] p h = h
+made_alone level φ (x ∷ xs) p h =
     let b : Binding = record {
       variable = x.index;
       name = VariableName (p.state.serials + 1);
       shape = (generation_for x).shape;
     } in
-    made_lone level (layer_behind image_parts (p.state.serials + 1) φ x) xs (behind_made image_parts φ x p)
-    (record { bindings = b ∷ h.bindings; is = ap (λ as'. with_binding b as') h.is })
+    made_alone level (layer_behind image_parts (p.state.serials + 1) φ x) xs (behind_made image_parts φ x p)
+    (record { bindings = b ∷ h.bindings; units = h.units; is = ap (λ as'. with_binding b as') h.is })
 
-pub main_lone :
+pub first_alone :
     {program : Y.Program} (m : Main program) (input : List ℕ) (acts : ℕ) →
-    Lone m.head.level (block_for m input acts).first.state.activations
-main_lone {program} m input acts =
-    made_lone m.head.level (main_layer m input acts) (words_in (environment_for program m.head))
+    Alone m.head.level (block_for m input acts).first.state.activations
+first_alone {program} m input acts =
+    made_alone m.head.level (main_layer m input acts) (words_in (environment_for program m.head))
     (main_begun m input acts)
-    (record { bindings = []; is = refl })
+    (record { bindings = []; units = []; is = refl })
 
 -- the layer behind its variables, with what stays free
 abbrev pub layer_behind_all : {program : Y.Program} → Main program → (input : List ℕ) → (acts : ℕ) → Layer

@@ -1,15 +1,16 @@
 -- What a jump out of a unit finds of the main procedure: its stacks, its frame's end and the registers that it saves.
 use Rattle.std.proofs.Common.{◌≡◌, ℕ, ◌+◌, ◌*◌, ◌≤◌, List, [], ◌∷◌, length}
-use Rattle.std.proofs.Common.{true, refl, ap, ◌∙◌, arith}
+use Rattle.std.proofs.Common.{true, refl, ap, ◌∙◌, subst, arith}
 use Rattle.std.specs.Prelude.{min}
 use Rattle.std.proofs.Common.{Some, None}
 use Rattle.std.specs.Prelude.{cond}
 use Rattle.std.proofs.lemmas.Bool.{and_parts, eq-eqb}
+use Rattle.pli_language.specs.declared.condition.Condition.{Condition}
 use Rattle.pli_typing.specs.TypedTree as Y
 use Rattle.pli_meaning.specs.Control.{Label, is_among}
 use Rattle.pli_meaning.specs.DeclaredShapes.{variables_of_block}
 use Rattle.pli_meaning.specs.Executing.{labels_in}
-use Rattle.pli_meaning.specs.StorageState.{Activation, Binding, ancestor, height_of, newest_height}
+use Rattle.pli_meaning.specs.StorageState.{Activation, Binding, OnUnit, ancestor, height_of, newest_height}
 use Rattle.pli_coding.specs.Frames.{MemoryParts, fixed_size, frame_bytes, frame_end, last_place, parameters_of_block}
 use Rattle.pli_coding.specs.Frames.{variable_place}
 use Rattle.pli_coding.specs.Registers.{held_registers}
@@ -24,17 +25,18 @@ use Rattle.number_runs.specs.Numbers.{is_plain}
 use Rattle.number_runs.specs.Variables.{are_plain}
 use Rattle.number_runs.proofs.Variables.{plain_is}
 use Rattle.number_headlines.proofs.Tables.{block_plain}
-use Rattle.unit_numbers.proofs.Mains.{Main, block_for, free, lone, main_spare, main_words}
+use Rattle.unit_numbers.proofs.Mains.{Main, alone, block_for, free, list_of, main_spare, main_words}
+use Rattle.unit_numbers.proofs.Spread.{all_labels}
 
 -- ---- its activation
 
-pub lone_own :
-    (level : ℕ) (bs : List Binding) →
-    height_of (ancestor (lone level bs) (newest_height (lone level bs)) level) ≡ 1
-lone_own level bs = ap (λ q. height_of (cond q (Some one) None)) (eq-eqb level level refl)
+pub alone_own :
+    (level : ℕ) (bs : List Binding) (us : List (Condition × OnUnit)) →
+    height_of (ancestor (alone level bs us) (newest_height (alone level bs us)) level) ≡ 1
+alone_own level bs us = ap (λ q. height_of (cond q (Some one) None)) (eq-eqb level level refl)
   where
     one : Activation
-    one = record { height = 1; level = level; parent = 0; oncode = 0; bindings = bs; units = [] }
+    one = record { height = 1; level = level; parent = 0; oncode = 0; bindings = bs; units = us }
 
 -- ---- stacks, while variables are made
 
@@ -96,6 +98,8 @@ labels_saved program label (Y.StmtThen [] first rest) e =
 labels_saved program label (Y.StmtThen (l ∷ ls) first rest) e = omega arith
 
 pub main_saves :
-    {program : Y.Program} (m : Main program) (label : Label) → is_among label (labels_in m.body) ≡ true →
+    {program : Y.Program} (m : Main program) (label : Label) → is_among label (labels_in (list_of m)) ≡ true →
     held_registers ≤ block_held (environment_for program m.head) m.head.number m.body
-main_saves {program} m label e = let h = labels_saved program label m.body e in omega (arith, h)
+main_saves {program} m label e =
+    let h = labels_saved program label m.body (subst (λ ls. is_among label ls ≡ true) (all_labels m.body) e) in
+    omega (arith, h)

@@ -4,7 +4,7 @@ use Rattle.std.proofs.Common.{◌≡◌, ℕ, ◌+◌, List, [], ◌∷◌, refl
 use Rattle.pli_language.specs.declared.condition.Condition.{Condition}
 use Rattle.pli_typing.specs.TypedTree as Y
 use Rattle.pli_meaning.specs.StorageState as M
-use Rattle.pli_meaning.specs.StorageState.{Activation, Binding, BlockUnit, OnUnit, ancestor, height_of, without_unit}
+use Rattle.pli_meaning.specs.StorageState.{Binding, BlockUnit, OnUnit, ancestor, height_of, without_unit}
 use Rattle.pli_serving.specs.ServiceState as S
 use Rattle.activation_relation.specs.Changes.{newest_with}
 use Rattle.activation_relation.specs.Frames.{lower_end}
@@ -15,7 +15,7 @@ use Rattle.program_runs.specs.Variables.{Declared}
 use Rattle.variable_runs.specs.Lists.{all_made, behind_made, layer_behind}
 use Rattle.unit_runs.specs.Changing.{Past, after, past_point}
 use Rattle.unit_runs.specs.Establishing.{unit_of}
-use Rattle.unit_numbers.proofs.Mains.{Main, block_for, main_lone}
+use Rattle.unit_numbers.proofs.Mains.{Alone, Main, alone, block_for, first_alone}
 
 -- what variables and units leave as it was
 pub record Same (p q : Point) : Type 0 where
@@ -52,16 +52,6 @@ pub past_lower :
 past_lower [] p = refl
 past_lower (e ∷ past) p = lower_same _ (past_point past p).control.layers ∙ past_lower past p
 
--- the one activation, with the variables and the units that it has by then
-abbrev pub alone : (level : ℕ) → List Binding → List (Condition × OnUnit) → List Activation
-alone level bindings units =
-    record { height = 1; level = level; parent = 0; oncode = 0; bindings = bindings; units = units } ∷ []
-
-pub record Alone (level : ℕ) (as' : List Activation) : Type 0 where
-  pub bindings : List Binding
-  pub units : List (Condition × OnUnit)
-  pub is : as' ≡ alone level bindings units
-
 past_alone :
     (level : ℕ) (past : Past) (p : Point) → Alone level p.state.activations →
     Alone level (past_point past p).state.activations
@@ -82,10 +72,8 @@ main_past m input acts past = after (block_for m input acts) past
 pub main_alone :
     {program : Y.Program} (m : Main program) (input : List ℕ) (acts : ℕ) (past : Past) →
     Alone m.head.level (main_past m input acts past).first.state.activations
-main_alone {program} m input acts past =
-    let one = main_lone m input acts in
-    past_alone m.head.level past (block_for m input acts).first
-    (record { bindings = one.bindings; units = []; is = one.is })
+main_alone m input acts past =
+    past_alone m.head.level past (block_for m input acts).first (first_alone m input acts)
 
 pub alone_parent :
     (level : ℕ) (bs : List Binding) (us : List (Condition × OnUnit)) → level ≡ 0 →

@@ -28,13 +28,12 @@ use Rattle.function_runs.proofs.OuterVariables.{same_ancestor}
 use Rattle.std.proofs.lemmas.Bool.{and_parts, eqb-true}
 use Rattle.std.proofs.Common.{None, Some}
 use Rattle.program_places.proofs.Outermost.{outermost_block}
-use Rattle.program_places.proofs.Starts.{main_found}
 use Rattle.program_places.specs.Inner.{standing_for}
 use Rattle.program_places.specs.Programs.{body_for, code_for, entry_among, environment_for, links_for}
 use Rattle.program_places.specs.Programs.{procedures_index, program_environment}
 use Rattle.program_places.proofs.Inner.{unit_list_placed, unit_placed}
 use Rattle.program_places.proofs.Labels.{are_marked, label_of}
-use Rattle.program_places.proofs.Procedures.{body_placed, raise_routines}
+use Rattle.program_places.proofs.Procedures.{raise_routines}
 use Rattle.program_runs.specs.Calls.{left_over}
 use Rattle.program_runs.specs.Starts.{image_parts}
 use Rattle.program_runs.specs.Statements.{Block, Does, IsBegun, Outer, as_outer, outer_block, own_height}
@@ -60,11 +59,11 @@ use Rattle.unit_runs.proofs.OwnRaises.{past_like, past_numbers}
 use Rattle.unit_runs.proofs.UnitRuns.{overflow_returns}
 use Rattle.unit_runs.proofs.UnitVariables.{none_made, outer_number, unit_over}
 use Rattle.unit_numbers.specs.Units.{own_scope, unit_scope}
-use Rattle.unit_numbers.proofs.Mains.{Main, block_for, free, level_of, main_lone, main_number, most_for, own_known}
-use Rattle.unit_numbers.proofs.Mains.{Lone, main_begun, main_layer, placed, surroundings_for}
-use Rattle.unit_numbers.proofs.Outer.{lone_own, made_stacks, main_saves, main_top}
+use Rattle.unit_numbers.proofs.Mains.{Alone, Main, block_for, first_alone, free, level_of, list_of, main_begun}
+use Rattle.unit_numbers.proofs.Mains.{main_layer, main_number, most_for, own_known, placed, surroundings_for}
+use Rattle.unit_numbers.proofs.Outer.{alone_own, made_stacks, main_saves, main_top}
 use Rattle.unit_numbers.proofs.Divides.{divide_returns}
-use Rattle.unit_numbers.proofs.Established.{IsUnitOf, Newest, error_system, none_system}
+use Rattle.unit_numbers.proofs.Established.{IsUnitOf, Newest, error_system, list_placed, none_system}
 use Rattle.unit_numbers.proofs.Past.{alone_parent, main_alone, main_past, past_lower}
 use Rattle.unit_numbers.proofs.Places.{one_place}
 use Rattle.unit_numbers.proofs.Takes.{unit_taken}
@@ -81,10 +80,10 @@ unit_at {program} m more x index =
 
 -- its temporaries fit registers
 pub taken_by :
-    {program : Y.Program} (m : Main program) (x : OnUnit) → Unit' program m.head m.body x →
+    {program : Y.Program} (m : Main program) (x : OnUnit) → Unit' program m.head (list_of m) x →
     Takes (statements_need x.body) none_taken (unit_takes program x.head x.head.kind x.body)
 taken_by {program} m x u =
-    let s = unit_scope program m.head m.body in
+    let s = unit_scope program m.head (list_of m) in
     let plain = block_plain program.variables x.head.number m.plain in
     unit_taken s program x.head x.head.kind (statements_need x.body) x.body plain.0
     (statements_taken s false (labels_in x.body ++ []) x.body u.statements u.fits)
@@ -117,7 +116,7 @@ own_raise once {program} m input more few b x index h =
     let code = linked_code (code_for program) in
     let around = around_for program more in
     let y = unit_at m more x index in
-    let u = unit_is program m.head m.body x h.is in
+    let u = unit_is program m.head (list_of m) x h.is in
     let words = (taken_by m x u).words in
     let level = u.level in
     let outer = level_of m in
@@ -125,7 +124,7 @@ own_raise once {program} m input more few b x index h =
     let fits = f.fits in
     let top = ap (λ ls. upper_top image_parts ls) f.newest in
     let lower = ap (λ ls. lower_end image_parts ls) f.newest in
-    let one = main_lone m input (suc more) in
+    let one = first_alone m input (suc more) in
     let stands = unit_placed links code index e x around (λ q. q) h.placed in
     let inside = stands.linked.inside in
     let behind = h.behind in
@@ -135,7 +134,7 @@ own_raise once {program} m input more few b x index h =
       routines = raise_routines once program m.loadable;
       room = omega (arith, words, level, outer, fits, top, lower);
       shallow = ap (λ (as' : List Activation). nat_lt (length as') most_activations) one.is;
-      only = λ at there. one_place e m.body (body_for program m.head m.body) (Y.BlockOf x.head x.body) at
+      only = λ at there. one_place e (list_of m) (body_for program m.head m.body) (Y.BlockOf x.head x.body) at
           (4 * unit_index x index) m.apart there h.stands;
       some = omega arith;
       stands = stands.linked;
@@ -198,8 +197,8 @@ scene_inner m z r = unit_block (scene_setting m z) (scene_unit m z) r
 pub record IsScene {program : Y.Program} (m : Main program) (z : Scene) : Type 0 where
   pub few : z.acts + 1 < 2 ^ 64
   pub begun : IsBegun (block_for m z.input z.acts)
-  pub known : IsPast (block_for m z.input z.acts) m.body (body_for program m.head m.body) z.past
-  pub includes : Includes (labels_in m.body) z.carried
+  pub known : IsPast (block_for m z.input z.acts) (list_of m) (body_for program m.head m.body) z.past
+  pub includes : Includes (labels_in (list_of m)) z.carried
   pub placed : IsUnitOf m z.input z.acts z.unit z.index
   pub raised : IsRaised (scene_setting m z) (scene_unit m z) z.more
   pub behind : ℕ
@@ -226,7 +225,7 @@ scene_far :
     MarkedOnce → {program : Y.Program} (m : Main program) (z : Scene) (s : IsScene m z) (r : Raise) →
     IsRaiseOf (scene_setting m z) (scene_unit m z) z.more s.raised r →
     AreMade (scene_setting m z) (scene_unit m z) r → IsBegun (scene_inner m z r) → (label : Label) →
-    is_among label (labels_in m.body) ≡ true → (ls : List Label) (at index : ℕ) → at < 2 ^ 31 →
+    is_among label (labels_in (list_of m)) ≡ true → (ls : List Label) (at index : ℕ) → at < 2 ^ 31 →
     Linked (links_for program) (linked_code (code_for program)) index
     (stmt_code (unit_environment z.unit.head (environment_for program m.head)) none_taken
     (Y.Goto m.head.level label at)) →
@@ -234,14 +233,13 @@ scene_far :
 scene_far once {program} m z s r is made b label among ls at index less l =
     let k0 = block_for m z.input z.acts in
     let e = environment_for program m.head in
-    let u = unit_is program m.head m.body z.unit s.placed.is in
+    let u = unit_is program m.head (list_of m) z.unit s.placed.is in
     let outer = level_of m in
     let level = u.level in
     let like = past_like k0 z.past in
     let same = made_stacks (main_layer m z.input z.acts) (words_in e) (main_begun m z.input z.acts) in
     let there = label_of (links_for program) (linked_code (code_for program)) (body_for program m.head m.body) e
-    none_taken m.body (body_placed once program m.head m.body None m.loadable (main_found program (placed m) m.main))
-    label among in
+    none_taken (list_of m) (list_placed once m z.input z.acts) label among in
     let top = main_top m z.input z.acts in
     let around = outermost_block program (placed m) (unit_environment z.unit.head e) m.loadable.well_formed m.main refl
     u.later in
@@ -283,7 +281,7 @@ scene_far once {program} m z s r is made b label among ls at index less l =
 scene_raises :
     MarkedOnce → {program : Y.Program} (m : Main program) (z : Scene) (s : IsScene m z) (r : Raise) →
     IsRaiseOf (scene_setting m z) (scene_unit m z) z.more s.raised r → (own : List Label) →
-    KnowsRaises (unit_scope program m.head m.body) (scene_inner m z r) own (most_for program)
+    KnowsRaises (unit_scope program m.head (list_of m)) (scene_inner m z r) own (most_for program)
 scene_raises once {program} m z s r is own =
     let routines = raise_routines once program m.loadable in
     let inside = routines.linked.inside in
@@ -315,7 +313,7 @@ scene_ready :
     MarkedOnce → {program : Y.Program} (m : Main program) (z : Scene) (s : IsScene m z) (r : Raise) →
     IsRaiseOf (scene_setting m z) (scene_unit m z) z.more s.raised r →
     AreMade (scene_setting m z) (scene_unit m z) r → IsBegun (scene_inner m z r) →
-    IsReady (unit_scope program m.head m.body) false (scene_inner m z r) (labels_in z.unit.body ++ [])
+    IsReady (unit_scope program m.head (list_of m)) false (scene_inner m z r) (labels_in z.unit.body ++ [])
     (most_for program) left_over
 scene_ready once {program} m z s r is made b =
     let enough = s.raised.enough in
@@ -333,7 +331,7 @@ scene_ready once {program} m z s r is made b =
       };
       puts = λ e. absurd (cc e);
       jumps = λ ls level label at index inside out less.
-          let a = and_parts (level == m.head.level) (is_among label (labels_in m.body)) out in
+          let a = and_parts (level == m.head.level) (is_among label (labels_in (list_of m))) out in
           subst (λ n. Linked (links_for program) (linked_code (code_for program)) index
           (stmt_code (unit_environment z.unit.head (environment_for program m.head)) none_taken (Y.Goto n label at)) →
           Does (scene_inner m z r) ls (Y.Goto n label at) index left_over) (sym (eqb-true level m.head.level a.0))
@@ -350,14 +348,14 @@ scene_does once {program} m z s r is =
     let e = environment_for program m.head in
     let y = scene_unit m z in
     let x = z.unit in
-    let u = unit_is program m.head m.body x s.placed.is in
+    let u = unit_is program m.head (list_of m) x s.placed.is in
     let made = none_made k y r (record { kind = u.bare; code = none_coded program e x.head refl u.bare; made = refl })
     in
     let n = (taken_by m x u).registers in
     let fits = u.fits in (
       made,
       λ b.
-          body_does (unit_scope program m.head m.body) false (scene_inner m z r) x.body (list_index y)
+          body_does (unit_scope program m.head (list_of m)) false (scene_inner m z r) x.body (list_index y)
           (most_for program) left_over (scene_ready once m z s r is made b) u.statements (omega (arith, n, fits))
           (unit_list_placed (links_for program) (linked_code (code_for program)) z.index e x
           (around_for program z.more) (λ q. q) s.placed.placed),
@@ -387,17 +385,17 @@ past_setting {program} m input acts past labels line =
 main_raised :
     MarkedOnce → {program : Y.Program} (m : Main program) (input : List ℕ) (more : ℕ) (past : Past)
     (labels : List Label) (line : ℕ) {c : Condition} → suc more + 1 < 2 ^ 64 → IsBegun (block_for m input (suc more)) →
-    IsPast (block_for m input (suc more)) m.body (body_for program m.head m.body) past →
+    IsPast (block_for m input (suc more)) (list_of m) (body_for program m.head m.body) past →
     (n : Newest m input (suc more) past c) →
     (h : IsRaised (past_setting m input (suc more) past labels line) (unit_at m more n.unit n.index) more)
     × (h.by.height ≡ 1)
 main_raised once {program} m input more past labels line few b known n =
     let k0 = block_for m input (suc more) in
     let k = main_past m input (suc more) past in
-    let u = unit_is program m.head m.body n.unit n.placed.is in
+    let u = unit_is program m.head (list_of m) n.unit n.placed.is in
     let z = own_raise once m input more few b n.unit n.index n.placed in
     let one = main_alone m input (suc more) past in
-    let b' = begun_after k0 m.body (body_for program m.head m.body) past b known in
+    let b' = begun_after k0 (list_of m) (body_for program m.head m.body) past b known in
     let top = (past_like k0 past).top in
     let lower = past_lower past k0.first in
     let room = z.room in
@@ -455,8 +453,8 @@ own_scene m input more past labels line index x =
 own_is :
     MarkedOnce → {program : Y.Program} (m : Main program) (input : List ℕ) (more : ℕ) (past : Past)
     (labels : List Label) (line : ℕ) {c : Condition} → suc more + 1 < 2 ^ 64 → IsBegun (block_for m input (suc more)) →
-    Includes (labels_in m.body) labels →
-    IsPast (block_for m input (suc more)) m.body (body_for program m.head m.body) past →
+    Includes (labels_in (list_of m)) labels →
+    IsPast (block_for m input (suc more)) (list_of m) (body_for program m.head m.body) past →
     (n : Newest m input (suc more) past c) →
     IsScene m (own_scene m input more past labels line n.index n.unit)
 own_is once {program} m input more past labels line few b includes known n =
@@ -476,9 +474,8 @@ own_is once {program} m input more past labels line few b includes known n =
       found = λ r is made b'.
           ap height_of (same_ancestor m.head.level (unit_over k y more h.0 r own is made b') h.0.begun is.among
           (omega (arith, outer, level)))
-          ∙ (past_like k0 past).ancestors m.head.level
           ∙ ap (λ as'. height_of (ancestor as' (newest_height as') m.head.level)) one.is
-          ∙ lone_own m.head.level one.bindings;
+          ∙ alone_own m.head.level one.bindings one.units;
       system = λ r is c system.
           subst IsSystem (sym (ap (λ as'. force as' c) is.among.later.activations)) system;
     }
@@ -492,11 +489,11 @@ own_is once {program} m input more past labels line few b includes known n =
     y : Standing
     y = unit_at m more n.unit n.index
 
-    one : Lone m.head.level k0.first.state.activations
-    one = main_lone m input (suc more)
+    one : Alone m.head.level k.block.first.state.activations
+    one = main_alone m input (suc more) past
 
     level : n.unit.head.level ≡ 1
-    level = (unit_is program m.head m.body n.unit n.placed.is).level
+    level = (unit_is program m.head (list_of m) n.unit n.placed.is).level
 
     outer : m.head.level ≡ 0
     outer = level_of m
@@ -510,8 +507,8 @@ own_is once {program} m input more past labels line few b includes known n =
 pub overflow_with :
     MarkedOnce → {program : Y.Program} (m : Main program) (input : List ℕ) (more : ℕ) (past : Past)
     (labels : List Label) (line : ℕ) → suc more + 1 < 2 ^ 64 → IsBegun (block_for m input (suc more)) →
-    Includes (labels_in m.body) labels →
-    IsPast (block_for m input (suc more)) m.body (body_for program m.head m.body) past →
+    Includes (labels_in (list_of m)) labels →
+    IsPast (block_for m input (suc more)) (list_of m) (body_for program m.head m.body) past →
     Newest m input (suc more) past C.FixedOverflow → OverflowComes (past_setting m input (suc more) past labels line)
 overflow_with once m input more past labels line few b includes known n =
     overflow_at once m (own_scene m input more past labels line n.index n.unit)
@@ -520,8 +517,8 @@ overflow_with once m input more past labels line few b includes known n =
 pub divide_with :
     MarkedOnce → {program : Y.Program} (m : Main program) (input : List ℕ) (more : ℕ) (past : Past)
     (labels : List Label) (line : ℕ) → suc more + 1 < 2 ^ 64 → IsBegun (block_for m input (suc more)) →
-    Includes (labels_in m.body) labels →
-    IsPast (block_for m input (suc more)) m.body (body_for program m.head m.body) past →
+    Includes (labels_in (list_of m)) labels →
+    IsPast (block_for m input (suc more)) (list_of m) (body_for program m.head m.body) past →
     Newest m input (suc more) past C.ZeroDivide → ZeroDivideComes (past_setting m input (suc more) past labels line)
 divide_with once m input more past labels line few b includes known n =
     divide_at once m (own_scene m input more past labels line n.index n.unit)

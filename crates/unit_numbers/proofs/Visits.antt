@@ -54,12 +54,12 @@ use Rattle.unit_runs.proofs.OwnRaises.{past_like, past_numbers}
 use Rattle.unit_numbers.specs.Calls.{called_scope}
 use Rattle.unit_numbers.proofs.Called.{Inner, IsVisit, Visit, named_is, no_inner_words}
 use Rattle.unit_numbers.proofs.Called.{Named, inner_words, visit_all, visit_begun, visit_callee, visit_made}
-use Rattle.unit_numbers.proofs.Mains.{Main, block_for, free, level_of, main_number, most_for, own_known}
+use Rattle.unit_numbers.proofs.Mains as N
+use Rattle.unit_numbers.proofs.Mains.{Main, block_for, free, level_of, list_of, main_number, most_for, own_known}
 use Rattle.unit_numbers.proofs.Mains.{surroundings_for}
 use Rattle.unit_numbers.proofs.Raises.{IsScene, Scene, divide_at, overflow_at, own_raise, scene_setting, scene_unit}
 use Rattle.unit_numbers.proofs.Raises.{taken_by, unit_at}
 use Rattle.unit_numbers.proofs.Established.{Newest}
-use Rattle.unit_numbers.proofs.Past as L
 use Rattle.unit_numbers.proofs.Past.{main_alone, main_past, past_lower}
 use Rattle.unit_numbers.proofs.Units.{unit_is}
 
@@ -246,7 +246,7 @@ record Two (outer level : ℕ) (as' : List Activation) : Type 0 where
   inside : List Binding
   bindings : List Binding
   units : List (Condition × OnUnit)
-  is : as' ≡ visited level 2 inside ∷ L.alone outer bindings units
+  is : as' ≡ visited level 2 inside ∷ N.alone outer bindings units
 
 visit_two :
     {program : Y.Program} (m : Main program) {valued : Bool} {number : ℕ} (i : Inner m valued number) (v : Visit)
@@ -265,9 +265,9 @@ visit_two m i v more past entry function h =
 
 two_parent :
     (outer level : ℕ) (bs bs' : List Binding) (us : List (Condition × OnUnit)) → outer ≡ 0 →
-    height_of (ancestor (visited level 2 bs ∷ L.alone outer bs' us) 1 0) ≡ 1
+    height_of (ancestor (visited level 2 bs ∷ N.alone outer bs' us) 1 0) ≡ 1
 two_parent outer level bs bs' us e =
-    subst (λ l. height_of (ancestor (visited level 2 bs ∷ L.alone l bs' us) 1 0) ≡ 1) (sym e) refl
+    subst (λ l. height_of (ancestor (visited level 2 bs ∷ N.alone l bs' us) 1 0) ≡ 1) (sym e) refl
 
 ancestor_above :
     (a : Activation) (as' : List Activation) (level : ℕ) → (a.level == level) ≡ false →
@@ -381,7 +381,7 @@ visit_raised :
     (unit_at m more n.unit n.index) more)
     × (h.by.height ≡ 1)
 visit_raised once {program} m i v more past entry function labels line {c} h n b =
-    let u = unit_is program m.head m.body n.unit n.placed.is in
+    let u = unit_is program m.head (list_of m) n.unit n.placed.is in
     let z = own_raise once m v.input (suc more) h.few h.begun n.unit n.index n.placed in
     let two = visit_two m i v (suc more) past entry function h in
     let made = visit_made m i v (suc more) past h in
@@ -475,7 +475,7 @@ visit_is once {program} m i v more past entry function labels line h n b =
     main = main_past m v.input acts past
 
     level : n.unit.head.level ≡ 1
-    level = (unit_is program m.head m.body n.unit n.placed.is).level
+    level = (unit_is program m.head (list_of m) n.unit n.placed.is).level
 
     outer : m.head.level ≡ 0
     outer = level_of m
