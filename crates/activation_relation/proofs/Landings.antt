@@ -192,6 +192,7 @@ lands_listed w J own acts labels c a as' φ φs lands goes = (
           waits = ψ.waits;
           told = ψ.told;
           top = ψ.top;
+          lower = ψ.lower;
           carried = (with_list labels c ψ).carried;
         }
 

@@ -17,7 +17,8 @@ use Rattle.pli_serving.specs.ServiceState as S
 use Rattle.pli_typing.specs.TypedTree as Y
 use Rattle.storage_relation.proofs.Holders.{eqb-refl, eqb-other, living_of-changed, living_of-others}
 use Rattle.storage_relation.proofs.Placing.{none_above}
-use Rattle.storage_relation.specs.Stored.{AreLow, Lives}
+use Rattle.storage_relation.proofs.Signatures.{extends_kept}
+use Rattle.storage_relation.specs.Stored.{AreLow, Extends, Lives}
 use Rattle.activation_relation.specs.Changes.{popped, popped_from, pushed, with_act, with_line}
 use Rattle.activation_relation.specs.Layers.{Layer, Point}
 use Rattle.activation_relation.specs.Remaining.{LivesOn, Remains, in_use_up_to, with_assigned}
@@ -40,6 +41,9 @@ remains_same p =
       active = omega arith;
       in_use = λ height low. refl;
     }
+
+pub shapes_remain : {p q : Point} → Remains p q → Extends p.places.signatures q.places.signatures
+shapes_remain {p} {q} r = extends_kept p.places.signatures q.places.signatures r.signatures
 
 pub remains_then : (p q r : Point) → Remains p q → Remains q r → Remains p r
 remains_then p q r a b =

@@ -23,18 +23,26 @@ use Rattle.activation_relation.specs.Points.{Surroundings, Stands, Machines, Are
 
 -- ---- a block goes on
 
--- what its own code may have changed since: its units, its words and what is told of them, the stack, and which lists
--- it carries out
+-- what its own code may have changed since: its units, its words and what is told of them, the ends of both stacks, and
+-- which lists it carries out
 pub record Changed : Type 0 where
   pub units : List (Condition × S.OnUnit)
   pub waits : ℕ → Option ℕ
   pub told : ℕ → Option ℕ
   pub top : ℕ
+  pub lower : ℕ
   pub carried : Label → Option Carried
 
 abbrev pub resumed : Changed → Layer → Layer
 resumed x φ =
-    record φ { units = x.units; waits = x.waits; told = x.told; top = x.top; carried = x.carried }
+    record φ {
+      units = x.units;
+      waits = x.waits;
+      told = x.told;
+      top = x.top;
+      lower = x.lower;
+      carried = x.carried;
+    }
 
 abbrev pub with_units : List (Condition × M.OnUnit) → Activation → Activation
 with_units own a = record a { units = own }

@@ -10,7 +10,7 @@ use Rattle.pli_meaning.specs.StorageState.{Activation, Living, automatic_in_use,
 use Rattle.pli_meaning.specs.StorageState.{with_generation}
 use Rattle.pli_meaning.specs.World.{World}
 use Rattle.pli_serving.specs.ServiceState as S
-use Rattle.storage_relation.specs.Stored.{AreLow, Extends, Lives}
+use Rattle.storage_relation.specs.Stored.{AreLow, Extends, KeepNumbers, Lives}
 use Rattle.activation_relation.specs.Layers.{Point}
 use Rattle.activation_relation.specs.Changes.{popped, pushed, with_act, with_line}
 use Rattle.activation_relation.specs.Variables.{Made, with_made}
@@ -33,14 +33,15 @@ in_use_up_to height (l ∷ ls) =
     else (if nat_lt height l.owner then in_use_up_to height ls
     else footprint_of l.generation + in_use_up_to height ls)
 
--- serials only grow, and none that was given moves; so do signatures; what is told of static data is told; what was
+-- serials only grow, and none that was given moves; no signature has another number than it had, whether the run
+-- has told its extents yet or not; what is told of static data is told; what was
 -- active is active, and no activation that was there has more or less
 pub record Remains (p q : Point) : Type 0 where
   pub living : (n : ℕ) (l : Living) → living_of p.state.living n ≡ Some l → LivesOn l (living_of q.state.living n)
   pub serials : p.state.serials ≤ q.state.serials
   pub at : (n : ℕ) → n ≤ p.state.serials → q.places.at n ≡ p.places.at n
   pub number : (n : ℕ) → n ≤ p.state.serials → q.places.number n ≡ p.places.number n
-  pub signatures : Extends p.places.signatures q.places.signatures
+  pub signatures : KeepNumbers p.places.signatures q.places.signatures
   pub statics : q.state.statics ≡ p.state.statics
   pub low : q.places.low ≡ p.places.low
   pub constants : q.places.constants ≡ p.places.constants
@@ -58,6 +59,8 @@ with_assigned serial d v p =
 
 pub record StorageRemains : Type 0 where
   pub same : (p : Point) → Remains p p
+  -- what has a shape keeps it
+  pub shapes : (p q : Point) → Remains p q → Extends p.places.signatures q.places.signatures
   pub then' : (p q r : Point) → Remains p q → Remains q r → Remains p r
   pub acted :
       (p : Point) (change : World → World) (line : ℕ) → Remains p (with_act change (with_line line p))

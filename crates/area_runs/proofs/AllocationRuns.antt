@@ -24,6 +24,7 @@ use Rattle.pli_coding.specs.Instructions.{load_word, skip_where, small}
 use Rattle.pli_coding.specs.Registers.{a0, a1, a2, a3, a4, a7, frame_register, zero_register}
 use Rattle.activation_relation.specs.Layers.{Point, services_of}
 use Rattle.activation_relation.specs.ServiceLaws.{IsSystem}
+use Rattle.activation_relation.proofs.Remaining.{shapes_remain}
 use Rattle.run_steps.specs.Bodies.{Known}
 use Rattle.run_steps.proofs.Bodies.{zero_is}
 use Rattle.run_steps.specs.Calls.{Calling}
@@ -191,7 +192,7 @@ asks_of {k} {q = q} z small' b y s =
     let low = is.pointer.low in
     let inside = is.pointer.inside in
     asks_at z.area o is.signature (pointer_place is) b.at y.machine.memory is.number
-    (o.later.remains.signatures is.signature based_shape is.numbered) s.holds.body.memory.storage
+    (shapes_remain o.later.remains is.signature based_shape is.numbered) s.holds.body.memory.storage
     s.holds.body.memory.frames (laid_out o (omega (arith, small'))) (omega (arith, low), omega (arith, inside))
 
 -- ---- a gap is found

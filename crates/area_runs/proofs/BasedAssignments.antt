@@ -33,6 +33,7 @@ use Rattle.pli_coding.specs.Storing.{word_stored}
 use Rattle.storage_relation.specs.Served.{place_now}
 use Rattle.activation_relation.specs.Layers.{Point, now, services_of}
 use Rattle.activation_relation.specs.Points.{Surroundings}
+use Rattle.activation_relation.proofs.Remaining.{shapes_remain}
 use Rattle.run_steps.specs.Bodies.{Known}
 use Rattle.run_steps.specs.Engine.{Base}
 use Rattle.run_steps.specs.Items.{At, Linked}
@@ -297,7 +298,8 @@ goes_by k labels x n source line index left' need most h acts wanted debt i p nu
     let small' = word_small z wide in
     let o' = held_among setting {numbers = numbers} 0 1 (word z) (some, h.held) (omega arith) small' o in
     let lives = lives_at p h.based.signature a.points.name g (f first_base).machine.memory
-    (there first_base).0.at.storage (o.later.remains.signatures h.based.signature based_shape h.based.numbered) some' in
+    (there first_base).0.at.storage (shapes_remain o.later.remains h.based.signature based_shape h.based.numbered)
+    some' in
     let r = put_reaches setting x n h.based refl (some, h.held) o c f z wide a lives l there in
     let q = behind_put p lives z in
     let stays = generation_world a.points.name

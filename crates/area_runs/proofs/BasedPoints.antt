@@ -37,6 +37,7 @@ use Rattle.storage_relation.proofs.Values.{name_loaded, word_loaded}
 use Rattle.activation_relation.specs.Frames.{frame_under}
 use Rattle.activation_relation.specs.Layers.{Point, now, services_of}
 use Rattle.activation_relation.specs.Remaining.{LivesOn}
+use Rattle.activation_relation.proofs.Remaining.{shapes_remain}
 use Rattle.run_steps.specs.Reach.{Family}
 use Rattle.block_runs.specs.Machines.{AreIn}
 use Rattle.program_runs.specs.Statements.{Block, IsAmong}
@@ -259,7 +260,7 @@ numbered :
     H.IsNumberOf (now p []) is.signature based_shape
 numbered {p = p} is o =
     record {
-      shape_same = o.later.remains.signatures is.signature based_shape is.numbered;
+      shape_same = shapes_remain o.later.remains is.signature based_shape is.numbered;
       own = let few = is.number in grind (arith, few, nat_tests);
     }
 

@@ -32,6 +32,7 @@ use Rattle.activation_relation.specs.Frames.{frame_under, upper_top}
 use Rattle.activation_relation.specs.Layers.{Point, now, services_of}
 use Rattle.activation_relation.specs.Points.{Surroundings}
 use Rattle.activation_relation.specs.ServiceLaws.{IsSystem}
+use Rattle.activation_relation.proofs.Remaining.{shapes_remain}
 use Rattle.run_steps.specs.Bodies.{Ground, Known}
 use Rattle.run_steps.proofs.Bodies.{constant_piece, zero_is}
 use Rattle.run_steps.specs.Calls.{Calling}
@@ -451,7 +452,7 @@ read_by k x n is ends p numbers taken c index f o line l paid there a (Some g) s
     let aims = number_aims k.block k.labels y in
     let next' : V.Designated → Meaning ℤ = λ d. give (number_in (V.value_in d)) in
     let lives = lives_at p is.signature a.points.name g (f first_base).machine.memory (there first_base).at.storage
-    (o.later.remains.signatures is.signature based_shape is.numbered) some in
+    (shapes_remain o.later.remains is.signature based_shape is.numbered) some in
     let found = living_found {numbers = numbers} is o a lives h c f (front_of finds value_loaded l0) there in
     let r = value_comes k.block lives h found.at (c + size_of finds) (reached found.reach)
     (λ b. (found.even b, found.inside b)) (back_of finds value_loaded l0) (reached_holds found.reach) in

@@ -303,7 +303,14 @@ first_begun {g} {y} h stands =
       resumes = record {
         stands = stands;
         idle = refl;
-        changed = record { units = φ.units; waits = φ.waits; told = φ.told; top = φ.top; carried = φ.carried };
+        changed = record {
+          units = φ.units;
+          waits = φ.waits;
+          told = φ.told;
+          top = φ.top;
+          lower = (copy_made_of φ (copy_in y)).lower;
+          carried = φ.carried;
+        };
         layers = refl;
         own = [];
         activations = refl;

@@ -43,6 +43,7 @@ use Rattle.activation_relation.specs.Remaining.{Remains}
 use Rattle.activation_relation.specs.ServiceLaws.{IsSystem}
 use Rattle.activation_relation.proofs.Remaining.{remains_then}
 use Rattle.activation_relation.proofs.Returning.{in_use_later}
+use Rattle.activation_relation.proofs.Remaining.{shapes_remain}
 use Rattle.run_steps.specs.Engine.{Base}
 use Rattle.run_steps.specs.Items.{Linked}
 use Rattle.run_steps.proofs.Jumps.{back_of, front_of, linked_at, rest_of}
@@ -234,7 +235,7 @@ room_among {k} {c} {p = p} call h o =
       parent = subst (λ xs. HasParent x.head.level c.calling.parent xs) (sym o.later.activations) r.parent;
       idle = o.later.waiting ∙ r.idle;
       low = subst (λ n. n ≤ w.parts.stack_start) (sym o.later.remains.low) r.low;
-      shape = o.later.remains.signatures c.number (plain (Fixed 31)) r.shape;
+      shape = shapes_remain o.later.remains c.number (plain (Fixed 31)) r.shape;
       number = r.number;
       limit = subst (λ n. nat_le (n + footprint_of (copy_generation (copy_for c (pos 0)))) most_automatic ≡ true)
           (sym (in_use_later w k.block.first p h.begun.resumes.stands o.stands o.later)) r.limit;

@@ -46,6 +46,7 @@ use Rattle.activation_relation.specs.Frames.{AreLaid, FramesStand, frame_under, 
 use Rattle.activation_relation.specs.Layers.{Layer, Point, now, services_of}
 use Rattle.activation_relation.specs.Remaining.{LivesOn}
 use Rattle.activation_relation.proofs.FrameWords.{words_covered}
+use Rattle.activation_relation.proofs.Remaining.{shapes_remain}
 use Rattle.run_steps.specs.Bodies.{Known}
 use Rattle.run_steps.proofs.Bodies.{at_place, frame_is, load_piece, zero_is}
 use Rattle.run_steps.specs.Calls.{Calling}
@@ -311,7 +312,7 @@ resolved_answer {k} {p = p} x is o c base m stored list layout =
     own = let few = is.number in grind (arith, few, nat_tests)
 
     numbered : shape_at p.places.signatures is.signature ≡ Some parameter_shape
-    numbered = o.later.remains.signatures is.signature parameter_shape is.numbered
+    numbered = shapes_remain o.later.remains is.signature parameter_shape is.numbered
 
 -- with mode 0, whatever the other registers
 resolve_called :

@@ -70,7 +70,14 @@ none_made k x index p numbers kind none empty =
           ∙ ap (λ (q : Point). Normal tt q.state) (sym here);
       activation = M.activation_of x.head y.entry (length p.state.activations + 1);
       parent = refl;
-      changed = record { units = φ.units; waits = φ.waits; told = φ.told; top = φ.top; carried = φ.carried };
+      changed = record {
+        units = φ.units;
+        waits = φ.waits;
+        told = φ.told;
+        top = φ.top;
+        lower = φ.lower;
+        carried = φ.carried;
+      };
       layers = ap (λ (q : Point). q.control.layers) here;
       own = [];
       activations = ap (λ (q : Point). q.state.activations) here;
@@ -120,7 +127,14 @@ one_made k x index p numbers d h =
         } ∷ [];
       };
       parent = refl;
-      changed = record { units = φ.units; waits = φ.waits; told = φ.told; top = made'.top; carried = φ.carried };
+      changed = record {
+        units = φ.units;
+        waits = φ.waits;
+        told = φ.told;
+        top = made'.top;
+        lower = made'.lower;
+        carried = φ.carried;
+      };
       layers = ap (λ (u : Point). u.control.layers) here;
       own = [];
       activations = ap (λ (u : Point). u.state.activations) here;

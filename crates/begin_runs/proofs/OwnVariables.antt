@@ -8,6 +8,7 @@ use Rattle.pli_meaning.specs.StorageState.{most_automatic}
 use Rattle.activation_relation.specs.Layers.{Layer, Point}
 use Rattle.activation_relation.specs.Variables.{with_made}
 use Rattle.activation_relation.proofs.Returning.{in_use_later}
+use Rattle.activation_relation.proofs.Remaining.{shapes_remain}
 use Rattle.block_runs.specs.Machines.{HasParts}
 use Rattle.program_runs.specs.Statements.{Block, IsAmong, IsBegun}
 use Rattle.program_runs.specs.Variables.{Declared, IsDeclared, generation_for, made_of, place_behind}
@@ -33,7 +34,7 @@ declared_among k x d p numbers held b o h =
       fits = subst (λ ls. (φ ls).at + place_behind w.parts d ≤ (φ ls).lower) (sym same) h.fits;
       even = subst (λ ls. ((φ ls).at + place_behind w.parts d) % 16 ≡ 0) (sym same) h.even;
       low = subst (λ n. n ≤ w.parts.stack_start) (sym o.later.remains.low) h.low;
-      shape = o.later.remains.signatures d.number (shape_of [] d.declared) h.shape;
+      shape = shapes_remain o.later.remains d.number (shape_of [] d.declared) h.shape;
       number = h.number;
       initial = h.initial;
       none = h.none;

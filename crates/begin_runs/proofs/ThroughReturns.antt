@@ -286,6 +286,7 @@ at_procedure k x left' c f v {numbers} {p} h o reach =
           waits = r.changed.waits;
           told = r.changed.told;
           top = upper_top w.parts p.control.layers;
+          lower = r.changed.lower;
           carried = r.changed.carried;
         };
         layers = refl;

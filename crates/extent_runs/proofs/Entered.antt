@@ -1,15 +1,15 @@
 -- A block that has been entered has begun.
-use Rattle.std.proofs.Common.{ℕ, ◌+◌, ◌^◌, ◌<◌, List, [], length, refl, arith}
+use Rattle.std.proofs.Common.{◌≡◌, ℕ, ◌+◌, ◌^◌, ◌<◌, List, [], length, refl, ap, arith}
 use Rattle.rv_meaning.specs.declared.instr.Instr.{Instr}
 use Rattle.pli_meaning.specs.Control.{Label}
 use Rattle.pli_meaning.specs.Executing as M
-use Rattle.pli_meaning.specs.World.{counted}
+use Rattle.pli_meaning.specs.World.{World, counted}
 use Rattle.activation_relation.specs.Layers.{Point}
 use Rattle.activation_relation.specs.Points.{AreFew, Stands, Surroundings}
 use Rattle.activation_relation.proofs.Remaining.{remains_acted, remains_entered, remains_then}
 use Rattle.activation_relation.proofs.Returning.{later_same}
-use Rattle.activation_relation.proofs.Serials.{few_acted}
-use Rattle.block_runs.specs.Machines.{IsImage}
+use Rattle.activation_relation.proofs.Serials.{few_acted, few_made}
+use Rattle.block_runs.specs.Machines.{IsImage, acted}
 use Rattle.block_runs.proofs.BlockEntries.{Premises, begun_stands}
 use Rattle.block_runs.proofs.InnerEntries as I
 use Rattle.block_runs.proofs.PointActs.{stands_acted}
@@ -20,7 +20,7 @@ use Rattle.program_runs.proofs.Waiting.{outer_among}
 use Rattle.begin_runs.specs.BeginBlocks.{Inner, IsBegin, begun_in, inner_beginning, inner_block}
 use Rattle.begin_runs.specs.BehindLists.{from_point}
 use Rattle.begin_runs.proofs.Begins.{here_of, premises}
-use Rattle.extent_runs.specs.Entered.{entered_at, entered_in}
+use Rattle.extent_runs.specs.Entered.{IsMadeUpTo, entered_at, entered_in}
 use Rattle.extent_runs.specs.Making.{block_from}
 use Rattle.extent_runs.proofs.MakingProcedures.{is_call}
 
@@ -45,7 +45,14 @@ begins_entered k labels x index more p numbers h o less =
         resumes = record {
           stands = new.0;
           idle = refl;
-          changed = record { units = φ.units; waits = φ.waits; told = φ.told; top = φ.top; carried = φ.carried };
+          changed = record {
+            units = φ.units;
+            waits = φ.waits;
+            told = φ.told;
+            top = φ.top;
+            lower = φ.lower;
+            carried = φ.carried;
+          };
           layers = refl;
           own = [];
           activations = refl;
@@ -101,7 +108,14 @@ procedures_entered w code c p numbers known few h words less =
         resumes = record {
           stands = new.0;
           idle = refl;
-          changed = record { units = φ.units; waits = φ.waits; told = φ.told; top = φ.top; carried = φ.carried };
+          changed = record {
+            units = φ.units;
+            waits = φ.waits;
+            told = φ.told;
+            top = φ.top;
+            lower = φ.lower;
+            carried = φ.carried;
+          };
           layers = refl;
           own = [];
           activations = refl;
@@ -117,6 +131,42 @@ procedures_entered w code c p numbers known few h words less =
         image = new.1;
         later = later_same q;
         few = few_acted w start head.line few;
+        entries = refl;
+        others = λ n more. refl;
+        words = words;
+      },
+    )
+
+pub behind_entered :
+    (w : Surroundings) (code : List Instr) (c : Callee) (p q : Point) (numbers : ℕ → ℕ) → AreFew w p →
+    IsMadeUpTo w code c p numbers q → ((n : ℕ) → numbers n < 2 ^ 32) → q.state.world.acts < w.acts →
+    IsBegun (block_from w code c p numbers (acted c.procedure.head.line q))
+    × IsAmong (block_from w code c p numbers (acted c.procedure.head.line q)) numbers (acted c.procedure.head.line q)
+behind_entered w code c p q numbers few is words less =
+    let line = c.procedure.head.line in
+    let next' = acted line q in
+    let same : q.state.world.acts ≡ p.state.world.acts = ap (λ (u : World). u.acts) is.world in
+    let new = stands_acted line is.stands.0 is.stands.1 less in (
+      record {
+        activation = is.activation;
+        resumes = record {
+          stands = new.0;
+          idle = is.idle;
+          changed = is.changed;
+          layers = is.layers;
+          own = is.own;
+          activations = is.activations;
+          more = omega (arith, same);
+        };
+        acts = omega arith;
+        remains = remains_then p q next' is.remains (remains_acted q counted line);
+        outer = tt;
+      },
+      record {
+        stands = new.0;
+        image = new.1;
+        later = later_same next';
+        few = few_made w p next' few is.few (omega (arith, same));
         entries = refl;
         others = λ n more. refl;
         words = words;

@@ -9,3 +9,5 @@ pub mod Both
 pub mod Lists
 pub mod Entered
 pub mod Arrays
+pub mod MadeArrays
+pub mod UnpaidCalls

@@ -1,9 +1,9 @@
 -- The list of an extent's places is found at each point of a block that has its bytes.
 use Rattle.std.proofs.Common.{◌≡◌, ℕ, suc, ◌+◌, ◌*◌, ◌/◌, ◌%◌, ◌^◌, ◌<◌, ◌≤◌, List, [], ◌∷◌, ◌++◌, length, Some, None}
-use Rattle.std.proofs.Common.{Bool, true, refl, sym, ap, ◌∙◌, subst, arith}
+use Rattle.std.proofs.Common.{true, refl, sym, ap, ◌∙◌, subst, arith}
 use Rattle.std.specs.Prelude.{◌&&◌, cond, nat_le, slice_index}
 use Rattle.std.proofs.lemmas.Bool.Decides.{nat_tests}
-use Rattle.rv_meaning.specs.Machine.{memory_size, value}
+use Rattle.rv_meaning.specs.Machine.{value}
 use Rattle.rv_meaning.specs.Memory.{bytes_of_words, load}
 use Rattle.rv_meaning.proofs.ImageBytes.{length-bytes_of_words}
 use Rattle.pli_serving.specs.Bytes.{Layout, is_data}
@@ -17,7 +17,6 @@ use Rattle.pli_coding.specs.StaticForms.{pairs_in, places_datum, words_datum}
 use Rattle.storage_relation.specs.Served.{Holds}
 use Rattle.activation_relation.specs.Layers.{Layer, Point, now, services_of}
 use Rattle.image_runs.specs.Runs.{layout_of}
-use Rattle.run_steps.specs.DataNamed.{BytesStand}
 use Rattle.run_steps.specs.Engine.{Base}
 use Rattle.run_steps.specs.Items.{Linked}
 use Rattle.run_steps.specs.Reach.{Family, Reach}

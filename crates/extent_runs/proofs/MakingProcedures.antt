@@ -1,17 +1,21 @@
 -- A procedure comes behind its call if the making of its variables does what it means, and then its statements.
-use Rattle.std.proofs.Common.{◌≡◌, ℕ, ◌+◌, ◌^◌, ◌<◌, ◌≤◌, List, [], ◌∷◌, ◌++◌, refl, sym, subst, arith}
+use Rattle.std.proofs.Common.{◌≡◌, ℕ, ◌+◌, ◌*◌, ◌^◌, ◌<◌, ◌≤◌, List, [], ◌∷◌, ◌++◌, refl, sym, subst, arith}
 use Rattle.rv_meaning.specs.declared.instr.Instr.{Instr}
 use Rattle.pli_meaning.specs.Control.{Meaning, act, ◌>>◌}
 use Rattle.pli_meaning.specs.Executing as M
 use Rattle.pli_meaning.specs.Executing.{begun}
 use Rattle.pli_meaning.specs.Raising.{at_line}
+use Rattle.pli_meaning.specs.StorageState.{State}
 use Rattle.pli_meaning.specs.World.{counted}
+use Rattle.pli_serving.specs.ServiceState.{Services}
 use Rattle.pli_coding.specs.Allocating.{act_code}
 use Rattle.pli_coding.specs.Assembly.{Code, Mark, ReturnPlace, size_of}
 use Rattle.pli_coding.specs.Environments.{none_taken}
 use Rattle.pli_coding.specs.Statements.{stmts_code}
 use Rattle.activation_relation.specs.Layers.{Point, services_of}
 use Rattle.activation_relation.specs.Points.{Stands, Surroundings}
+use Rattle.activation_relation.proofs.Remaining.{remains_acted, remains_then}
+use Rattle.activation_relation.proofs.Serials.{few_acted}
 use Rattle.run_steps.specs.Engine.{Base}
 use Rattle.run_steps.proofs.Jumps.{back_of, front_of, linked_at, rest_of}
 use Rattle.run_steps.proofs.Linking.{size_append}
@@ -24,18 +28,19 @@ use Rattle.block_runs.specs.Machines.{AreIn, IsImage, acted}
 use Rattle.block_runs.proofs.BlockEntries.{Premises, begun_stands}
 use Rattle.block_runs.proofs.CallsReturn.{calls_return}
 use Rattle.block_runs.proofs.CallStatements.{comes_map}
-use Rattle.block_runs.proofs.PointActs.{act_comes}
+use Rattle.block_runs.proofs.PointActs.{act_comes, stands_acted}
 use Rattle.program_runs.specs.Calls.{Callee, IsCallee, act_index, begun_at, block_at, body_index, called_at}
 use Rattle.program_runs.specs.Calls.{labels_of, left_over}
 use Rattle.program_runs.specs.Procedures.{HasRoom, beginning_for, begin_of, block_of, end_of, procedure_code}
-use Rattle.program_runs.specs.Statements.{EachDoes, IsAmong, IsBegun, statement_aims}
+use Rattle.program_runs.specs.Statements.{Block, EachDoes, IsAmong, IsBegun, statement_aims}
 use Rattle.program_runs.proofs.Calls.{behind_variables, block_means, body_closed}
 use Rattle.program_runs.proofs.JumpsOut.{no_jump}
 use Rattle.program_runs.proofs.Lists.{list_does}
 use Rattle.program_runs.proofs.Procedures.{layer_begins}
-use Rattle.program_runs.proofs.Statements.{acted_among, at_end}
-use Rattle.begin_runs.specs.BehindLists.{GoesBehind, list_aims}
-use Rattle.extent_runs.specs.Making.{Makes, block_from, made_at, site_at}
+use Rattle.program_runs.proofs.Statements.{at_end, resumes_among}
+use Rattle.begin_runs.specs.BehindLists.{GoesBehind, from_point, list_aims}
+use Rattle.extent_runs.specs.Making.{Makes, Site, block_from, made_at, site_at}
+use Rattle.extent_runs.specs.Unpaid.{GoesUnpaid, MakesUnpaid, unpaid_aims}
 
 -- ---- the call
 
@@ -109,18 +114,45 @@ body_goes w code c p first q numbers held f h b o each few there =
     (list_does k [] x.body (body_index c) left_over q held 0 left_over f b few (each first b) h.labels o l2
     (omega arith, omega (arith, inside)) there))
 
--- the act of its entry, and then these
+-- the act of its entry, which pays for the variables, and then these
+behind_entry :
+    (k : Block) {first : Point} {numbers : ℕ → ℕ} (line : ℕ) → IsBegun (from_point k first) →
+    IsImage k.call.surroundings k.call.code first →
+    first.state.serials ≤ k.call.surroundings.serials * (first.state.world.acts + 1) →
+    ((n : ℕ) → k.registers ≤ n → numbers n ≡ k.call.numbers n) × ((n : ℕ) → numbers n < 2 ^ 32) →
+    first.state.world.acts < k.call.surroundings.acts →
+    IsAmong (from_point k first) numbers (acted line first)
+behind_entry k {first} line b image few registers less =
+    let known = stands_acted line b.resumes.stands image less in
+    record {
+      stands = known.0;
+      image = known.1;
+      later = record {
+        activations = refl;
+        layers = refl;
+        edits = refl;
+        waiting = refl;
+        acts = omega arith;
+        remains = remains_acted first counted line;
+      };
+      few = few;
+      entries = refl;
+      others = registers.0;
+      words = registers.1;
+    }
+
 entry_goes :
-    (w : Surroundings) (code : List Instr) (c : Callee) (p first q : Point) (numbers held : ℕ → ℕ) (credits : ℕ)
+    (w : Surroundings) (code : List Instr) (c : Callee) (p first : Point) (numbers held : ℕ → ℕ) (credits : ℕ)
     (f : Family) → IsCallee w code c → IsBegun (block_from w code c p numbers first) →
-    IsAmong (block_from w code c p numbers first) held q → EachGoes w code c p numbers →
-    w.acts < c.around.turns + (q.state.world.acts + 1) →
+    IsImage w code first × (first.state.serials ≤ w.serials * (first.state.world.acts + 1)) →
+    ((n : ℕ) → c.procedure.saved ≤ n → held n ≡ numbers n) × ((n : ℕ) → held n < 2 ^ 32) →
+    EachGoes w code c p numbers → w.acts < c.around.turns + (first.state.world.acts + 1) →
     credits + size_of (act_code c.procedure.head.line) ≤ cost code →
-    AreIn w q held (act_index c) f →
-    Comes code credits f (services_of q) (body_aims (called_at w code c p numbers) left_over)
-    (behind_variables (at_line c.around c.procedure.head.line) c.procedure.body w.acts q.state)
+    AreIn w first held (act_index c) f →
+    Comes code credits f (services_of first) (body_aims (called_at w code c p numbers) left_over)
+    (behind_variables (at_line c.around c.procedure.head.line) c.procedure.body w.acts first.state)
 unfolding ◌>>◌
-entry_goes w code c p first q numbers held credits f h b o each few paid there =
+entry_goes w code c p first numbers held credits f h b known registers each few paid there =
     let x = c.procedure in
     let one = act_code x.head.line in
     let rest = stmts_code c.environment none_taken x.body ++ (Mark (ReturnPlace x.head.number) ∷ end_of x) in
@@ -128,19 +160,60 @@ entry_goes w code c p first q numbers held credits f h b o each few paid there =
     let next' : Unit {0} → Meaning (Unit {0}) = λ u. M.list around' x.body in
     let closed = body_closed (called_at w code c p numbers) left_over in
     let l0 = back_of x.variables (behind_made c) (back_of (begin_of x) (parts_of c) h.stands) in
-    comes_on w.acts (act counted w.acts q.state) next'
-    (act_comes (before_closed w.acts next' closed) x.head.line credits 0 f (o.stands, o.image)
+    comes_on w.acts (act counted w.acts first.state) next'
+    (act_comes (before_closed w.acts next' closed) x.head.line credits 0 f (b.resumes.stands, known.0)
     (h.coded.line, h.acts, paid) (front_of one rest l0) there
     (λ g less at.
-    body_goes w code c p first (acted x.head.line q) numbers held g h b (acted_among x.head.line o less) each
+    body_goes w code c p first (acted x.head.line first) numbers held g h b
+    (behind_entry (block_from w code c p numbers first) x.head.line b known.0 known.1 registers less) each
     (omega (arith, few)) at))
 
 -- ---- the whole
 
-pub procedure_runs :
+-- what is paid already
+pub paid_makes : (z : Site) (left' : ℕ) (made : Meaning (Unit {0})) → Makes z left' made → MakesUnpaid z left' made
+paid_makes z left' made makes c wanted f known l paid there =
+    let k = z.block in
+    let acts = z.start.state.world.acts in
+    let end = z.index + size_of z.variables in
+    comes_map (list_aims k acts end wanted left') (unpaid_aims k acts end wanted left')
+    (made k.call.surroundings.acts z.start.state)
+    (λ c' f' v' r s (o : GoesBehind k acts end wanted c' f' v' s). paid_goes o)
+    (λ c' f' v' height label s o. o)
+    (λ c' f' v' r s o. o)
+    (makes c wanted f known l paid there)
+  where
+    paid_goes :
+        {k : Block} {acts index wanted c : ℕ} {f : Family} {v : Services} {s : State} →
+        GoesBehind k acts index wanted c f v s → GoesUnpaid k acts index wanted c f v s
+    paid_goes {k} o =
+        let q = o.goes.point in
+        let among = o.goes.among in
+        let some = o.begun.acts in
+        let later = among.later.acts in
+        record {
+          first = q;
+          begun = record {
+            activation = o.begun.activation;
+            resumes = resumes_among o.begun among;
+            acts = omega (arith, some, later);
+            remains = remains_then k.call.point o.first q o.begun.remains among.later.remains;
+            outer = o.begun.outer;
+          };
+          image = among.image;
+          few = few_acted k.call.surroundings q 0 among.few;
+          numbers = o.goes.numbers;
+          others = among.others;
+          words = among.words;
+          since = o.goes.since;
+          state = o.goes.state;
+          reach = o.goes.reach;
+        }
+
+pub unpaid_runs :
     (w : Surroundings) (code : List Instr) (c : Callee) (p : Point) (numbers : ℕ → ℕ) (credits wanted : ℕ)
     (f : Family) → Stands w p × IsImage w code p → IsCallee w code c × HasRoom w p c.procedure c.calling →
-    Makes (site_at w code c p numbers) left_over (made_at c) → ((n : ℕ) → numbers n < 2 ^ 32) →
+    MakesUnpaid (site_at w code c p numbers) left_over (made_at c) → ((n : ℕ) → numbers n < 2 ^ 32) →
     EachGoes w code c p numbers → w.acts < c.around.turns + (p.state.world.acts + 1) →
     credits + 4 + size_of (procedure_code c.environment c.procedure) ≤ cost code →
     AreIn w p numbers c.calling.call f →
@@ -148,7 +221,7 @@ pub procedure_runs :
     Comes code credits f (services_of p) (behind_aims (called_at w code c p numbers) wanted)
     (M.block_run c.around (block_of c.procedure) (begun (block_of c.procedure) c.calling.parent) w.acts p.state)
 unfolding ◌>>◌
-procedure_runs w code c p numbers credits wanted f known h makes words each few paid there gives =
+unpaid_runs w code c p numbers credits wanted f known h makes words each few paid there gives =
     let k = called_at w code c p numbers in
     let i = block_at w code c p numbers in
     let x = c.procedure in
@@ -180,17 +253,31 @@ procedure_runs w code c p numbers credits wanted f known h makes words each few 
     (λ g at.
     let flow = made_at c w.acts start.state in
     comes_on w.acts flow next'
-    (comes_map (list_aims i low (act_index c) c1 left_over)
+    (comes_map (unpaid_aims i low (act_index c) c1 left_over)
     (before code (body_aims k left_over) w.acts next') flow
-    (λ c' f' v' r s (o : GoesBehind i low (act_index c) c1 c' f' v' s).
-    let since = o.goes.since in
-    onward closed o.goes.reach
+    (λ c' f' v' r s (o : GoesUnpaid i low (act_index c) c1 c' f' v' s).
+    let since = o.since in
+    onward closed o.reach
     (λ g' at'.
-    subst (λ s'. Comes code c1 g' (services_of o.goes.point) (body_aims k left_over)
-    (behind_variables around' x.body w.acts s')) (sym o.goes.state)
-    (entry_goes w code c p o.first o.goes.point numbers o.goes.numbers c1 g' h.0 o.begun o.goes.among each
+    subst (λ s'. Comes code c1 g' (services_of o.first) (body_aims k left_over)
+    (behind_variables around' x.body w.acts s')) (sym o.state)
+    (entry_goes w code c p o.first numbers o.numbers c1 g' h.0 o.begun (o.image, o.few) (o.others, o.words) each
     (omega (arith, few, since, same)) (omega (arith, n0, n1, n2, n3, paid)) at')))
     (λ c' f' v' height label s o. absurd o)
     (λ c' f' v' r s o. o.to)
     (makes c0 c1 g new (front_of x.variables (behind_made c) l0) (omega arith, omega (arith, n0, n1, paid)) at)))
     there gives)
+
+pub procedure_runs :
+    (w : Surroundings) (code : List Instr) (c : Callee) (p : Point) (numbers : ℕ → ℕ) (credits wanted : ℕ)
+    (f : Family) → Stands w p × IsImage w code p → IsCallee w code c × HasRoom w p c.procedure c.calling →
+    Makes (site_at w code c p numbers) left_over (made_at c) → ((n : ℕ) → numbers n < 2 ^ 32) →
+    EachGoes w code c p numbers → w.acts < c.around.turns + (p.state.world.acts + 1) →
+    credits + 4 + size_of (procedure_code c.environment c.procedure) ≤ cost code →
+    AreIn w p numbers c.calling.call f →
+    ((b : Base) → IsCalling p (beginning_for w p numbers c.procedure c.calling) b (f b)) →
+    Comes code credits f (services_of p) (behind_aims (called_at w code c p numbers) wanted)
+    (M.block_run c.around (block_of c.procedure) (begun (block_of c.procedure) c.calling.parent) w.acts p.state)
+procedure_runs w code c p numbers credits wanted f known h makes =
+    unpaid_runs w code c p numbers credits wanted f known h
+    (paid_makes (site_at w code c p numbers) left_over (made_at c) makes)

@@ -20,7 +20,8 @@ use Rattle.storage_relation.specs.Served.{AreDistinct, Holds}
 use Rattle.storage_relation.proofs.Changes.{table_holds}
 use Rattle.storage_relation.proofs.Holders.{eqb-other, eqb-refl}
 use Rattle.storage_relation.proofs.Numbering.{template_is, template_itself}
-use Rattle.storage_relation.proofs.Signatures.{extends_template, template_same}
+use Rattle.storage_relation.proofs.Signatures.{extends_kept, kept_template, template_same}
+use Rattle.storage_relation.specs.Stored.{Extends}
 use Rattle.activation_relation.specs.Frames.{frame_under, upper_top}
 use Rattle.activation_relation.specs.Layers.{Point, now, services_of}
 use Rattle.activation_relation.specs.Points.{Stands, Surroundings}
@@ -125,6 +126,9 @@ distinct_more u t distinct = by (cases_eq (number_of u t) (length t))
 
 -- ---- the point
 
+more_extends : (u : Template) (t : List Template) → Extends t (with_template u t)
+more_extends u t = extends_kept t (with_template u t) (kept_template u t)
+
 pub filled_stands :
     (w : Surroundings) (code : List Instr) (p : Point) (u : Template) → Stands w p × IsImage w code p →
     Stands w (filled_point u p) × IsImage w code (filled_point u p)
@@ -138,7 +142,7 @@ filled_stands w code p u known =
         lives = record {
           falling = s.lives.falling;
           numbered = λ n l e.
-              extends_template u p.places.signatures (p.places.number n) l.generation.shape (s.lives.numbered n l e);
+              more_extends u p.places.signatures (p.places.number n) l.generation.shape (s.lives.numbered n l e);
           extents = s.lives.extents;
         };
         owned = record { living = s.owned.living; heap = s.owned.heap; constants = s.owned.constants };
@@ -152,7 +156,7 @@ filled_stands w code p u known =
 filled_holds : (p : Point) (u : Template) (m : List ℕ) → Holds (now p m) → Holds (now (filled_point u p) m)
 filled_holds p u m h =
     let t = p.places.signatures in
-    let new = table_holds (now p m) h (with_template u t) (extends_template u t) (distinct_more u t h.distinct) in
+    let new = table_holds (now p m) h (with_template u t) (more_extends u t) (distinct_more u t h.distinct) in
     record {
       keeps = new.keeps;
       heap = record { at = new.heap.at; capacity = new.heap.capacity };
@@ -168,7 +172,7 @@ filled_remains p u =
       serials = omega arith;
       at = λ n few. refl;
       number = λ n few. refl;
-      signatures = extends_template u p.places.signatures;
+      signatures = kept_template u p.places.signatures;
       statics = refl;
       low = refl;
       constants = refl;

@@ -238,7 +238,7 @@ abbrev newest_waits : (ℕ → Option ℕ) → List Layer → List Layer
 newest_waits waits [] = []
 newest_waits waits (φ ∷ φs) = with_waits waits φ ∷ φs
 
-remains_with :
+pub remains_with :
     (p : Point) (φ : Layer) (φs : List Layer) (waits : ℕ → Option ℕ) → Remains p (with_list waits φ φs p)
 remains_with p φ φs waits =
     let same = remains_same p in

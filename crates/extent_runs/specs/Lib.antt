@@ -7,3 +7,6 @@ pub mod Both
 pub mod Lists
 pub mod Entered
 pub mod Arrays
+pub mod Unpaid
+pub mod MadeArrays
+pub mod UnpaidCalls

@@ -5,9 +5,12 @@ ghost use Rattle.extent_runs.specs.Both.{ExtentsEvaluated, ExtentsPlaced};
 ghost use Rattle.extent_runs.specs.Entered.{BlocksEntered};
 ghost use Rattle.extent_runs.specs.Extents.{ExtentsDo, ExtentsEnd};
 ghost use Rattle.extent_runs.specs.Lists.{ListsFound};
+ghost use Rattle.extent_runs.specs.MadeArrays.{ArraysMade};
 ghost use Rattle.extent_runs.specs.Making.{MakingBeginsDo, MakingProceduresRun, StraightMakes};
 ghost use Rattle.extent_runs.specs.Placing.{AdjustablesPlaced};
 ghost use Rattle.extent_runs.specs.Signatures.{SignaturesFilled};
+ghost use Rattle.extent_runs.specs.Unpaid.{UnpaidProceduresRun};
+ghost use Rattle.extent_runs.specs.UnpaidCalls.{UnpaidCallsDo};
 ghost use Rattle.extent_runs.specs.Words.{NumbersWait};
 
 /// A begin block does what it means if the making of its variables does, and then each of its statements.
@@ -73,4 +76,19 @@ pub fn blocks_entered()
 /// What becomes of an array's template is the shape that the array is meant to have.
 pub fn arrays_filled()
     ensures { ArraysFilled }
+{}
+
+/// A procedure comes behind its call where the act of its entry pays for what its variables took.
+pub fn unpaid_procedures_run()
+    ensures { UnpaidProceduresRun }
+{}
+
+/// An array whose upper bound is evaluated is made where its procedure begins, whatever the bound calls and raises.
+pub fn arrays_made()
+    ensures { ArraysMade }
+{}
+
+/// CALL of such a procedure does what it means if the making of its variables does, and then each of its statements.
+pub fn unpaid_calls_do()
+    ensures { UnpaidCallsDo }
 {}

@@ -19,6 +19,7 @@ use Rattle.pli_coding.specs.Locating.{table_number}
 use Rattle.activation_relation.specs.Frames.{lower_end, upper_top}
 use Rattle.activation_relation.specs.Layers.{Layer, Point}
 use Rattle.activation_relation.specs.ServiceLaws.{IsSystem}
+use Rattle.activation_relation.proofs.Remaining.{shapes_remain}
 use Rattle.activation_relation.proofs.Returning.{in_use_later}
 use Rattle.program_places.specs.Programs.{code_for, environment_for, procedure_for}
 use Rattle.program_places.proofs.Blocks.{own_block}
@@ -149,7 +150,7 @@ has_words {program} m {input} {acts} {valued} {more} {b} {a} {p = p} {numbers = 
       plain = plain.0;
       few = plain.1;
       small = (has_table program i.head.number m.plain).small;
-      shape = λ some. o.among.later.remains.signatures
+      shape = λ some. shapes_remain o.among.later.remains
           (number_in_table word_signature (table_of program)) number_shape (o.running.shape i.head.number some);
       room = room_fewer w (begun_at w c p numbers) (layer_for w p numbers c.procedure c.calling) p.control.layers
           (fixed_size i.head.level 0) n (n + 0) (omega arith) (begun_room m o i c refl pass);
@@ -424,7 +425,7 @@ entered {program} m {input} {acts} {valued} {more} {b} {a} {p} {numbers} o {v} i
         };
         shape = λ block some.
             ap (λ t. shape_at t (number_in_table word_signature (table_of program))) same.signatures
-            ∙ o.among.later.remains.signatures (number_in_table word_signature (table_of program)) number_shape
+            ∙ shapes_remain o.among.later.remains (number_in_table word_signature (table_of program)) number_shape
             (o.running.shape block some);
         depth = record {
           some = omega (arith, shallow, deep);

@@ -13,6 +13,7 @@ use Rattle.pli_coding.specs.SignatureTable.{number_in_table, table_of}
 use Rattle.activation_relation.specs.Frames.{lower_end, upper_top}
 use Rattle.activation_relation.specs.Layers.{Point}
 use Rattle.activation_relation.proofs.Returning.{in_use_later}
+use Rattle.activation_relation.proofs.Remaining.{shapes_remain}
 use Rattle.run_steps.specs.Items.{Linked}
 use Rattle.block_runs.proofs.Places.{bounds}
 use Rattle.program_places.specs.Programs.{code_for, environment_for}
@@ -82,7 +83,7 @@ are_full {program} m {input} {acts} {valued} {more} {b} {a} {p} {numbers} o {v} 
     let size = ap (λ u. size_of u) coded in
     let over = words_over w code e around start numbers φ p.control.layers word first 0 ds
     (record { table = refl; parts = refl; small = (has_table program i.head.number m.plain).small; acts = few }) plain.0
-    (λ some. o.among.later.remains.signatures (number_in_table word_signature (table_of program)) number_shape
+    (λ some. shapes_remain o.among.later.remains (number_in_table word_signature (table_of program)) number_shape
     (o.running.shape i.head.number some))
     (record { activation = _; below = _; active = refl; some = omega arith })
     (record {

@@ -93,7 +93,14 @@ one_by w code c made'' p numbers x told h here becomes =
         } ∷ [];
       };
       parent = refl;
-      changed = record { units = φ.units; waits = φ.waits; told = told; top = made'.top; carried = φ.carried };
+      changed = record {
+        units = φ.units;
+        waits = φ.waits;
+        told = told;
+        top = made'.top;
+        lower = made'.lower;
+        carried = φ.carried;
+      };
       layers = ap (λ (u : Point). u.control.layers) here;
       own = [];
       activations = ap (λ (u : Point). u.state.activations) here;

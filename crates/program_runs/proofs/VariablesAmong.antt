@@ -6,6 +6,7 @@ use Rattle.pli_meaning.specs.DeclaredShapes.{shape_of}
 use Rattle.pli_meaning.specs.StorageState.{most_automatic}
 use Rattle.activation_relation.specs.Layers.{Layer, Point}
 use Rattle.activation_relation.proofs.Returning.{in_use_later}
+use Rattle.activation_relation.proofs.Remaining.{shapes_remain}
 use Rattle.program_runs.specs.Calls.{Callee, begun_at}
 use Rattle.program_runs.specs.Procedures.{layer_for}
 use Rattle.program_runs.specs.Statements.{Block, IsAmong, IsBegun}
@@ -31,7 +32,7 @@ declared_among {k} {numbers} {p} c d held b o h =
           h.fits;
       even = subst (λ ls. ((φ (with_layers ls)).at + place_behind w.parts d) % 16 ≡ 0) (sym same) h.even;
       low = subst (λ n. n ≤ w.parts.stack_start) (sym o.later.remains.low) h.low;
-      shape = o.later.remains.signatures d.number (shape_of [] d.declared) h.shape;
+      shape = shapes_remain o.later.remains d.number (shape_of [] d.declared) h.shape;
       number = h.number;
       initial = h.initial;
       none = h.none;

@@ -19,6 +19,7 @@ use Rattle.activation_relation.specs.Remaining.{Remains}
 use Rattle.activation_relation.specs.Variables.{newest_grown, with_made}
 use Rattle.activation_relation.proofs.Remaining.{remains_made}
 use Rattle.activation_relation.proofs.Returning.{in_use_later}
+use Rattle.activation_relation.proofs.Remaining.{shapes_remain}
 use Rattle.run_steps.specs.Items.{Linked}
 use Rattle.run_steps.specs.Reach.{Reach}
 use Rattle.block_runs.specs.Machines.{IsImage, IsIn}
@@ -94,7 +95,14 @@ local_made w code c numbers φ φs a as' p d h active =
           h.kind h.variables
           (locals_mean around' h.parameter d.declared w.acts p.state q.state h.passed h.class h.evaluations made)
           ∙ ap (λ (u : Point). Normal tt u.state) (sym here);
-      changed = record { units = φ.units; waits = φ.waits; told = m.told; top = m.top; carried = φ.carried };
+      changed = record {
+        units = φ.units;
+        waits = φ.waits;
+        told = m.told;
+        top = m.top;
+        lower = m.lower;
+        carried = φ.carried;
+      };
       layers = ap (λ (u : Point). u.control.layers) here ∙ ap (λ ls. newest_grown m ls) h.declared.newest;
       activation = record a { bindings = binding ∷ a.bindings };
       own = a.units;
@@ -126,7 +134,7 @@ declared_among k c r φ φs numbers held p d b is o =
       fits = h.fits;
       even = h.even;
       low = subst (λ n. n ≤ w.parts.stack_start) (sym o.later.remains.low) h.low;
-      shape = o.later.remains.signatures d.number (shape_of [] d.declared) h.shape;
+      shape = shapes_remain o.later.remains d.number (shape_of [] d.declared) h.shape;
       number = h.number;
       initial = h.initial;
       none = h.none;

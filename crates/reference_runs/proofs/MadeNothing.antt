@@ -35,7 +35,14 @@ none_at w code c numbers φ φs a as' p newest none empty =
           (stay code credits f (services_of p) (λ b y. IsIn w p numbers (act_index c) b y)
           (subst (λ n. AreIn w p numbers n f) (omega (arith, size)) there)));
       means = none w.acts p.state ∙ ap (λ (q : Point). Normal tt q.state) (sym here);
-      changed = record { units = φ.units; waits = φ.waits; told = φ.told; top = φ.top; carried = φ.carried };
+      changed = record {
+        units = φ.units;
+        waits = φ.waits;
+        told = φ.told;
+        top = φ.top;
+        lower = φ.lower;
+        carried = φ.carried;
+      };
       layers = ap (λ (q : Point). q.control.layers) here ∙ newest.0;
       activation = a;
       own = a.units;

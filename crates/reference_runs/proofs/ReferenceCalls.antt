@@ -24,6 +24,7 @@ use Rattle.activation_relation.specs.Frames.{lower_end}
 use Rattle.activation_relation.specs.Layers.{Layer, Point, services_of}
 use Rattle.activation_relation.specs.Remaining.{Remains}
 use Rattle.activation_relation.proofs.Remaining.{remains_then}
+use Rattle.activation_relation.proofs.Remaining.{shapes_remain}
 use Rattle.run_steps.specs.Engine.{Base}
 use Rattle.run_steps.specs.Items.{Linked}
 use Rattle.run_steps.proofs.Jumps.{back_of, front_of}
@@ -91,7 +92,7 @@ referred_among {r = r} h o =
       living = on.there;
       lives = on.lives;
       shape = on.shape ∙ h.shape;
-      numbered = o.later.remains.signatures r.signature parameter_shape h.numbered;
+      numbered = shapes_remain o.later.remains r.signature parameter_shape h.numbered;
       small = h.small;
       serial = h.serial;
     }

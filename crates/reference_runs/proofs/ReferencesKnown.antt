@@ -12,6 +12,7 @@ use Rattle.activation_relation.specs.Frames.{frame_under}
 use Rattle.activation_relation.specs.Landing.{resumed, with_units}
 use Rattle.activation_relation.specs.Layers.{Layer, Point}
 use Rattle.activation_relation.specs.Remaining.{LivesOn}
+use Rattle.activation_relation.proofs.Remaining.{shapes_remain}
 use Rattle.block_runs.proofs.PointGrounds.{point_frame}
 use Rattle.program_runs.specs.Statements.{Block, IsAmong, IsBegun}
 use Rattle.expression_runs.specs.Variables.{IsNumber, Spot, number_place}
@@ -73,7 +74,7 @@ own_known k c x r φ φs line index more p numbers n h made o own b =
       words = h.room.words;
       small = here.serial;
       number = here.small;
-      numbered = b.remains.signatures r.signature parameter_shape here.numbered;
+      numbered = shapes_remain b.remains r.signature parameter_shape here.numbered;
       low = (let low = is.low in omega (arith, there, low));
       inside = (let inside = is.inside in omega (arith, there, inside));
     }

@@ -12,7 +12,7 @@ use Rattle.pli_serving.specs.SignatureService.{with_template}
 use Rattle.pli_serving.specs.Templates.{whole_kind, whole_bounds, leaf_with, whole_leaves, put_before, shape_with}
 use Rattle.pli_serving.specs.Templates.{shape_of, shape_in, shape_at}
 use Rattle.storage_relation.specs.Served.{AreDistinct, AllDiffer}
-use Rattle.storage_relation.specs.Stored.{Extends}
+use Rattle.storage_relation.specs.Stored.{Extends, KeepNumbers}
 
 -- ---- what is whole
 
@@ -167,16 +167,16 @@ get_left [] ys n x e = absurd (cc e)
 get_left (z ∷ xs) ys zero x e = e
 get_left (z ∷ xs) ys (suc n) x e = get_left xs ys n x e
 
-pub extends_more : (t more : List Template) → Extends t (t ++ more)
-extends_more t more n s e = by (slice_get t n) refl e
+pub extends_kept : (old new : List Template) → KeepNumbers old new → Extends old new
+extends_kept old new keep n s e = by (slice_get old n) refl e
   where
-    by : (x : Option Template) → slice_get t n ≡ x → shape_in x ≡ Some s → shape_in (slice_get (t ++ more) n) ≡ Some s
+    by : (x : Option Template) → slice_get old n ≡ x → shape_in x ≡ Some s → shape_in (slice_get new n) ≡ Some s
     by None f e = absurd (cc e)
-    by (Some x) f e = ap shape_in (get_left t more n x f) ∙ e
+    by (Some x) f e = ap shape_in (keep n x f) ∙ e
 
-pub extends_template : (u : Template) (t : List Template) → Extends t (with_template u t)
-extends_template u t n s e = by (number_of u t == length t)
+pub kept_template : (u : Template) (t : List Template) → KeepNumbers t (with_template u t)
+kept_template u t n x e = by (number_of u t == length t)
   where
-    by : (q : Bool) → shape_at (cond q (t ++ u ∷ []) t) n ≡ Some s
-    by true = extends_more t (u ∷ []) n s e
+    by : (q : Bool) → slice_get (cond q (t ++ u ∷ []) t) n ≡ Some x
+    by true = get_left t (u ∷ []) n x e
     by false = e

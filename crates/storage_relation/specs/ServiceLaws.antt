@@ -58,7 +58,7 @@ use Rattle.storage_relation.specs.Served.{Now, call, place_now, NamesArea, Holds
 use Rattle.storage_relation.specs.Served.{HasHeap, AllDiffer, whole_of, HasMember}
 use Rattle.storage_relation.specs.Standing.{bytes_of, leaf_in, leaves_of, address_now, IsElementNow, IsPlain, IsValued}
 use Rattle.storage_relation.specs.Standing.{IsElement, Holder, held, size_of}
-use Rattle.storage_relation.specs.Stored.{Places, StoredAs, Extends, AreTold}
+use Rattle.storage_relation.specs.Stored.{Places, StoredAs, Extends, KeepNumbers, AreTold}
 use Rattle.storage_relation.specs.Tables.{AreRuled, AllOnce}
 use Rattle.storage_relation.specs.Telling.{IsOffset}
 use Rattle.storage_relation.specs.Versions.{Version, IsSoundVersion, IsLaidOut, first_now, first_version}
@@ -266,7 +266,8 @@ pub record SignaturesGrow : Type 0 where
   pub distinct : (t : List Template) → AllDiffer t → AreDistinct t
   -- one more has its number, all others keep theirs, and all still differ
   pub numbered : (u : Template) (t : List Template) → shape_at (with_template u t) (number_of u t) ≡ T.shape_of u
-  pub extended : (u : Template) (t : List Template) → Extends t (with_template u t)
+  pub kept : (u : Template) (t : List Template) → KeepNumbers t (with_template u t)
+  pub extended : (old new : List Template) → KeepNumbers old new → Extends old new
   pub differ : (u : Template) (t : List Template) → AllDiffer t → AllDiffer (with_template u t)
   -- what is stored stays, whatever signatures there are besides
   pub holds :

@@ -1,6 +1,6 @@
 -- What is stored: where all that lives stands in memory, side by side, and what the storage machine keeps of it.
 use Rattle.std.specs.Prelude.{ℕ, Bool, List, true, false, ◌==◌, if◌then◌else◌, ◌+◌, ◌≤◌, ◌⊎◌, ◌%◌, ◌≡◌, ◌≢◌, length}
-use Rattle.std.specs.Prelude.{Some, Option, None, ◌<◌, [], ◌∷◌, ⊤, pos, slice_index}
+use Rattle.std.specs.Prelude.{Some, Option, None, ◌<◌, [], ◌∷◌, ⊤, pos, slice_get, slice_index}
 use Rattle.pli_meaning.specs.BasicValues.{Name, NullName, VariableName, BasedName}
 use Rattle.pli_meaning.specs.Contents as C
 use Rattle.pli_meaning.specs.Contents.{Placed}
@@ -115,6 +115,10 @@ with_living l s = record s { living = l ∷ s.living }
 
 abbrev pub Extends : (old new : List Template) → Type 0
 Extends old new = (n : ℕ) (s : C.Shape) → shape_at old n ≡ Some s → shape_at new n ≡ Some s
+
+-- each template keeps its number, with open extents or without: so a number means its shape, too
+abbrev pub KeepNumbers : (old new : List Template) → Type 0
+KeepNumbers old new = (n : ℕ) (t : Template) → slice_get old n ≡ Some t → slice_get new n ≡ Some t
 
 abbrev pub with_signatures : List Template → Places → Places
 with_signatures t π = record π { signatures = t }

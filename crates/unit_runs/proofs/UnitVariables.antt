@@ -60,7 +60,14 @@ none_made k x r none =
           ∙ ap (λ (q : Point). Normal tt q.state) (sym here);
       activation = M.activation_of x.unit.head y.entry (length p.state.activations + 1);
       parent = refl;
-      changed = record { units = φ.units; waits = φ.waits; told = φ.told; top = φ.top; carried = φ.carried };
+      changed = record {
+        units = φ.units;
+        waits = φ.waits;
+        told = φ.told;
+        top = φ.top;
+        lower = φ.lower;
+        carried = φ.carried;
+      };
       layers = ap (λ (q : Point). q.control.layers) here;
       own = [];
       activations = ap (λ (q : Point). q.state.activations) here;

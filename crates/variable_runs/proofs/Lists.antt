@@ -218,14 +218,14 @@ block_means around head acts s s' e made = ap (λ kind. M.block_variables_made a
 
 abbrev pub changed_in : Layer → Changed
 changed_in φ =
-    record { units = φ.units; waits = φ.waits; told = φ.told; top = φ.top; carried = φ.carried }
+    record { units = φ.units; waits = φ.waits; told = φ.told; top = φ.top; lower = φ.lower; carried = φ.carried }
 
 layer_resumed :
-    (parts : MemoryParts) (serial : ℕ) (xs : List Declared) (m : Made) (φ : Layer) → m.lower ≡ φ.lower →
+    (parts : MemoryParts) (serial : ℕ) (xs : List Declared) (m : Made) (φ : Layer) →
     layer_after parts serial (grown m φ) xs ≡ resumed (changed_in (layer_after parts serial (grown m φ) xs)) φ
-layer_resumed parts serial [] m φ e = ap (λ n. record φ { told = m.told; top = m.top; lower = n }) e
-layer_resumed parts serial (x ∷ xs) m φ e =
-    layer_resumed parts (serial + 1) xs (made_now parts serial (grown m φ) x) φ e
+layer_resumed parts serial [] m φ = refl
+layer_resumed parts serial (x ∷ xs) m φ =
+    layer_resumed parts (serial + 1) xs (made_now parts serial (grown m φ) x) φ
 
 pub layers_after :
     (w : Surroundings) (p : Point) (φ : Layer) (φs : List Layer) (xs : List Declared) → p.control.layers ≡ φ ∷ φs →
@@ -292,7 +292,7 @@ called_resumed :
 called_resumed w c p numbers [] serial = refl
 called_resumed w c p numbers (x ∷ xs) serial =
     let φ = layer_for w p numbers c.procedure c.calling in
-    layer_resumed w.parts (serial + 1) xs (made_now w.parts serial φ x) φ refl
+    layer_resumed w.parts (serial + 1) xs (made_now w.parts serial φ x) φ
 
 pub all_procedure :
     (w : Surroundings) (code : List Instr) (c : Callee) (p : Point) (numbers : ℕ → ℕ) (xs : List Declared) →

@@ -13,6 +13,7 @@ use Rattle.activation_relation.specs.Layers.{Layer, Point}
 use Rattle.activation_relation.specs.Points.{Surroundings}
 use Rattle.activation_relation.specs.Variables.{newest_grown}
 use Rattle.activation_relation.proofs.Returning.{in_use_later}
+use Rattle.activation_relation.proofs.Remaining.{shapes_remain}
 use Rattle.program_runs.specs.Calls.{Callee, begun_at}
 use Rattle.program_runs.specs.Procedures.{layer_for}
 use Rattle.program_runs.specs.Statements.{Block, IsAmong, IsBegun}
@@ -165,7 +166,7 @@ all_among k c xs p numbers held b o words h =
           top = ap (λ ls. (layer_at ls).top) o.later.layers;
           lower = ap (λ ls. (layer_at ls).lower) o.later.layers;
           low = o.later.remains.low;
-          signatures = o.later.remains.signatures;
+          signatures = shapes_remain o.later.remains;
           in_use = in_use_later k.call.surroundings k.first p b.resumes.stands o.stands o.later;
           owner = ap (λ (as' : List Activation). length as' + 1) o.later.activations;
         }

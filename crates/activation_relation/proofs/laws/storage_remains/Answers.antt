@@ -4,6 +4,7 @@ use Rattle.activation_relation.proofs.laws.storage_remains.Goals as goal
 pub returns : goal.returns
 returns c = record {
   same = R.remains_same;
+  shapes = λ p q r. R.shapes_remain r;
   then' = R.remains_then;
   acted = R.remains_acted;
   entered = R.remains_entered;

@@ -1,4 +1,4 @@
-use Rattle.storage_relation.proofs.Signatures.{are_distinct, extends_template}
+use Rattle.storage_relation.proofs.Signatures.{are_distinct, extends_kept, kept_template}
 use Rattle.storage_relation.proofs.Numbering.{numbered_shape, differ_more}
 use Rattle.storage_relation.proofs.Changes.{table_holds}
 use Rattle.storage_relation.proofs.laws.signatures_grow.Goals as goal
@@ -7,7 +7,8 @@ pub returns : goal.returns
 returns c = record {
   distinct = are_distinct;
   numbered = numbered_shape;
-  extended = extends_template;
+  kept = kept_template;
+  extended = extends_kept;
   differ = differ_more;
   holds = table_holds;
 }
