@@ -1,6 +1,9 @@
+mod Frames
 mod Demands
 mod Steps
 mod Ways
+mod Callees
+mod Extents
 mod Expressions
 mod Stored
 mod Streams
