@@ -1,5 +1,5 @@
 -- The blocks and whole runs of a plain well-formed program are there.
-use Rattle.std.proofs.Common.{◌≡◌, ℕ, zero, suc, ◌+◌, ◌<◌, List, [], ◌∷◌, ◌++◌, Option, Some, None, Bool, true, false}
+use Rattle.std.proofs.Common.{◌≡◌, ℕ, zero, suc, ◌+◌, ◌<◌, List, [], ◌∷◌, ◌++◌, Some, None, Bool, true, false}
 use Rattle.std.proofs.Common.{refl, ap, sym, ◌∙◌, subst, arith}
 use Rattle.std.specs.Prelude.{⊤, length, slice_get}
 use Rattle.pli_language.specs.declared.condition.Condition.{Condition}
@@ -50,7 +50,8 @@ extents_begun d l h = of_list d.evaluations h.sound h.plain
         slow (act_then counted (λ v. refl) (λ c e. loose
         (evaluations_there [] (x ∷ xs) (apart l h.blocks c e) s p)))
 
-automatic_begun : (variable : ℕ) (d : Y.DeclaredVariable) (class : Y.StorageClass) (l : Level) → Declares l.program l.setting d
+automatic_begun : (variable : ℕ) (d : Y.DeclaredVariable) (class : Y.StorageClass) (l : Level)
+    → Declares l.program l.setting d
     → There (demand_at l) 0 1 l.left Anything (K.automatic_made (around_at l) variable d class)
 unfolding K.automatic_made
 automatic_begun variable d Y.AutomaticClass l h =
@@ -267,7 +268,10 @@ block_body_there r head body entry t h p e =
     let g : Frame = run_frame head body entry in
     let widens : (s : State) → Kept (entering (Some r.returning) f (outside r)) s
     → Kept (entering (Some r.returning) g (outside r)) s =
-    λ s k. (units_wider r.program r.setting f g r.outer.frames s.activations refl refl (λ label x. absurd (cc x)) k.0, k.1)
+    λ s k. (
+      units_wider r.program r.setting f g r.outer.frames s.activations refl refl (λ label x. absurd (cc x)) k.0,
+      k.1,
+    )
     in
     let u : Level = fresh_level r head entry in
     leads_then (outside r) (Some r.returning) f g (EndsSo entry.is_function) widens refl
@@ -283,15 +287,14 @@ entered_kept : (r : Run) (head : Y.BlockHead) (entry : Entry) (s : State) → Ke
     → Kept (entering (Some r.returning) (fresh_frame head entry) (outside r)) (M.with_activation head entry s)
 entered_kept r head entry s h =
     let many = heights_many s.activations r.outer.frames h.1 in
-    let high : length s.activations + 1 ≡ suc (length r.outer.frames) = omega (arith, many) in
-    (
+    let high : length s.activations + 1 ≡ suc (length r.outer.frames) = omega (arith, many) in (
       (tt, h.0),
       ap (λ n. record { height = n; level = head.level; parent = entry.parent } ∷ skeleton s.activations) high
-      ∙ ap (λ os. record {
-        height = suc (length r.outer.frames);
-        level = head.level;
-        parent = entry.parent;
-      } ∷ os) h.1,
+          ∙ ap (λ os. record {
+            height = suc (length r.outer.frames);
+            level = head.level;
+            parent = entry.parent;
+          } ∷ os) h.1,
     )
 
 abbrev run_on_line : Run → ℕ → Run
@@ -374,10 +377,11 @@ main_entry p g q f e =
     record {
       block = f.block;
       chain =
-          subst (λ os. Chain g.table (own ∷ os)) (sym none)
-          (enters_own g.table own own []
-          (subst (λ os. slice_get g.table own.number ≡ Some (own ∷ os)) none f.listed) refl refl (λ label h. h),
-          (tt, tt));
+          subst (λ os. Chain g.table (own ∷ os)) (sym none) (
+            enters_own g.table own own []
+                (subst (λ os. slice_get g.table own.number ≡ Some (own ∷ os)) none f.listed) refl refl (λ label h. h),
+            (tt, tt),
+          );
       stands = subst (Stands p [] 0) (sym none) tt;
       opens = tt;
       known = λ x. absurd (cc x);

@@ -18,7 +18,7 @@ use Rattle.well_formed_trees.specs.Statements.{SoundStmts}
 use Rattle.well_formed_trees.specs.Statements as T
 use Rattle.meaning_runs.specs.Plain.{Gotos, AnyGoto, CaughtGotos, PlainStmts, in_block, outermost}
 use Rattle.meaning_runs.specs.Present.{IsOver}
-use Rattle.meaning_runs.proofs.Frames.{Frame, Outline, outlines, skeleton, closed, IsOpen, Chain, Stands}
+use Rattle.meaning_runs.proofs.Frames.{Frame, outlines, skeleton, closed, IsOpen, Chain, Stands}
 use Rattle.meaning_runs.proofs.Frames.{stands_under, stands_wider, first_outline, rest_outlines}
 
 -- ---- blocks

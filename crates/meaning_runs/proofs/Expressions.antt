@@ -35,7 +35,7 @@ unfolding G.error_unit_run
 error_unit_there code None w s = finish_there (E.Error code w.line) tt
 error_unit_there code (Some (a, SystemUnit)) w s = finish_there (E.Error code w.line) tt
 error_unit_there code (Some (a, BlockUnit b)) w s =
-    then_there (w.keeps w.bearing (G.unit_entered b a code) 
+    then_there (w.keeps w.bearing (G.unit_entered b a code)
     (unit_entry w.program w.setting w.bearing b a code w.opens s))
     (finish_there (E.Error code w.line) tt)
 
@@ -53,7 +53,7 @@ unfolding G.unit_run
 unit_there code None w s = error_there code w
 unit_there code (Some (a, SystemUnit)) w s = error_there code w
 unit_there code (Some (a, BlockUnit b)) w s =
-    then_there (w.keeps w.bearing (G.unit_entered b a code) 
+    then_there (w.keeps w.bearing (G.unit_entered b a code)
     (unit_entry w.program w.setting w.bearing b a code w.opens s))
     (give_there tt tt)
 

@@ -1,6 +1,6 @@
 -- Frames: of which block each activation is, which lists are carried out in it, and that the activations of the blocks
 -- around a place are the static ancestors, with a list for each label that a jump from there may name.
-use Rattle.std.proofs.Common.{◌≡◌, ℕ, zero, suc, ◌+◌, ◌<◌, ◌≤◌, List, [], ◌∷◌, ◌++◌, Option, Some, None, Bool, true}
+use Rattle.std.proofs.Common.{◌≡◌, ℕ, suc, ◌+◌, ◌<◌, ◌≤◌, List, [], ◌∷◌, ◌++◌, Some, Bool, true}
 use Rattle.std.proofs.Common.{false, refl, ap, sym, ◌∙◌, subst, arith}
 use Rattle.std.proofs.Common.{inl, inr}
 use Rattle.std.specs.Prelude.{◌==◌, ◌||◌, cond, ⊤, ◌⊎◌, length, slice_get}
@@ -10,7 +10,6 @@ use Rattle.std.proofs.lemmas.List.Folds.{list_any-append}
 use Rattle.pli_language.specs.Keywords.{same_bytes}
 use Rattle.pli_typing.specs.TypedTree as Y
 use Rattle.pli_meaning.specs.StorageState.{Activation, ancestor, height_of, newest_height}
-use Rattle.well_formed_trees.specs.Every.{Every}
 use Rattle.well_formed_trees.specs.Surroundings.{Label, is_among, Around, Table, labels_of, IsAround, IsTarget}
 use Rattle.meaning_runs.specs.Plain.{function_labels}
 
@@ -186,13 +185,13 @@ lower_level table level top Q (a ∷ more) u c (inr h) =
 
 -- the block and the ones around it stand at a height
 pub record Reached (p : Y.Program) (table : Table) (fs : List Frame) (height level : ℕ) (Q : Around → Type 0) : Type 0
-    where
-  pub own : Around
-  pub outer : List Around
-  pub level_is : own.level ≡ level
-  pub so : Q own
-  pub stands : Stands p fs height (own ∷ outer)
-  pub chain : Chain table (own ∷ outer)
+  where
+    pub own : Around
+    pub outer : List Around
+    pub level_is : own.level ≡ level
+    pub so : Q own
+    pub stands : Stands p fs height (own ∷ outer)
+    pub chain : Chain table (own ∷ outer)
 
 raised : (p : Y.Program) (table : Table) (f : Frame) (fs : List Frame) (height level : ℕ) (Q : Around → Type 0)
     → Reached p table fs height level Q → Reached p table (f ∷ fs) height level Q

@@ -31,8 +31,10 @@ use Rattle.meaning_runs.proofs.Blocks.{at_start, run_there}
 known_each : (all : List Label) (ps : List Y.Procedure) → AreAmong (P.function_labels ps) all
     → Every (λ q. is_some q.result ≡ true → AreAmong (P.own_labels q.block) all) ps
 known_each all [] h = tt
-known_each all (q ∷ qs) h =
-    (λ e label x. h label (first (is_some q.result) e label x), known_each all qs (λ label x. h label (others _ label x)))
+known_each all (q ∷ qs) h = (
+  λ e label x. h label (first (is_some q.result) e label x),
+  known_each all qs (λ label x. h label (others (is_some q.result) label x)),
+)
   where
     first : (t : Bool) → t ≡ true
         → AreAmong (P.own_labels q.block) (cond t (P.own_labels q.block ++ P.function_labels qs) (P.function_labels qs))

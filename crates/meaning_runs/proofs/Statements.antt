@@ -15,7 +15,7 @@ use Rattle.well_formed_trees.specs.Every.{Every}
 use Rattle.pli_meaning.specs.Raising.{Around, Enter, Entry}
 use Rattle.pli_meaning.specs.Evaluating as V
 use Rattle.pli_meaning.specs.Executing as M
-use Rattle.well_formed_trees.specs.Surroundings.{Table, Where, Returning, Returns, NoReturn, with_inner, in_unit}
+use Rattle.well_formed_trees.specs.Surroundings.{Where, Returning, Returns, NoReturn}
 use Rattle.well_formed_trees.specs.Surroundings as W
 use Rattle.well_formed_trees.specs.Expressions as X
 use Rattle.well_formed_trees.specs.Statements as T
@@ -42,7 +42,8 @@ use Rattle.meaning_runs.proofs.Streams.{get_there, put_there}
 
 -- ---- assignment and DO
 
-assigned_there : (r : Y.Reference) (v : BasicValue) (w : Ways) → X.SoundReference (here w) r → P.PlainReference w.calls r
+assigned_there : (r : Y.Reference) (v : BasicValue) (w : Ways) → X.SoundReference (here w) r
+    → P.PlainReference w.calls r
     → There (demand w) 0 1 w.left Anything (M.assigned (around w) r v)
 unfolding M.assigned
 assigned_there r v w h p = bind_there (designated_there r w h p) (λ d k. element_stored_there d v)
@@ -489,7 +490,8 @@ goto_there l t P.CaughtGotos s level label e h (inr m) =
 mutual
   unfolding M.statement M.statements
 
-  statement_there : (x : Y.Stmt) (l : Level) (t : FootAt l) → T.SoundStmt (place_at l t) x → P.PlainStmt (standing_at l) x
+  statement_there : (x : Y.Stmt) (l : Level) (t : FootAt l) → T.SoundStmt (place_at l t) x
+      → P.PlainStmt (standing_at l) x
       → There (demand_at l) 1 1 l.left Anything (M.statement (around_at l) x)
   statement_there (Y.Null line) l t h p = act_made counted (λ v. refl)
   statement_there (Y.Assign target source line) l t h p =
@@ -516,19 +518,22 @@ mutual
       (slow (statement_there otherwise (below l c e) t h.1.1.0 p.1.1)))))
   statement_there (Y.Do body line) l t h p =
       act_then counted (λ v. refl) (λ c e. loose (let u = below l c e in
-      list_with_there _ u (λ x d r. statements_there body x (listed body (lower u d r)) (group body (lower u d r) t) h.0 p)))
+      list_with_there _ u (λ x d r. statements_there body x (listed body (lower u d r))
+      (group body (lower u d r) t) h.0 p)))
   statement_there (Y.DoWhile condition body line) l t h p =
       act_then counted (λ v. refl) (λ c e. loose (let u = below l c e in
       while_there u.turns c u.few
       (λ d r. met_after_act_there condition (on_line line (smaller (within l t c e) d r)) h.0 p.0)
       (λ d r. list_with_there _ (lower u d r)
-      (λ x f q. statements_there body x (listed body (lower (lower u d r) f q)) (group body (lower (lower u d r) f q) t) h.1.0 p.1))))
+      (λ x f q. statements_there body x (listed body (lower (lower u d r) f q))
+      (group body (lower (lower u d r) f q) t) h.1.0 p.1))))
   statement_there (Y.DoOnce variable start condition body line) l t h p =
       act_then counted (λ v. refl) (λ c e. loose (let u = below l c e in let w = on_line line (within l t c e) in
       bind_there (stored_value_there start w h.0.1.1 p.0.1)
       (λ v k. then_there (assigned_there variable v w h.0.1.0 p.0.0)
       (once_there condition w h.1.0 p.1.0
-      (list_with_there _ u (λ x d r. statements_there body x (listed body (lower u d r)) (group body (lower u d r) t) h.1.1.0 p.1.1))))))
+      (list_with_there _ u (λ x d r. statements_there body x (listed body (lower u d r))
+      (group body (lower u d r) t) h.1.1.0 p.1.1))))))
   statement_there (Y.DoCount counter start limit step condition body line) l t h p =
       act_then counted (λ v. refl) (λ c e. loose (let u = below l c e in let w = on_line line (within l t c e) in
       let counting : SoundCounting P.AnyCall (place_at l t) counter = record { sound = h.0.0; plain = p.0.0 } in
@@ -539,7 +544,8 @@ mutual
       then_there (counter_assigned counter first w counting) (while_there u.turns c u.few
       (λ d r. turn_due_there counter most by condition (smaller w d r) counting h.1.0 p.1.0)
       (λ d r. then_there (list_with_there _ (lower u d r)
-      (λ x f q. statements_there body x (listed body (lower (lower u d r) f q)) (group body (lower (lower u d r) f q) t) h.1.1.0 p.1.1))
+      (λ x f q. statements_there body x (listed body (lower (lower u d r) f q))
+      (group body (lower (lower u d r) f q) t) h.1.1.0 p.1.1))
       (stepped_there counter by (smaller w d r) counting)))))))))
   statement_there (Y.Begin (Y.BlockOf head body)) l t h p =
       act_then counted (λ v. refl) (λ c e. loose (bind_there looked_there

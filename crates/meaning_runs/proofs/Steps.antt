@@ -2,7 +2,7 @@
 -- acts that are allowed.
 use Rattle.std.proofs.Common.{◌≡◌, ℕ, zero, suc, ◌+◌, ◌<◌, ◌≤◌, List, [], ◌∷◌, ◌++◌, Option, Some, None, Bool, true}
 use Rattle.std.proofs.Common.{false, refl, ap, sym, ◌∙◌, subst, arith, inl, inr}
-use Rattle.std.specs.Prelude.{◌==◌, ◌&&◌, ◌||◌, nat_lt, cond, ⊤, ◌⊎◌, length}
+use Rattle.std.specs.Prelude.{◌==◌, ◌&&◌, ◌||◌, nat_lt, cond, ⊤, length}
 use Rattle.std.proofs.lemmas.Bool.Decides.{nat_tests}
 use Rattle.pli_meaning.specs.declared.outcome.End.{End}
 use Rattle.pli_meaning.specs.World.{World, ending}
@@ -14,10 +14,10 @@ use Rattle.pli_meaning.specs.Control.{choose, given, is_among, caught, list_from
 use Rattle.std.proofs.lemmas.List.Folds.{list_any-append}
 use Rattle.pli_language.specs.Keywords.{same_bytes}
 use Rattle.meaning_runs.specs.Plain.{Gotos, AnyGoto, CaughtGotos}
-use Rattle.meaning_runs.proofs.Frames.{Frame, outlines, skeleton, with_labels}
+use Rattle.meaning_runs.proofs.Frames.{Frame, outlines, with_labels}
 use Rattle.meaning_runs.specs.Present.{IsOver}
 use Rattle.well_formed_trees.specs.Surroundings.{Returning}
-use Rattle.meaning_runs.proofs.Demands.{Demand, Setting, HasUnits, Kept, Anything, Comes, There, Answers, Jumps}
+use Rattle.meaning_runs.proofs.Demands.{Demand, HasUnits, Kept, Anything, Comes, There, Answers, Jumps}
 use Rattle.meaning_runs.proofs.Demands.{ended_kept}
 
 -- an act counts one

@@ -204,7 +204,8 @@ items_put_there whole rest [] w i h p = give_there tt tt
 items_put_there whole rest (x ∷ xs) w i h p =
     bind_there (item_put_there whole rest x w i h.0 p.0) (λ rest' k. items_put_there whole rest' xs w i h.1 p.1)
 
-pairs_put_there : (xs : List Y.PutPair) (w : Ways) → Every (T.SoundPutPair (here w)) xs → Every (P.PlainPutPair w.calls) xs
+pairs_put_there : (xs : List Y.PutPair) (w : Ways) → Every (T.SoundPutPair (here w)) xs
+    → Every (P.PlainPutPair w.calls) xs
     → There (demand w) 0 1 w.left Anything (S.pairs_put (around w) xs)
 unfolding S.pairs_put
 pairs_put_there [] w h p = give_there tt tt
@@ -365,7 +366,8 @@ items_got_there g whole rest (x ∷ xs) w l j h p =
     bind_there (item_got_there g whole rest x w l j h.0 p.0) (λ rest' k. more_got_there g rest' _ k
     (λ r i. items_got_there g whole r xs w l i h.1 p.1))
 
-pairs_got_there : (xs : List Y.GetPair) (w : Ways) → Every (T.SoundGetPair (here w)) xs → Every (P.PlainGetPair w.calls) xs
+pairs_got_there : (xs : List Y.GetPair) (w : Ways) → Every (T.SoundGetPair (here w)) xs
+    → Every (P.PlainGetPair w.calls) xs
     → There (demand w) 0 1 w.left Anything (S.pairs_got (around w) xs)
 unfolding S.pairs_got
 pairs_got_there [] w h p = give_there tt tt

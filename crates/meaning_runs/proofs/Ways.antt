@@ -20,7 +20,7 @@ use Rattle.well_formed_trees.specs.Every.{Every}
 use Rattle.pli_meaning.specs.Control.{Label, is_among}
 use Rattle.well_formed_trees.specs.Statements as T
 use Rattle.well_formed_trees.specs.WellFormed.{IsHeld}
-use Rattle.well_formed_trees.specs.Surroundings.{Table, Where, Returning, Returns, NoReturn}
+use Rattle.well_formed_trees.specs.Surroundings.{Where, Returning, Returns, NoReturn}
 use Rattle.well_formed_trees.specs.Surroundings as W
 use Rattle.well_formed_trees.specs.Expressions.{SoundNumber}
 use Rattle.meaning_runs.specs.Plain.{Calls, AnyCall, NoCall, PlainVariable, function_labels}

@@ -1,7 +1,7 @@
 -- Plain programs: without LBOUND, HBOUND and DIM, and with no aggregate in GET and PUT. What these come to stands on
--- the signatures of generations, of which nothing is said here. And programs in which no GOTO of another block goes to
--- a function's own list.
-use Rattle.std.specs.Prelude.{◌≡◌, ℕ, Bool, true, false, List, [], ◌∷◌, ◌++◌, Option, Some, None, is_some, cond, ⊤, ◌⊎◌}
+-- the signatures of generations, of which nothing is said here. And those in which no GOTO of another block names a
+-- label of a function's own list.
+use Rattle.std.specs.Prelude.{◌≡◌, ℕ, false, List, [], ◌∷◌, ◌++◌, Option, Some, None, is_some, cond, ⊤, ◌⊎◌}
 use Rattle.pli_meaning.specs.Control.{Label, is_among}
 use Rattle.pli_meaning.specs.Executing.{labels_in}
 use Rattle.well_formed_trees.specs.Every.{Every}
@@ -9,7 +9,7 @@ use Rattle.pli_typing.specs.TypedTree as Y
 
 -- ---- expressions
 
--- any procedure may be called, or none, as in extents
+-- any procedure may be called, or none, as in what is evaluated for extents
 pub data Calls : Type 0 where
   AnyCall NoCall : Calls
 
@@ -156,8 +156,8 @@ PlainPutPair k p = Every (PlainPutItem k) p.items
 
 -- ---- GOTO
 
--- The end of a function without a value raises ERROR behind its own list, so that a unit may run then whose GOTO names
--- a label there, which no list has any more. So these are the labels of the own lists of functions.
+-- The end of a function raises ERROR once its own list is left, so a unit may run then whose GOTO names a label there,
+-- and no list has it any more. So these are the labels of functions' own lists.
 
 abbrev pub own_labels : Y.Block → List Label
 own_labels (Y.BlockOf head body) = labels_in body
@@ -166,7 +166,7 @@ abbrev pub function_labels : List Y.Procedure → List Label
 function_labels [] = []
 function_labels (p ∷ ps) = cond (is_some p.result) (own_labels p.block ++ function_labels ps) (function_labels ps)
 
--- any GOTO, or those alone that no function is left before
+-- any GOTO, or those alone that find their list carried out
 pub data Gotos : Type 0 where
   AnyGoto CaughtGotos : Gotos
 
@@ -180,7 +180,7 @@ pub record Standing : Type 0 where
 abbrev pub in_block : Standing → Y.BlockHead → Standing
 in_block g head = record { gotos = g.gotos; functions = g.functions; level = head.level }
 
--- within its own block; or to a label that isn't one of a function's own list
+-- in its own block; or to a label that is none of a function's own list
 abbrev pub MayGo : Gotos → (functions : List Label) → (own level : ℕ) → Label → Type 0
 MayGo AnyGoto functions own level label = ⊤
 MayGo CaughtGotos functions own level label = (level ≡ own) ⊎ (is_among label functions ≡ false)
@@ -200,7 +200,8 @@ abbrev mutual
   PlainStmt g (Y.DoOnce target start condition body line) =
       (PlainReference AnyCall target × PlainStored AnyCall start) × (PlainBitIf AnyCall condition × PlainStmts g body)
   PlainStmt g (Y.DoCount counter start limit step condition body line) =
-      (PlainCounter AnyCall counter × (PlainValue AnyCall start × (PlainNumberIf AnyCall limit × PlainNumber AnyCall step)))
+      (PlainCounter AnyCall counter
+      × (PlainValue AnyCall start × (PlainNumberIf AnyCall limit × PlainNumber AnyCall step)))
       × (PlainBitIf AnyCall condition × PlainStmts g body)
   PlainStmt g (Y.Begin (Y.BlockOf head body)) = PlainStmts (in_block g head) body
   PlainStmt g (Y.OnUnit condition (Y.BlockOf head body) line) = PlainStmts (in_block g head) body
