@@ -10,3 +10,4 @@ mod Streams
 mod Statements
 mod Blocks
 mod Programs
+mod Lost
