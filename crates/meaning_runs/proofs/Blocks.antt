@@ -1,59 +1,57 @@
 -- The blocks and whole runs of a plain well-formed program are there.
-use Rattle.std.proofs.Common.{◌≡◌, ℕ, zero, suc, ◌+◌, ◌<◌, List, [], ◌∷◌, Option, Some, None, Bool, true, false, refl}
-use Rattle.std.proofs.Common.{ap, sym, subst, arith}
-use Rattle.std.specs.Prelude.{⊤, length}
+use Rattle.std.proofs.Common.{◌≡◌, ℕ, zero, suc, ◌+◌, ◌<◌, List, [], ◌∷◌, ◌++◌, Some, None, Bool, true, false}
+use Rattle.std.proofs.Common.{refl, ap, sym, ◌∙◌, subst, arith}
+use Rattle.std.specs.Prelude.{⊤, length, slice_get}
+use Rattle.pli_language.specs.declared.condition.Condition.{Condition}
 use Rattle.pli_language.specs.declared.condition.Condition.TheVariants as C
 use Rattle.pli_meaning.specs.declared.outcome.End.TheVariants as E
 use Rattle.pli_meaning.specs.declared.outcome.Limit.TheVariants as L
 use Rattle.pli_meaning.specs.World.{counted, raising}
 use Rattle.pli_typing.specs.TypedTree as Y
-use Rattle.pli_meaning.specs.StorageState.{State, Activation, force}
+use Rattle.pli_meaning.specs.StorageState.{State, Activation, OnUnit, SystemUnit, BlockUnit, force}
+use Rattle.pli_meaning.specs.Control.{Label, is_among}
 use Rattle.pli_meaning.specs.Raising as G
 use Rattle.pli_meaning.specs.Raising.{Entry}
 use Rattle.pli_meaning.specs.Making as K
 use Rattle.pli_meaning.specs.Executing as M
 use Rattle.well_formed_trees.specs.Every.{Every}
-use Rattle.well_formed_trees.specs.Surroundings.{Returning, NoReturn}
+use Rattle.well_formed_trees.specs.Surroundings.{Returning, NoReturn, Table}
+use Rattle.well_formed_trees.specs.Surroundings as W
 use Rattle.well_formed_trees.specs.Expressions.{SoundNumber}
 use Rattle.well_formed_trees.specs.Statements as T
-use Rattle.well_formed_trees.specs.WellFormed.{HasMain}
+use Rattle.well_formed_trees.specs.WellFormed.{HasMain, IsHeld}
 use Rattle.meaning_runs.specs.Plain as P
-use Rattle.meaning_runs.proofs.Demands.{placed, Bearing, Kept, skeleton, Demand, Anything, There, force_sound}
+use Rattle.meaning_runs.proofs.Frames.{Frame, outlines, skeleton, closed, rest_outlines, IsOpen, AreAmong, Has, Stands}
+use Rattle.meaning_runs.proofs.Frames.{Chain, among_first, enters_own, stands_wider}
+use Rattle.meaning_runs.proofs.Demands.{Setting, placed, block_around, Bearing, SoundOnUnit, HasUnits, Kept, Demand}
+use Rattle.meaning_runs.proofs.Demands.{Anything, There, force_sound}
 use Rattle.meaning_runs.proofs.Steps.{loose, slow, give_there, bind_there, then_there, looked_there, stored_there}
 use Rattle.meaning_runs.proofs.Steps.{act_there, act_then, finish_there, choose_there, found_there, entering}
-use Rattle.meaning_runs.proofs.Steps.{block_there}
-use Rattle.meaning_runs.proofs.Steps.{Passes}
-use Rattle.meaning_runs.proofs.Ways.{Whole, Declares, FineProcedure, SoundEntry, Expected, elsewhere, statics_kept}
+use Rattle.meaning_runs.proofs.Steps.{list_there, block_there, Leads, leads_there, leads_then, Passes}
+use Rattle.meaning_runs.proofs.Ways.{Whole, Declares, FineProcedure, SoundEntry, Expected, IsKnown, statics_kept}
 use Rattle.meaning_runs.proofs.Expressions.{error_unit_there}
 use Rattle.meaning_runs.proofs.Stored.{evaluations_there, variable_made_there, parameters_bound_there}
-use Rattle.meaning_runs.proofs.Statements.{Level, standing_at, in_own_list, demand_at, around_at, place_at, lower}
-use Rattle.meaning_runs.proofs.Statements.{on_head, within}
-use Rattle.meaning_runs.proofs.Statements.{list_with_there, statements_there}
+use Rattle.meaning_runs.proofs.Statements.{Level, FootAt, standing_at, demand_at, around_at, place_at, lower, apart}
+use Rattle.meaning_runs.proofs.Statements.{listed_frame, labels_same, newest_there, statements_there}
 
 -- ---- blocks
 
-list_there : (xs : Y.Stmts) (l : Level) → T.SoundStmts (place_at l) xs
-    → P.PlainStmts (P.in_list (standing_at l) xs) xs
-    → There (demand_at l) 0 1 l.left Anything (M.list (around_at l) xs)
-unfolding M.list
-list_there xs l h p = list_with_there _ l (λ x c r. statements_there xs x (in_own_list xs (lower l c r)) h p)
-
-extents_begun : (d : Y.DeclaredVariable) (l : Level) → Declares l.program d
+extents_begun : (d : Y.DeclaredVariable) (l : Level) → Declares l.program l.setting d
     → There (demand_at l) 0 1 l.left Anything (K.extents (around_at l) d.evaluations)
 unfolding K.extents
 extents_begun d l h = of_list d.evaluations h.sound h.plain
   where
     of_list : (xs : List Y.Evaluation)
-        → Every (λ x. SoundNumber
-        (placed l.program h.table h.blocks
-        NoReturn) x.value) xs → Every (λ x. P.PlainNumber x.value) xs
+        → Every (λ x. SoundNumber (placed l.program l.setting.table h.blocks NoReturn) x.value) xs
+        → Every (λ x. P.PlainNumber P.NoCall x.value) xs
         → There (demand_at l) 0 1 l.left Anything (K.extents (around_at l) xs)
     of_list [] s p = give_there [] tt
     of_list (x ∷ xs) s p =
         slow (act_then counted (λ v. refl) (λ c e. loose
-        (evaluations_there [] (x ∷ xs) (elsewhere h.table h.blocks (within l c e)) s p)))
+        (evaluations_there [] (x ∷ xs) (apart l h.blocks c e) s p)))
 
-automatic_begun : (variable : ℕ) (d : Y.DeclaredVariable) (class : Y.StorageClass) (l : Level) → Declares l.program d
+automatic_begun : (variable : ℕ) (d : Y.DeclaredVariable) (class : Y.StorageClass) (l : Level)
+    → Declares l.program l.setting d
     → There (demand_at l) 0 1 l.left Anything (K.automatic_made (around_at l) variable d class)
 unfolding K.automatic_made
 automatic_begun variable d Y.AutomaticClass l h =
@@ -63,7 +61,7 @@ automatic_begun variable d Y.StaticClass l h = give_there tt tt
 automatic_begun variable d Y.BasedClass l h = give_there tt tt
 automatic_begun variable d Y.ControlledClass l h = give_there tt tt
 
-variables_begun : (variable : ℕ) (ds : List Y.DeclaredVariable) (l : Level) → Every (Declares l.program) ds
+variables_begun : (variable : ℕ) (ds : List Y.DeclaredVariable) (l : Level) → Every (Declares l.program l.setting) ds
     → There (demand_at l) 0 1 l.left Anything (K.variables_made (around_at l) variable ds)
 unfolding K.variables_made
 variables_begun variable [] l h = give_there tt tt
@@ -96,78 +94,262 @@ unfolding M.end_reached G.error
 end_reached_there false l = give_there tt tt
 end_reached_there true l =
     slow (act_then (raising C.Error _) (λ v. refl) (λ c e. loose
-    (bind_there looked_there (λ s k. error_unit_there _ (force s.activations C.Error) (within l c e)
-    (force_sound l.program l.goto s.activations C.Error k.0)))))
-
-block_body_there : (head : Y.BlockHead) (body : Y.Stmts) (entry : Entry) (l : Level) → T.SoundStmts (place_at l) body
-    → P.PlainStmts (P.in_list (standing_at l) body) body → length entry.arguments ≡ length entry.parameters
-    → There (demand_at l) 0 1 l.left (EndsSo entry.is_function) (M.block_body (around_at l) head body entry)
-unfolding M.block_body
-block_body_there head body entry l h p e =
-    then_there (parameters_bound_there entry.parameters entry.arguments e) (then_there
-    (block_variables_begun head head.kind l)
-    (then_there (entry_act_there head.kind) (then_there (list_there body l h p)
-    (end_reached_there entry.is_function l))))
+    (bind_there looked_there (λ s k. error_unit_there _ (force s.activations C.Error) (apart l [] c e)
+    (force_sound l.program l.setting (l.frame ∷ l.further) s.activations C.Error l.opens k.0 k.1)))))
 
 none_expected : (is_function : Bool) (r : Unit {0}) → EndsSo is_function r → Expected is_function None
 none_expected false r h = tt
 none_expected true r h = absurd h
 
-heights_many : (as' : List Activation) → length (skeleton as') ≡ length as'
-heights_many [] = refl
-heights_many (a ∷ as') = ap suc (heights_many as')
+heights_many : (as' : List Activation) (fs : List Frame) → skeleton as' ≡ outlines fs → length as' ≡ length fs
+heights_many [] [] e = refl
+heights_many [] (f ∷ fs) e = absurd (cc e)
+heights_many (a ∷ as') [] e = absurd (cc e)
+heights_many (a ∷ as') (f ∷ fs) e = ap suc (heights_many as' fs (ap rest_outlines e))
+
+-- ---- the frame of a block: before its list; and from then on, with the labels that its on-units may name
+
+abbrev fresh_frame : Y.BlockHead → Entry → Frame
+fresh_frame head entry = record { level = head.level; parent = entry.parent; lasting = []; labels = [] }
+
+-- a function's list is left before the function is
+abbrev lasting_labels : (is_function : Bool) → Y.Stmts → List Label
+lasting_labels false body = M.labels_in body
+lasting_labels true body = []
+
+abbrev run_frame : Y.BlockHead → Y.Stmts → Entry → Frame
+run_frame head body entry =
+    record {
+      level = head.level;
+      parent = entry.parent;
+      lasting = lasting_labels entry.is_function body;
+      labels = [];
+    }
+
+-- a block that is run: the activations further down, and what stands around it
+record Run : Type 0 where
+  program : Y.Program
+  setting : Setting
+  whole : Whole program setting
+  returning : Returning
+  outer : Bearing
+  opens : Every IsOpen outer.frames
+  line : ℕ
+  enter : G.Enter
+  turns : ℕ
+  left : ℕ
+  later : (c : ℕ) → c < left → (outer : Bearing) (e : Entry) → SoundEntry program setting outer e
+      → There (record { program = program; setting = setting; bearing = outer }) 0 1 c (Expected e.is_function)
+      (enter e)
+  few : left < turns
+
+abbrev level_in : Run → (frame : Frame) → IsOpen frame → Level
+level_in r frame o =
+    record {
+      program = r.program;
+      setting = r.setting;
+      whole = r.whole;
+      returning = r.returning;
+      frame = frame;
+      further = r.outer.frames;
+      opens = (o, r.opens);
+      line = r.line;
+      enter = r.enter;
+      turns = r.turns;
+      left = r.left;
+      later = r.later;
+      few = r.few;
+    }
+
+-- before the list
+abbrev fresh_level : Run → Y.BlockHead → Entry → Level
+fresh_level r head entry = level_in r (fresh_frame head entry) (λ label h. h)
+
+lasting_open : (is_function : Bool) (body : Y.Stmts)
+    → AreAmong (lasting_labels is_function body) (M.labels_in body ++ [])
+lasting_open false body label h = among_first label (M.labels_in body) [] h
+lasting_open true body label h = absurd (cc h)
+
+-- in the list
+abbrev list_level : Run → Y.BlockHead → Y.Stmts → Entry → Level
+list_level r head body entry =
+    level_in r (listed_frame (M.labels_in body) (run_frame head body entry)) (lasting_open entry.is_function body)
+
+-- outside of the block
+abbrev outside : Run → Demand
+outside r = record { program = r.program; setting = r.setting; bearing = r.outer }
+
+-- ---- what stands around a block's list
+
+lasting_has : (p : Y.Program) (is_function : Bool) (body : Y.Stmts) → IsKnown p is_function (T.labels_in body)
+    → Has p (lasting_labels is_function body) (T.labels_in body)
+lasting_has p false body known label x y = subst (λ ls. is_among label ls ≡ true) (labels_same body) x
+lasting_has p true body known label x y = absurd (cc (known refl label x, y))
+
+list_foot : (r : Run) (entry : Entry) (head : Y.BlockHead) (body : Y.Stmts) (blocks : List W.Around)
+    → Chain r.setting.table (block_around head body ∷ blocks) → Stands r.program r.outer.frames entry.parent blocks
+    → IsKnown r.program entry.is_function (T.labels_in body) → FootAt (list_level r head body entry)
+list_foot r entry head body blocks chain stands known =
+    record {
+      own = block_around head body;
+      outer = blocks;
+      level_is = refl;
+      has =
+          λ label h.
+          among_first label (M.labels_in body) []
+          (subst (λ ls. is_among label ls ≡ true) (labels_same body) h);
+      lasting = lasting_has r.program entry.is_function body known;
+      below = stands;
+      chain = chain;
+    }
+
+-- what a block keeps before its list it keeps from then on
+units_wider : (p : Y.Program) (g : Setting) (f e : Frame) (fs : List Frame) (as' : List Activation)
+    → f.level ≡ e.level → f.parent ≡ e.parent → AreAmong f.lasting e.lasting → HasUnits p g (f ∷ fs) as'
+    → HasUnits p g (e ∷ fs) as'
+units_wider p g f e fs [] l u o h = tt
+units_wider p g f e fs (a ∷ as') l u o h = (of_units a.units h.0, h.1)
+  where
+    of_unit : (u : OnUnit) → SoundOnUnit p g (closed f ∷ fs) (suc (length fs)) u
+        → SoundOnUnit p g (closed e ∷ fs) (suc (length fs)) u
+    of_unit SystemUnit h = tt
+    of_unit (BlockUnit b) h =
+        record {
+          block = h.block;
+          own = h.own;
+          chain = h.chain;
+          stands =
+              stands_wider p (closed f) (closed e) fs (suc (length fs)) h.block.outer l u o h.stands;
+        }
+
+    of_units : (us : List (Condition × OnUnit)) → Every (λ u. SoundOnUnit p g (closed f ∷ fs) (suc (length fs)) u.1) us
+        → Every (λ u. SoundOnUnit p g (closed e ∷ fs) (suc (length fs)) u.1) us
+    of_units [] h = tt
+    of_units (u ∷ us) h = (of_unit u.1 h.0, of_units us h.1)
+
+-- ---- a block that is run
+
+list_run_there : (r : Run) (head : Y.BlockHead) (body : Y.Stmts) (entry : Entry)
+    (t : FootAt (list_level r head body entry)) → T.SoundStmts (place_at (list_level r head body entry) t) body
+    → P.PlainStmts (standing_at (list_level r head body entry)) body
+    → There (entering (Some r.returning) (run_frame head body entry) (outside r)) 0 1 r.left Anything
+    (M.list (around_at (fresh_level r head entry)) body)
+unfolding M.list M.list_with
+list_run_there r head body entry t h p =
+    bind_there looked_there (λ s k. list_there r.turns r.left _ (M.labels_in body) None r.few
+    (newest_there s.activations (run_frame head body entry) r.outer.frames k.1)
+    (λ x c q. statements_there body x (lower (list_level r head body entry) c q) t h p))
+
+end_there : (r : Run) (head : Y.BlockHead) (body : Y.Stmts) (entry : Entry) (is_function : Bool)
+    → entry.is_function ≡ is_function
+    → There (entering (Some r.returning) (run_frame head body entry) (outside r)) 0 1 r.left (EndsSo is_function)
+    (M.end_reached (around_at (fresh_level r head entry)) is_function)
+unfolding M.end_reached
+end_there r head body entry false e = give_there tt tt
+end_there r head body entry true e =
+    subst (λ ls. There (entering (Some r.returning) (record {
+      level = head.level;
+      parent = entry.parent;
+      lasting = ls;
+      labels = [];
+    }) (outside r)) 0 1 r.left (EndsSo true) (M.end_reached (around_at (fresh_level r head entry)) true))
+    (sym (ap (λ t. lasting_labels t body) e)) (end_reached_there true (fresh_level r head entry))
+
+block_body_there : (r : Run) (head : Y.BlockHead) (body : Y.Stmts) (entry : Entry)
+    (t : FootAt (list_level r head body entry)) → T.SoundStmts (place_at (list_level r head body entry) t) body
+    → P.PlainStmts (standing_at (list_level r head body entry)) body
+    → length entry.arguments ≡ length entry.parameters
+    → Leads (entering (Some r.returning) (fresh_frame head entry) (outside r))
+    (entering (Some r.returning) (run_frame head body entry) (outside r)) r.left (EndsSo entry.is_function)
+    (M.block_body (around_at (fresh_level r head entry)) head body entry)
+unfolding M.block_body
+block_body_there r head body entry t h p e =
+    let f : Frame = fresh_frame head entry in
+    let g : Frame = run_frame head body entry in
+    let widens : (s : State) → Kept (entering (Some r.returning) f (outside r)) s
+    → Kept (entering (Some r.returning) g (outside r)) s =
+    λ s k. (
+      units_wider r.program r.setting f g r.outer.frames s.activations refl refl (λ label x. absurd (cc x)) k.0,
+      k.1,
+    )
+    in
+    let u : Level = fresh_level r head entry in
+    leads_then (outside r) (Some r.returning) f g (EndsSo entry.is_function) widens refl
+    (parameters_bound_there entry.parameters entry.arguments e)
+    (leads_then (outside r) (Some r.returning) f g (EndsSo entry.is_function) widens refl
+    (block_variables_begun head head.kind u)
+    (leads_then (outside r) (Some r.returning) f g (EndsSo entry.is_function) widens refl (entry_act_there head.kind)
+    (leads_there (outside r) (Some r.returning) f g (EndsSo entry.is_function) widens
+    (then_there (list_run_there r head body entry t h p) (end_there r head body entry entry.is_function refl)))))
 
 -- the new activation is one higher than those further down, and has no on-units
-entered_kept : (d : Demand) (inner : Option Returning) (head : Y.BlockHead) (entry : Entry) (s : State) → Kept d s
-    → Kept (entering inner (length d.bearing.heights + 1, head.level) d) (M.with_activation head entry s)
-entered_kept d inner head entry s h = (
-  (tt, h.0),
-  subst (λ hs. (length s.activations + 1, head.level) ∷ skeleton s.activations ≡ (length hs + 1, head.level) ∷ hs) h.1
-      (ap (λ n. (n + 1, head.level) ∷ skeleton s.activations) (sym (heights_many s.activations))),
-)
+entered_kept : (r : Run) (head : Y.BlockHead) (entry : Entry) (s : State) → Kept (outside r) s
+    → Kept (entering (Some r.returning) (fresh_frame head entry) (outside r)) (M.with_activation head entry s)
+entered_kept r head entry s h =
+    let many = heights_many s.activations r.outer.frames h.1 in
+    let high : length s.activations + 1 ≡ suc (length r.outer.frames) = omega (arith, many) in (
+      (tt, h.0),
+      ap (λ n. record { height = n; level = head.level; parent = entry.parent } ∷ skeleton s.activations) high
+          ∙ ap (λ os. record {
+            height = suc (length r.outer.frames);
+            level = head.level;
+            parent = entry.parent;
+          } ∷ os) h.1,
+    )
 
--- what is asked outside of a block
-abbrev outside : Level → Bearing → Demand
-outside l outer = record { program = l.program; goto = l.goto; bearing = outer }
+abbrev run_on_line : Run → ℕ → Run
+run_on_line r line =
+    record {
+      program = r.program;
+      setting = r.setting;
+      whole = r.whole;
+      returning = r.returning;
+      outer = r.outer;
+      opens = r.opens;
+      line = line;
+      enter = r.enter;
+      turns = r.turns;
+      left = r.left;
+      later = r.later;
+      few = r.few;
+    }
 
-block_run_there : (head : Y.BlockHead) (body : Y.Stmts) (entry : Entry) (outer : Bearing) (l : Level)
-    → T.SoundStmts (place_at l) body → P.PlainStmts (P.in_block l.goto head body) body
+abbrev around_in : Run → G.Around
+around_in r = record { program = r.program; enter = r.enter; turns = r.turns; line = r.line }
+
+block_run_there : (r : Run) (head : Y.BlockHead) (body : Y.Stmts) (entry : Entry)
+    (t : FootAt (list_level r head body entry))
+    → T.SoundStmts (place_at (list_level (run_on_line r head.line) head body entry) t) body
+    → P.PlainStmts (standing_at (list_level r head body entry)) body
     → length entry.arguments ≡ length entry.parameters
-    → Passes (M.is_own_return head.kind) (Expected entry.is_function) (Some l.returning) outer.answers
-    → There (outside l outer) 0 1 l.left (Expected entry.is_function)
-    (M.block_run (around_at l) (Y.BlockOf head body) entry)
+    → Passes (M.is_own_return head.kind) (Expected entry.is_function) (Some r.returning) r.outer.answers
+    → There (outside r) 0 1 r.left (Expected entry.is_function) (M.block_run (around_in r) (Y.BlockOf head body) entry)
 unfolding M.block_run
-block_run_there head body entry outer l h p e passes =
+block_run_there r head body entry t h p e passes =
     bind_there looked_there (λ s k. choose_there _
-    (block_there (M.is_own_return head.kind) (Expected entry.is_function) (Some l.returning)
-    (length outer.heights + 1, head.level) (EndsSo entry.is_function) (M.with_activation head entry)
-    (entered_kept (outside l outer) (Some l.returning) head entry)
-    (block_body_there head body entry (on_head head outer.heights l) h p e) (none_expected entry.is_function) passes)
+    (block_there (M.is_own_return head.kind) (Expected entry.is_function) (Some r.returning)
+    (fresh_frame head entry) (run_frame head body entry) (EndsSo entry.is_function) (M.with_activation head entry)
+    (entered_kept r head entry) refl
+    (block_body_there (run_on_line r head.line) head body entry t h p e) (none_expected entry.is_function) passes)
     (finish_there (E.Limit L.Depth) tt))
 
 -- ---- the whole
 
 -- more levels than acts are enough
-entered_there : (p : Y.Program) (g : P.Gotos) → Whole p g → (n left : ℕ) → left < n → (outer : Bearing)
-    → (entry : Entry) → SoundEntry p g outer.answers entry
-    → There (record { program = p; goto = g; bearing = outer }) 0 1 left (Expected entry.is_function)
+entered_there : (p : Y.Program) (g : Setting) → Whole p g → (n left : ℕ) → left < n → (outer : Bearing)
+    → (entry : Entry) → SoundEntry p g outer entry
+    → There (record { program = p; setting = g; bearing = outer }) 0 1 left (Expected entry.is_function)
     (M.entered p n entry)
-unfolding M.entered
+unfolding M.entered list_foot
 entered_there p g whole zero left few outer entry s = absurd (omega (arith, few))
 entered_there p g whole (suc n) left few outer entry s =
-    let l : Level = record {
+    let r : Run = record {
       program = p;
-      goto = g;
+      setting = g;
       whole = whole;
-      table = s.block.table;
-      blocks = s.block.blocks;
       returning = s.block.returning;
-      standing = record {
-        height = length outer.heights + 1;
-        level = s.block.head.level;
-        further = outer.heights;
-        labels = [];
-      };
+      outer = outer;
+      opens = s.opens;
       line = 0;
       enter = M.entered p n;
       turns = suc n;
@@ -175,15 +357,34 @@ entered_there p g whole (suc n) left few outer entry s =
       later = λ c r o e t. entered_there p g whole n c (omega (arith, r, few)) o e t;
       few = few;
     } in
-    subst (λ b. There (outside l outer) 0 1 left (Expected entry.is_function) (M.block_run (around_at l) b entry))
+    subst (λ b. There (outside r) 0 1 left (Expected entry.is_function) (M.block_run (around_in r) b entry))
     (sym s.block.is)
-    (block_run_there s.block.head s.block.body entry outer l s.block.statements s.block.plain s.counts s.passes)
+    (block_run_there r s.block.head s.block.body entry
+    (list_foot r entry s.block.head s.block.body s.block.outer s.chain s.stands s.known) s.block.statements
+    s.block.plain s.counts s.passes)
 
-main_entry : (p : Y.Program) (g : P.Gotos) (q : Y.Procedure) → FineProcedure p g q
-    → SoundEntry p g None (M.begun q.block 0)
-main_entry p g q f =
+-- the main procedure stands in no block
+main_outer : (table : Table) (level : ℕ) (blocks : List W.Around) → IsHeld table level blocks → level ≡ 0 → blocks ≡ []
+main_outer table level [] h e = refl
+main_outer table level (a ∷ more) h e = absurd (omega (arith, h.0, e))
+
+main_entry : (p : Y.Program) (g : Setting) (q : Y.Procedure) (f : FineProcedure p g q)
+    → (W.head_of q.block).level ≡ 0 → SoundEntry p g (record { answers = None; frames = [] }) (M.begun q.block 0)
+main_entry p g q f e =
+    let own : W.Around = block_around f.block.head f.block.body in
+    let deep : f.block.head.level ≡ 0 = sym (ap (λ b. (W.head_of b).level) f.block.is) ∙ e in
+    let none : f.block.outer ≡ [] = main_outer g.table f.block.head.level f.block.outer f.held deep in
     record {
       block = f.block;
+      chain =
+          subst (λ os. Chain g.table (own ∷ os)) (sym none) (
+            enters_own g.table own own []
+                (subst (λ os. slice_get g.table own.number ≡ Some (own ∷ os)) none f.listed) refl refl (λ label h. h),
+            (tt, tt),
+          );
+      stands = subst (Stands p [] 0) (sym none) tt;
+      opens = tt;
+      known = λ x. absurd (cc x);
       passes =
           subst (λ own. Passes own (Expected false) (Some f.block.returning) None) (sym f.own) (λ v h. tt);
       counts = refl;
@@ -194,18 +395,19 @@ record IsMain (F : Y.Procedure → Type 0) (ps : List Y.Procedure) : Type 0 wher
   main : Y.Procedure
   is : M.main_of ps ≡ Some main
   fine : F main
+  outermost : (W.head_of main.block).level ≡ 0
 
 main_there : (F : Y.Procedure → Type 0) (ps : List Y.Procedure) → HasMain ps → Every F ps → IsMain F ps
 main_there F [] h f = absurd h
-main_there F (q ∷ qs) h f = record { main = q; is = refl; fine = f.0 }
+main_there F (q ∷ qs) h f = record { main = q; is = refl; fine = f.0; outermost = h.0 }
 
 -- no activation yet
-abbrev pub at_start : Y.Program → P.Gotos → Demand
+abbrev pub at_start : Y.Program → Setting → Demand
 at_start p g =
-    record { program = p; goto = g; bearing = record { answers = None; heights = []; labels = [] } }
+    record { program = p; setting = g; bearing = record { answers = None; frames = [] } }
 
 -- a run has no result of its own, and no RETURN goes out of it
-pub run_there : (p : Y.Program) (g : P.Gotos) → Whole p g → HasMain p.procedures → (n left : ℕ) → left < n
+pub run_there : (p : Y.Program) (g : Setting) → Whole p g → HasMain p.procedures → (n left : ℕ) → left < n
     → There (at_start p g) 0 1 left (λ r. ⊥) (M.run p n)
 unfolding M.run
 run_there p g whole h n left few =
@@ -214,5 +416,5 @@ run_there p g whole h n left few =
     (then_there (stored_there (K.statics_from 0 p.variables)
     (statics_kept (at_start p g) 0 p.variables))
     (then_there (entered_there p g whole n left few (at_start p g).bearing (M.begun m.main.block 0)
-    (main_entry p g m.main m.fine))
+    (main_entry p g m.main m.fine m.outermost))
     (finish_there E.Finished tt)))

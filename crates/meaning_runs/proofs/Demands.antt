@@ -1,6 +1,8 @@
--- What is asked of a part of a run, and what is kept meanwhile: the on-units of all activations are sound blocks.
-use Rattle.std.proofs.Common.{◌≡◌, ℕ, ◌+◌, ◌≤◌, List, [], ◌∷◌, Option, Some, None, Bool, true, false, refl, ◌∙◌}
-use Rattle.std.specs.Prelude.{cond, ⊤}
+-- What is asked of a part of a run, and what is kept meanwhile: each activation is of a block, and its on-units are
+-- sound blocks that stand in it.
+use Rattle.std.proofs.Common.{◌≡◌, ℕ, suc, ◌+◌, ◌≤◌, List, [], ◌∷◌, Option, Some, None, Bool, true, false, refl, ◌∙◌}
+use Rattle.std.proofs.Common.{ap, sym, subst}
+use Rattle.std.specs.Prelude.{cond, ⊤, ◌⊎◌, length}
 use Rattle.pli_language.specs.declared.condition.Condition.{Condition}
 use Rattle.pli_typing.specs.TypedTree as Y
 use Rattle.pli_meaning.specs.BasicValues.{BasicValue}
@@ -13,37 +15,55 @@ use Rattle.well_formed_trees.specs.Every.{Every}
 use Rattle.well_formed_trees.specs.Surroundings.{Table, Where, Returning, Returns, NoReturn}
 use Rattle.well_formed_trees.specs.Surroundings as W
 use Rattle.well_formed_trees.specs.Statements.{SoundStmts}
-use Rattle.meaning_runs.specs.Plain.{Gotos, AnyGoto, OwnGotos, PlainStmts, in_block}
+use Rattle.well_formed_trees.specs.Statements as T
+use Rattle.meaning_runs.specs.Plain.{Gotos, AnyGoto, CaughtGotos, PlainStmts, in_block, outermost}
 use Rattle.meaning_runs.specs.Present.{IsOver}
+use Rattle.meaning_runs.proofs.Frames.{Frame, outlines, skeleton, closed, IsOpen, Chain, Stands}
+use Rattle.meaning_runs.proofs.Frames.{stands_under, stands_wider, first_outline, rest_outlines}
 
 -- ---- blocks
+
+-- which GOTO may be, and the table of the program's blocks
+pub record Setting : Type 0 where
+  pub gotos : Gotos
+  pub table : Table
 
 abbrev pub placed : Y.Program → Table → List W.Around → Returning → Where
 placed p table blocks returning =
     record { program = p; table = table; around = blocks; returning = returning }
 
+-- a block itself, as it stands around its own list
+abbrev pub block_around : Y.BlockHead → Y.Stmts → W.Around
+block_around head body =
+    record { number = head.number; level = head.level; outermost = T.labels_in body; inner = [] }
+
 -- the statements of a block are sound, somewhere in the program, and plain
-pub record SoundBlock (p : Y.Program) (g : Gotos) (b : Y.Block) : Type 0 where
+pub record SoundBlock (p : Y.Program) (g : Setting) (b : Y.Block) : Type 0 where
   pub head : Y.BlockHead
   pub body : Y.Stmts
   pub is : b ≡ Y.BlockOf head body
-  pub table : Table
-  pub blocks : List W.Around
+  pub outer : List W.Around
   pub returning : Returning
-  pub statements : SoundStmts (placed p table blocks returning) body
-  pub plain : PlainStmts (in_block g head body) body
+  pub statements : SoundStmts (placed p g.table (block_around head body ∷ outer) returning) body
+  pub plain : PlainStmts (in_block (outermost g.gotos p) head) body
 
--- a unit takes a RETURN in it for its own
-pub record SoundUnit (p : Y.Program) (g : Gotos) (b : Y.Block) : Type 0 where
+-- a unit takes a RETURN in it for its own; where it is established, the blocks around it stand at a height
+pub record SoundUnit (p : Y.Program) (g : Setting) (fs : List Frame) (height : ℕ) (b : Y.Block) : Type 0 where
   pub block : SoundBlock p g b
   pub own : is_own_return block.head.kind ≡ true
+  pub chain : Chain g.table (block_around block.head block.body ∷ block.outer)
+  pub stands : Stands p fs height block.outer
 
-abbrev pub SoundOnUnit : Y.Program → Gotos → OnUnit → Type 0
-SoundOnUnit p g SystemUnit = ⊤
-SoundOnUnit p g (BlockUnit b) = SoundUnit p g b
+abbrev pub SoundOnUnit : Y.Program → Setting → (fs : List Frame) → (height : ℕ) → OnUnit → Type 0
+SoundOnUnit p g fs height SystemUnit = ⊤
+SoundOnUnit p g fs height (BlockUnit b) = SoundUnit p g fs height b
 
-abbrev pub HasUnits : Y.Program → Gotos → List Activation → Type 0
-HasUnits p g as' = Every (λ a. Every (λ u. SoundOnUnit p g u.1) a.units) as'
+-- each unit is one of its own activation's block, whichever of its lists are carried out
+abbrev pub HasUnits : Y.Program → Setting → List Frame → List Activation → Type 0
+HasUnits p g [] as' = ⊤
+HasUnits p g (f ∷ fs) [] = ⊤
+HasUnits p g (f ∷ fs) (a ∷ as') =
+    Every (λ u. SoundOnUnit p g (closed f ∷ fs) (suc (length fs)) u.1) a.units × HasUnits p g fs as'
 
 -- ---- what is asked
 
@@ -61,30 +81,26 @@ abbrev pub Answers : Option Returning → Option BasicValue → Type 0
 Answers None v = ⊥
 Answers (Some r) v = Answered r v
 
--- the heights and levels of activations
-abbrev pub skeleton : List Activation → List (ℕ × ℕ)
-skeleton [] = []
-skeleton (a ∷ as') = (a.height, a.level) ∷ skeleton as'
-
--- what is asked of RETURN, the heights and levels of the activations, and the labels of the lists around in the newest
+-- what is asked of RETURN, and the frames of the activations
 pub record Bearing : Type 0 where
   pub answers : Option Returning
-  pub heights : List (ℕ × ℕ)
-  pub labels : List Label
+  pub frames : List Frame
 
 pub record Demand : Type 0 where
   pub program : Y.Program
-  pub goto : Gotos
+  pub setting : Setting
   pub bearing : Bearing
 
 abbrev pub Kept : Demand → State → Type 0
-Kept d s = HasUnits d.program d.goto s.activations × (skeleton s.activations ≡ d.bearing.heights)
+Kept d s =
+    HasUnits d.program d.setting d.bearing.frames s.activations × (skeleton s.activations ≡ outlines d.bearing.frames)
 
--- a jump goes anywhere, or to a label of a list around in the newest activation
-abbrev pub Jumps : Gotos → List (ℕ × ℕ) → List Label → (height : ℕ) → Label → Type 0
-Jumps AnyGoto heights labels height label = ⊤
-Jumps OwnGotos [] labels height label = ⊥
-Jumps OwnGotos (x ∷ xs) labels height label = (height ≡ x.0) × (is_among label labels ≡ true)
+-- a jump goes anywhere, or to a label of a list that is carried out
+abbrev pub Jumps : Gotos → List Frame → (height : ℕ) → Label → Type 0
+Jumps AnyGoto fs height label = ⊤
+Jumps CaughtGotos [] height label = ⊥
+Jumps CaughtGotos (f ∷ fs) height label =
+    ((height ≡ suc (length fs)) × (is_among label f.labels ≡ true)) ⊎ Jumps CaughtGotos fs height label
 
 abbrev pub Anything : {R : Type 0} → R → Type 0
 Anything r = ⊤
@@ -96,7 +112,7 @@ Comes d after by jumping acts k (Normal r s) =
     (acts + by ≤ s.world.acts) × ((s.world.acts ≤ k) × (Kept d s × after r))
 Comes d after by jumping acts k (Jump height label s) =
     (acts + jumping ≤ s.world.acts)
-    × ((s.world.acts ≤ k) × (Kept d s × Jumps d.goto d.bearing.heights d.bearing.labels height label))
+    × ((s.world.acts ≤ k) × (Kept d s × Jumps d.setting.gotos d.bearing.frames height label))
 Comes d after by jumping acts k (Return v s) =
     (acts ≤ s.world.acts) × ((s.world.acts ≤ k) × (Kept d s × Answers d.bearing.answers v))
 Comes d after by jumping acts k (Ended s) = (s.world.acts ≤ k) × IsOver s.world.end
@@ -111,12 +127,13 @@ pub record There (d : Demand) (by jumping left : ℕ) {R : Type 0} (after : R �
 -- ---- units that are kept
 
 -- the newest activation ends
-pub ended_kept : (d : Demand) (x : ℕ × ℕ) (s : State) → HasUnits d.program d.goto s.activations
-    → skeleton s.activations ≡ x ∷ d.bearing.heights → Kept d (newest_ended s)
-ended_kept d x s h e = of_list s.activations s h e
+pub ended_kept : (d : Demand) (f : Frame) (s : State)
+    → HasUnits d.program d.setting (f ∷ d.bearing.frames) s.activations
+    → skeleton s.activations ≡ outlines (f ∷ d.bearing.frames) → Kept d (newest_ended s)
+ended_kept d f s h e = of_list s.activations s h e
   where
-    of_list : (as' : List Activation) (s : State) → HasUnits d.program d.goto as'
-        → skeleton as' ≡ x ∷ d.bearing.heights → Kept d (without_newest as' s)
+    of_list : (as' : List Activation) (s : State) → HasUnits d.program d.setting (f ∷ d.bearing.frames) as'
+        → skeleton as' ≡ outlines (f ∷ d.bearing.frames) → Kept d (without_newest as' s)
     of_list [] s a e = absurd (cc e)
     of_list (y ∷ ys) s a e = (a.1, cc e)
 
@@ -129,65 +146,108 @@ reverted_heights : (c : Condition) (as' : List Activation) → skeleton (reverte
 reverted_heights c [] = refl
 reverted_heights c (a ∷ as') = refl
 
-without_kept : (p : Y.Program) (g : Gotos) (c : Condition) (us : List (Condition × OnUnit))
-    → Every (λ u. SoundOnUnit p g u.1) us → Every (λ u. SoundOnUnit p g u.1) (without_unit c us)
-without_kept p g c [] h = tt
-without_kept p g c (u ∷ us) h =
-    by_test (same_condition u.0 c) us (u ∷ without_unit c us) h.1 (h.0, without_kept p g c us h.1)
+without_kept : (Q : OnUnit → Type 0) (c : Condition) (us : List (Condition × OnUnit))
+    → Every (λ u. Q u.1) us → Every (λ u. Q u.1) (without_unit c us)
+without_kept Q c [] h = tt
+without_kept Q c (u ∷ us) h =
+    by_test (same_condition u.0 c) us (u ∷ without_unit c us) h.1 (h.0, without_kept Q c us h.1)
   where
-    by_test : (t : Bool) (xs ys : List (Condition × OnUnit)) → Every (λ u. SoundOnUnit p g u.1) xs
-        → Every (λ u. SoundOnUnit p g u.1) ys → Every (λ u. SoundOnUnit p g u.1) (cond t xs ys)
+    by_test : (t : Bool) (xs ys : List (Condition × OnUnit)) → Every (λ u. Q u.1) xs
+        → Every (λ u. Q u.1) ys → Every (λ u. Q u.1) (cond t xs ys)
     by_test true xs ys a b = a
     by_test false xs ys a b = b
 
-established_units : (p : Y.Program) (g : Gotos) (c : Condition) (u : OnUnit) (as' : List Activation)
-    → SoundOnUnit p g u → HasUnits p g as' → HasUnits p g (established c u as')
-established_units p g c u [] a h = tt
-established_units p g c u (x ∷ xs) a h = ((a, without_kept p g c x.units h.0), h.1)
+-- a unit that the newest activation may establish
+abbrev pub IsOfNewest : Y.Program → Setting → List Frame → OnUnit → Type 0
+IsOfNewest p g [] u = ⊤
+IsOfNewest p g (f ∷ fs) u = SoundOnUnit p g (closed f ∷ fs) (suc (length fs)) u
 
-reverted_units : (p : Y.Program) (g : Gotos) (c : Condition) (as' : List Activation) → HasUnits p g as'
-    → HasUnits p g (reverted c as')
-reverted_units p g c [] h = tt
-reverted_units p g c (x ∷ xs) h = (without_kept p g c x.units h.0, h.1)
+established_units : (p : Y.Program) (g : Setting) (c : Condition) (u : OnUnit) (fs : List Frame)
+    (as' : List Activation) → IsOfNewest p g fs u → HasUnits p g fs as' → HasUnits p g fs (established c u as')
+established_units p g c u [] as' a h = tt
+established_units p g c u (f ∷ fs) [] a h = tt
+established_units p g c u (f ∷ fs) (x ∷ xs) a h =
+    ((a, without_kept (SoundOnUnit p g (closed f ∷ fs) (suc (length fs))) c x.units h.0), h.1)
 
-pub established_kept : (d : Demand) (c : Condition) (u : OnUnit) (s : State) → SoundOnUnit d.program d.goto u
-    → Kept d s → Kept d (with_activations (established c u s.activations) s)
+reverted_units : (p : Y.Program) (g : Setting) (c : Condition) (fs : List Frame) (as' : List Activation)
+    → HasUnits p g fs as' → HasUnits p g fs (reverted c as')
+reverted_units p g c [] as' h = tt
+reverted_units p g c (f ∷ fs) [] h = tt
+reverted_units p g c (f ∷ fs) (x ∷ xs) h =
+    (without_kept (SoundOnUnit p g (closed f ∷ fs) (suc (length fs))) c x.units h.0, h.1)
+
+pub established_kept : (d : Demand) (c : Condition) (u : OnUnit) (s : State)
+    → IsOfNewest d.program d.setting d.bearing.frames u → Kept d s
+    → Kept d (with_activations (established c u s.activations) s)
 established_kept d c u s a h = (
-  established_units d.program d.goto c u s.activations a h.0,
+  established_units d.program d.setting c u d.bearing.frames s.activations a h.0,
   established_heights c u s.activations ∙ h.1,
 )
 
 pub reverted_kept : (d : Demand) (c : Condition) (s : State) → Kept d s
     → Kept d (with_activations (reverted c s.activations) s)
 reverted_kept d c s h =
-    (reverted_units d.program d.goto c s.activations h.0, reverted_heights c s.activations ∙ h.1)
+    (reverted_units d.program d.setting c d.bearing.frames s.activations h.0, reverted_heights c s.activations ∙ h.1)
 
 -- ---- the unit in force is one of them
 
-abbrev pub IsUnitIf : Y.Program → Gotos → Option OnUnit → Type 0
-IsUnitIf p g None = ⊤
-IsUnitIf p g (Some u) = SoundOnUnit p g u
+abbrev pub IsForced : Y.Program → Setting → List Frame → Option (Activation × OnUnit) → Type 0
+IsForced p g fs None = ⊤
+IsForced p g fs (Some x) = SoundOnUnit p g fs x.0.height x.1
 
-abbrev pub IsForced : Y.Program → Gotos → Option (Activation × OnUnit) → Type 0
-IsForced p g None = ⊤
-IsForced p g (Some x) = SoundOnUnit p g x.1
+abbrev IsUnitIf : (OnUnit → Type 0) → Option OnUnit → Type 0
+IsUnitIf Q None = ⊤
+IsUnitIf Q (Some u) = Q u
 
-unit_sound : (p : Y.Program) (g : Gotos) (us : List (Condition × OnUnit)) (c : Condition)
-    → Every (λ u. SoundOnUnit p g u.1) us → IsUnitIf p g (unit_for us c)
-unit_sound p g [] c h = tt
-unit_sound p g (u ∷ us) c h = by_test (same_condition u.0 c) (unit_for us c) (unit_sound p g us c h.1)
+unit_sound : (Q : OnUnit → Type 0) (us : List (Condition × OnUnit)) (c : Condition) → Every (λ u. Q u.1) us
+    → IsUnitIf Q (unit_for us c)
+unit_sound Q [] c h = tt
+unit_sound Q (u ∷ us) c h = by_test (same_condition u.0 c) (unit_for us c) (unit_sound Q us c h.1)
   where
-    by_test : (t : Bool) (o : Option OnUnit) → IsUnitIf p g o → IsUnitIf p g (cond t (Some u.1) o)
+    by_test : (t : Bool) (o : Option OnUnit) → IsUnitIf Q o → IsUnitIf Q (cond t (Some u.1) o)
     by_test true o b = h.0
     by_test false o b = b
 
-pub force_sound : (p : Y.Program) (g : Gotos) (as' : List Activation) (c : Condition) → HasUnits p g as'
-    → IsForced p g (force as' c)
-force_sound p g [] c h = tt
-force_sound p g (a ∷ as') c h =
-    first a (unit_for a.units c) (force as' c) (unit_sound p g a.units c h.0) (force_sound p g as' c h.1)
+-- under one more activation
+forced_under : (p : Y.Program) (g : Setting) (f : Frame) (fs : List Frame) (o : Option (Activation × OnUnit))
+    → IsForced p g fs o → IsForced p g (f ∷ fs) o
+forced_under p g f fs None h = tt
+forced_under p g f fs (Some (a, SystemUnit)) h = tt
+forced_under p g f fs (Some (a, BlockUnit b)) h =
+    record {
+      block = h.block;
+      own = h.own;
+      chain = h.chain;
+      stands = stands_under p f fs a.height h.block.outer h.stands;
+    }
+
+-- where the lists are carried out that it may count on
+unit_opened : (p : Y.Program) (g : Setting) (f : Frame) (fs : List Frame) (height : ℕ) (u : OnUnit) → IsOpen f
+    → height ≡ suc (length fs) → SoundOnUnit p g (closed f ∷ fs) (suc (length fs)) u
+    → SoundOnUnit p g (f ∷ fs) height u
+unit_opened p g f fs height SystemUnit o e h = tt
+unit_opened p g f fs height (BlockUnit b) o e h =
+    record {
+      block = h.block;
+      own = h.own;
+      chain = h.chain;
+      stands =
+          subst (λ z. Stands p (f ∷ fs) z h.block.outer) (sym e)
+          (stands_wider p (closed f) f fs (suc (length fs)) h.block.outer refl refl o h.stands);
+    }
+
+pub force_sound : (p : Y.Program) (g : Setting) (fs : List Frame) (as' : List Activation) (c : Condition)
+    → Every IsOpen fs → HasUnits p g fs as' → skeleton as' ≡ outlines fs → IsForced p g fs (force as' c)
+force_sound p g [] [] c o h e = tt
+force_sound p g [] (a ∷ as') c o h e = absurd (cc e)
+force_sound p g (f ∷ fs) [] c o h e = tt
+force_sound p g (f ∷ fs) (a ∷ as') c o h e =
+    let further : IsForced p g fs (force as' c) = force_sound p g fs as' c o.1 h.1 (ap rest_outlines e) in
+    first (unit_for a.units c) further
+    (unit_sound (SoundOnUnit p g (closed f ∷ fs) (suc (length fs))) a.units c h.0)
   where
-    first : (a : Activation) (o : Option OnUnit) (f : Option (Activation × OnUnit)) → IsUnitIf p g o → IsForced p g f
-        → IsForced p g (first_unit a o f)
-    first a None f u k = k
-    first a (Some x) f u k = u
+    first : (x : Option OnUnit) → IsForced p g fs (force as' c)
+        → IsUnitIf (SoundOnUnit p g (closed f ∷ fs) (suc (length fs))) x
+        → IsForced p g (f ∷ fs) (first_unit a x (force as' c))
+    first None k u = forced_under p g f fs (force as' c) k
+    first (Some x) k u = unit_opened p g f fs a.height x o.0 (ap (λ os. (first_outline os).height) e) u

@@ -10,7 +10,8 @@ use Rattle.pli_meaning.specs.Numbers.{Checked, Gives, Raises}
 use Rattle.pli_typing.specs.TypedTree as Y
 use Rattle.pli_meaning.specs.BasicValues.{Name, BasicValue}
 use Rattle.pli_meaning.specs.Contents.{Shape}
-use Rattle.pli_meaning.specs.StorageState.{OnUnit, SystemUnit, BlockUnit, Activation, force}
+use Rattle.pli_meaning.specs.StorageState.{OnUnit, SystemUnit, BlockUnit, Activation, force, ancestor, height_of}
+use Rattle.pli_meaning.specs.StorageState.{newest_height}
 use Rattle.pli_meaning.specs.Raising as G
 use Rattle.pli_meaning.specs.Raising.{Passed}
 use Rattle.pli_meaning.specs.DeclaredShapes as D
@@ -22,18 +23,20 @@ use Rattle.meaning_runs.proofs.Demands.{Anything, There, IsThere, IsForced, forc
 use Rattle.meaning_runs.proofs.Steps.{give_there, bind_there, then_there, looked_there, act_there, finish_there}
 use Rattle.meaning_runs.proofs.Steps.{choose_there, found_there, told}
 use Rattle.meaning_runs.proofs.Ways.{Ways, demand, around, here, ThereAround, FineProcedure, Expected, unit_entry}
-use Rattle.meaning_runs.proofs.Ways.{procedure_passes, procedures_same, procedure_fine}
+use Rattle.meaning_runs.proofs.Ways.{procedure_passes, procedures_same, procedure_fine, Footing, FootingIf}
+use Rattle.meaning_runs.proofs.Callees.{Callee, callee}
 
 -- ---- conditions
 
 pub error_unit_there : {R : Type 0} {after : R → Type 0} (code : ℕ) (found : Option (Activation × OnUnit)) (w : Ways)
-    → IsForced w.program w.goto found
+    → IsForced w.program w.setting w.bearing.frames found
     → There (demand w) 0 1 w.left after (G.error_unit_run {R = R} (around w) code found)
 unfolding G.error_unit_run
 error_unit_there code None w s = finish_there (E.Error code w.line) tt
 error_unit_there code (Some (a, SystemUnit)) w s = finish_there (E.Error code w.line) tt
 error_unit_there code (Some (a, BlockUnit b)) w s =
-    then_there (w.keeps w.bearing (G.unit_entered b a code) (unit_entry w.program w.goto w.bearing.answers b a code s))
+    then_there (w.keeps w.bearing (G.unit_entered b a code)
+    (unit_entry w.program w.setting w.bearing b a code w.opens s))
     (finish_there (E.Error code w.line) tt)
 
 pub error_there : {R : Type 0} {after : R → Type 0} (code : ℕ) → ThereAround {R = R} after (λ a. G.error a code)
@@ -41,15 +44,17 @@ unfolding G.error
 error_there code w =
     then_there (act_there (raising C.Error code) (λ v. refl))
     (bind_there looked_there (λ s kept. error_unit_there code (force s.activations C.Error) w
-    (force_sound w.program w.goto s.activations C.Error kept.0)))
+    (force_sound w.program w.setting w.bearing.frames s.activations C.Error w.opens kept.0 kept.1)))
 
-unit_there : (code : ℕ) (found : Option (Activation × OnUnit)) (w : Ways) → IsForced w.program w.goto found
+unit_there : (code : ℕ) (found : Option (Activation × OnUnit)) (w : Ways)
+    → IsForced w.program w.setting w.bearing.frames found
     → There (demand w) 0 1 w.left Anything (G.unit_run (around w) code found)
 unfolding G.unit_run
 unit_there code None w s = error_there code w
 unit_there code (Some (a, SystemUnit)) w s = error_there code w
 unit_there code (Some (a, BlockUnit b)) w s =
-    then_there (w.keeps w.bearing (G.unit_entered b a code) (unit_entry w.program w.goto w.bearing.answers b a code s))
+    then_there (w.keeps w.bearing (G.unit_entered b a code)
+    (unit_entry w.program w.setting w.bearing b a code w.opens s))
     (give_there tt tt)
 
 pub raised_there : (c : Condition) (code : ℕ) → ThereAround Anything (λ a. G.raised a c code)
@@ -57,7 +62,7 @@ unfolding G.raised
 raised_there c code w =
     then_there (act_there (raising c code) (λ v. refl))
     (bind_there looked_there (λ s kept. unit_there code (force s.activations c) w
-    (force_sound w.program w.goto s.activations c kept.0)))
+    (force_sound w.program w.setting w.bearing.frames s.activations c w.opens kept.0 kept.1)))
 
 pub value_of_there : (v : Checked) → ThereAround Anything (λ a. G.value_of a v)
 unfolding G.value_of
@@ -112,14 +117,33 @@ all_passed_there all (x ∷ xs) w =
     bind_there (passed_last_there all x w) (λ y k. bind_there (all_passed_there all xs w)
     (λ ys e. give_there (y ∷ ys) (ap suc e)))
 
-procedure_entered_there : (q : Y.Procedure) (level : ℕ) (passed : List Passed) (w : Ways)
-    → FineProcedure w.program w.goto q → length passed ≡ length q.parameters
+-- where procedures may be called, it is known which activations are those of the blocks around
+footed : (w : Ways) → P.MayCall w.calls → Footing w.program w.setting w.bearing.frames w.blocks
+footed w may = of_calls w.calls may w.footing
+  where
+    of_calls : (k : P.Calls) → P.MayCall k → FootingIf k w.program w.setting w.bearing.frames w.blocks
+        → Footing w.program w.setting w.bearing.frames w.blocks
+    of_calls P.AnyCall m h = h
+    of_calls P.NoCall m h = absurd m
+
+procedure_entered_there : (q : Y.Procedure) (number level : ℕ) (passed : List Passed) (w : Ways)
+    → FineProcedure w.program w.setting q → P.MayCall w.calls → X.IsProcedure (here w) number level q
+    → length passed ≡ length q.parameters
     → There (demand w) 0 1 w.left (Expected (is_some q.result)) (V.procedure_entered (around w) (Some q) level passed)
 unfolding V.procedure_entered
-procedure_entered_there q level passed w f e =
-    bind_there looked_there (λ s k. w.keeps w.bearing _ (record {
+procedure_entered_there q number level passed w f may i e =
+    bind_there looked_there (λ s k.
+    let c : Callee w.program w.setting w.bearing.frames
+    (height_of (ancestor s.activations (newest_height s.activations) level)) q f =
+    callee w.program w.setting w.bearing.frames s.activations w.blocks w.returning number level q f (footed w may) k.1 i
+    in
+    w.keeps w.bearing _ (record {
       block = f.block;
-      passes = procedure_passes w.program w.goto w.bearing.answers q f;
+      chain = c.chain;
+      stands = c.stands;
+      opens = w.opens;
+      known = f.known;
+      passes = procedure_passes w.program w.setting w.bearing.answers q f;
       counts = e;
     }))
 
@@ -172,7 +196,7 @@ mutual
   unfolding V.number V.numbers V.text V.bit V.pointer V.offset V.designated V.located V.called V.arguments
       V.argument V.stored_value
 
-  pub number_there : (x : Y.Number) (w : Ways) → X.SoundNumber (here w) x → P.PlainNumber x
+  pub number_there : (x : Y.Number) (w : Ways) → X.SoundNumber (here w) x → P.PlainNumber w.calls x
       → There (demand w) 0 1 w.left Anything (V.number (around w) x)
   number_there (Y.NumberConstant c) w h p = give_there _ tt
   number_there (Y.NumberIn r) w h p = bind_there (designated_there r w h.1 p) (λ d k. give_there _ tt)
@@ -207,14 +231,14 @@ mutual
   number_there (Y.AllocationsOf v) w h p = bind_there looked_there (λ s k. give_there _ tt)
   number_there Y.OnCode w h p = bind_there looked_there (λ s k. give_there _ tt)
 
-  numbers_there : (xs : Y.Numbers) (w : Ways) → X.SoundNumbers (here w) xs → P.PlainNumbers xs
+  numbers_there : (xs : Y.Numbers) (w : Ways) → X.SoundNumbers (here w) xs → P.PlainNumbers w.calls xs
       → There (demand w) 0 1 w.left Anything (V.numbers (around w) xs)
   numbers_there Y.NoNumber w h p = give_there [] tt
   numbers_there (Y.NumberThen x xs) w h p =
       bind_there (number_there x w h.0 p.0) (λ z k. bind_there (numbers_there xs w h.1 p.1)
       (λ zs j. give_there _ tt))
 
-  pub text_there : (x : Y.Text) (w : Ways) → X.SoundText (here w) x → P.PlainText x
+  pub text_there : (x : Y.Text) (w : Ways) → X.SoundText (here w) x → P.PlainText w.calls x
       → There (demand w) 0 1 w.left Anything (V.text (around w) x)
   text_there (Y.TextConstant bytes) w h p = give_there bytes tt
   text_there (Y.TextIn r) w h p = bind_there (designated_there r w h.1 p) (λ d k. give_there _ tt)
@@ -234,7 +258,7 @@ mutual
       bind_there (text_there t w h.0 p.0) (λ u k. bind_there (number_there from w h.1.0 p.1.0)
       (λ v j. bind_there (number_there size w h.1.1 p.1.1) (λ x i. or_error_there _ _ w)))
 
-  pub bit_there : (x : Y.Bit) (w : Ways) → X.SoundBit (here w) x → P.PlainBit x
+  pub bit_there : (x : Y.Bit) (w : Ways) → X.SoundBit (here w) x → P.PlainBit w.calls x
       → There (demand w) 0 1 w.left Anything (V.bit (around w) x)
   bit_there (Y.BitConstant b) w h p = give_there b tt
   bit_there (Y.BitIn r) w h p = bind_there (designated_there r w h.1 p) (λ d k. give_there _ tt)
@@ -261,7 +285,7 @@ mutual
       bind_there (offset_there x w h.0 p.0) (λ u k. bind_there (offset_there y w h.1 p.1)
       (λ v j. give_there _ tt))
 
-  pub pointer_there : (x : Y.Pointer) (w : Ways) → X.SoundPointer (here w) x → P.PlainPointer x
+  pub pointer_there : (x : Y.Pointer) (w : Ways) → X.SoundPointer (here w) x → P.PlainPointer w.calls x
       → There (demand w) 0 1 w.left Anything (V.pointer (around w) x)
   pointer_there Y.NullPointer w h p = give_there _ tt
   pointer_there (Y.PointerIn r) w h p = bind_there (designated_there r w h.1 p) (λ d k. give_there _ tt)
@@ -273,7 +297,7 @@ mutual
   pointer_there (Y.PointerInto x area) w h p =
       bind_there (offset_there x w h.1 p) (λ o k. bind_there (area_meant_there area w) (λ b j. give_there _ tt))
 
-  offset_there : (x : Y.Offset) (w : Ways) → X.SoundOffset (here w) x → P.PlainOffset x
+  offset_there : (x : Y.Offset) (w : Ways) → X.SoundOffset (here w) x → P.PlainOffset w.calls x
       → There (demand w) 0 1 w.left Anything (V.offset (around w) x)
   offset_there Y.NullOffset w h p = give_there _ tt
   offset_there (Y.OffsetIn r) w h p = bind_there (designated_there r w h.1 p) (λ d k. give_there _ tt)
@@ -284,38 +308,39 @@ mutual
       bind_there (pointer_there x w h.1 p) (λ o k. bind_there (area_meant_there area w)
       (λ b j. or_error_there _ _ w))
 
-  pub designated_there : (x : Y.Reference) (w : Ways) → X.SoundReference (here w) x → P.PlainReference x
+  pub designated_there : (x : Y.Reference) (w : Ways) → X.SoundReference (here w) x → P.PlainReference w.calls x
       → There (demand w) 0 1 w.left Anything (V.designated (around w) x)
   designated_there (Y.Referring v locator part subscripts) w h p =
       bind_there (located_there locator w h.1.1.0 p.0) (λ n k. bind_there (numbers_there subscripts w h.1.1.1 p.1)
       (λ is j. variable_designated_there v n part is h.0.d w h.0.declared.found))
 
-  located_there : (x : Y.Locator) (w : Ways) → X.SoundLocator (here w) x → P.PlainLocator x
+  located_there : (x : Y.Locator) (w : Ways) → X.SoundLocator (here w) x → P.PlainLocator w.calls x
       → There (demand w) 0 1 w.left Anything (V.located (around w) x)
   located_there Y.NotLocated w h p = give_there _ tt
   located_there (Y.LocatedBy x) w h p = bind_there (pointer_there x w h p) (λ n k. give_there _ tt)
 
-  pub called_there : (x : Y.Call) (w : Ways) → X.SoundCall (here w) x → P.PlainCall x
+  pub called_there : (x : Y.Call) (w : Ways) → X.SoundCall (here w) x → P.PlainCall w.calls x
       → There (demand w) 0 1 w.left (CallGives w.program x) (V.called (around w) x)
   called_there (Y.Calling number level xs) w h p =
-      bind_there (arguments_there xs w h.1 p) (λ es e. bind_there (all_passed_there es es w)
+      bind_there (arguments_there xs w h.1 p.1) (λ es e. bind_there (all_passed_there es es w)
       (λ ps f. let q = h.0.procedure in let found = h.0.is.found in
       subst (λ o. There (demand w) 0 1 w.left (CallGives w.program (Y.Calling number level xs))
       (V.procedure_entered (around w) o level ps))
       (sym (procedures_same number w.program.procedures ∙ found))
       (told (λ v k q' e'. same_result number w.program.procedures q q' v found e' k)
-      (procedure_entered_there q level ps w
-      (procedure_fine (FineProcedure w.program w.goto) number w.program.procedures q w.whole.procedures found)
+      (procedure_entered_there q number level ps w
+      (procedure_fine (FineProcedure w.program w.setting) number w.program.procedures q w.whole.procedures found) p.0
+      h.0.is
       (f ∙ (e ∙ arguments_count (here w) q q.parameters xs h.0.passed))))))
 
-  arguments_there : (xs : Y.Arguments) (w : Ways) → X.SoundArguments (here w) xs → P.PlainArguments xs
+  arguments_there : (xs : Y.Arguments) (w : Ways) → X.SoundArguments (here w) xs → P.PlainArguments w.calls xs
       → There (demand w) 0 1 w.left (λ es. length es ≡ arguments_in xs) (V.arguments (around w) xs)
   arguments_there Y.NoArgument w h p = give_there [] refl
   arguments_there (Y.ArgumentThen x xs) w h p =
       bind_there (argument_there x w h.0 p.0) (λ y k. bind_there (arguments_there xs w h.1 p.1)
       (λ ys e. give_there (y ∷ ys) (ap suc e)))
 
-  argument_there : (x : Y.Argument) (w : Ways) → X.SoundArgument (here w) x → P.PlainArgument x
+  argument_there : (x : Y.Argument) (w : Ways) → X.SoundArgument (here w) x → P.PlainArgument w.calls x
       → There (demand w) 0 1 w.left Anything (V.argument (around w) x)
   argument_there (Y.ByReference r) w h p = bind_there (designated_there r w h p) (λ d k. give_there _ tt)
   argument_there (Y.ByCopy t x) w h p = bind_there (stored_value_there x w h p) (λ v k. give_there _ tt)
@@ -323,7 +348,7 @@ mutual
       bind_there (pointer_there x w h p) (λ n k. give_there _ tt)
   argument_there (Y.ByOffsetInAutomatic x) w h p = bind_there (pointer_there x w h p) (λ n k. give_there _ tt)
 
-  pub stored_value_there : (x : Y.Stored) (w : Ways) → X.SoundStored (here w) x → P.PlainStored x
+  pub stored_value_there : (x : Y.Stored) (w : Ways) → X.SoundStored (here w) x → P.PlainStored w.calls x
       → There (demand w) 0 1 w.left Anything (V.stored_value (around w) x)
   stored_value_there (Y.StoredNumber precision x) w h p =
       bind_there (number_there x w h.1 p) (λ z k. bind_there (value_of_there _ w) (λ y j. give_there _ tt))
@@ -333,7 +358,7 @@ mutual
   stored_value_there (Y.StoredOffset x) w h p = bind_there (offset_there x w h p) (λ o k. give_there _ tt)
 
 -- a number, a text or a bit
-pub computational_there : (x : Y.Value) (w : Ways) → X.SoundComputational (here w) x → P.PlainValue x
+pub computational_there : (x : Y.Value) (w : Ways) → X.SoundComputational (here w) x → P.PlainValue w.calls x
     → There (demand w) 0 1 w.left Anything (V.computational (around w) x)
 unfolding V.computational
 computational_there (Y.NumberValue precision e) w h p = bind_there (number_there e w h.1 p) (λ z k. give_there _ tt)

@@ -1,9 +1,13 @@
+mod Frames
 mod Demands
 mod Steps
 mod Ways
+mod Callees
+mod Extents
 mod Expressions
 mod Stored
 mod Streams
 mod Statements
 mod Blocks
 mod Programs
+mod Lost

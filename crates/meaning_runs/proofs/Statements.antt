@@ -1,7 +1,7 @@
 -- The statements of a plain well-formed program are there; they enter other blocks only behind an act.
 use Rattle.std.proofs.Common.{◌≡◌, ℕ, suc, ◌<◌, ◌≤◌, ℤ, List, [], ◌∷◌, ◌++◌, Option, Some, None, Bool, true, false}
-use Rattle.std.proofs.Common.{refl, ap, sym, ◌∙◌, subst, arith}
-use Rattle.std.specs.Prelude.{◌==◌, ◌+◌, cond, length}
+use Rattle.std.proofs.Common.{refl, ap, sym, ◌∙◌, subst, arith, inl, inr}
+use Rattle.std.specs.Prelude.{◌==◌, ◌+◌, ◌⊎◌, cond, length, slice_get}
 use Rattle.pli_language.specs.declared.condition.Condition.{Condition}
 use Rattle.pli_language.specs.declared.condition.Condition.TheVariants as C
 use Rattle.pli_meaning.specs.declared.outcome.End.TheVariants as E
@@ -10,17 +10,22 @@ use Rattle.pli_typing.specs.TypedTree as Y
 use Rattle.pli_meaning.specs.BasicValues.{BasicValue}
 use Rattle.pli_meaning.specs.StorageState.{State, Activation, BlockUnit, SystemUnit, established, reverted}
 use Rattle.pli_meaning.specs.StorageState.{with_activations, newest_height, ancestor, ancestor_at, height_of}
-use Rattle.pli_meaning.specs.Control.{Label, Meaning}
+use Rattle.pli_meaning.specs.Control.{Label, is_among, Meaning}
+use Rattle.well_formed_trees.specs.Every.{Every}
 use Rattle.pli_meaning.specs.Raising.{Around, Enter, Entry}
 use Rattle.pli_meaning.specs.Evaluating as V
 use Rattle.pli_meaning.specs.Executing as M
-use Rattle.well_formed_trees.specs.Surroundings.{Table, Where, Returning, Returns, NoReturn, with_inner, in_unit}
+use Rattle.well_formed_trees.specs.Surroundings.{Where, Returning, Returns, NoReturn}
 use Rattle.well_formed_trees.specs.Surroundings as W
 use Rattle.well_formed_trees.specs.Expressions as X
 use Rattle.well_formed_trees.specs.Statements as T
 use Rattle.meaning_runs.specs.Plain as P
 use Rattle.meaning_runs.specs.Plain.{Gotos}
-use Rattle.meaning_runs.proofs.Demands.{Bearing, Jumps, skeleton, placed, SoundUnit, Demand, Kept, Anything, There}
+use Rattle.meaning_runs.proofs.Frames.{Frame, skeleton, outlines, closed, first_outline, IsOpen, AreAmong, Has, Stands}
+use Rattle.meaning_runs.proofs.Frames.{Enters, Chain, among_first, among_second, among_either, enters_own, target_at}
+use Rattle.meaning_runs.proofs.Frames.{lower_level, reached, newest_ancestor}
+use Rattle.meaning_runs.proofs.Demands.{Setting, Bearing, Jumps, block_around, placed, SoundUnit, Demand, Kept}
+use Rattle.meaning_runs.proofs.Demands.{Anything, There}
 use Rattle.meaning_runs.proofs.Demands.{Answered, established_kept}
 use Rattle.meaning_runs.proofs.Demands.{reverted_kept}
 use Rattle.meaning_runs.proofs.Steps.{loose, slow, give_there, bind_there, then_there, looked_there, stored_there}
@@ -37,35 +42,36 @@ use Rattle.meaning_runs.proofs.Streams.{get_there, put_there}
 
 -- ---- assignment and DO
 
-assigned_there : (r : Y.Reference) (v : BasicValue) (w : Ways) → X.SoundReference (here w) r → P.PlainReference r
+assigned_there : (r : Y.Reference) (v : BasicValue) (w : Ways) → X.SoundReference (here w) r
+    → P.PlainReference w.calls r
     → There (demand w) 0 1 w.left Anything (M.assigned (around w) r v)
 unfolding M.assigned
 assigned_there r v w h p = bind_there (designated_there r w h p) (λ d k. element_stored_there d v)
 
 elements_assigned_there : (r : Y.Reference) (v : BasicValue) (w : Ways) → X.SoundReference (here w) r
-    → P.PlainReference r → There (demand w) 0 1 w.left Anything (M.elements_assigned (around w) r v)
+    → P.PlainReference w.calls r → There (demand w) 0 1 w.left Anything (M.elements_assigned (around w) r v)
 unfolding M.elements_assigned
 elements_assigned_there r v w h p = bind_there (designated_there r w h p) (λ d k. elements_stored_there d _)
 
 -- a counter with what is so of it
-record SoundCounting (w : Where) (c : Y.Counter) : Type 0 where
+record SoundCounting (k : P.Calls) (w : Where) (c : Y.Counter) : Type 0 where
   sound : T.SoundCounter w c
-  plain : P.PlainCounter c
+  plain : P.PlainCounter k c
 
 counter_reference : (w : Where) (c : Y.Counter) → T.SoundCounter w c → X.SoundReference w (M.reference_of c)
 counter_reference w (Y.NumberCounter precision r) h = h.1
 counter_reference w (Y.TextCounter r) h = h.1
 
-counter_plain : (c : Y.Counter) → P.PlainCounter c → P.PlainReference (M.reference_of c)
-counter_plain (Y.NumberCounter precision r) p = p
-counter_plain (Y.TextCounter r) p = p
+counter_plain : (k : P.Calls) (c : Y.Counter) → P.PlainCounter k c → P.PlainReference k (M.reference_of c)
+counter_plain k (Y.NumberCounter precision r) p = p
+counter_plain k (Y.TextCounter r) p = p
 
-counter_assigned : (c : Y.Counter) (v : BasicValue) (w : Ways) → SoundCounting (here w) c
+counter_assigned : (c : Y.Counter) (v : BasicValue) (w : Ways) → SoundCounting w.calls (here w) c
     → There (demand w) 0 1 w.left Anything (M.assigned (around w) (M.reference_of c) v)
 counter_assigned c v w h =
-    assigned_there (M.reference_of c) v w (counter_reference (here w) c h.sound) (counter_plain c h.plain)
+    assigned_there (M.reference_of c) v w (counter_reference (here w) c h.sound) (counter_plain w.calls c h.plain)
 
-counter_number_there : (c : Y.Counter) (w : Ways) → SoundCounting (here w) c
+counter_number_there : (c : Y.Counter) (w : Ways) → SoundCounting w.calls (here w) c
     → There (demand w) 0 1 w.left Anything (M.counter_number (around w) c)
 unfolding M.counter_number
 counter_number_there (Y.NumberCounter precision r) w h =
@@ -84,33 +90,33 @@ counter_started_there (Y.NumberCounter precision r) v w =
     bind_there (or_error_there _ _ w) (λ z k. counter_value_there (Y.NumberCounter precision r) z w)
 counter_started_there (Y.TextCounter r) v w = give_there _ tt
 
-stepped_there : (c : Y.Counter) (step : ℤ) (w : Ways) → SoundCounting (here w) c
+stepped_there : (c : Y.Counter) (step : ℤ) (w : Ways) → SoundCounting w.calls (here w) c
     → There (demand w) 0 1 w.left Anything (M.stepped (around w) c step)
 unfolding M.stepped
 stepped_there c step w h =
     bind_there (counter_number_there c w h) (λ z k. bind_there (value_of_there _ w) (λ next j. bind_there
     (counter_value_there c next w) (λ v i. counter_assigned c v w h)))
 
-limit_of_there : (limit : Option Y.Number) (w : Ways) → T.SoundNumberIf (here w) limit → P.PlainNumberIf limit
+limit_of_there : (limit : Option Y.Number) (w : Ways) → T.SoundNumberIf (here w) limit → P.PlainNumberIf w.calls limit
     → There (demand w) 0 1 w.left Anything (M.limit_of (around w) limit)
 unfolding M.limit_of
 limit_of_there None w h p = give_there None tt
 limit_of_there (Some e) w h p = bind_there (number_there e w h p) (λ z k. give_there _ tt)
 
-within_limit_there : (c : Y.Counter) (limit : Option ℤ) (step : ℤ) (w : Ways) → SoundCounting (here w) c
+within_limit_there : (c : Y.Counter) (limit : Option ℤ) (step : ℤ) (w : Ways) → SoundCounting w.calls (here w) c
     → There (demand w) 0 1 w.left Anything (M.within_limit (around w) c limit step)
 unfolding M.within_limit
 within_limit_there c None step w h = give_there true tt
 within_limit_there c (Some limit) step w h = bind_there (counter_number_there c w h) (λ z k. give_there _ tt)
 
 condition_met_there : (condition : Option Y.Bit) (w : Ways) → T.SoundBitIf (here w) condition
-    → P.PlainBitIf condition → There (demand w) 0 1 w.left Anything (M.condition_met (around w) condition)
+    → P.PlainBitIf w.calls condition → There (demand w) 0 1 w.left Anything (M.condition_met (around w) condition)
 unfolding M.condition_met
 condition_met_there None w h p = give_there true tt
 condition_met_there (Some e) w h p = bit_there e w h p
 
 turn_due_there : (c : Y.Counter) (limit : Option ℤ) (step : ℤ) (condition : Option Y.Bit) (w : Ways)
-    → SoundCounting (here w) c → T.SoundBitIf (here w) condition → P.PlainBitIf condition
+    → SoundCounting w.calls (here w) c → T.SoundBitIf (here w) condition → P.PlainBitIf w.calls condition
     → There (demand w) 1 1 w.left Anything (M.turn_due (around w) c limit step condition)
 unfolding M.turn_due
 turn_due_there c limit step condition w h i p =
@@ -118,14 +124,14 @@ turn_due_there c limit step condition w h i p =
     bind_there (within_limit_there c limit step u h) (λ within k. choose_there within
     (condition_met_there condition u i p) (give_there false tt))))
 
-met_after_act_there : (x : Y.Bit) (w : Ways) → X.SoundBit (here w) x → P.PlainBit x
+met_after_act_there : (x : Y.Bit) (w : Ways) → X.SoundBit (here w) x → P.PlainBit w.calls x
     → There (demand w) 1 1 w.left Anything (M.met_after_act (around w) x)
 unfolding M.met_after_act
 met_after_act_there x w h p =
     act_then counted (λ v. refl) (λ n e. loose (bit_there x (smaller w n (omega (arith, e))) h p))
 
 once_there : (condition : Option Y.Bit) {body : Meaning (Unit {0})} (w : Ways) → T.SoundBitIf (here w) condition
-    → P.PlainBitIf condition → There (demand w) 0 1 w.left Anything body
+    → P.PlainBitIf w.calls condition → There (demand w) 0 1 w.left Anything body
     → There (demand w) 0 1 w.left Anything (M.once (around w) condition body)
 unfolding M.once
 once_there None w h p a = a
@@ -151,66 +157,70 @@ signalled_there C.Error w = error_there _ w
 
 -- ---- what stands around a block's own statements: blocks are there where fewer acts are left
 
--- the activation of the block, the heights and levels of those further down, and the labels of the lists around in it
-pub record Newest : Type 0 where
-  pub height : ℕ
-  pub level : ℕ
-  pub further : List (ℕ × ℕ)
-  pub labels : List Label
-
+-- the activation of the block, and those further down
 pub record Level : Type 0 where
   pub program : Y.Program
-  pub goto : Gotos
-  pub whole : Whole program goto
-  pub table : Table
-  pub blocks : List W.Around
+  pub setting : Setting
+  pub whole : Whole program setting
   pub returning : Returning
-  pub standing : Newest
+  pub frame : Frame
+  pub further : List Frame
+  pub opens : Every IsOpen (frame ∷ further)
   pub line : ℕ
   pub enter : Enter
   pub turns : ℕ
   pub left : ℕ
-  pub later : (c : ℕ) → c < left → (outer : Bearing) (e : Entry) → SoundEntry program goto outer.answers e
-      → There (record { program = program; goto = goto; bearing = outer }) 0 1 c (Expected e.is_function) (enter e)
+  pub later : (c : ℕ) → c < left → (outer : Bearing) (e : Entry) → SoundEntry program setting outer e
+      → There (record { program = program; setting = setting; bearing = outer }) 0 1 c (Expected e.is_function)
+      (enter e)
   pub few : left < turns
 
+-- the blocks around a place, where lists of the block are carried out: they stand at the activation
+pub record Foot (p : Y.Program) (g : Setting) (frame : Frame) (further : List Frame) : Type 0 where
+  pub own : W.Around
+  pub outer : List W.Around
+  pub level_is : frame.level ≡ own.level
+  pub has : AreAmong (W.labels_of own) frame.labels
+  pub lasting : Has p frame.lasting own.outermost
+  pub below : Stands p further frame.parent outer
+  pub chain : Chain g.table (own ∷ outer)
+
+abbrev pub FootAt : Level → Type 0
+FootAt l = Foot l.program l.setting l.frame l.further
+
 abbrev pub bearing_at : Level → Bearing
-bearing_at l =
-    record {
-      answers = Some l.returning;
-      heights = (l.standing.height, l.standing.level) ∷ l.standing.further;
-      labels = l.standing.labels;
-    }
+bearing_at l = record { answers = Some l.returning; frames = l.frame ∷ l.further }
 
 -- where a statement stands in its block
 abbrev pub standing_at : Level → P.Standing
-standing_at l = record { gotos = l.goto; level = l.standing.level; labels = l.standing.labels }
+standing_at l =
+    record {
+      gotos = l.setting.gotos;
+      functions = P.function_labels l.program.procedures;
+      level = l.frame.level;
+    }
 
 abbrev pub demand_at : Level → Demand
-demand_at l = record { program = l.program; goto = l.goto; bearing = bearing_at l }
+demand_at l = record { program = l.program; setting = l.setting; bearing = bearing_at l }
 
 abbrev pub around_at : Level → Around
 around_at l = record { program = l.program; enter = l.enter; turns = l.turns; line = l.line }
 
-abbrev pub place_at : Level → Where
-place_at l = placed l.program l.table l.blocks l.returning
+abbrev pub place_at : (l : Level) → FootAt l → Where
+place_at l t = placed l.program l.setting.table (t.own ∷ t.outer) l.returning
 
-abbrev pub with_labels : List Label → Newest → Newest
-with_labels labels n =
-    record { height = n.height; level = n.level; further = n.further; labels = labels ++ n.labels }
-
--- with fewer acts left, in a list or on a line
-abbrev level : (l : Level) (blocks : List W.Around) (standing : Newest) (line c : ℕ) → c ≤ l.left → Level
-level l blocks standing line c r =
+-- with fewer acts left, or in a list
+abbrev level : (l : Level) (frame : Frame) → IsOpen frame → (c : ℕ) → c ≤ l.left → Level
+level l frame o c r =
     record {
       program = l.program;
-      goto = l.goto;
+      setting = l.setting;
       whole = l.whole;
-      table = l.table;
-      blocks = blocks;
       returning = l.returning;
-      standing = standing;
-      line = line;
+      frame = frame;
+      further = l.further;
+      opens = (o, l.opens.1);
+      line = l.line;
       enter = l.enter;
       turns = l.turns;
       left = c;
@@ -219,38 +229,88 @@ level l blocks standing line c r =
     }
 
 abbrev pub lower : (l : Level) (c : ℕ) → c ≤ l.left → Level
-lower l c r = level l l.blocks l.standing l.line c r
-
--- in a block that is entered above these activations
-abbrev pub on_head : Y.BlockHead → List (ℕ × ℕ) → Level → Level
-on_head head further l =
-    level l l.blocks
-    (record { height = length further + 1; level = head.level; further = further; labels = [] }) head.line l.left
-    (omega arith)
+lower l c r = level l l.frame l.opens.0 c r
 
 abbrev below : (l : Level) (c : ℕ) → suc c ≡ l.left → Level
 below l c e = lower l c (omega (arith, e))
 
-abbrev listed : Y.Stmts → Level → Level
-listed body l =
-    level l (with_inner (T.labels_in body) l.blocks) (with_labels (M.labels_in body) l.standing) l.line l.left
-    (omega arith)
+abbrev pub listed_frame : List Label → Frame → Frame
+listed_frame labels f =
+    record { level = f.level; parent = f.parent; lasting = f.lasting; labels = labels ++ f.labels }
 
--- in a block's own list
-abbrev pub in_own_list : Y.Stmts → Level → Level
-in_own_list body l = level l l.blocks (with_labels (M.labels_in body) l.standing) l.line l.left (omega arith)
+abbrev pub listed : Y.Stmts → Level → Level
+listed body l =
+    level l (listed_frame (M.labels_in body) l.frame)
+    (λ label h. among_second label (M.labels_in body) l.frame.labels (l.opens.0 label h)) l.left (omega arith)
+
+pub labels_same : (body : Y.Stmts) → T.labels_in body ≡ M.labels_in body
+labels_same (Y.EndOfList labels) = refl
+labels_same (Y.StmtThen labels first rest) = ap (λ ls. labels ++ ls) (labels_same rest)
+
+-- in a list of a group
+group_has : (own : W.Around) (body : Y.Stmts) (labels : List Label) → AreAmong (W.labels_of own) labels
+    → AreAmong ((T.labels_in body ++ own.inner) ++ own.outermost) (M.labels_in body ++ labels)
+group_has own body labels h label x =
+    outside (among_either label (T.labels_in body ++ own.inner) own.outermost x)
+  where
+    further : W.is_among label (W.labels_of own) ≡ true → W.is_among label (M.labels_in body ++ labels) ≡ true
+    further y = among_second label (M.labels_in body) labels (h label y)
+
+    inside : (W.is_among label (T.labels_in body) ≡ true) ⊎ (W.is_among label own.inner ≡ true)
+        → W.is_among label (M.labels_in body ++ labels) ≡ true
+    inside (inl y) =
+        among_first label (M.labels_in body) labels
+        (subst (λ ls. W.is_among label ls ≡ true) (labels_same body) y)
+    inside (inr y) = further (among_first label own.inner own.outermost y)
+
+    outside : (W.is_among label (T.labels_in body ++ own.inner) ≡ true) ⊎ (W.is_among label own.outermost ≡ true)
+        → W.is_among label (M.labels_in body ++ labels) ≡ true
+    outside (inl y) = inside (among_either label (T.labels_in body) own.inner y)
+    outside (inr y) = further (among_second label own.inner own.outermost y)
+
+abbrev group_around : Y.Stmts → W.Around → W.Around
+group_around body a =
+    record {
+      number = a.number;
+      level = a.level;
+      outermost = a.outermost;
+      inner = T.labels_in body ++ a.inner;
+    }
+
+abbrev in_group : (p : Y.Program) (g : Setting) (f : Frame) (fs : List Frame) (body : Y.Stmts) → Foot p g f fs
+    → Foot p g (listed_frame (M.labels_in body) f) fs
+in_group p g f fs body t =
+    record {
+      own = group_around body t.own;
+      outer = t.outer;
+      level_is = t.level_is;
+      has = group_has t.own body f.labels t.has;
+      lasting = t.lasting;
+      below = t.below;
+      chain = t.chain;
+    }
+
+abbrev group : (body : Y.Stmts) (l : Level) → FootAt l → FootAt (listed body l)
+group body l t = in_group l.program l.setting l.frame l.further body t
+
+-- where the blocks stand
+abbrev stands_at : (l : Level) (t : FootAt l)
+    → Stands l.program (l.frame ∷ l.further) (suc (length l.further)) (t.own ∷ t.outer)
+stands_at l t = inl (refl, (t.level_is, (λ label x y. t.has label x, t.below)))
 
 -- behind an act
-abbrev pub within : (l : Level) (c : ℕ) → suc c ≡ l.left → Ways
-within l c e =
+abbrev pub within : (l : Level) → FootAt l → (c : ℕ) → suc c ≡ l.left → Ways
+within l t c e =
     record {
       program = l.program;
-      goto = l.goto;
+      setting = l.setting;
       bearing = bearing_at l;
       whole = l.whole;
-      table = l.table;
-      blocks = l.blocks;
+      blocks = t.own ∷ t.outer;
       returning = l.returning;
+      calls = P.AnyCall;
+      footing = record { stands = stands_at l t; chain = t.chain };
+      opens = l.opens;
       line = l.line;
       enter = l.enter;
       turns = l.turns;
@@ -259,14 +319,31 @@ within l c e =
       few = omega (arith, e, l.few);
     }
 
-abbrev first_or_none : List (ℕ × ℕ) → ℕ × ℕ
-first_or_none [] = (0, 0)
-first_or_none (x ∷ xs) = x
+-- before and behind the block's own list, where nothing is called
+abbrev pub apart : (l : Level) → List W.Around → (c : ℕ) → suc c ≡ l.left → Ways
+apart l blocks c e =
+    record {
+      program = l.program;
+      setting = l.setting;
+      bearing = bearing_at l;
+      whole = l.whole;
+      blocks = blocks;
+      returning = NoReturn;
+      calls = P.NoCall;
+      footing = tt;
+      opens = l.opens;
+      line = l.line;
+      enter = l.enter;
+      turns = l.turns;
+      left = c;
+      keeps = l.later c (omega (arith, e));
+      few = omega (arith, e, l.few);
+    }
 
-newest_there : (as' : List Activation) (height level : ℕ) (further : List (ℕ × ℕ))
-    → skeleton as' ≡ (height, level) ∷ further → newest_height as' ≡ height
-newest_there [] height l further e = absurd (cc e)
-newest_there (a ∷ as') height l further e = ap (λ xs. (first_or_none xs).0) e
+pub newest_there : (as' : List Activation) (f : Frame) (fs : List Frame) → skeleton as' ≡ outlines (f ∷ fs)
+    → newest_height as' ≡ suc (length fs)
+newest_there [] f fs e = absurd (cc e)
+newest_there (a ∷ as') f fs e = ap (λ os. (first_outline os).height) e
 
 pub list_with_there : (labels : List Label) {part : Option Label → Meaning (Unit {0})} (l : Level)
     → ((x : Option Label) (c : ℕ) → c ≤ l.left → There (labelled labels (demand_at l)) 0 1 c Anything (part x))
@@ -274,25 +351,36 @@ pub list_with_there : (labels : List Label) {part : Option Label → Meaning (Un
 unfolding M.list_with
 list_with_there labels l a =
     bind_there looked_there (λ s k. list_there l.turns l.left _ labels None l.few
-    (newest_there s.activations l.standing.height l.standing.level l.standing.further k.1) a)
+    (newest_there s.activations l.frame l.further k.1) a)
 
 -- ---- blocks that statements enter or establish
 
-begun_sound : (l : Level) (head : Y.BlockHead) (body : Y.Stmts) (parent : ℕ)
-    → T.SoundStmt (place_at l) (Y.Begin (Y.BlockOf head body)) → P.PlainStmts (P.in_block l.goto head body) body
-    → SoundEntry l.program l.goto (Some l.returning) (M.begun (Y.BlockOf head body) parent)
-begun_sound l head body parent h p =
+begun_sound : (l : Level) (t : FootAt l) (head : Y.BlockHead) (body : Y.Stmts) (s : State)
+    → skeleton s.activations ≡ outlines (l.frame ∷ l.further)
+    → T.SoundStmt (place_at l t) (Y.Begin (Y.BlockOf head body))
+    → P.PlainStmts (P.in_block (standing_at l) head) body
+    → SoundEntry l.program l.setting (bearing_at l) (M.begun (Y.BlockOf head body) (newest_height s.activations))
+begun_sound l t head body s e h p =
     record {
       block = record {
         head = head;
         body = body;
         is = refl;
-        table = l.table;
-        blocks = (T.inside (place_at l) head body).around;
+        outer = t.own ∷ t.outer;
         returning = l.returning;
         statements = h.1;
         plain = p;
       };
+      chain = (
+        enters_own l.setting.table (block_around head body) (block_around head body) (t.own ∷ t.outer) h.0.1.1 refl
+            refl (λ label x. x),
+        (omega (arith, h.0.1.0.level), t.chain),
+      );
+      stands =
+          subst (λ z. Stands l.program (l.frame ∷ l.further) z (t.own ∷ t.outer))
+          (sym (newest_there s.activations l.frame l.further e)) (stands_at l t);
+      opens = l.opens;
+      known = λ x. absurd (cc x);
       passes =
           subst (λ kind. Passes (M.is_own_return kind) (Expected false) (Some l.returning) (Some l.returning))
           (sym h.0.0) (λ v a. a);
@@ -306,22 +394,46 @@ unit_own w head Y.SimpleUnit h = refl
 unit_own w head Y.ProcedureBlock h = absurd h
 unit_own w head Y.BeginBlock h = absurd h
 
-unit_sound : (l : Level) (c : Condition) (head : Y.BlockHead) (body : Y.Stmts) (line : ℕ)
-    → T.SoundStmt (place_at l) (Y.OnUnit c (Y.BlockOf head body) line) → P.PlainStmts (P.in_block l.goto head body) body
-    → SoundUnit l.program l.goto (Y.BlockOf head body)
-unit_sound l c head body line h p =
+abbrev unit_around : W.Around → W.Around
+unit_around a = record { number = a.number; level = a.level; outermost = a.outermost; inner = [] }
+
+-- a single statement's block has the number of the block around, and no entry of its own
+unit_enters : (l : Level) (t : FootAt l) (head : Y.BlockHead) (body : Y.Stmts) (kind : Y.BlockKind)
+    → T.IsUnitHead (place_at l t) head kind → head.level ≡ suc t.own.level
+    → T.IsListedUnit l.setting.table head (block_around head body ∷ unit_around t.own ∷ t.outer) kind
+    → Enters l.setting.table (block_around head body) (unit_around t.own ∷ t.outer)
+unit_enters l t head body Y.UnitBlock h deep i =
+    enters_own l.setting.table (block_around head body) (block_around head body) (unit_around t.own ∷ t.outer) i refl
+    refl (λ label x. x)
+unit_enters l t head body Y.SimpleUnit h deep i =
+    λ o outer e.
+    let low : o.level ≤ t.own.level =
+    (t.chain.0 o outer (subst (λ n. slice_get l.setting.table n ≡ Some (o ∷ outer)) h e)).0 in
+    (omega (arith, low, deep), λ q. absurd (omega (arith, q, low, deep)))
+unit_enters l t head body Y.ProcedureBlock h deep i = absurd h
+unit_enters l t head body Y.BeginBlock h deep i = absurd h
+
+unit_sound : (l : Level) (t : FootAt l) (c : Condition) (head : Y.BlockHead) (body : Y.Stmts) (line : ℕ)
+    → T.SoundStmt (place_at l t) (Y.OnUnit c (Y.BlockOf head body) line)
+    → P.PlainStmts (P.in_block (standing_at l) head) body
+    → SoundUnit l.program l.setting (closed l.frame ∷ l.further) (suc (length l.further)) (Y.BlockOf head body)
+unit_sound l t c head body line h p =
     record {
       block = record {
         head = head;
         body = body;
         is = refl;
-        table = l.table;
-        blocks = (T.inside (in_unit (place_at l)) head body).around;
+        outer = unit_around t.own ∷ t.outer;
         returning = NoReturn;
         statements = h.1.0;
         plain = p;
       };
-      own = unit_own (place_at l) head head.kind h.0.0;
+      own = unit_own (place_at l t) head head.kind h.0.0;
+      chain = (
+        unit_enters l t head body head.kind h.0.0 h.0.1.0.level h.0.1.1,
+        (omega (arith, h.0.1.0.level), t.chain),
+      );
+      stands = inl (refl, (t.level_is, (t.lasting, t.below)));
     }
 
 answered_some : (r : Returning) (v : BasicValue) → Answered r (Some v)
@@ -337,73 +449,94 @@ both_met true false x y z e f = absurd (cc f)
 both_met false u x y z e f = absurd (cc e)
 
 -- the newest activation is its own ancestor at its own level
-own_ancestor : (as' : List Activation) (height level : ℕ) (further : List (ℕ × ℕ))
-    → skeleton as' ≡ (height, level) ∷ further
-    → height_of (ancestor as' (newest_height as') level) ≡ height
-own_ancestor [] height l further e = absurd (cc e)
-own_ancestor (a ∷ as') height l further e =
-    let same : a.height ≡ height = ap (λ xs. (first_or_none xs).0) e in
-    let own : a.level ≡ l = ap (λ xs. (first_or_none xs).1) e in
-    ap height_of (both_met (a.height == a.height) (a.level == l) (Some a) (ancestor as' a.parent l)
-    (ancestor as' a.height l) (nat_same a.height a.height refl) (nat_same a.level l own)) ∙ same
+own_ancestor : (as' : List Activation) (f : Frame) (fs : List Frame) → skeleton as' ≡ outlines (f ∷ fs)
+    → height_of (ancestor as' (newest_height as') f.level) ≡ suc (length fs)
+own_ancestor [] f fs e = absurd (cc e)
+own_ancestor (a ∷ as') f fs e =
+    let same : a.height ≡ suc (length fs) = ap (λ os. (first_outline os).height) e in
+    let own : a.level ≡ f.level = ap (λ os. (first_outline os).level) e in
+    ap height_of (both_met (a.height == a.height) (a.level == f.level) (Some a) (ancestor as' a.parent f.level)
+    (ancestor as' a.height f.level) (nat_same a.height a.height refl) (nat_same a.level f.level own)) ∙ same
 
-goto_there : (g : P.Gotos) (n : Newest) (s : State) (level : ℕ) (label : Label)
-    → skeleton s.activations ≡ (n.height, n.level) ∷ n.further → P.MayGo g n.level n.labels level label
-    → Jumps g ((n.height, n.level) ∷ n.further) n.labels (height_of (ancestor_at s level)) label
-goto_there P.AnyGoto n s level label e h = tt
-goto_there P.OwnGotos n s level label e h = (
-  ap (λ z. height_of (ancestor_at s z)) h.0 ∙ own_ancestor s.activations n.height n.level n.further e,
-  h.1,
-)
+-- where a block stands its lists are carried out
+jumps_at : (p : Y.Program) (fs : List Frame) (height : ℕ) (label : Label) (a : W.Around) (more : List W.Around)
+    → Stands p fs height (a ∷ more) → W.is_among label (W.labels_of a) ≡ true
+    → is_among label (P.function_labels p.procedures) ≡ false → Jumps P.CaughtGotos fs height label
+jumps_at p [] height label a more s h n = absurd s
+jumps_at p (f ∷ fs) height label a more (inl s) h n = inl (s.0, s.1.1.0 label h n)
+jumps_at p (f ∷ fs) height label a more (inr s) h n = inr (jumps_at p fs height label a more s.1 h n)
+
+-- a label of a block's own lists, or of a list of a block around
+goto_there : (l : Level) (t : FootAt l) (gotos : Gotos) (s : State) (level : ℕ) (label : Label)
+    → skeleton s.activations ≡ outlines (l.frame ∷ l.further) → W.IsTarget level label (t.own ∷ t.outer)
+    → P.MayGo gotos (P.function_labels l.program.procedures) l.frame.level level label
+    → Jumps gotos (l.frame ∷ l.further) (height_of (ancestor_at s level)) label
+goto_there l t P.AnyGoto s level label e h m = tt
+goto_there l t P.CaughtGotos s level label e (inl h) (inl m) =
+    inl (ap (λ z. height_of (ancestor_at s z)) m ∙ own_ancestor s.activations l.frame l.further e, t.has label h.1)
+goto_there l t P.CaughtGotos s level label e (inr h) (inl m) =
+    let less : level < t.own.level =
+    lower_level l.setting.table level t.own.level _ t.outer t.chain.1.0 t.chain.1.1 (target_at level label t.outer h) in
+    absurd (omega (arith, less, m, t.level_is))
+goto_there l t P.CaughtGotos s level label e h (inr m) =
+    let fs : List Frame = l.frame ∷ l.further in
+    let r = reached l.program l.setting.table level (λ a. W.is_among label (W.labels_of a) ≡ true) fs s.activations
+    (length fs) (t.own ∷ t.outer) e (stands_at l t) t.chain (target_at level label (t.own ∷ t.outer) h) in
+    subst (λ o. Jumps P.CaughtGotos fs (height_of o) label) (sym (newest_ancestor fs s.activations level e))
+    (jumps_at l.program fs _ label r.own r.outer r.stands r.so m)
 
 -- ---- statements
 
 mutual
   unfolding M.statement M.statements
 
-  statement_there : (x : Y.Stmt) (l : Level) → T.SoundStmt (place_at l) x → P.PlainStmt (standing_at l) x
+  statement_there : (x : Y.Stmt) (l : Level) (t : FootAt l) → T.SoundStmt (place_at l t) x
+      → P.PlainStmt (standing_at l) x
       → There (demand_at l) 1 1 l.left Anything (M.statement (around_at l) x)
-  statement_there (Y.Null line) l h p = act_made counted (λ v. refl)
-  statement_there (Y.Assign target source line) l h p =
-      act_then counted (λ v. refl) (λ c e. loose (let w = on_line line (within l c e) in
+  statement_there (Y.Null line) l t h p = act_made counted (λ v. refl)
+  statement_there (Y.Assign target source line) l t h p =
+      act_then counted (λ v. refl) (λ c e. loose (let w = on_line line (within l t c e) in
       bind_there (stored_value_there source w h.1.1.0 p.1) (λ v k. assigned_there target v w h.1.0 p.0)))
-  statement_there (Y.AssignElements target source line) l h p =
-      act_then counted (λ v. refl) (λ c e. loose (let w = on_line line (within l c e) in
+  statement_there (Y.AssignElements target source line) l t h p =
+      act_then counted (λ v. refl) (λ c e. loose (let w = on_line line (within l t c e) in
       bind_there (stored_value_there source w h.1.1.0 p.1) (λ v k. elements_assigned_there target v w h.1.0 p.0)))
-  statement_there (Y.AssignAggregate target source line) l h p =
+  statement_there (Y.AssignAggregate target source line) l t h p =
       act_then counted (λ v. refl) (λ c e. loose (aggregate_assigned_there target source
-      (on_line line (within l c e)) h.1.0 h.1.1.0 p.0 p.1))
-  statement_there (Y.AssignArea target source line) l h p =
-      act_then counted (λ v. refl) (λ c e. loose (area_assigned_there target source (on_line line (within l c e))))
-  statement_there (Y.EmptyArea target line) l h p =
-      act_then counted (λ v. refl) (λ c e. loose (area_emptied_there target (on_line line (within l c e))))
-  statement_there (Y.If condition unit line) l h p =
+      (on_line line (within l t c e)) h.1.0 h.1.1.0 p.0 p.1))
+  statement_there (Y.AssignArea target source line) l t h p =
+      act_then counted (λ v. refl) (λ c e. loose (area_assigned_there target source (on_line line (within l t c e))))
+  statement_there (Y.EmptyArea target line) l t h p =
+      act_then counted (λ v. refl) (λ c e. loose (area_emptied_there target (on_line line (within l t c e))))
+  statement_there (Y.If condition unit line) l t h p =
       act_then counted (λ v. refl) (λ c e. loose (bind_there
-      (bit_there condition (on_line line (within l c e)) h.0 p.0)
-      (λ met k. choose_there met (slow (statement_there unit (below l c e) h.1.0 p.1)) (give_there tt tt))))
-  statement_there (Y.IfElse condition unit otherwise line) l h p =
+      (bit_there condition (on_line line (within l t c e)) h.0 p.0)
+      (λ met k. choose_there met (slow (statement_there unit (below l c e) t h.1.0 p.1)) (give_there tt tt))))
+  statement_there (Y.IfElse condition unit otherwise line) l t h p =
       act_then counted (λ v. refl) (λ c e. loose (bind_there
-      (bit_there condition (on_line line (within l c e)) h.0 p.0)
-      (λ met k. choose_there met (slow (statement_there unit (below l c e) h.1.0 p.1.0))
-      (slow (statement_there otherwise (below l c e) h.1.1.0 p.1.1)))))
-  statement_there (Y.Do body line) l h p =
+      (bit_there condition (on_line line (within l t c e)) h.0 p.0)
+      (λ met k. choose_there met (slow (statement_there unit (below l c e) t h.1.0 p.1.0))
+      (slow (statement_there otherwise (below l c e) t h.1.1.0 p.1.1)))))
+  statement_there (Y.Do body line) l t h p =
       act_then counted (λ v. refl) (λ c e. loose (let u = below l c e in
-      list_with_there _ u (λ x d r. statements_there body x (listed body (lower u d r)) h.0 p)))
-  statement_there (Y.DoWhile condition body line) l h p =
+      list_with_there _ u (λ x d r. statements_there body x (listed body (lower u d r))
+      (group body (lower u d r) t) h.0 p)))
+  statement_there (Y.DoWhile condition body line) l t h p =
       act_then counted (λ v. refl) (λ c e. loose (let u = below l c e in
       while_there u.turns c u.few
-      (λ d r. met_after_act_there condition (on_line line (smaller (within l c e) d r)) h.0 p.0)
+      (λ d r. met_after_act_there condition (on_line line (smaller (within l t c e) d r)) h.0 p.0)
       (λ d r. list_with_there _ (lower u d r)
-      (λ x f q. statements_there body x (listed body (lower (lower u d r) f q)) h.1.0 p.1))))
-  statement_there (Y.DoOnce variable start condition body line) l h p =
-      act_then counted (λ v. refl) (λ c e. loose (let u = below l c e in let w = on_line line (within l c e) in
+      (λ x f q. statements_there body x (listed body (lower (lower u d r) f q))
+      (group body (lower (lower u d r) f q) t) h.1.0 p.1))))
+  statement_there (Y.DoOnce variable start condition body line) l t h p =
+      act_then counted (λ v. refl) (λ c e. loose (let u = below l c e in let w = on_line line (within l t c e) in
       bind_there (stored_value_there start w h.0.1.1 p.0.1)
       (λ v k. then_there (assigned_there variable v w h.0.1.0 p.0.0)
       (once_there condition w h.1.0 p.1.0
-      (list_with_there _ u (λ x d r. statements_there body x (listed body (lower u d r)) h.1.1.0 p.1.1))))))
-  statement_there (Y.DoCount counter start limit step condition body line) l h p =
-      act_then counted (λ v. refl) (λ c e. loose (let u = below l c e in let w = on_line line (within l c e) in
-      let counting : SoundCounting (place_at l) counter = record { sound = h.0.0; plain = p.0.0 } in
+      (list_with_there _ u (λ x d r. statements_there body x (listed body (lower u d r))
+      (group body (lower u d r) t) h.1.1.0 p.1.1))))))
+  statement_there (Y.DoCount counter start limit step condition body line) l t h p =
+      act_then counted (λ v. refl) (λ c e. loose (let u = below l c e in let w = on_line line (within l t c e) in
+      let counting : SoundCounting P.AnyCall (place_at l t) counter = record { sound = h.0.0; plain = p.0.0 } in
       bind_there (computational_there start w h.0.1.0 p.0.1.0) (λ v k.
       bind_there (limit_of_there limit w h.0.1.1.0 p.0.1.1.0) (λ most j.
       bind_there (number_there step w h.0.1.1.1 p.0.1.1.1) (λ by i.
@@ -411,48 +544,50 @@ mutual
       then_there (counter_assigned counter first w counting) (while_there u.turns c u.few
       (λ d r. turn_due_there counter most by condition (smaller w d r) counting h.1.0 p.1.0)
       (λ d r. then_there (list_with_there _ (lower u d r)
-      (λ x f q. statements_there body x (listed body (lower (lower u d r) f q)) h.1.1.0 p.1.1))
+      (λ x f q. statements_there body x (listed body (lower (lower u d r) f q))
+      (group body (lower (lower u d r) f q) t) h.1.1.0 p.1.1))
       (stepped_there counter by (smaller w d r) counting)))))))))
-  statement_there (Y.Begin (Y.BlockOf head body)) l h p =
+  statement_there (Y.Begin (Y.BlockOf head body)) l t h p =
       act_then counted (λ v. refl) (λ c e. loose (bind_there looked_there
-      (λ s k. then_there ((within l c e).keeps (bearing_at l) _ (begun_sound l head body _ h p))
+      (λ s k. then_there ((within l t c e).keeps (bearing_at l) _ (begun_sound l t head body s k.1 h p))
       (give_there tt tt))))
-  statement_there (Y.OnSystem c line) l h p =
+  statement_there (Y.OnSystem c line) l t h p =
       established_by_there c (established c SystemUnit)
       (λ s k. established_kept (demand_at l) c SystemUnit s tt k)
-  statement_there (Y.OnUnit c (Y.BlockOf head body) line) l h p =
+  statement_there (Y.OnUnit c (Y.BlockOf head body) line) l t h p =
       established_by_there c (established c (BlockUnit (Y.BlockOf head body)))
       (λ s k. established_kept (demand_at l) c (BlockUnit (Y.BlockOf head body)) s
-      (unit_sound l c head body line h p) k)
-  statement_there (Y.CallProcedure call line) l h p =
-      act_then counted (λ v. refl) (λ c e. loose (then_there (called_there call (on_line line (within l c e)) h.1.0 p)
+      (unit_sound l t c head body line h p) k)
+  statement_there (Y.CallProcedure call line) l t h p =
+      act_then counted (λ v. refl) (λ c e. loose (then_there (called_there call (on_line line (within l t c e)) h.1.0 p)
       (give_there tt tt)))
-  statement_there (Y.Return line) l h p =
+  statement_there (Y.Return line) l t h p =
       act_then counted (λ v. refl) (λ c e. returns_there None (subst (λ r. Answered r None) (sym h.0) tt))
-  statement_there (Y.ReturnValue type source line) l h p =
+  statement_there (Y.ReturnValue type source line) l t h p =
       act_then counted (λ v. refl) (λ c e. loose (bind_there
-      (stored_value_there source (on_line line (within l c e)) h.1.1.0 p)
+      (stored_value_there source (on_line line (within l t c e)) h.1.1.0 p)
       (λ v k. returns_there _ (answered_some l.returning _))))
-  statement_there (Y.Goto level label line) l h p =
+  statement_there (Y.Goto level label line) l t h p =
       act_then counted (λ v. refl) (λ c e. bind_there looked_there (λ s k. jumps_there _ label
-      (goto_there l.goto l.standing s level label k.1 p)))
-  statement_there (Y.Stop line) l h p = act_then counted (λ v. refl) (λ c e. finish_there E.Stopped tt)
-  statement_there (Y.Signal condition line) l h p =
-      act_then counted (λ v. refl) (λ c e. loose (signalled_there condition (on_line line (within l c e))))
-  statement_there (Y.Revert c line) l h p =
+      (goto_there l t l.setting.gotos s level label k.1 h.0 p)))
+  statement_there (Y.Stop line) l t h p = act_then counted (λ v. refl) (λ c e. finish_there E.Stopped tt)
+  statement_there (Y.Signal condition line) l t h p =
+      act_then counted (λ v. refl) (λ c e. loose (signalled_there condition (on_line line (within l t c e))))
+  statement_there (Y.Revert c line) l t h p =
       established_by_there c (reverted c) (λ s k. reverted_kept (demand_at l) c s k)
-  statement_there (Y.Allocate all line) l h p =
-      act_then counted (λ v. refl) (λ c e. loose (allocations_there all (on_line line (within l c e)) h.0 p))
-  statement_there (Y.Free all line) l h p =
-      act_then counted (λ v. refl) (λ c e. loose (freeings_there all (on_line line (within l c e)) h.0 p))
-  statement_there (Y.Get skip pairs line) l h p =
-      act_then counted (λ v. refl) (λ c e. loose (get_there skip pairs (on_line line (within l c e)) h.1.0 p))
-  statement_there (Y.Put skip pairs line) l h p =
-      act_then counted (λ v. refl) (λ c e. loose (put_there skip pairs (on_line line (within l c e)) h.1.0 p))
+  statement_there (Y.Allocate all line) l t h p =
+      act_then counted (λ v. refl) (λ c e. loose (allocations_there all (on_line line (within l t c e)) h.0 p))
+  statement_there (Y.Free all line) l t h p =
+      act_then counted (λ v. refl) (λ c e. loose (freeings_there all (on_line line (within l t c e)) h.0 p))
+  statement_there (Y.Get skip pairs line) l t h p =
+      act_then counted (λ v. refl) (λ c e. loose (get_there skip pairs (on_line line (within l t c e)) h.1.0 p))
+  statement_there (Y.Put skip pairs line) l t h p =
+      act_then counted (λ v. refl) (λ c e. loose (put_there skip pairs (on_line line (within l t c e)) h.1.0 p))
 
-  pub statements_there : (xs : Y.Stmts) (from : Option Label) (l : Level) → T.SoundStmts (place_at l) xs
+  pub statements_there : (xs : Y.Stmts) (from : Option Label) (l : Level) (t : FootAt l)
+      → T.SoundStmts (place_at l t) xs
       → P.PlainStmts (standing_at l) xs → There (demand_at l) 0 1 l.left Anything (M.statements (around_at l) xs from)
-  statements_there (Y.EndOfList labels) from l h p = give_there tt tt
-  statements_there (Y.StmtThen labels first rest) from l h p =
-      choose_there _ (then_there (slow (statement_there first l h.0 p.0)) (statements_there rest None l h.1 p.1))
-      (statements_there rest from l h.1 p.1)
+  statements_there (Y.EndOfList labels) from l t h p = give_there tt tt
+  statements_there (Y.StmtThen labels first rest) from l t h p =
+      choose_there _ (then_there (slow (statement_there first l t h.0 p.0)) (statements_there rest None l t h.1 p.1))
+      (statements_there rest from l t h.1 p.1)

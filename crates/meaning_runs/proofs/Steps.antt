@@ -1,22 +1,24 @@
 -- The steps of the storage machine are there: none of them is stuck, as long as turns and levels are enough for the
 -- acts that are allowed.
 use Rattle.std.proofs.Common.{◌≡◌, ℕ, zero, suc, ◌+◌, ◌<◌, ◌≤◌, List, [], ◌∷◌, ◌++◌, Option, Some, None, Bool, true}
-use Rattle.std.proofs.Common.{false, refl, ap, sym, ◌∙◌, subst, arith}
-use Rattle.std.specs.Prelude.{◌==◌, ◌&&◌, ◌||◌, nat_lt, cond, ⊤}
+use Rattle.std.proofs.Common.{false, refl, ap, sym, ◌∙◌, subst, arith, inl, inr}
+use Rattle.std.specs.Prelude.{◌==◌, ◌&&◌, ◌||◌, nat_lt, cond, ⊤, length}
 use Rattle.std.proofs.lemmas.Bool.Decides.{nat_tests}
 use Rattle.pli_meaning.specs.declared.outcome.End.{End}
 use Rattle.pli_meaning.specs.World.{World, ending}
 use Rattle.pli_meaning.specs.BasicValues.{BasicValue}
-use Rattle.pli_meaning.specs.StorageState.{State, with_world, newest_ended}
+use Rattle.pli_meaning.specs.StorageState.{State, Activation, with_world, newest_ended}
 use Rattle.pli_meaning.specs.Control.{Label, Flow, Normal, Jump, Return, Ended, Paused, Stuck, Meaning}
 use Rattle.pli_meaning.specs.Control.{give, flow_on, ◌>>=◌, ◌>>◌, looked, stored, act, finish, returns, jumps}
 use Rattle.pli_meaning.specs.Control.{choose, given, is_among, caught, list_from, repeated_while, left, leaving}
 use Rattle.std.proofs.lemmas.List.Folds.{list_any-append}
 use Rattle.pli_language.specs.Keywords.{same_bytes}
-use Rattle.meaning_runs.specs.Plain.{Gotos, AnyGoto, OwnGotos}
+use Rattle.meaning_runs.specs.Plain.{Gotos, AnyGoto, CaughtGotos}
+use Rattle.meaning_runs.proofs.Frames.{Frame, outlines, with_labels}
 use Rattle.meaning_runs.specs.Present.{IsOver}
 use Rattle.well_formed_trees.specs.Surroundings.{Returning}
-use Rattle.meaning_runs.proofs.Demands.{Demand, Kept, Anything, Comes, There, Answers, Jumps, ended_kept}
+use Rattle.meaning_runs.proofs.Demands.{Demand, HasUnits, Kept, Anything, Comes, There, Answers, Jumps}
+use Rattle.meaning_runs.proofs.Demands.{ended_kept}
 
 -- an act counts one
 abbrev pub Counts : (World → World) → Type 0
@@ -231,7 +233,7 @@ unfolding returns
 returns_there v a = record { comes = λ k s h r c. (omega arith, (h, (c, a))) }
 
 pub jumps_there : {R : Type 0} {d : Demand} {by left : ℕ} {after : R → Type 0} (height : ℕ) (label : Label)
-    → Jumps d.goto d.bearing.heights d.bearing.labels height label
+    → Jumps d.setting.gotos d.bearing.frames height label
     → There d by 0 left after (jumps {R = R} height label)
 unfolding jumps
 jumps_there height label a = record { comes = λ k s h r c. (omega arith, (h, (c, a))) }
@@ -277,23 +279,48 @@ while_there (suc n) left few t p =
 
 -- ---- jumps: each has made an act
 
--- where the labels of one more list are around
+-- where one more list is carried out in the newest activation
 abbrev pub labelled : List Label → Demand → Demand
 labelled labels d =
     record {
       program = d.program;
-      goto = d.goto;
-      bearing = record {
-        answers = d.bearing.answers;
-        heights = d.bearing.heights;
-        labels = labels ++ d.bearing.labels;
-      };
+      setting = d.setting;
+      bearing = record { answers = d.bearing.answers; frames = with_labels labels d.bearing.frames };
     }
 
 -- a height is that of the newest activation, if there is one
-abbrev pub IsNewest : List (ℕ × ℕ) → ℕ → Type 0
+abbrev pub IsNewest : List Frame → ℕ → Type 0
 IsNewest [] height = ⊤
-IsNewest (x ∷ xs) height = height ≡ x.0
+IsNewest (f ∷ fs) height = height ≡ suc (length fs)
+
+-- the list behind it keeps what it keeps
+unlabelled_units : (d : Demand) (labels : List Label) (fs : List Frame) (as' : List Activation)
+    → HasUnits d.program d.setting (with_labels labels fs) as' → HasUnits d.program d.setting fs as'
+unlabelled_units d labels [] as' h = h
+unlabelled_units d labels (f ∷ fs) [] h = h
+unlabelled_units d labels (f ∷ fs) (a ∷ as') h = h
+
+labelled_units : (d : Demand) (labels : List Label) (fs : List Frame) (as' : List Activation)
+    → HasUnits d.program d.setting fs as' → HasUnits d.program d.setting (with_labels labels fs) as'
+labelled_units d labels [] as' h = h
+labelled_units d labels (f ∷ fs) [] h = h
+labelled_units d labels (f ∷ fs) (a ∷ as') h = h
+
+labelled_outlines : (labels : List Label) (fs : List Frame) → outlines (with_labels labels fs) ≡ outlines fs
+labelled_outlines labels [] = refl
+labelled_outlines labels (f ∷ fs) = refl
+
+unlabelled : (d : Demand) (labels : List Label) (s : State) → Kept (labelled labels d) s → Kept d s
+unlabelled d labels s h = (
+  unlabelled_units d labels d.bearing.frames s.activations h.0,
+  h.1 ∙ labelled_outlines labels d.bearing.frames,
+)
+
+labelled_kept : (d : Demand) (labels : List Label) (s : State) → Kept d s → Kept (labelled labels d) s
+labelled_kept d labels s h = (
+  labelled_units d labels d.bearing.frames s.activations h.0,
+  h.1 ∙ sym (labelled_outlines labels d.bearing.frames),
+)
 
 among_rest : (label : Label) (labels outer : List Label) → is_among label labels ≡ false
     → is_among label (labels ++ outer) ≡ true → is_among label outer ≡ true
@@ -301,42 +328,52 @@ among_rest label labels outer e h =
     ap (λ t. t || is_among label outer) (sym e) ∙ (sym (list_any-append (same_bytes label) labels outer) ∙ h)
 
 -- a jump that a list doesn't catch goes to a label further out
-jump_on : (g : Gotos) (heights : List (ℕ × ℕ)) (labels outer : List Label) (at height : ℕ) (label : Label)
-    → IsNewest heights height → Jumps g heights (labels ++ outer) at label
-    → ((at == height) && is_among label labels) ≡ false → Jumps g heights outer at label
-jump_on AnyGoto heights labels outer at height label n h e = tt
-jump_on OwnGotos [] labels outer at height label n h e = absurd h
-jump_on OwnGotos (x ∷ xs) labels outer at height label n h e =
+jump_on : (g : Gotos) (fs : List Frame) (labels : List Label) (at height : ℕ) (label : Label) → IsNewest fs height
+    → Jumps g (with_labels labels fs) at label → ((at == height) && is_among label labels) ≡ false
+    → Jumps g fs at label
+jump_on AnyGoto fs labels at height label n h e = tt
+jump_on CaughtGotos [] labels at height label n h e = absurd h
+jump_on CaughtGotos (f ∷ fs) labels at height label n (inl h) e =
     let same : (at == height) ≡ true = nat_same at height (h.0 ∙ sym n) in
     let none : is_among label labels ≡ false = ap (λ t. t && is_among label labels) (sym same) ∙ e in
-    (h.0, among_rest label labels outer none h.1)
+    inl (h.0, among_rest label labels f.labels none h.1)
+jump_on CaughtGotos (f ∷ fs) labels at height label n (inr h) e = inr h
 
 caught_comes : (d : Demand) (k acts left height : ℕ) (labels : List Label) (f : Flow (Unit {0}))
-    (next : Label → Meaning (Unit {0})) → IsNewest d.bearing.heights height
+    (next : Label → Meaning (Unit {0})) → IsNewest d.bearing.frames height
     → Comes (labelled labels d) Anything 0 1 acts k f → k ≤ acts + left
     → ((label : Label) (c : ℕ) → suc c ≡ left → There d 0 1 c Anything (next label))
     → Comes d Anything 0 1 acts k (caught k height labels f next)
-caught_comes d k acts left height labels (Normal q s) next newest h r n = h
+caught_comes d k acts left height labels (Normal q s) next newest h r n =
+    (h.0, (h.1.0, (unlabelled d labels s h.1.1.0, h.1.1.1)))
 caught_comes d k acts left height labels (Jump at label s) next newest h r n =
     let less = less_left left acts s.world.acts k h.0 h.1.0 r in
+    let kept : Kept d s = unlabelled d labels s h.1.1.0 in
     by_test ((at == height) && is_among label labels) (next label k s) refl
     (from_later d Anything 0 1 acts s.world.acts k (next label k s) (omega (arith, h.0))
-    ((n label less.0 less.1).comes k s h.1.0 less.2 h.1.1.0))
+    ((n label less.0 less.1).comes k s h.1.0 less.2 kept))
   where
     by_test : (t : Bool) (f : Flow (Unit {0})) → ((at == height) && is_among label labels) ≡ t
         → Comes d Anything 0 1 acts k f → Comes d Anything 0 1 acts k (cond t f (Jump at label s))
     by_test true f e g = g
     by_test false f e g = (
       h.0,
-      (h.1.0, (h.1.1.0, jump_on d.goto d.bearing.heights labels d.bearing.labels at height label newest h.1.1.1 e)),
+      (
+        h.1.0,
+        (
+          unlabelled d labels s h.1.1.0,
+          jump_on d.setting.gotos d.bearing.frames labels at height label newest h.1.1.1 e,
+        ),
+      ),
     )
-caught_comes d k acts left height labels (Return v s) next newest h r n = h
+caught_comes d k acts left height labels (Return v s) next newest h r n =
+    (h.0, (h.1.0, (unlabelled d labels s h.1.1.0, h.1.1.1)))
 caught_comes d k acts left height labels (Ended s) next newest h r n = h
 caught_comes d k acts left height labels (Paused s) next newest h r n = h
 caught_comes d k acts left height labels Stuck next newest h r n = h
 
 pub list_there : {d : Demand} (n left height : ℕ) (labels : List Label) {part : Option Label → Meaning (Unit {0})}
-    (from : Option Label) → left < n → IsNewest d.bearing.heights height
+    (from : Option Label) → left < n → IsNewest d.bearing.frames height
     → ((x : Option Label) (c : ℕ) → c ≤ left → There (labelled labels d) 0 1 c Anything (part x))
     → There d 0 1 left Anything (list_from n height labels part from)
 unfolding list_from
@@ -349,18 +386,19 @@ list_there {d} (suc n) left height labels {part} from few newest a =
     let first = a from left (omega arith) in
     record {
       comes = λ k s h r c.
-          caught_comes d k s.world.acts left height labels (part from k s) _ newest (first.comes k s h r c) r rest;
+          caught_comes d k s.world.acts left height labels (part from k s) _ newest
+          (first.comes k s h r (labelled_kept d labels s c)) r rest;
     }
 
 -- ---- a block is entered and left
 
 -- what is asked of a block's own statements, whose RETURN answers so, in an activation of its own
-abbrev pub entering : Option Returning → (x : ℕ × ℕ) → Demand → Demand
-entering inner x d =
+abbrev pub entering : Option Returning → Frame → Demand → Demand
+entering inner f d =
     record {
       program = d.program;
-      goto = d.goto;
-      bearing = record { answers = inner; heights = x ∷ d.bearing.heights; labels = [] };
+      setting = d.setting;
+      bearing = record { answers = inner; frames = f ∷ d.bearing.frames };
     }
 
 -- a RETURN is the block's result or goes on
@@ -368,44 +406,82 @@ abbrev pub Passes : (own : Bool) → (after : Option BasicValue → Type 0) → 
 Passes true after inner outer = (v : Option BasicValue) → Answers inner v → after v
 Passes false after inner outer = (v : Option BasicValue) → Answers inner v → Answers outer v
 
--- no jump goes out of a block unless any GOTO may be
-jump_out : (g : Gotos) (heights outside : List (ℕ × ℕ)) (labels : List Label) (height : ℕ) (label : Label)
-    → Jumps g heights [] height label → Jumps g outside labels height label
-jump_out AnyGoto heights outside labels height label h = tt
-jump_out OwnGotos [] outside labels height label h = absurd h
-jump_out OwnGotos (x ∷ xs) outside labels height label h = absurd (cc h.1)
+-- a part at whose end something else is kept than at its begin
+pub record Leads (d e : Demand) (left : ℕ) (after : Unit {0} → Type 0) (m : Meaning (Unit {0})) : Type 0 where
+  pub comes : (k : ℕ) (s : State) → s.world.acts ≤ k → k ≤ s.world.acts + left → Kept d s
+      → Comes e after 0 1 s.world.acts k (m k s)
+
+pub leads_there : (d : Demand) {few : ℕ} (inner : Option Returning) (f e : Frame) (after : Unit {0} → Type 0)
+    {m : Meaning (Unit {0})} → ((s : State) → Kept (entering inner f d) s → Kept (entering inner e d) s)
+    → There (entering inner e d) 0 1 few after m → Leads (entering inner f d) (entering inner e d) few after m
+leads_there d inner f e after widens a = record { comes = λ k s h r c. a.comes k s h r (widens s c) }
+
+-- a jump goes to the lists of the activations further down where none is carried out in the newest one
+jump_out : (g : Gotos) (f e : Frame) (fs : List Frame) (height : ℕ) (label : Label) → f.labels ≡ []
+    → Jumps g (f ∷ fs) height label → Jumps g (e ∷ fs) height label × Jumps g fs height label
+jump_out AnyGoto f e fs height label n h = (tt, tt)
+jump_out CaughtGotos f e fs height label n (inl h) =
+    absurd (cc (ap (λ ls. is_among label ls) (sym n) ∙ h.1))
+jump_out CaughtGotos f e fs height label n (inr h) = (inr h, h)
+
+pub leads_then : (d : Demand) {few : ℕ} (inner : Option Returning) (f e : Frame) (after : Unit {0} → Type 0)
+    {m n : Meaning (Unit {0})} → ((s : State) → Kept (entering inner f d) s → Kept (entering inner e d) s)
+    → f.labels ≡ [] → There (entering inner f d) 0 1 few Anything m
+    → Leads (entering inner f d) (entering inner e d) few after n
+    → Leads (entering inner f d) (entering inner e d) few after (m >> n)
+unfolding ◌>>◌
+leads_then d {few} inner f e after {m} {n} widens none a b =
+    record { comes = λ k s h r c. of_flow k s.world.acts r (m k s) (a.comes k s h r c) }
+  where
+    of_flow : (k acts : ℕ) → k ≤ acts + few → (g : Flow (Unit {0}))
+        → Comes (entering inner f d) Anything 0 1 acts k g
+        → Comes (entering inner e d) after 0 1 acts k (flow_on k g (λ q. n))
+    of_flow k acts r (Normal q s) h =
+        from_later (entering inner e d) after 0 1 acts s.world.acts k (n k s) (omega (arith, h.0))
+        (b.comes k s h.1.0 (omega (arith, h.0, r)) h.1.1.0)
+    of_flow k acts r (Jump height label s) h = (
+      h.0,
+      (
+        h.1.0,
+        (widens s h.1.1.0, (jump_out d.setting.gotos f e d.bearing.frames height label none h.1.1.1).0),
+      ),
+    )
+    of_flow k acts r (Return v s) h = (h.0, (h.1.0, (widens s h.1.1.0, h.1.1.1)))
+    of_flow k acts r (Ended s) h = h
+    of_flow k acts r (Paused s) h = h
+    of_flow k acts r Stuck h = h
 
 pub block_there : {d : Demand} {few : ℕ} (own : Bool) (after : Option BasicValue → Type 0)
-    (inner : Option Returning) (x : ℕ × ℕ) (result : Unit {0} → Type 0) (change : State → State)
-    {m : Meaning (Unit {0})} → ((s : State) → Kept d s → Kept (entering inner x d) (change s))
-    → There (entering inner x d) 0 1 few result m → ((r : Unit {0}) → result r → after None)
+    (inner : Option Returning) (f e : Frame) (result : Unit {0} → Type 0) (change : State → State)
+    {m : Meaning (Unit {0})} → ((s : State) → Kept d s → Kept (entering inner f d) (change s)) → e.labels ≡ []
+    → Leads (entering inner f d) (entering inner e d) few result m → ((r : Unit {0}) → result r → after None)
     → Passes own after inner d.bearing.answers
     → There d 0 1 few after (stored change >> leaving own newest_ended m)
 unfolding leaving stored ◌>>◌
-block_there {d} {few} own after inner x result change {m} kept a none p =
+block_there {d} {few} own after inner f e result change {m} kept bare a none p =
     record {
       comes = λ k s h r c.
           closed own p s.world.acts k (m k (with_world s.world (change s)))
           (a.comes k (with_world s.world (change s)) h r (kept s c));
     }
   where
-    closed : (own : Bool) → Passes own after inner d.bearing.answers → (acts k : ℕ) (f : Flow (Unit {0}))
-        → Comes (entering inner x d) result 0 1 acts k f → Comes d after 0 1 acts k (left own newest_ended f)
+    closed : (own : Bool) → Passes own after inner d.bearing.answers → (acts k : ℕ) (g : Flow (Unit {0}))
+        → Comes (entering inner e d) result 0 1 acts k g → Comes d after 0 1 acts k (left own newest_ended g)
     closed own p acts k (Normal r s) h =
-        (h.0, (h.1.0, (ended_kept d x s h.1.1.0.0 h.1.1.0.1, none r h.1.1.1)))
+        (h.0, (h.1.0, (ended_kept d e s h.1.1.0.0 h.1.1.0.1, none r h.1.1.1)))
     closed own p acts k (Jump height label s) h = (
       h.0,
       (
         h.1.0,
         (
-          ended_kept d x s h.1.1.0.0 h.1.1.0.1,
-          jump_out d.goto (x ∷ d.bearing.heights) d.bearing.heights d.bearing.labels height label h.1.1.1,
+          ended_kept d e s h.1.1.0.0 h.1.1.0.1,
+          (jump_out d.setting.gotos e e d.bearing.frames height label bare h.1.1.1).1,
         ),
       ),
     )
     closed true p acts k (Return v s) h =
-        (omega (arith, h.0), (h.1.0, (ended_kept d x s h.1.1.0.0 h.1.1.0.1, p v h.1.1.1)))
-    closed false p acts k (Return v s) h = (h.0, (h.1.0, (ended_kept d x s h.1.1.0.0 h.1.1.0.1, p v h.1.1.1)))
+        (omega (arith, h.0), (h.1.0, (ended_kept d e s h.1.1.0.0 h.1.1.0.1, p v h.1.1.1)))
+    closed false p acts k (Return v s) h = (h.0, (h.1.0, (ended_kept d e s h.1.1.0.0 h.1.1.0.1, p v h.1.1.1)))
     closed own p acts k (Ended s) h = h
     closed own p acts k (Paused s) h = h
     closed own p acts k Stuck h = h

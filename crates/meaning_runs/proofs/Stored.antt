@@ -30,7 +30,7 @@ use Rattle.meaning_runs.proofs.Expressions.{area_meant_there, number_there, poin
 -- ---- generations that come about
 
 pub evaluations_there : (values : List ℤ) (xs : List Y.Evaluation) (w : Ways)
-    → Every (λ x. X.SoundNumber (here w) x.value) xs → Every (λ x. P.PlainNumber x.value) xs
+    → Every (λ x. X.SoundNumber (here w) x.value) xs → Every (λ x. P.PlainNumber w.calls x.value) xs
     → There (demand w) 0 1 w.left Anything (K.evaluations (around w) values xs)
 unfolding K.evaluations
 evaluations_there values [] w h p = give_there values tt
@@ -39,15 +39,15 @@ evaluations_there values (x ∷ xs) w h p =
     (evaluations_there (values ++ z ∷ []) xs w h.1 p.1))
 
 pub extents_there : (xs : List Y.Evaluation) (w : Ways) → Every (λ x. X.SoundNumber (here w) x.value) xs
-    → Every (λ x. P.PlainNumber x.value) xs → There (demand w) 0 1 w.left Anything (K.extents (around w) xs)
+    → Every (λ x. P.PlainNumber w.calls x.value) xs → There (demand w) 0 1 w.left Anything (K.extents (around w) xs)
 unfolding K.extents
 extents_there [] w h p = give_there [] tt
 extents_there (x ∷ xs) w h p = then_there (act_there counted (λ v. refl)) (evaluations_there [] (x ∷ xs) w h p)
 
 -- those of a declared variable
-pub extents_declared : (d : Y.DeclaredVariable) (w : Ways) → Declares w.program d
+pub extents_declared : (d : Y.DeclaredVariable) (w : Ways) → Declares w.program w.setting d
     → There (demand w) 0 1 w.left Anything (K.extents (around w) d.evaluations)
-extents_declared d w h = extents_there d.evaluations (elsewhere h.table h.blocks w) h.sound h.plain
+extents_declared d w h = extents_there d.evaluations (elsewhere h.blocks w) h.sound h.plain
 
 pub variable_made_there : {d : Demand} {few : ℕ} (variable : ℕ) (g : Generation)
     → There d 0 1 few Anything (K.variable_made variable g)
@@ -86,7 +86,7 @@ unfolding A.elements_stored
 elements_stored_there {d} x values = stored_there _ (generation_kept d x.name (A.with_elements x values))
 
 pub aggregate_assigned_there : (target source : Y.Reference) (w : Ways) → X.SoundReference (here w) target
-    → X.SoundReference (here w) source → P.PlainReference target → P.PlainReference source
+    → X.SoundReference (here w) source → P.PlainReference w.calls target → P.PlainReference w.calls source
     → There (demand w) 0 1 w.left Anything (A.aggregate_assigned (around w) target source)
 unfolding A.aggregate_assigned
 aggregate_assigned_there target source w h i p q =
@@ -129,7 +129,7 @@ area_or_heap_there None w = give_there _ tt
 area_or_heap_there (Some v) w = area_meant_there v w
 
 locator_set_there : (target : Y.LocatorTarget) (n : Name) (w : Ways) → T.SoundTarget (here w) target
-    → P.PlainTarget target → There (demand w) 0 1 w.left Anything (A.locator_set (around w) target n)
+    → P.PlainTarget w.calls target → There (demand w) 0 1 w.left Anything (A.locator_set (around w) target n)
 unfolding A.locator_set
 locator_set_there (Y.SetPointer r) n w h p =
     bind_there (designated_there r w h.1 p) (λ d k. element_stored_there d _)
@@ -138,7 +138,7 @@ locator_set_there (Y.SetOffset r area) n w h p =
     (designated_there r w h.1.1 p) (λ d i. element_stored_there d _)))
 
 based_allocated_there : (d : Y.DeclaredVariable) (area : Option Y.Variable) (target : Y.LocatorTarget) (w : Ways)
-    → Declares w.program d → T.SoundTarget (here w) target → P.PlainTarget target
+    → Declares w.program w.setting d → T.SoundTarget (here w) target → P.PlainTarget w.calls target
     → There (demand w) 0 1 w.left Anything (A.based_allocated (around w) d area target)
 unfolding A.based_allocated
 based_allocated_there d area target w s h p =
@@ -146,26 +146,26 @@ based_allocated_there d area target w s h p =
     (bind_there (area_or_heap_there area w) (λ x j.
     bind_there (placing_there w.turns x _ w w.few) (λ o i. locator_set_there target _ w h p))))
 
-controlled_allocated_there : (v : Y.Variable) (d : Y.DeclaredVariable) (w : Ways) → Declares w.program d
+controlled_allocated_there : (v : Y.Variable) (d : Y.DeclaredVariable) (w : Ways) → Declares w.program w.setting d
     → There (demand w) 0 1 w.left Anything (A.controlled_allocated (around w) v d)
 unfolding A.controlled_allocated
 controlled_allocated_there v d w s =
     bind_there (extents_declared d w s) (λ values k. bind_there (placing_there w.turns _ _ w w.few)
     (λ o j. stored_there (A.with_newest v o) (λ t i. i)))
 
-allocation_there : (x : Y.Allocation) (w : Ways) → T.SoundAllocation (here w) x → P.PlainAllocation x
+allocation_there : (x : Y.Allocation) (w : Ways) → T.SoundAllocation (here w) x → P.PlainAllocation w.calls x
     → There (demand w) 0 1 w.left Anything (A.allocation (around w) x)
 unfolding A.allocation
 allocation_there (Y.AllocateBased v area target) w h p =
     found_there _ h.0.d _ _ h.0.declared.found
-    (based_allocated_there h.0.d area target w (declared_there w.program w.goto w.whole v h.0.d h.0.declared.found)
+    (based_allocated_there h.0.d area target w (declared_there w.program w.setting w.whole v h.0.d h.0.declared.found)
     h.1.1 p)
 allocation_there (Y.AllocateControlled v) w h p =
     found_there _ h.d _ _ h.declared.found
-    (controlled_allocated_there v h.d w (declared_there w.program w.goto w.whole v h.d h.declared.found))
+    (controlled_allocated_there v h.d w (declared_there w.program w.setting w.whole v h.d h.declared.found))
 
 pub allocations_there : (xs : List Y.Allocation) (w : Ways) → Every (T.SoundAllocation (here w)) xs
-    → Every P.PlainAllocation xs → There (demand w) 0 1 w.left Anything (A.allocations (around w) xs)
+    → Every (P.PlainAllocation w.calls) xs → There (demand w) 0 1 w.left Anything (A.allocations (around w) xs)
 unfolding A.allocations
 allocations_there [] w h p = give_there tt tt
 allocations_there (x ∷ xs) w h p = then_there (allocation_there x w h.0 p.0) (allocations_there xs w h.1 p.1)
@@ -184,14 +184,14 @@ area_if_there None w = give_there None tt
 area_if_there (Some v) w = bind_there (area_meant_there v w) (λ x k. give_there _ tt)
 
 based_freed_there : (d : Y.DeclaredVariable) (locator : Y.Pointer) (area : Option Y.Variable) (w : Ways)
-    → X.SoundPointer (here w) locator → P.PlainPointer locator
+    → X.SoundPointer (here w) locator → P.PlainPointer w.calls locator
     → There (demand w) 0 1 w.left Anything (A.based_freed (around w) d locator area)
 unfolding A.based_freed
 based_freed_there d locator area w h p =
     bind_there (pointer_there locator w h p) (λ n k. bind_there looked_there (λ s j. then_there (or_error_there _ _ w)
     (bind_there (area_if_there area w) (λ x i. name_freed_there n x w))))
 
-freeing_there : (x : Y.Freeing) (w : Ways) → T.SoundFreeing (here w) x → P.PlainFreeing x
+freeing_there : (x : Y.Freeing) (w : Ways) → T.SoundFreeing (here w) x → P.PlainFreeing w.calls x
     → There (demand w) 0 1 w.left Anything (A.freeing (around w) x)
 unfolding A.freeing
 freeing_there (Y.FreeBased v locator area) w h p =
@@ -199,7 +199,7 @@ freeing_there (Y.FreeBased v locator area) w h p =
 freeing_there (Y.FreeControlled v) w h p = stored_there _ (freed_kept (demand w) v)
 
 pub freeings_there : (xs : List Y.Freeing) (w : Ways) → Every (T.SoundFreeing (here w)) xs
-    → Every P.PlainFreeing xs → There (demand w) 0 1 w.left Anything (A.freeings (around w) xs)
+    → Every (P.PlainFreeing w.calls) xs → There (demand w) 0 1 w.left Anything (A.freeings (around w) xs)
 unfolding A.freeings
 freeings_there [] w h p = give_there tt tt
 freeings_there (x ∷ xs) w h p = then_there (freeing_there x w h.0 p.0) (freeings_there xs w h.1 p.1)

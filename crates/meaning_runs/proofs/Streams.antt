@@ -187,7 +187,7 @@ shown_by_there v (S.TextItem None) w = act_there _ (λ u. refl)
 shown_by_there v (S.TextItem (Some width)) w = act_there _ (λ u. refl)
 
 item_put_there : (whole rest : List S.FormatItem) (x : Y.PutItem) (w : Ways) → HasData whole
-    → T.SoundPutItem (here w) x → P.PlainPutItem x
+    → T.SoundPutItem (here w) x → P.PlainPutItem w.calls x
     → There (demand w) 0 1 w.left Anything (S.item_put (around w) whole rest x)
 unfolding S.item_put
 item_put_there whole rest (Y.PutValue e) w i h p =
@@ -197,14 +197,15 @@ item_put_there whole rest (Y.PutValue e) w i h p =
 item_put_there whole rest (Y.PutAggregate r) w i h p = absurd p
 
 items_put_there : (whole rest : List S.FormatItem) (xs : List Y.PutItem) (w : Ways) → HasData whole
-    → Every (T.SoundPutItem (here w)) xs → Every P.PlainPutItem xs
+    → Every (T.SoundPutItem (here w)) xs → Every (P.PlainPutItem w.calls) xs
     → There (demand w) 0 1 w.left Anything (S.items_put (around w) whole rest xs)
 unfolding S.items_put
 items_put_there whole rest [] w i h p = give_there tt tt
 items_put_there whole rest (x ∷ xs) w i h p =
     bind_there (item_put_there whole rest x w i h.0 p.0) (λ rest' k. items_put_there whole rest' xs w i h.1 p.1)
 
-pairs_put_there : (xs : List Y.PutPair) (w : Ways) → Every (T.SoundPutPair (here w)) xs → Every P.PlainPutPair xs
+pairs_put_there : (xs : List Y.PutPair) (w : Ways) → Every (T.SoundPutPair (here w)) xs
+    → Every (P.PlainPutPair w.calls) xs
     → There (demand w) 0 1 w.left Anything (S.pairs_put (around w) xs)
 unfolding S.pairs_put
 pairs_put_there [] w h p = give_there tt tt
@@ -213,7 +214,7 @@ pairs_put_there (x ∷ xs) w h p =
     (list_has Putting x.formats h.0.0) h.0.1 p.0) (pairs_put_there xs w h.1 p.1)
 
 pub put_there : (skip : Option ℕ) (xs : List Y.PutPair) (w : Ways) → Every (T.SoundPutPair (here w)) xs
-    → Every P.PlainPutPair xs → There (demand w) 0 1 w.left Anything (S.put (around w) skip xs)
+    → Every (P.PlainPutPair w.calls) xs → There (demand w) 0 1 w.left Anything (S.put (around w) skip xs)
 unfolding S.put
 put_there None xs w h p = pairs_put_there xs w h p
 put_there (Some n) xs w h p = then_there (control_put_there (S.SkipItem n)) (pairs_put_there xs w h p)
@@ -307,7 +308,7 @@ scalar_read g w (Y.Referring v locator part subscripts) type s h =
     (drop part.first d.leaves))) ≡ true) same h.1))
 
 scalar_got_there : (has_fixed : Bool) (r : Y.Reference) (f : S.Field) (w : Ways)
-    → T.SoundGetItem (here w) has_fixed (Y.GetScalar r) → P.PlainReference r → FieldFits has_fixed f
+    → T.SoundGetItem (here w) has_fixed (Y.GetScalar r) → P.PlainReference w.calls r → FieldFits has_fixed f
     → There (demand w) 0 1 w.left Anything (S.scalar_got (around w) r f)
 unfolding S.scalar_got
 scalar_got_there g (Y.Referring v locator part subscripts) f w h p i =
@@ -325,7 +326,7 @@ RestIf has_fixed None = ⊤
 RestIf has_fixed (Some xs) = Every (Goes (GetsBy has_fixed)) xs
 
 scalar_if_got_there : (has_fixed : Bool) (r : Y.Reference) (rest : List S.FormatItem) (f : Option S.Field) (w : Ways)
-    → T.SoundGetItem (here w) has_fixed (Y.GetScalar r) → P.PlainReference r → FieldFitsIf has_fixed f
+    → T.SoundGetItem (here w) has_fixed (Y.GetScalar r) → P.PlainReference w.calls r → FieldFitsIf has_fixed f
     → Every (Goes (GetsBy has_fixed)) rest
     → There (demand w) 0 1 w.left (RestIf has_fixed) (S.scalar_if_got (around w) r rest f)
 unfolding S.scalar_if_got
@@ -340,7 +341,7 @@ record GetList (has_fixed : Bool) (whole : List S.FormatItem) : Type 0 where
 
 item_got_there : (has_fixed : Bool) (whole rest : List S.FormatItem) (x : Y.GetItem) (w : Ways)
     → GetList has_fixed whole → Every (Goes (GetsBy has_fixed)) rest → T.SoundGetItem (here w) has_fixed x
-    → P.PlainGetItem x → There (demand w) 0 1 w.left (RestIf has_fixed) (S.item_got (around w) whole rest x)
+    → P.PlainGetItem w.calls x → There (demand w) 0 1 w.left (RestIf has_fixed) (S.item_got (around w) whole rest x)
 unfolding S.item_got
 item_got_there g whole rest (Y.GetScalar r) w l j h p =
     bind_there (next_item_there (GetsBy g) S.control_got whole rest control_got_there l.gets l.has j)
@@ -358,14 +359,15 @@ more_got_there g (Some rest) next h a = a rest h
 
 items_got_there : (has_fixed : Bool) (whole rest : List S.FormatItem) (xs : List Y.GetItem) (w : Ways)
     → GetList has_fixed whole → Every (Goes (GetsBy has_fixed)) rest → Every (T.SoundGetItem (here w) has_fixed) xs
-    → Every P.PlainGetItem xs → There (demand w) 0 1 w.left Anything (S.items_got (around w) whole rest xs)
+    → Every (P.PlainGetItem w.calls) xs → There (demand w) 0 1 w.left Anything (S.items_got (around w) whole rest xs)
 unfolding S.items_got
 items_got_there g whole rest [] w l j h p = give_there true tt
 items_got_there g whole rest (x ∷ xs) w l j h p =
     bind_there (item_got_there g whole rest x w l j h.0 p.0) (λ rest' k. more_got_there g rest' _ k
     (λ r i. items_got_there g whole r xs w l i h.1 p.1))
 
-pairs_got_there : (xs : List Y.GetPair) (w : Ways) → Every (T.SoundGetPair (here w)) xs → Every P.PlainGetPair xs
+pairs_got_there : (xs : List Y.GetPair) (w : Ways) → Every (T.SoundGetPair (here w)) xs
+    → Every (P.PlainGetPair w.calls) xs
     → There (demand w) 0 1 w.left Anything (S.pairs_got (around w) xs)
 unfolding S.pairs_got
 pairs_got_there [] w h p = give_there tt tt
@@ -376,7 +378,7 @@ pairs_got_there (x ∷ xs) w h p =
     (λ lasted k. choose_there lasted (pairs_got_there xs w h.1 p.1) (give_there tt tt))
 
 pub get_there : (skip : Option ℕ) (xs : List Y.GetPair) (w : Ways) → Every (T.SoundGetPair (here w)) xs
-    → Every P.PlainGetPair xs → There (demand w) 0 1 w.left Anything (S.get (around w) skip xs)
+    → Every (P.PlainGetPair w.calls) xs → There (demand w) 0 1 w.left Anything (S.get (around w) skip xs)
 unfolding S.get
 get_there None xs w h p = pairs_got_there xs w h p
 get_there (Some n) xs w h p = then_there (control_got_there (S.SkipItem n)) (pairs_got_there xs w h p)

@@ -1,5 +1,5 @@
 -- What stands around a part of a run: a program all of whose procedures and variables are sound and plain, a place in
--- it, and how blocks are entered.
+-- it, the activations of the blocks around, and how blocks are entered.
 use Rattle.std.proofs.Common.{◌∙◌, ◌≡◌, ℕ, zero, suc, ◌+◌, ◌<◌, ◌≤◌, List, [], ◌∷◌, Option, Some, None, Bool, true}
 use Rattle.std.proofs.Common.{false}
 use Rattle.std.proofs.Common.{refl, ap}
@@ -17,31 +17,45 @@ use Rattle.pli_meaning.specs.Making as K
 use Rattle.pli_meaning.specs.Placing as A
 use Rattle.pli_meaning.specs.Executing.{is_own_return}
 use Rattle.well_formed_trees.specs.Every.{Every}
-use Rattle.well_formed_trees.specs.Surroundings.{Table, Where, Returning, Returns, NoReturn}
+use Rattle.pli_meaning.specs.Control.{Label, is_among}
+use Rattle.well_formed_trees.specs.Statements as T
+use Rattle.well_formed_trees.specs.WellFormed.{IsHeld}
+use Rattle.well_formed_trees.specs.Surroundings.{Where, Returning, Returns, NoReturn}
 use Rattle.well_formed_trees.specs.Surroundings as W
 use Rattle.well_formed_trees.specs.Expressions.{SoundNumber}
-use Rattle.meaning_runs.specs.Plain.{Gotos, PlainVariable}
-use Rattle.meaning_runs.proofs.Demands.{Bearing, skeleton, placed, SoundBlock, SoundUnit, HasUnits, Demand, Kept}
+use Rattle.meaning_runs.specs.Plain.{Calls, AnyCall, NoCall, PlainVariable, function_labels}
+use Rattle.meaning_runs.proofs.Frames.{Frame, skeleton, Stands, Chain, IsOpen}
+use Rattle.meaning_runs.proofs.Demands.{Setting, Bearing, block_around, placed, SoundBlock, SoundUnit, HasUnits}
+use Rattle.meaning_runs.proofs.Demands.{Demand, Kept}
 use Rattle.meaning_runs.proofs.Demands.{There}
 use Rattle.meaning_runs.proofs.Demands.{IsThere, Answered}
 use Rattle.meaning_runs.proofs.Steps.{Passes, fewer_left}
 
 -- ---- a whole program
 
--- what is evaluated for a variable's extents is sound, where it is declared, and plain
-pub record Declares (p : Y.Program) (d : Y.DeclaredVariable) : Type 0 where
-  pub table : Table
+-- what is evaluated for a variable's extents is sound, where it is declared, and plain; it calls nothing
+pub record Declares (p : Y.Program) (g : Setting) (d : Y.DeclaredVariable) : Type 0 where
   pub blocks : List W.Around
-  pub sound : Every (λ x. SoundNumber (placed p table blocks NoReturn) x.value) d.evaluations
-  pub plain : PlainVariable d
+  pub sound : Every (λ x. SoundNumber (placed p g.table blocks NoReturn) x.value) d.evaluations
+  pub plain : PlainVariable NoCall d
 
-pub record FineProcedure (p : Y.Program) (g : Gotos) (q : Y.Procedure) : Type 0 where
+-- the labels of a function's own list are known as such
+abbrev pub IsKnown : Y.Program → (is_function : Bool) → List Label → Type 0
+IsKnown p is_function labels =
+    is_function ≡ true → (label : Label) → is_among label labels ≡ true
+    → is_among label (function_labels p.procedures) ≡ true
+
+pub record FineProcedure (p : Y.Program) (g : Setting) (q : Y.Procedure) : Type 0 where
   pub block : SoundBlock p g q.block
   pub own : is_own_return block.head.kind ≡ true
   pub returning : block.returning ≡ Returns q.result
+  pub held : IsHeld g.table block.head.level block.outer
+  pub listed :
+      slice_get g.table block.head.number ≡ Some (block_around block.head block.body ∷ block.outer)
+  pub known : IsKnown p (is_some q.result) (T.labels_in block.body)
 
-pub record Whole (p : Y.Program) (g : Gotos) : Type 0 where
-  pub declares : (block : ℕ) → Every (Declares p) (D.variables_of_block p block)
+pub record Whole (p : Y.Program) (g : Setting) : Type 0 where
+  pub declares : (block : ℕ) → Every (Declares p g) (D.variables_of_block p block)
   pub procedures : Every (FineProcedure p g) p.procedures
 
 -- ---- blocks that are entered
@@ -51,19 +65,29 @@ abbrev pub Expected : (is_function : Bool) → Option BasicValue → Type 0
 Expected false v = ⊤
 Expected true v = IsThere v
 
-pub record SoundEntry (p : Y.Program) (g : Gotos) (answers : Option Returning) (e : Entry) : Type 0 where
+-- the blocks around it stand at its parent, where the lists are carried out that units count on
+pub record SoundEntry (p : Y.Program) (g : Setting) (outer : Bearing) (e : Entry) : Type 0 where
   pub block : SoundBlock p g e.block
+  pub chain : Chain g.table (block_around block.head block.body ∷ block.outer)
+  pub stands : Stands p outer.frames e.parent block.outer
+  pub opens : Every IsOpen outer.frames
+  pub known : IsKnown p e.is_function (T.labels_in block.body)
   pub passes :
-      Passes (is_own_return block.head.kind) (Expected e.is_function) (Some block.returning) answers
+      Passes (is_own_return block.head.kind) (Expected e.is_function) (Some block.returning) outer.answers
   pub counts : length e.arguments ≡ length e.parameters
 
-pub unit_entry : (p : Y.Program) (g : Gotos) (answers : Option Returning) (b : Y.Block) (a : Activation) (code : ℕ)
-    → SoundUnit p g b → SoundEntry p g answers (unit_entered b a code)
-unit_entry p g answers b a code u =
+pub unit_entry : (p : Y.Program) (g : Setting) (outer : Bearing) (b : Y.Block) (a : Activation) (code : ℕ)
+    → Every IsOpen outer.frames → SoundUnit p g outer.frames a.height b
+    → SoundEntry p g outer (unit_entered b a code)
+unit_entry p g outer b a code o u =
     record {
       block = u.block;
+      chain = u.chain;
+      stands = u.stands;
+      opens = o;
+      known = λ e. absurd (cc e);
       passes =
-          subst (λ own. Passes own (Expected false) (Some u.block.returning) answers) (sym u.own) (λ v h. tt);
+          subst (λ own. Passes own (Expected false) (Some u.block.returning) outer.answers) (sym u.own) (λ v h. tt);
       counts = refl;
     }
 
@@ -72,7 +96,7 @@ result_expected : (type : Option Y.LeafType) (v : Option BasicValue) → Answere
 result_expected None v h = tt
 result_expected (Some t) v h = h
 
-pub procedure_passes : (p : Y.Program) (g : Gotos) (answers : Option Returning) (q : Y.Procedure)
+pub procedure_passes : (p : Y.Program) (g : Setting) (answers : Option Returning) (q : Y.Procedure)
     (f : FineProcedure p g q)
     → Passes (is_own_return f.block.head.kind) (Expected (is_some q.result)) (Some f.block.returning) answers
 procedure_passes p g answers q f =
@@ -81,41 +105,55 @@ procedure_passes p g answers q f =
 
 -- ---- what stands around
 
+-- where a procedure may be called, the blocks around are those of the activation and of its static ancestors
+pub record Footing (p : Y.Program) (g : Setting) (fs : List Frame) (blocks : List W.Around) : Type 0 where
+  pub stands : Stands p fs (length fs) blocks
+  pub chain : Chain g.table blocks
+
+abbrev pub FootingIf : Calls → Y.Program → Setting → List Frame → List W.Around → Type 0
+FootingIf AnyCall p g fs blocks = Footing p g fs blocks
+FootingIf NoCall p g fs blocks = ⊤
+
 pub record Ways : Type 0 where
   pub program : Y.Program
-  pub goto : Gotos
+  pub setting : Setting
   pub bearing : Bearing
-  pub whole : Whole program goto
-  pub table : Table
+  pub whole : Whole program setting
   pub blocks : List W.Around
   pub returning : Returning
+  pub calls : Calls
+  pub footing : FootingIf calls program setting bearing.frames blocks
+  pub opens : Every IsOpen bearing.frames
   pub line : ℕ
   pub enter : Enter
   pub turns : ℕ
   pub left : ℕ
-  pub keeps : (outer : Bearing) (e : Entry) → SoundEntry program goto outer.answers e
-      → There (record { program = program; goto = goto; bearing = outer }) 0 1 left (Expected e.is_function) (enter e)
+  pub keeps : (outer : Bearing) (e : Entry) → SoundEntry program setting outer e
+      → There (record { program = program; setting = setting; bearing = outer }) 0 1 left (Expected e.is_function)
+      (enter e)
   pub few : left < turns
 
 abbrev pub demand : Ways → Demand
-demand w = record { program = w.program; goto = w.goto; bearing = w.bearing }
+demand w = record { program = w.program; setting = w.setting; bearing = w.bearing }
 
 abbrev pub around : Ways → Around
 around w = record { program = w.program; enter = w.enter; turns = w.turns; line = w.line }
 
 abbrev pub here : Ways → Where
-here w = placed w.program w.table w.blocks w.returning
+here w = placed w.program w.setting.table w.blocks w.returning
 
 abbrev pub on_line : ℕ → Ways → Ways
 on_line line w =
     record {
       program = w.program;
-      goto = w.goto;
+      setting = w.setting;
       bearing = w.bearing;
       whole = w.whole;
-      table = w.table;
       blocks = w.blocks;
       returning = w.returning;
+      calls = w.calls;
+      footing = w.footing;
+      opens = w.opens;
       line = line;
       enter = w.enter;
       turns = w.turns;
@@ -124,17 +162,19 @@ on_line line w =
       few = w.few;
     }
 
--- at another place of the program
-abbrev pub elsewhere : Table → List W.Around → Ways → Ways
-elsewhere table blocks w =
+-- at another place of the program, where nothing is called
+abbrev pub elsewhere : List W.Around → Ways → Ways
+elsewhere blocks w =
     record {
       program = w.program;
-      goto = w.goto;
+      setting = w.setting;
       bearing = w.bearing;
       whole = w.whole;
-      table = table;
       blocks = blocks;
       returning = NoReturn;
+      calls = NoCall;
+      footing = tt;
+      opens = w.opens;
       line = w.line;
       enter = w.enter;
       turns = w.turns;
@@ -148,12 +188,14 @@ abbrev pub smaller : (w : Ways) (c : ℕ) → c ≤ w.left → Ways
 smaller w c r =
     record {
       program = w.program;
-      goto = w.goto;
+      setting = w.setting;
       bearing = w.bearing;
       whole = w.whole;
-      table = w.table;
       blocks = w.blocks;
       returning = w.returning;
+      calls = w.calls;
+      footing = w.footing;
+      opens = w.opens;
       line = w.line;
       enter = w.enter;
       turns = w.turns;
@@ -173,10 +215,10 @@ every_at P [] n x h e = absurd (cc e)
 every_at P (y ∷ ys) zero x h e = let same : y ≡ x = cc e in subst P same h.0
 every_at P (y ∷ ys) (suc n) x h e = every_at P ys n x h.1 e
 
-pub declared_there : (p : Y.Program) (g : Gotos) → Whole p g → (v : Y.Variable) (d : Y.DeclaredVariable)
-    → D.declared_variable p v ≡ Some d → Declares p d
+pub declared_there : (p : Y.Program) (g : Setting) → Whole p g → (v : Y.Variable) (d : Y.DeclaredVariable)
+    → D.declared_variable p v ≡ Some d → Declares p g d
 declared_there p g whole v d e =
-    every_at (Declares p) (D.variables_of_block p v.block) v.index d (whole.declares v.block) e
+    every_at (Declares p g) (D.variables_of_block p v.block) v.index d (whole.declares v.block) e
 
 pub procedures_same : (n : ℕ) (ps : List Y.Procedure) → D.procedure_numbered n ps ≡ W.procedure_numbered n ps
 procedures_same n [] = refl
@@ -215,10 +257,11 @@ generation_kept d NullName change s h = h
 generation_kept d (VariableName serial) change s h = h
 generation_kept d (BasedName area offset) change s h = area_kept d area (changed_at offset change) s h
 
-binding_kept : (p : Y.Program) (g : Gotos) (b : Binding) (as' : List Activation) → HasUnits p g as'
-    → HasUnits p g (K.with_binding b as')
-binding_kept p g b [] h = tt
-binding_kept p g b (a ∷ as') h = h
+binding_kept : (p : Y.Program) (g : Setting) (b : Binding) (fs : List Frame) (as' : List Activation)
+    → HasUnits p g fs as' → HasUnits p g fs (K.with_binding b as')
+binding_kept p g b [] as' h = tt
+binding_kept p g b (f ∷ fs) [] h = tt
+binding_kept p g b (f ∷ fs) (a ∷ as') h = h
 
 binding_heights : (b : Binding) (as' : List Activation) → skeleton (K.with_binding b as') ≡ skeleton as'
 binding_heights b [] = refl
@@ -228,7 +271,7 @@ pub bound_kept : (d : Demand) (variable : ℕ) (n : Name) (shape : Shape) (s : S
     → Kept d s → Kept d (K.bound variable n shape s)
 bound_kept d variable n shape s h =
     let b : Binding = record { variable = variable; name = n; shape = shape } in
-    (binding_kept d.program d.goto b s.activations h.0, binding_heights b s.activations ∙ h.1)
+    (binding_kept d.program d.setting b d.bearing.frames s.activations h.0, binding_heights b s.activations ∙ h.1)
 
 pub variable_kept : (d : Demand) (variable : ℕ) (g : Generation) (s : State) → Kept d s
     → Kept d (K.with_variable variable g s)

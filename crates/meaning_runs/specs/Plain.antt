@@ -1,6 +1,7 @@
 -- Plain programs: without LBOUND, HBOUND and DIM, and with no aggregate in GET and PUT. What these come to stands on
--- the signatures of generations, of which nothing is said here. And programs each of whose GOTO stays in its own block.
-use Rattle.std.specs.Prelude.{◌≡◌, ℕ, true, List, [], ◌++◌, Option, Some, None, ⊤}
+-- the signatures of generations, of which nothing is said here. And those in which no GOTO of another block names a
+-- label of a function's own list.
+use Rattle.std.specs.Prelude.{◌≡◌, ℕ, false, List, [], ◌∷◌, ◌++◌, Option, Some, None, is_some, cond, ⊤, ◌⊎◌}
 use Rattle.pli_meaning.specs.Control.{Label, is_among}
 use Rattle.pli_meaning.specs.Executing.{labels_in}
 use Rattle.well_formed_trees.specs.Every.{Every}
@@ -8,192 +9,209 @@ use Rattle.pli_typing.specs.TypedTree as Y
 
 -- ---- expressions
 
+-- any procedure may be called, or none, as in what is evaluated for extents
+pub data Calls : Type 0 where
+  AnyCall NoCall : Calls
+
+abbrev pub MayCall : Calls → Type 0
+MayCall AnyCall = ⊤
+MayCall NoCall = ⊥
+
 abbrev mutual
-  pub PlainNumber : Y.Number → Type 0
-  PlainNumber (Y.NumberConstant n) = ⊤
-  PlainNumber (Y.NumberIn r) = PlainReference r
-  PlainNumber (Y.NumberFrom c) = PlainCall c
-  PlainNumber (Y.NumberOfText t) = PlainText t
-  PlainNumber (Y.NumberOfBit b) = PlainBit b
-  PlainNumber (Y.Signed sign n) = PlainNumber n
-  PlainNumber (Y.Calculated op a b) = PlainNumber a × PlainNumber b
-  PlainNumber (Y.Absolute n) = PlainNumber n
-  PlainNumber (Y.SignOf n) = PlainNumber n
-  PlainNumber (Y.Extreme which first more) = PlainNumber first × PlainNumbers more
-  PlainNumber (Y.Modulo a b) = PlainNumber a × PlainNumber b
-  PlainNumber (Y.Divided precision a b) = PlainNumber a × PlainNumber b
-  PlainNumber (Y.LengthOf t) = PlainText t
-  PlainNumber (Y.IndexOf a b) = PlainText a × PlainText b
-  PlainNumber (Y.VerifyOf a b) = PlainText a × PlainText b
-  PlainNumber (Y.LowerBound r dimension) = ⊥
-  PlainNumber (Y.UpperBound r dimension) = ⊥
-  PlainNumber (Y.ElementsOf r dimension) = ⊥
-  PlainNumber (Y.AllocationsOf v) = ⊤
-  PlainNumber Y.OnCode = ⊤
+  pub PlainNumber : Calls → Y.Number → Type 0
+  PlainNumber k (Y.NumberConstant n) = ⊤
+  PlainNumber k (Y.NumberIn r) = PlainReference k r
+  PlainNumber k (Y.NumberFrom c) = PlainCall k c
+  PlainNumber k (Y.NumberOfText t) = PlainText k t
+  PlainNumber k (Y.NumberOfBit b) = PlainBit k b
+  PlainNumber k (Y.Signed sign n) = PlainNumber k n
+  PlainNumber k (Y.Calculated op a b) = PlainNumber k a × PlainNumber k b
+  PlainNumber k (Y.Absolute n) = PlainNumber k n
+  PlainNumber k (Y.SignOf n) = PlainNumber k n
+  PlainNumber k (Y.Extreme which first more) = PlainNumber k first × PlainNumbers k more
+  PlainNumber k (Y.Modulo a b) = PlainNumber k a × PlainNumber k b
+  PlainNumber k (Y.Divided precision a b) = PlainNumber k a × PlainNumber k b
+  PlainNumber k (Y.LengthOf t) = PlainText k t
+  PlainNumber k (Y.IndexOf a b) = PlainText k a × PlainText k b
+  PlainNumber k (Y.VerifyOf a b) = PlainText k a × PlainText k b
+  PlainNumber k (Y.LowerBound r dimension) = ⊥
+  PlainNumber k (Y.UpperBound r dimension) = ⊥
+  PlainNumber k (Y.ElementsOf r dimension) = ⊥
+  PlainNumber k (Y.AllocationsOf v) = ⊤
+  PlainNumber k Y.OnCode = ⊤
 
-  pub PlainNumbers : Y.Numbers → Type 0
-  PlainNumbers Y.NoNumber = ⊤
-  PlainNumbers (Y.NumberThen first rest) = PlainNumber first × PlainNumbers rest
+  pub PlainNumbers : Calls → Y.Numbers → Type 0
+  PlainNumbers k Y.NoNumber = ⊤
+  PlainNumbers k (Y.NumberThen first rest) = PlainNumber k first × PlainNumbers k rest
 
-  pub PlainText : Y.Text → Type 0
-  PlainText (Y.TextConstant bytes) = ⊤
-  PlainText (Y.TextIn r) = PlainReference r
-  PlainText (Y.TextFrom c) = PlainCall c
-  PlainText (Y.TextOfNumber precision n) = PlainNumber n
-  PlainText (Y.TextOfBit b) = PlainBit b
-  PlainText (Y.Joined a b) = PlainText a × PlainText b
-  PlainText (Y.SubstringFrom t start) = PlainText t × PlainNumber start
-  PlainText (Y.Substring t start count) = PlainText t × (PlainNumber start × PlainNumber count)
+  pub PlainText : Calls → Y.Text → Type 0
+  PlainText k (Y.TextConstant bytes) = ⊤
+  PlainText k (Y.TextIn r) = PlainReference k r
+  PlainText k (Y.TextFrom c) = PlainCall k c
+  PlainText k (Y.TextOfNumber precision n) = PlainNumber k n
+  PlainText k (Y.TextOfBit b) = PlainBit k b
+  PlainText k (Y.Joined a b) = PlainText k a × PlainText k b
+  PlainText k (Y.SubstringFrom t start) = PlainText k t × PlainNumber k start
+  PlainText k (Y.Substring t start count) = PlainText k t × (PlainNumber k start × PlainNumber k count)
 
-  pub PlainBit : Y.Bit → Type 0
-  PlainBit (Y.BitConstant b) = ⊤
-  PlainBit (Y.BitIn r) = PlainReference r
-  PlainBit (Y.BitFrom c) = PlainCall c
-  PlainBit (Y.BitOfText t) = PlainText t
-  PlainBit (Y.Negated b) = PlainBit b
-  PlainBit (Y.Combined op a b) = PlainBit a × PlainBit b
-  PlainBit (Y.NumbersCompared op a b) = PlainNumber a × PlainNumber b
-  PlainBit (Y.TextsCompared op a b) = PlainText a × PlainText b
-  PlainBit (Y.BitsCompared op a b) = PlainBit a × PlainBit b
-  PlainBit (Y.PointersCompared equal a b) = PlainPointer a × PlainPointer b
-  PlainBit (Y.OffsetsCompared equal a b) = PlainOffset a × PlainOffset b
+  pub PlainBit : Calls → Y.Bit → Type 0
+  PlainBit k (Y.BitConstant b) = ⊤
+  PlainBit k (Y.BitIn r) = PlainReference k r
+  PlainBit k (Y.BitFrom c) = PlainCall k c
+  PlainBit k (Y.BitOfText t) = PlainText k t
+  PlainBit k (Y.Negated b) = PlainBit k b
+  PlainBit k (Y.Combined op a b) = PlainBit k a × PlainBit k b
+  PlainBit k (Y.NumbersCompared op a b) = PlainNumber k a × PlainNumber k b
+  PlainBit k (Y.TextsCompared op a b) = PlainText k a × PlainText k b
+  PlainBit k (Y.BitsCompared op a b) = PlainBit k a × PlainBit k b
+  PlainBit k (Y.PointersCompared equal a b) = PlainPointer k a × PlainPointer k b
+  PlainBit k (Y.OffsetsCompared equal a b) = PlainOffset k a × PlainOffset k b
 
-  pub PlainPointer : Y.Pointer → Type 0
-  PlainPointer Y.NullPointer = ⊤
-  PlainPointer (Y.PointerIn r) = PlainReference r
-  PlainPointer (Y.PointerFrom c) = PlainCall c
-  PlainPointer (Y.AddressOf r) = PlainReference r
-  PlainPointer (Y.PointerInto o area) = PlainOffset o
+  pub PlainPointer : Calls → Y.Pointer → Type 0
+  PlainPointer k Y.NullPointer = ⊤
+  PlainPointer k (Y.PointerIn r) = PlainReference k r
+  PlainPointer k (Y.PointerFrom c) = PlainCall k c
+  PlainPointer k (Y.AddressOf r) = PlainReference k r
+  PlainPointer k (Y.PointerInto o area) = PlainOffset k o
 
-  pub PlainOffset : Y.Offset → Type 0
-  PlainOffset Y.NullOffset = ⊤
-  PlainOffset (Y.OffsetIn r) = PlainReference r
-  PlainOffset (Y.OffsetFrom c) = PlainCall c
-  PlainOffset (Y.OffsetInto p area) = PlainPointer p
+  pub PlainOffset : Calls → Y.Offset → Type 0
+  PlainOffset k Y.NullOffset = ⊤
+  PlainOffset k (Y.OffsetIn r) = PlainReference k r
+  PlainOffset k (Y.OffsetFrom c) = PlainCall k c
+  PlainOffset k (Y.OffsetInto p area) = PlainPointer k p
 
-  pub PlainReference : Y.Reference → Type 0
-  PlainReference (Y.Referring v locator part subscripts) = PlainLocator locator × PlainNumbers subscripts
+  pub PlainReference : Calls → Y.Reference → Type 0
+  PlainReference k (Y.Referring v locator part subscripts) = PlainLocator k locator × PlainNumbers k subscripts
 
-  pub PlainLocator : Y.Locator → Type 0
-  PlainLocator Y.NotLocated = ⊤
-  PlainLocator (Y.LocatedBy p) = PlainPointer p
+  pub PlainLocator : Calls → Y.Locator → Type 0
+  PlainLocator k Y.NotLocated = ⊤
+  PlainLocator k (Y.LocatedBy p) = PlainPointer k p
 
-  pub PlainCall : Y.Call → Type 0
-  PlainCall (Y.Calling number level arguments) = PlainArguments arguments
+  pub PlainCall : Calls → Y.Call → Type 0
+  PlainCall k (Y.Calling number level arguments) = MayCall k × PlainArguments k arguments
 
-  pub PlainArgument : Y.Argument → Type 0
-  PlainArgument (Y.ByReference r) = PlainReference r
-  PlainArgument (Y.ByCopy type s) = PlainStored s
-  PlainArgument (Y.ByOffsetInParameter p place) = PlainPointer p
-  PlainArgument (Y.ByOffsetInAutomatic p) = PlainPointer p
+  pub PlainArgument : Calls → Y.Argument → Type 0
+  PlainArgument k (Y.ByReference r) = PlainReference k r
+  PlainArgument k (Y.ByCopy type s) = PlainStored k s
+  PlainArgument k (Y.ByOffsetInParameter p place) = PlainPointer k p
+  PlainArgument k (Y.ByOffsetInAutomatic p) = PlainPointer k p
 
-  pub PlainArguments : Y.Arguments → Type 0
-  PlainArguments Y.NoArgument = ⊤
-  PlainArguments (Y.ArgumentThen first rest) = PlainArgument first × PlainArguments rest
+  pub PlainArguments : Calls → Y.Arguments → Type 0
+  PlainArguments k Y.NoArgument = ⊤
+  PlainArguments k (Y.ArgumentThen first rest) = PlainArgument k first × PlainArguments k rest
 
-  pub PlainStored : Y.Stored → Type 0
-  PlainStored (Y.StoredNumber precision n) = PlainNumber n
-  PlainStored (Y.StoredText t) = PlainText t
-  PlainStored (Y.StoredBit b) = PlainBit b
-  PlainStored (Y.StoredPointer p) = PlainPointer p
-  PlainStored (Y.StoredOffset o) = PlainOffset o
+  pub PlainStored : Calls → Y.Stored → Type 0
+  PlainStored k (Y.StoredNumber precision n) = PlainNumber k n
+  PlainStored k (Y.StoredText t) = PlainText k t
+  PlainStored k (Y.StoredBit b) = PlainBit k b
+  PlainStored k (Y.StoredPointer p) = PlainPointer k p
+  PlainStored k (Y.StoredOffset o) = PlainOffset k o
 
 -- what isn't a number, a text or a bit is written nowhere
-abbrev pub PlainValue : Y.Value → Type 0
-PlainValue (Y.NumberValue precision n) = PlainNumber n
-PlainValue (Y.TextValue t) = PlainText t
-PlainValue (Y.BitValue b) = PlainBit b
-PlainValue _ = ⊤
+abbrev pub PlainValue : Calls → Y.Value → Type 0
+PlainValue k (Y.NumberValue precision n) = PlainNumber k n
+PlainValue k (Y.TextValue t) = PlainText k t
+PlainValue k (Y.BitValue b) = PlainBit k b
+PlainValue k _ = ⊤
 
-abbrev pub PlainNumberIf : Option Y.Number → Type 0
-PlainNumberIf None = ⊤
-PlainNumberIf (Some n) = PlainNumber n
+abbrev pub PlainNumberIf : Calls → Option Y.Number → Type 0
+PlainNumberIf k None = ⊤
+PlainNumberIf k (Some n) = PlainNumber k n
 
-abbrev pub PlainBitIf : Option Y.Bit → Type 0
-PlainBitIf None = ⊤
-PlainBitIf (Some b) = PlainBit b
+abbrev pub PlainBitIf : Calls → Option Y.Bit → Type 0
+PlainBitIf k None = ⊤
+PlainBitIf k (Some b) = PlainBit k b
 
-abbrev pub PlainCounter : Y.Counter → Type 0
-PlainCounter (Y.NumberCounter precision r) = PlainReference r
-PlainCounter (Y.TextCounter r) = PlainReference r
+abbrev pub PlainCounter : Calls → Y.Counter → Type 0
+PlainCounter k (Y.NumberCounter precision r) = PlainReference k r
+PlainCounter k (Y.TextCounter r) = PlainReference k r
 
 -- ---- ALLOCATE, FREE, GET and PUT
 
-abbrev pub PlainTarget : Y.LocatorTarget → Type 0
-PlainTarget (Y.SetPointer r) = PlainReference r
-PlainTarget (Y.SetOffset r area) = PlainReference r
+abbrev pub PlainTarget : Calls → Y.LocatorTarget → Type 0
+PlainTarget k (Y.SetPointer r) = PlainReference k r
+PlainTarget k (Y.SetOffset r area) = PlainReference k r
 
-abbrev pub PlainAllocation : Y.Allocation → Type 0
-PlainAllocation (Y.AllocateBased v area target) = PlainTarget target
-PlainAllocation (Y.AllocateControlled v) = ⊤
+abbrev pub PlainAllocation : Calls → Y.Allocation → Type 0
+PlainAllocation k (Y.AllocateBased v area target) = PlainTarget k target
+PlainAllocation k (Y.AllocateControlled v) = ⊤
 
-abbrev pub PlainFreeing : Y.Freeing → Type 0
-PlainFreeing (Y.FreeBased v locator area) = PlainPointer locator
-PlainFreeing (Y.FreeControlled v) = ⊤
+abbrev pub PlainFreeing : Calls → Y.Freeing → Type 0
+PlainFreeing k (Y.FreeBased v locator area) = PlainPointer k locator
+PlainFreeing k (Y.FreeControlled v) = ⊤
 
-abbrev pub PlainGetItem : Y.GetItem → Type 0
-PlainGetItem (Y.GetScalar r) = PlainReference r
-PlainGetItem (Y.GetAggregate r) = ⊥
+abbrev pub PlainGetItem : Calls → Y.GetItem → Type 0
+PlainGetItem k (Y.GetScalar r) = PlainReference k r
+PlainGetItem k (Y.GetAggregate r) = ⊥
 
-abbrev pub PlainPutItem : Y.PutItem → Type 0
-PlainPutItem (Y.PutValue v) = PlainValue v
-PlainPutItem (Y.PutAggregate r) = ⊥
+abbrev pub PlainPutItem : Calls → Y.PutItem → Type 0
+PlainPutItem k (Y.PutValue v) = PlainValue k v
+PlainPutItem k (Y.PutAggregate r) = ⊥
 
-abbrev pub PlainGetPair : Y.GetPair → Type 0
-PlainGetPair p = Every PlainGetItem p.items
+abbrev pub PlainGetPair : Calls → Y.GetPair → Type 0
+PlainGetPair k p = Every (PlainGetItem k) p.items
 
-abbrev pub PlainPutPair : Y.PutPair → Type 0
-PlainPutPair p = Every PlainPutItem p.items
+abbrev pub PlainPutPair : Calls → Y.PutPair → Type 0
+PlainPutPair k p = Every (PlainPutItem k) p.items
 
 -- ---- GOTO
 
--- any GOTO, or those alone that name a label of a list around in their own block
-pub data Gotos : Type 0 where
-  AnyGoto OwnGotos : Gotos
+-- The end of a function raises ERROR once its own list is left, so a unit may run then whose GOTO names a label there,
+-- and no list has it any more. So these are the labels of functions' own lists.
 
--- where a statement stands: which GOTO may be there, the level of its block, and the labels of the lists around in it
+abbrev pub own_labels : Y.Block → List Label
+own_labels (Y.BlockOf head body) = labels_in body
+
+abbrev pub function_labels : List Y.Procedure → List Label
+function_labels [] = []
+function_labels (p ∷ ps) = cond (is_some p.result) (own_labels p.block ++ function_labels ps) (function_labels ps)
+
+-- any GOTO, or those alone that find their list carried out
+pub data Gotos : Type 0 where
+  AnyGoto CaughtGotos : Gotos
+
+-- where a statement stands: which GOTO may be there, the labels of functions' own lists, and the level of its block
 pub record Standing : Type 0 where
   pub gotos : Gotos
+  pub functions : List Label
   pub level : ℕ
-  pub labels : List Label
 
-abbrev pub in_list : Standing → Y.Stmts → Standing
-in_list g body = record { gotos = g.gotos; level = g.level; labels = labels_in body ++ g.labels }
+-- in a block
+abbrev pub in_block : Standing → Y.BlockHead → Standing
+in_block g head = record { gotos = g.gotos; functions = g.functions; level = head.level }
 
--- in a block's own list
-abbrev pub in_block : Gotos → Y.BlockHead → Y.Stmts → Standing
-in_block gotos head body = in_list (record { gotos = gotos; level = head.level; labels = [] }) body
-
-abbrev pub MayGo : Gotos → (own : ℕ) → List Label → (level : ℕ) → Label → Type 0
-MayGo AnyGoto own labels level label = ⊤
-MayGo OwnGotos own labels level label = (level ≡ own) × (is_among label labels ≡ true)
+-- in its own block; or to a label that is none of a function's own list
+abbrev pub MayGo : Gotos → (functions : List Label) → (own level : ℕ) → Label → Type 0
+MayGo AnyGoto functions own level label = ⊤
+MayGo CaughtGotos functions own level label = (level ≡ own) ⊎ (is_among label functions ≡ false)
 
 -- ---- statements
 
 abbrev mutual
   pub PlainStmt : Standing → Y.Stmt → Type 0
-  PlainStmt g (Y.Assign target source line) = PlainReference target × PlainStored source
-  PlainStmt g (Y.AssignElements target source line) = PlainReference target × PlainStored source
-  PlainStmt g (Y.AssignAggregate target source line) = PlainReference target × PlainReference source
-  PlainStmt g (Y.If condition unit line) = PlainBit condition × PlainStmt g unit
+  PlainStmt g (Y.Assign target source line) = PlainReference AnyCall target × PlainStored AnyCall source
+  PlainStmt g (Y.AssignElements target source line) = PlainReference AnyCall target × PlainStored AnyCall source
+  PlainStmt g (Y.AssignAggregate target source line) = PlainReference AnyCall target × PlainReference AnyCall source
+  PlainStmt g (Y.If condition unit line) = PlainBit AnyCall condition × PlainStmt g unit
   PlainStmt g (Y.IfElse condition unit otherwise line) =
-      PlainBit condition × (PlainStmt g unit × PlainStmt g otherwise)
-  PlainStmt g (Y.Do body line) = PlainStmts (in_list g body) body
-  PlainStmt g (Y.DoWhile condition body line) = PlainBit condition × PlainStmts (in_list g body) body
+      PlainBit AnyCall condition × (PlainStmt g unit × PlainStmt g otherwise)
+  PlainStmt g (Y.Do body line) = PlainStmts g body
+  PlainStmt g (Y.DoWhile condition body line) = PlainBit AnyCall condition × PlainStmts g body
   PlainStmt g (Y.DoOnce target start condition body line) =
-      (PlainReference target × PlainStored start) × (PlainBitIf condition × PlainStmts (in_list g body) body)
+      (PlainReference AnyCall target × PlainStored AnyCall start) × (PlainBitIf AnyCall condition × PlainStmts g body)
   PlainStmt g (Y.DoCount counter start limit step condition body line) =
-      (PlainCounter counter × (PlainValue start × (PlainNumberIf limit × PlainNumber step)))
-      × (PlainBitIf condition × PlainStmts (in_list g body) body)
-  PlainStmt g (Y.Begin (Y.BlockOf head body)) = PlainStmts (in_block g.gotos head body) body
-  PlainStmt g (Y.OnUnit condition (Y.BlockOf head body) line) = PlainStmts (in_block g.gotos head body) body
-  PlainStmt g (Y.CallProcedure c line) = PlainCall c
-  PlainStmt g (Y.ReturnValue type s line) = PlainStored s
-  PlainStmt g (Y.Goto level label line) = MayGo g.gotos g.level g.labels level label
-  PlainStmt g (Y.Allocate allocations line) = Every PlainAllocation allocations
-  PlainStmt g (Y.Free freeings line) = Every PlainFreeing freeings
-  PlainStmt g (Y.Get skip pairs line) = Every PlainGetPair pairs
-  PlainStmt g (Y.Put skip pairs line) = Every PlainPutPair pairs
+      (PlainCounter AnyCall counter
+      × (PlainValue AnyCall start × (PlainNumberIf AnyCall limit × PlainNumber AnyCall step)))
+      × (PlainBitIf AnyCall condition × PlainStmts g body)
+  PlainStmt g (Y.Begin (Y.BlockOf head body)) = PlainStmts (in_block g head) body
+  PlainStmt g (Y.OnUnit condition (Y.BlockOf head body) line) = PlainStmts (in_block g head) body
+  PlainStmt g (Y.CallProcedure c line) = PlainCall AnyCall c
+  PlainStmt g (Y.ReturnValue type s line) = PlainStored AnyCall s
+  PlainStmt g (Y.Goto level label line) = MayGo g.gotos g.functions g.level level label
+  PlainStmt g (Y.Allocate allocations line) = Every (PlainAllocation AnyCall) allocations
+  PlainStmt g (Y.Free freeings line) = Every (PlainFreeing AnyCall) freeings
+  PlainStmt g (Y.Get skip pairs line) = Every (PlainGetPair AnyCall) pairs
+  PlainStmt g (Y.Put skip pairs line) = Every (PlainPutPair AnyCall) pairs
   PlainStmt g _ = ⊤
 
   pub PlainStmts : Standing → Y.Stmts → Type 0
@@ -202,13 +220,18 @@ abbrev mutual
 
 -- ---- programs
 
-abbrev pub PlainBlock : Gotos → Y.Block → Type 0
-PlainBlock gotos (Y.BlockOf head body) = PlainStmts (in_block gotos head body) body
+abbrev pub PlainBlock : Standing → Y.Block → Type 0
+PlainBlock g (Y.BlockOf head body) = PlainStmts (in_block g head) body
 
-abbrev pub PlainVariable : Y.DeclaredVariable → Type 0
-PlainVariable d = Every (λ e. PlainNumber e.value) d.evaluations
+abbrev pub PlainVariable : Calls → Y.DeclaredVariable → Type 0
+PlainVariable k d = Every (λ e. PlainNumber k e.value) d.evaluations
+
+-- where a program's procedures stand
+abbrev pub outermost : Gotos → Y.Program → Standing
+outermost gotos program =
+    record { gotos = gotos; functions = function_labels program.procedures; level = 0 }
 
 -- procedures, and what is evaluated for the extents of variables
 pub record IsPlain (gotos : Gotos) (program : Y.Program) : Type 0 where
-  pub procedures : Every (λ p. PlainBlock gotos p.block) program.procedures
-  pub variables : Every (Every PlainVariable) program.variables
+  pub procedures : Every (λ p. PlainBlock (outermost gotos program) p.block) program.procedures
+  pub variables : Every (Every (PlainVariable AnyCall)) program.variables

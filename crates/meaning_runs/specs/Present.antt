@@ -14,7 +14,7 @@ use Rattle.pli_meaning.specs.StorageState.{first_state}
 use Rattle.pli_meaning.specs.Control.{Flow, Normal, Jump, Return, Ended, Paused, Stuck}
 use Rattle.pli_meaning.specs.Executing.{run, meaning}
 use Rattle.well_formed_trees.specs.WellFormed.{IsWellFormed}
-use Rattle.meaning_runs.specs.Plain.{Gotos, AnyGoto, OwnGotos, IsPlain}
+use Rattle.meaning_runs.specs.Plain.{Gotos, AnyGoto, CaughtGotos, IsPlain}
 
 abbrev pub IsOver : End → Type 0
 IsOver E.Running = ⊥
@@ -23,7 +23,7 @@ IsOver _ = ⊤
 -- whether a jump might find no list with its label
 abbrev pub JumpsOut : Gotos → Type 0
 JumpsOut AnyGoto = ⊤
-JumpsOut OwnGotos = ⊥
+JumpsOut CaughtGotos = ⊥
 
 -- what a run comes to with so many acts allowed: it is over with at most as many, or it pauses with exactly as many. A
 -- jump to a label that stands in no list that is carried out would be a third.
@@ -49,14 +49,14 @@ pub record IsMeant (program : Y.Program) (input : List ℕ) (k : ℕ) : Type 0 w
   pub few : world.acts ≤ k
   pub going_on : world.end ≡ E.Running → world.acts ≡ k
 
--- where each GOTO stays in its own block the meaning is there at every number of acts
+-- where no GOTO of another block names a label of a function's own list the meaning is there at every number of acts
 abbrev pub MeaningThere : Type 0
-MeaningThere = (program : Y.Program) (input : List ℕ) (k : ℕ) → IsWellFormed program → IsPlain OwnGotos program
+MeaningThere = (program : Y.Program) (input : List ℕ) (k : ℕ) → IsWellFormed program → IsPlain CaughtGotos program
     → IsMeant program input k
 
 -- so it is of each accepted source
 abbrev pub AcceptedMeaningThere : Type 0
 AcceptedMeaningThere =
     (s : List ℕ) (tokens : List Token) (tree : T.Tree) → Tokens s tokens → Spells s tokens tree
-    → declaring_faults tree ≡ [] → typing_faults tree ≡ [] → IsPlain OwnGotos (typed_tree tree)
+    → declaring_faults tree ≡ [] → typing_faults tree ≡ [] → IsPlain CaughtGotos (typed_tree tree)
     → (input : List ℕ) (k : ℕ) → IsMeant (typed_tree tree) input k
