@@ -33,7 +33,7 @@ use Rattle.function_runs.proofs.OuterVariables.{procedure_number}
 use Rattle.number_runs.specs.Knowledge.{IsReady, call_statement}
 use Rattle.number_runs.specs.Numbers.{is_known}
 use Rattle.number_runs.specs.Variables.{words_in}
-use Rattle.number_runs.proofs.Statements.{body_does}
+use Rattle.number_runs.proofs.Statements.{body_does, none_raised}
 use Rattle.number_runs.proofs.Takes.{registers_held}
 use Rattle.number_runs.proofs.Words.{own_word}
 use Rattle.number_headlines.specs.Programs.{inner_scope, is_callable, main_scope}
@@ -123,7 +123,7 @@ inner_ready :
     (more call : ℕ) {p : Point} {numbers : ℕ → ℕ} (o : Moment m input (suc more) p numbers) →
     IsBegun (inner_block m i input (suc more) more call p numbers) →
     IsReady (inner_scope program m.head i.head) false (inner_block m i input (suc more) more call p numbers)
-    (most_for program) left_over
+    (labels_in i.body ++ []) (most_for program) left_over
 inner_ready once {program} m i input more call {p} {numbers} o b =
     let end = end_is once program i.head i.body m.loadable i.is in
     let routines = raise_routines once program m.loadable in
@@ -137,20 +137,22 @@ inner_ready once {program} m i input more call {p} {numbers} o b =
       acts = o.few;
       turns = omega arith;
       held = omega arith;
-      unraised = record {
+      raises = none_raised (inner_block m i input (suc more) more call p numbers) (labels_in i.body ++ [])
+      (most_for program) (record {
         routines = routines;
         overflow = inner_system m i input (suc more) more call o C.FixedOverflow
             (made_system image_parts _ xs _ C.FixedOverflow tt);
         divisor = inner_system m i input (suc more) more call o C.ZeroDivide
             (made_system image_parts _ xs _ C.ZeroDivide tt);
         error = inner_system m i input (suc more) more call o C.Error (made_system image_parts _ xs _ C.Error tt);
-      };
+        acts = o.few;
+        few = omega (arith, inside);
+      });
       variables = λ x h. inner_number m i input (suc more) more call o b x h;
       calls = record {
-        functions = λ labels line n h. absurd (cc h);
-        procedures = λ labels n line index h. absurd (cc h);
+        functions = λ labels line n includes h. absurd (cc h);
+        procedures = λ labels n line index includes h. absurd (cc h);
       };
-      few = omega (arith, inside);
       room = omega arith;
       returns = λ e. record {
         owner = refl;

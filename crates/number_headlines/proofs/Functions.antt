@@ -33,7 +33,7 @@ use Rattle.expression_runs.specs.Laws as L
 use Rattle.number_runs.specs.Knowledge.{IsReady, call_number}
 use Rattle.number_runs.specs.Numbers.{is_known}
 use Rattle.number_runs.specs.Variables.{words_in}
-use Rattle.number_runs.proofs.Statements.{body_does}
+use Rattle.number_runs.proofs.Statements.{body_does, none_raised}
 use Rattle.number_runs.proofs.Takes.{registers_held}
 use Rattle.number_runs.proofs.Words.{function_word}
 use Rattle.number_headlines.specs.Programs.{inner_scope, is_callable, main_scope}
@@ -120,7 +120,7 @@ valued_ready :
     (more call : ℕ) {p : Point} {numbers : ℕ → ℕ} (o : Moment m input (suc more) p numbers) →
     IsBegun (valued_block m i input (suc more) more call p numbers) →
     IsReady (inner_scope program m.head i.head) true (valued_block m i input (suc more) more call p numbers)
-    (most_for program) left_over
+    (labels_in i.body ++ []) (most_for program) left_over
 valued_ready once {program} m i input more call {p} {numbers} o b =
     let level = i.level in
     let end = function_end_is once program i.head i.body 31 m.loadable i.is (omega (arith, level)) in
@@ -135,20 +135,22 @@ valued_ready once {program} m i input more call {p} {numbers} o b =
       acts = o.few;
       turns = omega arith;
       held = omega arith;
-      unraised = record {
+      raises = none_raised (valued_block m i input (suc more) more call p numbers) (labels_in i.body ++ [])
+      (most_for program) (record {
         routines = routines;
         overflow = valued_system m i input (suc more) more call o C.FixedOverflow
             (made_system image_parts _ xs _ C.FixedOverflow tt);
         divisor = valued_system m i input (suc more) more call o C.ZeroDivide
             (made_system image_parts _ xs _ C.ZeroDivide tt);
         error = valued_system m i input (suc more) more call o C.Error (made_system image_parts _ xs _ C.Error tt);
-      };
+        acts = o.few;
+        few = omega (arith, inside);
+      });
       variables = λ x h. valued_number m i input (suc more) more call o b x h;
       calls = record {
-        functions = λ labels line n h. absurd (cc h);
-        procedures = λ labels n line index h. absurd (cc h);
+        functions = λ labels line n includes h. absurd (cc h);
+        procedures = λ labels n line index includes h. absurd (cc h);
       };
-      few = omega (arith, inside);
       room = omega arith;
       returns = λ e. absurd (cc e);
       values = λ e. record {

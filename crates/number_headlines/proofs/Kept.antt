@@ -27,7 +27,7 @@ use Rattle.pli_headline.specs.Headline.{FitsMemory, Headline, parts}
 use Rattle.block_headlines.specs.Headlines.{HeadlinesKept, Layout, Runs}
 use Rattle.number_runs.specs.Knowledge.{IsReady, KnowsCalls}
 use Rattle.number_runs.specs.Variables.{words_in}
-use Rattle.number_runs.proofs.Statements.{body_does}
+use Rattle.number_runs.proofs.Statements.{body_does, none_raised}
 use Rattle.number_runs.proofs.Takes.{registers_held}
 use Rattle.number_headlines.specs.Headlines.{IsNumberProgram}
 use Rattle.number_headlines.specs.Programs.{are_all_plain, has_main, main_scope}
@@ -42,8 +42,10 @@ use Rattle.number_headlines.proofs.Functions.{function_called}
 pub main_ready :
     MarkedOnce → {program : Y.Program} (m : Main program) (input : List ℕ) (acts : ℕ) → acts + 1 < 2 ^ 64 →
     IsBegun (block_for m input acts) →
-    KnowsCalls (main_scope program m.head) (block_for m input acts) (most_for program) left_over →
-    IsReady (main_scope program m.head) false (block_for m input acts) (most_for program) left_over
+    KnowsCalls (main_scope program m.head) (block_for m input acts) (labels_in m.body ++ []) (most_for program)
+    left_over →
+    IsReady (main_scope program m.head) false (block_for m input acts) (labels_in m.body ++ []) (most_for program)
+    left_over
 main_ready once {program} m input acts few b calls =
     let found = main_found program (placed m) m.main in
     let end = end_is once program m.head m.body m.loadable found in
@@ -58,15 +60,17 @@ main_ready once {program} m input acts few b calls =
       acts = few;
       turns = omega arith;
       held = omega arith;
-      unraised = record {
+      raises = none_raised (block_for m input acts) (labels_in m.body ++ [])
+      (most_for program) (record {
         routines = routines;
         overflow = made_system image_parts _ xs _ C.FixedOverflow tt;
         divisor = made_system image_parts _ xs _ C.ZeroDivide tt;
         error = made_system image_parts _ xs _ C.Error tt;
-      };
+        acts = few;
+        few = omega (arith, inside);
+      });
       variables = λ x h. main_number m input acts x (own_known m input acts x h) b;
       calls = calls;
-      few = omega (arith, inside);
       room = omega arith;
       returns = λ e. record {
         owner = refl;
@@ -84,11 +88,12 @@ main_ready once {program} m input acts few b calls =
 main_calls :
     MarkedOnce → {program : Y.Program} (m : Main program) (input : List ℕ) (acts : ℕ) → acts + 1 < 2 ^ 64 →
     IsBegun (block_for m input acts) →
-    KnowsCalls (main_scope program m.head) (block_for m input acts) (most_for program) left_over
+    KnowsCalls (main_scope program m.head) (block_for m input acts) (labels_in m.body ++ []) (most_for program)
+    left_over
 main_calls once {program} m input acts few b =
     record {
-      functions = λ labels line n h. function_called once m input acts few b labels line n h;
-      procedures = λ labels n line index h less l.
+      functions = λ labels line n includes h. function_called once m input acts few b labels line n h;
+      procedures = λ labels n line index includes h less l.
           procedure_called once m input acts few b labels n line index h less l;
     }
 

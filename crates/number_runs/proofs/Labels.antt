@@ -1,6 +1,6 @@
 -- Labels of a block's lists: those of a list and of the lists around it stand in the code.
 use Rattle.std.proofs.Common.{◌≡◌, ◌⊎◌, ℕ, List, ◌++◌, true, inl, inr, sym, ◌∙◌}
-use Rattle.std.proofs.lemmas.Bool.{or_cases}
+use Rattle.std.proofs.lemmas.Bool.{or_cases, or_right}
 use Rattle.std.proofs.lemmas.List.Folds.{list_any-append}
 use Rattle.pli_language.specs.Keywords.{same_bytes}
 use Rattle.pli_typing.specs.TypedTree as Y
@@ -10,7 +10,7 @@ use Rattle.pli_coding.specs.Environments.{none_taken}
 use Rattle.program_places.specs.Laws.{IsLabel}
 use Rattle.program_places.proofs.Labels.{label_of}
 use Rattle.program_runs.specs.Statements.{Block}
-use Rattle.number_runs.specs.Knowledge.{ArePlaced, AreStanding}
+use Rattle.number_runs.specs.Knowledge.{AreAround, ArePlaced, AreStanding}
 
 pub placed_with :
     (k : Block) (body : Y.Stmts) (index : ℕ) (labels : List Label) → AreStanding k body index →
@@ -25,3 +25,17 @@ placed_with k body index labels at placed label among =
         IsLabel k.call.surroundings.links k.environment.block label
     by (inl h) = label_of k.call.surroundings.links k.call.code index k.environment none_taken body at label h
     by (inr h) = placed label h
+
+pub among_behind :
+    (own labels : List Label) (label : Label) → is_among label labels ≡ true → is_among label (own ++ labels) ≡ true
+among_behind own labels label e =
+    list_any-append (same_bytes label) own labels ∙ or_right (is_among label own) (is_among label labels) e
+
+pub placed_in :
+    (k : Block) (own : List Label) (body : Y.Stmts) (index : ℕ) (labels : List Label) → AreStanding k body index →
+    AreAround k own labels → AreAround k own (labels_in body ++ labels)
+placed_in k own body index labels at c =
+    record {
+      at = placed_with k body index labels at c.at;
+      includes = λ label e. among_behind (labels_in body) labels label (c.includes label e);
+    }

@@ -33,13 +33,14 @@ use Rattle.test_runs.specs.Choices.{HasTest, behind_act, behind_choice, behind_t
 use Rattle.test_runs.proofs.Chosen.{met_size, past}
 use Rattle.test_runs.proofs.Ifs.{met_does, one_of_does}
 use Rattle.test_runs.proofs.Loops.{loop_does}
-use Rattle.number_runs.specs.Knowledge.{ArePlaced, AreStanding, IsReady, KnowsNumbers, Standing}
+use Rattle.number_runs.specs.Knowledge.{AreAround, AreStanding, Includes, IsReady, IsUnraised, KnowsNumbers}
+use Rattle.number_runs.specs.Knowledge.{KnowsRaises, Standing}
 use Rattle.number_runs.specs.Numbers.{Scope, is_fixed, is_number, is_test, is_variable, number_needs}
 use Rattle.number_runs.specs.Numbers.{test_needs}
 use Rattle.number_runs.specs.Statements.{are_statements, is_line, is_statement, is_stored, statement_needs}
 use Rattle.number_runs.specs.Statements.{statements_need, stored_needs}
 use Rattle.number_runs.proofs.Expressions.{number_does, test_does}
-use Rattle.number_runs.proofs.Labels.{placed_with}
+use Rattle.number_runs.proofs.Labels.{placed_in, placed_with}
 use Rattle.number_runs.proofs.Variables.{fixed_is, variable_is}
 
 -- a block, with all that is known around its statements
@@ -47,9 +48,30 @@ pub record Home : Type 0 where
   pub scope : Scope
   pub valued : Bool
   pub block : Block
+  pub own : List Label
   pub most : ℕ
   pub left' : ℕ
-  pub ready : IsReady scope valued block most left'
+  pub ready : IsReady scope valued block own most left'
+
+-- without units raises end the run
+pub none_raised : (k : Block) (own : List Label) (most : ℕ) → IsUnraised k most → KnowsRaises k own most
+none_raised k own most u =
+    record {
+      overflow = λ labels line includes. overflow_ends (setting_of k labels line most) (record {
+        routines = u.routines;
+        overflow = u.overflow;
+        error = u.error;
+        acts = u.acts;
+        most = u.few;
+      });
+      divisor = λ labels line includes. zero_divide_ends (setting_of k labels line most) (record {
+        routines = u.routines;
+        divisor = u.divisor;
+        error = u.error;
+        acts = u.acts;
+        most = u.few;
+      });
+    }
 
 -- ---- what the laws of single forms ask for
 
@@ -62,28 +84,17 @@ paid_for :
     size_in h.block stmt + h.most ≤ cost h.block.call.code
 paid_for h stmt index l = let inside = l.inside in let room = h.ready.room in omega (arith, inside, room)
 
-knows : (h : Home) (labels : List Label) (line : ℕ) → KnowsNumbers h.scope (setting_of h.block labels line h.most)
-knows h labels line =
+knows :
+    (h : Home) (labels : List Label) (line : ℕ) → Includes h.own labels →
+    KnowsNumbers h.scope (setting_of h.block labels line h.most)
+knows h labels line includes =
     let r = h.ready in
-    let k = setting_of h.block labels line h.most in
     record {
       begun = r.begun;
-      overflow = overflow_ends k (record {
-        routines = r.unraised.routines;
-        overflow = r.unraised.overflow;
-        error = r.unraised.error;
-        acts = r.acts;
-        most = r.few;
-      });
-      divisor = zero_divide_ends k (record {
-        routines = r.unraised.routines;
-        divisor = r.unraised.divisor;
-        error = r.unraised.error;
-        acts = r.acts;
-        most = r.few;
-      });
+      overflow = r.raises.overflow labels line includes;
+      divisor = r.raises.divisor labels line includes;
       variables = r.variables;
-      functions = λ n is. r.calls.functions labels line n is;
+      functions = λ n is. r.calls.functions labels line n includes is;
     }
 
 has_test :
@@ -124,9 +135,10 @@ Coded h labels stmt index =
 
 assigned_does :
     (h : Home) (labels : List Label) (target : Y.Reference) (source : Y.Stored) (line index : ℕ) →
-    is_line line ≡ true → is_variable h.scope target ≡ true → is_stored h.scope source ≡ true →
+    Includes h.own labels → is_line line ≡ true → is_variable h.scope target ≡ true →
+    is_stored h.scope source ≡ true →
     stored_needs source ≤ h.block.registers → Coded h labels (Y.Assign target source line) index
-assigned_does h labels target source line index is one two fits =
+assigned_does h labels target source line index includes is one two fits =
     let v = variable_is h.scope target one in
     let x = storing h.scope source two in
     let need = number_needs x.number in
@@ -144,13 +156,14 @@ assigned_does h labels target source line index is one two fits =
       statement = l;
       paid = paid_for h stmt index l;
     })
-    (number_does h.scope (setting_of h.block labels line h.most) x.number (knows h labels line) x.known)))
+    (number_does h.scope (setting_of h.block labels line h.most) x.number (knows h labels line includes) x.known)))
 
 returned_does :
     (h : Home) (labels : List Label) (type : Y.LeafType) (source : Y.Stored) (line index : ℕ) →
-    is_line line ≡ true → h.valued ≡ true → is_fixed type ≡ true → is_stored h.scope source ≡ true →
-    stored_needs source ≤ h.block.registers → Coded h labels (Y.ReturnValue type source line) index
-returned_does h labels type source line index is valued one two fits =
+    Includes h.own labels → is_line line ≡ true → h.valued ≡ true → is_fixed type ≡ true →
+    is_stored h.scope source ≡ true → stored_needs source ≤ h.block.registers →
+    Coded h labels (Y.ReturnValue type source line) index
+returned_does h labels type source line index includes is valued one two fits =
     let x = storing h.scope source two in
     let need = number_needs x.number in
     let needs = x.needs in
@@ -174,17 +187,17 @@ returned_does h labels type source line index is valued one two fits =
       statement = l;
       paid = paid_for h stmt index l;
     })
-    (number_does h.scope (setting_of h.block labels line h.most) x.number (knows h labels line) x.known)))
+    (number_does h.scope (setting_of h.block labels line h.most) x.number (knows h labels line includes) x.known)))
 
 -- ---- jumps and calls
 
 jumps_does :
     (h : Home) (labels : List Label) (level : ℕ) (label : Label) (line index : ℕ) →
-    ArePlaced h.block.call.surroundings.links h.block.environment.block labels → is_line line ≡ true →
+    AreAround h.block h.own labels → is_line line ≡ true →
     (level == h.scope.level) ≡ true → is_among label labels ≡ true → Coded h labels (Y.Goto level label line) index
 jumps_does h labels level label line index placed is same among =
     let r = h.ready in
-    let at = placed label among in
+    let at = placed.at label among in
     subst (λ n. Coded h labels (Y.Goto n label line) index) (r.level ∙ sym (eqb-true level h.scope.level same))
     (λ l. goto_does h.block labels label line index h.left' (act_of h line is)
     (record {
@@ -199,13 +212,13 @@ jumps_does h labels level label line index placed is same among =
     l)
 
 calls_does :
-    (h : Home) (labels : List Label) (number level line index : ℕ) → is_line line ≡ true →
+    (h : Home) (labels : List Label) (number level line index : ℕ) → Includes h.own labels → is_line line ≡ true →
     (level == h.scope.level) ≡ true → h.scope.is_procedure number ≡ true →
     Coded h labels (Y.CallProcedure (Y.Calling number level Y.NoArgument) line) index
-calls_does h labels number level line index is same known =
+calls_does h labels number level line index includes is same known =
     subst (λ n. Coded h labels (Y.CallProcedure (Y.Calling number n Y.NoArgument) line) index)
     (sym (eqb-true level h.scope.level same))
-    (λ l. h.ready.calls.procedures labels number line index known (ltb-true line (2 ^ 31) is) l)
+    (λ l. h.ready.calls.procedures labels number line index includes known (ltb-true line (2 ^ 31) is) l)
 
 not_true : (q : Bool) → not q ≡ true → q ≡ false
 not_true true h = absurd (cc h)
@@ -284,7 +297,7 @@ marked_in h body index at =
     are_marked h.block.call.surroundings.links h.block.call.code index h.block.environment body at
 
 abbrev PlacedIn : Home → List Label → Type 0
-PlacedIn h labels = ArePlaced h.block.call.surroundings.links h.block.environment.block labels
+PlacedIn h labels = AreAround h.block h.own labels
 
 -- ---- all forms
 
@@ -298,14 +311,14 @@ mutual
   statement_does h labels (Y.Assign target source line) index placed is fits at =
       let a = and_parts (is_line line) (is_variable h.scope target && is_stored h.scope source) is in
       let b = and_parts (is_variable h.scope target) (is_stored h.scope source) a.1 in
-      assigned_does h labels target source line index a.0 b.0 b.1 fits at.linked
+      assigned_does h labels target source line index placed.includes a.0 b.0 b.1 fits at.linked
   statement_does h labels (Y.If condition unit line) index placed is fits at =
       let inner = is_statement h.scope h.valued labels unit in
       let a = and_parts (is_line line) (is_test h.scope condition && inner) is in
       let b = and_parts (is_test h.scope condition) inner a.1 in
       met_does h.block labels condition unit line index h.left' (test_needs condition) h.most
       (has_test h (Y.If condition unit line) condition line index a.0 (omega (arith, fits)) at.linked)
-      (test_does h.scope (setting_of h.block labels line h.most) condition (knows h labels line) b.0)
+      (test_does h.scope (setting_of h.block labels line h.most) condition (knows h labels line placed.includes) b.0)
       (statement_does h labels unit (behind_test h.block condition (behind_act line index)) placed b.1
       (omega (arith, fits)) (unit_stands h condition unit line index at))
   statement_does h labels (Y.IfElse condition unit otherwise line) index placed is fits at =
@@ -317,7 +330,7 @@ mutual
       let chosen = behind_test h.block condition (behind_act line index) in
       one_of_does h.block labels condition unit otherwise line index h.left' (test_needs condition) h.most
       (has_test h (Y.IfElse condition unit otherwise line) condition line index a.0 (omega (arith, fits)) at.linked)
-      (test_does h.scope (setting_of h.block labels line h.most) condition (knows h labels line) b.0)
+      (test_does h.scope (setting_of h.block labels line h.most) condition (knows h labels line placed.includes) b.0)
       (statement_does h labels unit chosen placed c.0 (omega (arith, fits))
       (first_stands h condition unit otherwise line index at))
       (statement_does h labels otherwise (behind_choice h.block unit chosen) placed c.1 (omega (arith, fits))
@@ -336,7 +349,7 @@ mutual
         turns = omega (arith, turns);
       })
       (statements_do h (labels_in body ++ labels) body (list_index line index)
-      (placed_with h.block body (list_index line index) labels in' placed) a.1 fits in')
+      (placed_in h.block h.own body (list_index line index) labels in' placed) a.1 fits in')
   statement_does h labels (Y.DoWhile condition body line) index placed is fits at =
       let inner = are_statements h.scope h.valued (labels_in body ++ labels) body in
       let a = and_parts (is_line line) (is_test h.scope condition && inner) is in
@@ -345,15 +358,15 @@ mutual
       let in' = turns_stand h condition body line index at in
       loop_does h.block labels condition body line index h.left' (test_needs condition) h.most
       (has_test h (Y.DoWhile condition body line) condition line index a.0 (omega (arith, fits)) at.linked)
-      (test_does h.scope (setting_of h.block labels line h.most) condition (knows h labels line) b.0)
+      (test_does h.scope (setting_of h.block labels line h.most) condition (knows h labels line placed.includes) b.0)
       (record { begun = h.ready.begun; turns = h.ready.turns; marked = marked_in h body i in' })
-      (statements_do h (labels_in body ++ labels) body i (placed_with h.block body i labels in' placed) b.1
+      (statements_do h (labels_in body ++ labels) body i (placed_in h.block h.own body i labels in' placed) b.1
       (omega (arith, fits)) in')
   statement_does h labels (Y.CallProcedure (Y.Calling number level Y.NoArgument) line) index placed is fits at =
       let known = h.scope.is_procedure number in
       let a = and_parts (is_line line) ((level == h.scope.level) && known) is in
       let b = and_parts (level == h.scope.level) known a.1 in
-      calls_does h labels number level line index a.0 b.0 b.1 at.linked
+      calls_does h labels number level line index placed.includes a.0 b.0 b.1 at.linked
   statement_does h labels (Y.CallProcedure (Y.Calling number level (Y.ArgumentThen first rest)) line) index placed is
       fits at =
       absurd (cc is)
@@ -366,7 +379,7 @@ mutual
       let a = and_parts (is_line line) (h.valued && rest) is in
       let b = and_parts h.valued rest a.1 in
       let c = and_parts (is_fixed type) (is_stored h.scope source) b.1 in
-      returned_does h labels type source line index a.0 b.0 c.0 c.1 fits at.linked
+      returned_does h labels type source line index placed.includes a.0 b.0 c.0 c.1 fits at.linked
   statement_does h labels (Y.Goto level label line) index placed is fits at =
       let a = and_parts (is_line line) ((level == h.scope.level) && is_among label labels) is in
       let b = and_parts (level == h.scope.level) (is_among label labels) a.1 in
@@ -411,16 +424,27 @@ mutual
 
 -- ---- whole bodies
 
+pub form_does :
+    (s : Scope) (valued : Bool) (k : Block) (own labels : List Label) (stmt : Y.Stmt) (index most left' : ℕ) →
+    IsReady s valued k own most left' → AreAround k own labels → is_statement s valued labels stmt ≡ true →
+    statement_needs stmt ≤ k.registers → Standing k stmt index → Does k labels stmt index left'
+form_does s valued k own labels stmt index most left' ready placed is fits at =
+    let h : Home =
+    record { scope = s; valued = valued; block = k; own = own; most = most; left' = left'; ready = ready } in
+    statement_does h labels stmt index placed is fits at
+
 pub body_does :
     (s : Scope) (valued : Bool) (k : Block) (body : Y.Stmts) (index most left' : ℕ) →
-    IsReady s valued k most left' → are_statements s valued (labels_in body ++ []) body ≡ true →
-    statements_need body ≤ k.registers → AreStanding k body index →
-    EachDoes k (labels_in body ++ []) body index left'
+    IsReady s valued k (labels_in body ++ []) most left' →
+    are_statements s valued (labels_in body ++ []) body ≡ true → statements_need body ≤ k.registers →
+    AreStanding k body index → EachDoes k (labels_in body ++ []) body index left'
 body_does s valued k body index most left' ready is fits at =
+    let own = labels_in body ++ [] in
     let h : Home =
-    record { scope = s; valued = valued; block = k; most = most; left' = left'; ready = ready } in
-    statements_do h (labels_in body ++ []) body index
-    (placed_with k body index [] at (λ label among. absurd (cc among))) is fits at
+    record { scope = s; valued = valued; block = k; own = own; most = most; left' = left'; ready = ready } in
+    statements_do h own body index
+    (record { at = placed_with k body index [] at (λ label among. absurd (cc among)); includes = λ label e. e }) is
+    fits at
 
 pub body_marked :
     (k : Block) (body : Y.Stmts) (index : ℕ) → AreStanding k body index →

@@ -68,29 +68,48 @@ pub record IsValued (k : Block) (left' : ℕ) : Type 0 where
   pub saved : k.registers ≤ k.call.beginning.layer.saved
 
 -- no unit is in force for the conditions that numbers raise
-pub record IsUnraised (k : Block) : Type 0 where
+pub record IsUnraised (k : Block) (most : ℕ) : Type 0 where
   pub routines : Routines k.call.surroundings.links k.call.code
   pub overflow : IsSystem (force k.first.state.activations C.FixedOverflow)
   pub divisor : IsSystem (force k.first.state.activations C.ZeroDivide)
   pub error : IsSystem (force k.first.state.activations C.Error)
+  pub acts : k.call.surroundings.acts + 1 < 2 ^ 64
+  -- an act pays for what ends the run
+  pub few : 18 < most
+
+-- each list in a block carries the labels of the block's own list, too
+abbrev pub Includes : (own labels : List Label) → Type 0
+Includes own labels = (label : Label) → is_among label own ≡ true → is_among label labels ≡ true
+
+-- the lists around a statement have these labels
+pub record AreAround (k : Block) (own labels : List Label) : Type 0 where
+  pub at : ArePlaced k.call.surroundings.links k.environment.block labels
+  pub includes : Includes own labels
+
+-- raises in its statements come to what they mean, also where a unit goes on at a label of the block's own list
+pub record KnowsRaises (k : Block) (own : List Label) (most : ℕ) : Type 0 where
+  pub overflow :
+      (labels : List Label) (line : ℕ) → Includes own labels → OverflowComes (setting_of k labels line most)
+  pub divisor :
+      (labels : List Label) (line : ℕ) → Includes own labels → ZeroDivideComes (setting_of k labels line most)
 
 abbrev pub call_statement : Scope → (number line : ℕ) → Y.Stmt
 call_statement s n line = Y.CallProcedure (Y.Calling n s.level Y.NoArgument) line
 
 -- the calls that its statements may hold do what they mean; so many instructions come at most between a call in an
 -- expression and the first act of what is called
-pub record KnowsCalls (s : Scope) (k : Block) (most left' : ℕ) : Type 0 where
+pub record KnowsCalls (s : Scope) (k : Block) (own : List Label) (most left' : ℕ) : Type 0 where
   pub functions :
-      (labels : List Label) (line n : ℕ) → s.is_function n ≡ true →
+      (labels : List Label) (line n : ℕ) → Includes own labels → s.is_function n ≡ true →
       L.Does (setting_of k labels line most) 0 (call_number s n)
   pub procedures :
-      (labels : List Label) (n line index : ℕ) → s.is_procedure n ≡ true → line < 2 ^ 31 →
+      (labels : List Label) (n line index : ℕ) → Includes own labels → s.is_procedure n ≡ true → line < 2 ^ 31 →
       Linked k.call.surroundings.links k.call.code index
       (stmt_code k.environment none_taken (call_statement s n line)) →
       Does k labels (call_statement s n line) index left'
 
--- a procedure's or a function's own block
-pub record IsReady (s : Scope) (valued : Bool) (k : Block) (most left' : ℕ) : Type 0 where
+-- a procedure's or a function's own block, whose own list has these labels
+pub record IsReady (s : Scope) (valued : Bool) (k : Block) (labels : List Label) (most left' : ℕ) : Type 0 where
   pub begun : IsBegun k
   pub level : k.environment.level ≡ s.level
   pub own : k.environment.level ≡ k.call.beginning.layer.level
@@ -99,11 +118,10 @@ pub record IsReady (s : Scope) (valued : Bool) (k : Block) (most left' : ℕ) : 
   pub acts : k.call.surroundings.acts + 1 < 2 ^ 64
   pub turns : k.call.surroundings.acts ≤ k.around.turns
   pub held : k.registers ≤ held_registers
-  pub unraised : IsUnraised k
+  pub raises : KnowsRaises k labels most
   pub variables : (x : Spot) → is_known s x ≡ true → IsNumber k x
-  pub calls : KnowsCalls s k most left'
+  pub calls : KnowsCalls s k labels most left'
   -- an act pays for a statement and for what a call in it needs
-  pub few : 18 < most
   pub room : most ≤ length k.call.code + 2
   pub returns : valued ≡ false → IsOwn k left'
   pub values : valued ≡ true → IsValued k left'

@@ -1,18 +1,20 @@
 -- The laws of such blocks: each expression leaves what it means, and each statement does what it means.
-use Rattle.std.specs.Prelude.{ℕ, ◌≤◌, ◌≡◌, ◌++◌, Bool, true, []}
+use Rattle.std.specs.Prelude.{ℕ, ◌≤◌, ◌≡◌, ◌++◌, Bool, true, List, []}
 use Rattle.pli_typing.specs.TypedTree as Y
+use Rattle.pli_meaning.specs.Control.{Label}
 use Rattle.pli_meaning.specs.DeclaredShapes.{variables_of_block}
 use Rattle.pli_meaning.specs.Executing.{labels_in}
 use Rattle.pli_coding.specs.Environments.{Environment}
 use Rattle.pli_coding.specs.Registers.{held_registers}
 use Rattle.pli_coding.specs.Statements.{block_held, block_words}
-use Rattle.program_runs.specs.Statements.{AreMarked, Block, EachDoes}
+use Rattle.program_runs.specs.Statements.{AreMarked, Block, Does, EachDoes}
 use Rattle.expression_runs.specs.Laws as L
 use Rattle.expression_runs.specs.Values.{Setting}
 use Rattle.test_runs.specs.Tests.{Tests}
-use Rattle.number_runs.specs.Knowledge.{AreStanding, IsReady, KnowsNumbers}
+use Rattle.number_runs.specs.Knowledge.{AreAround, AreStanding, IsReady, IsUnraised, KnowsNumbers, KnowsRaises}
+use Rattle.number_runs.specs.Knowledge.{Standing}
 use Rattle.number_runs.specs.Numbers.{Scope, is_number, is_test, number_needs, test_needs}
-use Rattle.number_runs.specs.Statements.{are_statements, statements_need}
+use Rattle.number_runs.specs.Statements.{are_statements, is_statement, statement_needs, statements_need}
 use Rattle.number_runs.specs.Variables.{are_plain}
 
 pub record ExpressionsDo : Type 0 where
@@ -23,16 +25,24 @@ pub record ExpressionsDo : Type 0 where
       (s : Scope) (k : Setting) (x : Y.Bit) → KnowsNumbers s k → is_test s x ≡ true → Tests k (test_needs x) x
 
 pub record BodiesDo : Type 0 where
-  -- each statement of the body does what it means
+  -- a statement does what it means, whatever lists of its block are around it
+  pub statement :
+      (s : Scope) (valued : Bool) (k : Block) (own labels : List Label) (stmt : Y.Stmt) (index most left' : ℕ) →
+      IsReady s valued k own most left' → AreAround k own labels → is_statement s valued labels stmt ≡ true →
+      statement_needs stmt ≤ k.registers → Standing k stmt index → Does k labels stmt index left'
+  -- so does each statement of a block's own list
   pub each :
       (s : Scope) (valued : Bool) (k : Block) (body : Y.Stmts) (index most left' : ℕ) →
-      IsReady s valued k most left' → are_statements s valued (labels_in body ++ []) body ≡ true →
-      statements_need body ≤ k.registers → AreStanding k body index →
-      EachDoes k (labels_in body ++ []) body index left'
+      IsReady s valued k (labels_in body ++ []) most left' →
+      are_statements s valued (labels_in body ++ []) body ≡ true → statements_need body ≤ k.registers →
+      AreStanding k body index → EachDoes k (labels_in body ++ []) body index left'
   -- and its labels stand where its statements do
   pub marked :
       (k : Block) (body : Y.Stmts) (index : ℕ) → AreStanding k body index →
       AreMarked k.call.surroundings.links k.environment body index
+  -- and raises end the run where no unit is in force
+  pub unraised :
+      (k : Block) (own : List Label) (most : ℕ) → IsUnraised k most → KnowsRaises k own most
 
 -- a block whose variables and statements are these, and whose temporaries fit registers: they take no words of its
 -- frame, and no register that it doesn't save

@@ -1,5 +1,5 @@
-use Rattle.number_runs.proofs.Statements.{body_does, body_marked}
+use Rattle.number_runs.proofs.Statements.{body_does, body_marked, form_does, none_raised}
 use Rattle.number_runs.proofs.laws.bodies_do.Goals as goal
 
 pub returns : goal.returns
-returns c = record { each = body_does; marked = body_marked }
+returns c = record { statement = form_does; each = body_does; marked = body_marked; unraised = none_raised }
