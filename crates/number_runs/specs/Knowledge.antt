@@ -5,7 +5,7 @@ use Rattle.pli_typing.specs.Signatures.{Fixed}
 use Rattle.pli_typing.specs.TypedTree as Y
 use Rattle.pli_meaning.specs.Control.{Label, is_among}
 use Rattle.pli_meaning.specs.StorageState.{force}
-use Rattle.pli_coding.specs.Assembly.{ReturnPlace}
+use Rattle.pli_coding.specs.Assembly.{RaiseError, ReturnPlace}
 use Rattle.pli_coding.specs.Environments.{BlockOwner, block_around, none_taken}
 use Rattle.pli_coding.specs.Frames.{result}
 use Rattle.pli_coding.specs.Linking.{Links, place_of}
@@ -24,20 +24,24 @@ use Rattle.expression_runs.specs.Variables.{IsNumber, Spot}
 use Rattle.operator_runs.specs.Divisors.{ZeroDivideComes}
 use Rattle.program_places.specs.Laws.{IsLabel}
 use Rattle.program_places.specs.Placed.{Placed}
-use Rattle.number_runs.specs.Numbers.{Scope, is_known}
+use Rattle.element_runs.specs.Arrays.{IsArray}
+use Rattle.element_runs.specs.Subscripts.{SubscriptComes}
+use Rattle.number_runs.specs.Numbers.{Scope, bounds_known, is_array_known, is_known}
 
 -- ---- around expressions
 
 abbrev pub call_number : Scope → ℕ → Y.Number
 call_number s n = Y.NumberFrom (Y.Calling n s.level Y.NoArgument)
 
--- raises come to what they mean, each variable that may be named is a number of the block, and calls of functions that
--- may be called leave what they mean
+-- raises come to what they mean, each variable that may be named is a number of the block, or an array of it, and calls
+-- of functions that may be called leave what they mean
 pub record KnowsNumbers (s : Scope) (k : Setting) : Type 0 where
   pub begun : IsBegun k.block
   pub overflow : OverflowComes k
   pub divisor : ZeroDivideComes k
+  pub subscript : SubscriptComes k
   pub variables : (x : Spot) → is_known s x ≡ true → IsNumber k.block x
+  pub arrays : (x : Spot) → is_array_known s x ≡ true → IsArray k.block x (bounds_known s x)
   pub functions : (n : ℕ) → s.is_function n ≡ true → L.Does k 0 (call_number s n)
 
 -- ---- around statements
@@ -70,6 +74,7 @@ pub record IsValued (k : Block) (left' : ℕ) : Type 0 where
 -- no unit is in force for the conditions that numbers raise
 pub record IsUnraised (k : Block) (most : ℕ) : Type 0 where
   pub routines : Routines k.call.surroundings.links k.call.code
+  pub place : place_of k.call.surroundings.links RaiseError ≡ 4 * (routines.at + 8)
   pub overflow : IsSystem (force k.first.state.activations C.FixedOverflow)
   pub divisor : IsSystem (force k.first.state.activations C.ZeroDivide)
   pub error : IsSystem (force k.first.state.activations C.Error)
@@ -92,6 +97,8 @@ pub record KnowsRaises (k : Block) (own : List Label) (most : ℕ) : Type 0 wher
       (labels : List Label) (line : ℕ) → Includes own labels → OverflowComes (setting_of k labels line most)
   pub divisor :
       (labels : List Label) (line : ℕ) → Includes own labels → ZeroDivideComes (setting_of k labels line most)
+  pub subscript :
+      (labels : List Label) (line : ℕ) → Includes own labels → SubscriptComes (setting_of k labels line most)
 
 abbrev pub call_statement : Scope → (number line : ℕ) → Y.Stmt
 call_statement s n line = Y.CallProcedure (Y.Calling n s.level Y.NoArgument) line
@@ -120,6 +127,7 @@ pub record IsReady (s : Scope) (valued : Bool) (k : Block) (labels : List Label)
   pub held : k.registers ≤ held_registers
   pub raises : KnowsRaises k labels most
   pub variables : (x : Spot) → is_known s x ≡ true → IsNumber k x
+  pub arrays : (x : Spot) → is_array_known s x ≡ true → IsArray k x (bounds_known s x)
   pub calls : KnowsCalls s k labels most left'
   -- an act pays for a statement and for what a call in it needs
   pub room : most ≤ length k.call.code + 2
