@@ -35,6 +35,5 @@ turn_does k labels body index left' same is each =
     (λ p numbers c wanted f o l fits there.
     let most = is.turns in
     let first = o.later.acts in
-    let some = is.begun.acts in
-    list_does k labels body index left' p numbers c wanted f is.begun (omega (arith, most, first, some)) each is.marked
+    list_does k labels body index left' p numbers c wanted f is.begun (omega (arith, most, first)) each is.marked
     o l fits there)

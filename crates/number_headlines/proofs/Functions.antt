@@ -127,15 +127,13 @@ valued_ready once {program} m i input more call {p} {numbers} o b =
     let routines = raise_routines once program m.loadable in
     let inside = routines.linked.inside in
     let xs = words_in (environment_for program m.head) in
+    let first = b.acts in
     record {
       begun = b;
-      level = refl;
-      own = refl;
-      block = own_block program i.head i.body (result_of true) i.is;
       acts = o.few;
-      turns = omega arith;
+      turns = omega (arith, first);
       held = omega arith;
-      raises = none_raised (valued_block m i input (suc more) more call p numbers) (labels_in i.body ++ [])
+      raises = λ may. none_raised (valued_block m i input (suc more) more call p numbers) (labels_in i.body ++ [])
       (most_for program) (record {
         routines = routines;
         overflow = valued_system m i input (suc more) more call o C.FixedOverflow
@@ -151,16 +149,22 @@ valued_ready once {program} m i input more call {p} {numbers} o b =
         functions = λ labels line n includes h. absurd (cc h);
         procedures = λ labels n line index includes h. absurd (cc h);
       };
+      jumps = λ labels level label line index includes h. absurd (cc h);
       room = omega arith;
-      returns = λ e. absurd (cc e);
-      values = λ e. record {
-        owner = refl;
-        end = end.place;
-        near = end.near;
-        enough = omega arith;
-        function = refl;
-        kind = refl;
-        saved = omega arith;
+      home = λ may. record {
+        level = refl;
+        own = refl;
+        block = own_block program i.head i.body (result_of true) i.is;
+        returns = λ e. absurd (cc e);
+        values = λ e. record {
+          owner = refl;
+          end = end.place;
+          near = end.near;
+          enough = omega arith;
+          function = refl;
+          kind = refl;
+          saved = omega arith;
+        };
       };
     }
 

@@ -52,15 +52,13 @@ main_ready once {program} m input acts few b calls =
     let routines = raise_routines once program m.loadable in
     let inside = routines.linked.inside in
     let xs = words_in (environment_for program m.head) in
+    let first = b.acts in
     record {
       begun = b;
-      level = refl;
-      own = refl;
-      block = own_block program m.head m.body None found;
       acts = few;
-      turns = omega arith;
+      turns = omega (arith, first);
       held = omega arith;
-      raises = none_raised (block_for m input acts) (labels_in m.body ++ [])
+      raises = λ may. none_raised (block_for m input acts) (labels_in m.body ++ [])
       (most_for program) (record {
         routines = routines;
         overflow = made_system image_parts _ xs _ C.FixedOverflow tt;
@@ -71,18 +69,24 @@ main_ready once {program} m input acts few b calls =
       });
       variables = λ x h. main_number m input acts x (own_known m input acts x h) b;
       calls = calls;
+      jumps = λ labels level label line index includes h. absurd (cc h);
       room = omega arith;
-      returns = λ e. record {
-        owner = refl;
-        end = end.place;
-        near = end.near;
-        enough = omega arith;
-        function = refl;
-        begun = b;
-        kind = refl;
-        registers = omega arith;
+      home = λ may. record {
+        level = refl;
+        own = refl;
+        block = own_block program m.head m.body None found;
+        returns = λ e. record {
+          owner = refl;
+          end = end.place;
+          near = end.near;
+          enough = omega arith;
+          function = refl;
+          begun = b;
+          kind = refl;
+          registers = omega arith;
+        };
+        values = λ e. absurd (cc e);
       };
-      values = λ e. absurd (cc e);
     }
 
 main_calls :

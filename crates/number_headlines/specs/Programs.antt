@@ -46,6 +46,9 @@ inner_scope program main head =
       blocks = place_of_head head ∷ place_of_head main ∷ [];
       is_function = λ n. false;
       is_procedure = λ n. false;
+      raises = true;
+      own = true;
+      is_outer = λ level label. false;
     }
 
 abbrev pub is_inner : Y.Program → (main : Y.BlockHead) → (valued : Bool) → Y.Procedure → Bool
@@ -72,6 +75,9 @@ main_scope program head =
       blocks = place_of_head head ∷ [];
       is_function = is_callable program head true;
       is_procedure = is_callable program head false;
+      raises = true;
+      own = true;
+      is_outer = λ level label. false;
     }
 
 abbrev pub is_main : Y.Program → Y.Procedure → Bool

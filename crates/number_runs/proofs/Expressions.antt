@@ -35,19 +35,21 @@ all_with_more k m n (Y.NumberThen first rest) few does =
     (more_registers k m n first few does.0, all_with_more k m n rest few does.1)
 
 signed_does :
-    (s : Scope) (k : Setting) (sign : Y.Sign) (x : Y.Number) (n : ℕ) → KnowsNumbers s k → Does k n x →
+    (s : Scope) (k : Setting) (sign : Y.Sign) (x : Y.Number) (n : ℕ) → KnowsNumbers s k → s.raises ≡ true → Does k n x →
     Does k (max n 1) (Y.Signed sign x)
-signed_does s k Y.Positive x n h does =
+signed_does s k Y.Positive x n h may does =
     more_registers k n (max n 1) (Y.Signed Y.Positive x) (omega arith) (positive_does k x n does)
-signed_does s k Y.Negative x n h does = negative_does k x n h.overflow does
+signed_does s k Y.Negative x n h may does = negative_does k x n (h.overflow may) does
 
 calculated_does :
     (s : Scope) (k : Setting) (operator : Y.ArithmeticOperator) (left right : Y.Number) (m n : ℕ) →
-    KnowsNumbers s k → Does k m left → Does k n right → Does k (max m (suc n)) (Y.Calculated operator left right)
-calculated_does s k Y.Sum left right m n h l r = sum_does k left right m n h.overflow l r
-calculated_does s k Y.Difference left right m n h l r = difference_does k left right m n h.overflow l r
-calculated_does s k Y.Product left right m n h l r = product_does k left right m n h.overflow l r
-calculated_does s k Y.Quotient left right m n h l r = quotient_does k left right m n h.overflow h.divisor l r
+    KnowsNumbers s k → s.raises ≡ true → Does k m left → Does k n right →
+    Does k (max m (suc n)) (Y.Calculated operator left right)
+calculated_does s k Y.Sum left right m n h may l r = sum_does k left right m n (h.overflow may) l r
+calculated_does s k Y.Difference left right m n h may l r = difference_does k left right m n (h.overflow may) l r
+calculated_does s k Y.Product left right m n h may l r = product_does k left right m n (h.overflow may) l r
+calculated_does s k Y.Quotient left right m n h may l r =
+    quotient_does k left right m n (h.overflow may) (h.divisor may) l r
 
 called_does :
     (s : Scope) (k : Setting) (c : Y.Call) → KnowsNumbers s k → is_number s (Y.NumberFrom c) ≡ true →
@@ -65,27 +67,33 @@ mutual
   number_does s k (Y.NumberIn r) h is = reference_does s k r h is
   number_does s k (Y.NumberFrom c) h is = called_does s k c h is
   number_does s k (Y.Signed sign x) h is =
-      signed_does s k sign x (number_needs x) h (number_does s k x h is)
+      let a = and_parts s.raises (is_number s x) is in
+      signed_does s k sign x (number_needs x) h a.0 (number_does s k x h a.1)
   number_does s k (Y.Calculated operator left right) h is =
-      let a = and_parts (is_number s left) (is_number s right) is in
-      calculated_does s k operator left right (number_needs left) (number_needs right) h (number_does s k left h a.0)
-      (number_does s k right h a.1)
-  number_does s k (Y.Absolute x) h is = absolute_does k x (number_needs x) h.overflow (number_does s k x h is)
+      let r = and_parts s.raises (is_number s left && is_number s right) is in
+      let a = and_parts (is_number s left) (is_number s right) r.1 in
+      calculated_does s k operator left right (number_needs left) (number_needs right) h r.0
+      (number_does s k left h a.0) (number_does s k right h a.1)
+  number_does s k (Y.Absolute x) h is =
+      let a = and_parts s.raises (is_number s x) is in
+      absolute_does k x (number_needs x) (h.overflow a.0) (number_does s k x h a.1)
   number_does s k (Y.SignOf x) h is = sign_does k x (number_needs x) (number_does s k x h is)
   number_does s k (Y.Extreme extremum first more) h is =
       let a = and_parts (is_number s first) (are_numbers s more) is in
       extreme_does k extremum first more (number_needs first) (numbers_need more) (number_does s k first h a.0)
       (numbers_do s k more h a.1)
   number_does s k (Y.Modulo left right) h is =
-      let a = and_parts (is_number s left) (is_number s right) is in
-      modulo_does k left right (number_needs left) (number_needs right) h.divisor (number_does s k left h a.0)
+      let r = and_parts s.raises (is_number s left && is_number s right) is in
+      let a = and_parts (is_number s left) (is_number s right) r.1 in
+      modulo_does k left right (number_needs left) (number_needs right) (h.divisor r.0) (number_does s k left h a.0)
       (number_does s k right h a.1)
   number_does s k (Y.Divided precision left right) h is =
-      let a = and_parts (precision == 31) (is_number s left && is_number s right) is in
+      let r = and_parts s.raises ((precision == 31) && (is_number s left && is_number s right)) is in
+      let a = and_parts (precision == 31) (is_number s left && is_number s right) r.1 in
       let b = and_parts (is_number s left) (is_number s right) a.1 in
       subst (λ n. Does k (max (number_needs left) (suc (number_needs right))) (Y.Divided n left right))
       (sym (eqb-true precision 31 a.0))
-      (divided_does k left right (number_needs left) (number_needs right) h.overflow h.divisor
+      (divided_does k left right (number_needs left) (number_needs right) (h.overflow r.0) (h.divisor r.0)
       (number_does s k left h b.0) (number_does s k right h b.1))
   number_does s k (Y.NumberOfText x) h is = absurd (cc is)
   number_does s k (Y.NumberOfBit x) h is = absurd (cc is)
@@ -109,7 +117,8 @@ mutual
       let w = element_is s v part subscript a.0 in
       let need = max (number_needs subscript) 1 in
       subst (λ r. Does k need (Y.NumberIn r)) (sym w.is)
-      (element_does k w.spot (bounds_known s w.spot) subscript need h.begun (h.arrays w.spot w.known) h.subscript
+      (element_does k w.spot (bounds_known s w.spot) subscript need h.begun (h.arrays w.spot w.known)
+      (h.subscript w.raises)
       (subscript_given s k 0 need subscript h a.1 (omega arith) (number_does s k subscript h a.1)))
   reference_does s k (Y.Referring v Y.NotLocated part (Y.NumberThen first (Y.NumberThen second rest))) h is =
       absurd (cc is)

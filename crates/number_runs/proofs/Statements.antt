@@ -1,8 +1,8 @@
 -- Statements of the class: each does what it means, by the law of its form.
 use Rattle.std.proofs.Common.{◌≡◌, ℕ, ◌+◌, ◌^◌, ◌≤◌, List, [], ◌∷◌, ◌++◌, true, false, refl, sym, ap}
-use Rattle.std.proofs.Common.{◌∙◌, subst, arith}
-use Rattle.std.specs.Prelude.{◌&&◌, ◌==◌, Bool, max, not, suc}
-use Rattle.std.proofs.lemmas.Bool.{and_parts, eqb-true, ltb-true}
+use Rattle.std.proofs.Common.{◌∙◌, ◌⊎◌, inl, inr, subst, arith}
+use Rattle.std.specs.Prelude.{◌&&◌, ◌||◌, ◌==◌, Bool, max, not, suc}
+use Rattle.std.proofs.lemmas.Bool.{and_parts, eqb-true, ltb-true, or_cases}
 use Rattle.pli_typing.specs.TypedTree as Y
 use Rattle.pli_meaning.specs.Control.{Label, is_among}
 use Rattle.pli_meaning.specs.Executing.{labels_in}
@@ -102,9 +102,9 @@ knows h labels line includes =
     let r = h.ready in
     record {
       begun = r.begun;
-      overflow = r.raises.overflow labels line includes;
-      divisor = r.raises.divisor labels line includes;
-      subscript = r.raises.subscript labels line includes;
+      overflow = λ may. (r.raises may).overflow labels line includes;
+      divisor = λ may. (r.raises may).divisor labels line includes;
+      subscript = λ may. (r.raises may).subscript labels line includes;
       variables = r.variables;
       arrays = r.arrays;
       functions = λ n is. r.calls.functions labels line n includes is;
@@ -200,7 +200,7 @@ element_given h labels v part subscript source line index includes is one number
       statement = l;
       paid = paid_for h (Y.Assign (element t.spot subscript) (Y.StoredNumber 31 x.number) line) index l;
     })
-    knows'.subscript (number_does s k x.number knows' x.known)
+    (knows'.subscript t.raises) (number_does s k x.number knows' x.known)
     (subscript_given s k 1 second subscript knows' number (omega arith) (number_does s k subscript knows' number))))
 
 given_does :
@@ -228,15 +228,15 @@ given_does h labels (Y.Referring v (Y.LocatedBy p) part (Y.NumberThen first rest
 
 returned_does :
     (h : Home) (labels : List Label) (type : Y.LeafType) (source : Y.Stored) (line index : ℕ) →
-    Includes h.own labels → is_line line ≡ true → h.valued ≡ true → is_fixed type ≡ true →
-    is_stored h.scope source ≡ true → stored_needs source ≤ h.block.registers →
+    Includes h.own labels → is_line line ≡ true → h.scope.own ≡ true → h.valued ≡ true →
+    is_fixed type ≡ true → is_stored h.scope source ≡ true → stored_needs source ≤ h.block.registers →
     Coded h labels (Y.ReturnValue type source line) index
-returned_does h labels type source line index includes is valued one two fits =
+returned_does h labels type source line index includes is own valued one two fits =
     let x = storing h.scope source two in
     let need = number_needs x.number in
     let needs = x.needs in
     let stmt = return_of x.number line in
-    let v = h.ready.values valued in
+    let v = (h.ready.home own).values valued in
     subst (λ t. Coded h labels (Y.ReturnValue t source line) index) (sym (fixed_is type one))
     (subst (λ q. Coded h labels (Y.ReturnValue (Y.FixedLeaf 31) q line) index) (sym x.is)
     (λ l. W.return_does h.block labels x.number line index h.left' need h.most
@@ -261,15 +261,15 @@ returned_does h labels type source line index includes is valued one two fits =
 
 jumps_does :
     (h : Home) (labels : List Label) (level : ℕ) (label : Label) (line index : ℕ) →
-    AreAround h.block h.own labels → is_line line ≡ true →
+    AreAround h.block h.own labels → is_line line ≡ true → h.scope.own ≡ true →
     (level == h.scope.level) ≡ true → is_among label labels ≡ true → Coded h labels (Y.Goto level label line) index
-jumps_does h labels level label line index placed is same among =
-    let r = h.ready in
+jumps_does h labels level label line index placed is own same among =
+    let r = h.ready.home own in
     let at = placed.at label among in
     subst (λ n. Coded h labels (Y.Goto n label line) index) (r.level ∙ sym (eqb-true level h.scope.level same))
     (λ l. goto_does h.block labels label line index h.left' (act_of h line is)
     (record {
-      begun = r.begun;
+      begun = h.ready.begun;
       carried = among;
       level = r.own;
       block = r.block;
@@ -278,6 +278,27 @@ jumps_does h labels level label line index placed is same among =
       near = at.near;
     })
     l)
+
+-- to a label of its own lists, or out
+gone_does :
+    (h : Home) (labels : List Label) (level : ℕ) (label : Label) (line index : ℕ) → AreAround h.block h.own labels →
+    is_line line ≡ true →
+    ((h.scope.own && ((level == h.scope.level) && is_among label labels)) || h.scope.is_outer level label) ≡ true →
+    Coded h labels (Y.Goto level label line) index
+gone_does h labels level label line index placed is to =
+    let near = (level == h.scope.level) && is_among label labels in
+    by (or_cases (h.scope.own && near) (h.scope.is_outer level label) to)
+  where
+    by :
+        ((h.scope.own && ((level == h.scope.level) && is_among label labels)) ≡ true)
+        ⊎ (h.scope.is_outer level label ≡ true) →
+        Coded h labels (Y.Goto level label line) index
+    by (inl own) =
+        let a = and_parts h.scope.own ((level == h.scope.level) && is_among label labels) own in
+        let b = and_parts (level == h.scope.level) (is_among label labels) a.1 in
+        jumps_does h labels level label line index placed is a.0 b.0 b.1
+    by (inr outer) =
+        λ l. h.ready.jumps labels level label line index placed.includes outer (ltb-true line (2 ^ 31) is) l
 
 calls_does :
     (h : Home) (labels : List Label) (number level line index : ℕ) → Includes h.own labels → is_line line ≡ true →
@@ -439,19 +460,21 @@ mutual
       fits at =
       absurd (cc is)
   statement_does h labels (Y.Return line) index placed is fits at =
-      let a = and_parts (is_line line) (not h.valued) is in
-      return_does h.block line index h.left' (act_of h line a.0) (h.ready.returns (not_true h.valued a.1)) at.linked
-      labels
+      let a = and_parts (is_line line) (h.scope.own && not h.valued) is in
+      let b = and_parts h.scope.own (not h.valued) a.1 in
+      return_does h.block line index h.left' (act_of h line a.0)
+      ((h.ready.home b.0).returns (not_true h.valued b.1)) at.linked labels
   statement_does h labels (Y.ReturnValue type source line) index placed is fits at =
       let rest = is_fixed type && is_stored h.scope source in
-      let a = and_parts (is_line line) (h.valued && rest) is in
-      let b = and_parts h.valued rest a.1 in
+      let a = and_parts (is_line line) (h.scope.own && (h.valued && rest)) is in
+      let d = and_parts h.scope.own (h.valued && rest) a.1 in
+      let b = and_parts h.valued rest d.1 in
       let c = and_parts (is_fixed type) (is_stored h.scope source) b.1 in
-      returned_does h labels type source line index placed.includes a.0 b.0 c.0 c.1 fits at.linked
+      returned_does h labels type source line index placed.includes a.0 d.0 b.0 c.0 c.1 fits at.linked
   statement_does h labels (Y.Goto level label line) index placed is fits at =
-      let a = and_parts (is_line line) ((level == h.scope.level) && is_among label labels) is in
-      let b = and_parts (level == h.scope.level) (is_among label labels) a.1 in
-      jumps_does h labels level label line index placed a.0 b.0 b.1 at.linked
+      let near = h.scope.own && ((level == h.scope.level) && is_among label labels) in
+      let a = and_parts (is_line line) (near || h.scope.is_outer level label) is in
+      gone_does h labels level label line index placed a.0 a.1 at.linked
   statement_does h labels (Y.Stop line) index placed is fits at =
       stop_does h.block line index h.left' (act_of h line is) at.linked labels
   statement_does h labels (Y.AssignElements target source line) index placed is fits at = absurd (cc is)

@@ -109,25 +109,28 @@ mutual
   number_taken s (Y.NumberFrom c) t h fits = called_takes s c t h
   number_taken s (Y.Signed sign x) t h fits =
       takes_signed (number_needs x) t (number_takes t x) (omega (arith, fits))
-      (number_taken s x t h (omega (arith, fits)))
+      (number_taken s x t (and_parts s.raises (is_number s x) h).1 (omega (arith, fits)))
   number_taken s (Y.Calculated operator left right) t h fits =
-      let a = and_parts (is_number s left) (is_number s right) h in
+      let r = and_parts s.raises (is_number s left && is_number s right) h in
+      let a = and_parts (is_number s left) (is_number s right) r.1 in
       takes_two (number_needs left) (number_needs right) t (number_takes t left) (λ u. number_takes u right) fits
       (number_taken s left t a.0 (omega (arith, fits))) (number_taken s right (one_more t) a.1 (omega (arith, fits)))
   number_taken s (Y.Absolute x) t h fits =
       takes_signed (number_needs x) t (number_takes t x) (omega (arith, fits))
-      (number_taken s x t h (omega (arith, fits)))
+      (number_taken s x t (and_parts s.raises (is_number s x) h).1 (omega (arith, fits)))
   number_taken s (Y.SignOf x) t h fits = number_taken s x t h fits
   number_taken s (Y.Extreme extremum first more) t h fits =
       let a = and_parts (is_number s first) (are_numbers s more) h in
       takes_two (number_needs first) (numbers_need more) t (number_takes t first) (λ u. numbers_take u more) fits
       (number_taken s first t a.0 (omega (arith, fits))) (numbers_taken s more (one_more t) a.1 (omega (arith, fits)))
   number_taken s (Y.Modulo left right) t h fits =
-      let a = and_parts (is_number s left) (is_number s right) h in
+      let r = and_parts s.raises (is_number s left && is_number s right) h in
+      let a = and_parts (is_number s left) (is_number s right) r.1 in
       takes_two (number_needs left) (number_needs right) t (number_takes t left) (λ u. number_takes u right) fits
       (number_taken s left t a.0 (omega (arith, fits))) (number_taken s right (one_more t) a.1 (omega (arith, fits)))
   number_taken s (Y.Divided precision left right) t h fits =
-      let b = and_parts (precision == 31) (is_number s left && is_number s right) h in
+      let r = and_parts s.raises ((precision == 31) && (is_number s left && is_number s right)) h in
+      let b = and_parts (precision == 31) (is_number s left && is_number s right) r.1 in
       let a = and_parts (is_number s left) (is_number s right) b.1 in
       takes_two (number_needs left) (number_needs right) t (number_takes t left) (λ u. number_takes u right) fits
       (number_taken s left t a.0 (omega (arith, fits))) (number_taken s right (one_more t) a.1 (omega (arith, fits)))
@@ -229,7 +232,7 @@ assigned_taken s target (Y.StoredPointer x) h g fits = absurd (cc g)
 assigned_taken s target (Y.StoredOffset x) h g fits = absurd (cc g)
 
 mutual
-  statement_taken :
+  pub statement_taken :
       (s : Scope) (valued : Bool) (labels : List Label) (x : Y.Stmt) → is_statement s valued labels x ≡ true →
       statement_needs x ≤ held_registers → Takes (statement_needs x) none_taken (stmt_takes none_taken x)
   statement_taken s valued labels (Y.Null line) h fits = takes_none none_taken
@@ -274,8 +277,9 @@ mutual
   statement_taken s valued labels (Y.Return line) h fits = takes_none none_taken
   statement_taken s valued labels (Y.ReturnValue type source line) h fits =
       let rest = is_fixed type && is_stored s source in
-      let a = and_parts (is_line line) (valued && rest) h in
-      let b = and_parts valued rest a.1 in
+      let a = and_parts (is_line line) (s.own && (valued && rest)) h in
+      let c = and_parts s.own (valued && rest) a.1 in
+      let b = and_parts valued rest c.1 in
       stored_taken s source (and_parts (is_fixed type) (is_stored s source) b.1).1 fits
   statement_taken s valued labels (Y.Goto level label line) h fits = takes_none none_taken
   statement_taken s valued labels (Y.Stop line) h fits = takes_none none_taken
@@ -295,7 +299,7 @@ mutual
   statement_taken s valued labels (Y.Get skip pairs line) h fits = absurd (cc h)
   statement_taken s valued labels (Y.Put skip pairs line) h fits = absurd (cc h)
 
-  statements_taken :
+  pub statements_taken :
       (s : Scope) (valued : Bool) (labels : List Label) (xs : Y.Stmts) → are_statements s valued labels xs ≡ true →
       statements_need xs ≤ held_registers → Takes (statements_need xs) none_taken (stmts_take none_taken xs)
   statements_taken s valued labels (Y.EndOfList own) h fits = takes_none none_taken
@@ -307,7 +311,7 @@ mutual
 
 -- ---- blocks
 
-plain_takes : (ds : List Y.DeclaredVariable) → are_plain ds ≡ true → variables_take ds ≡ none_taken
+pub plain_takes : (ds : List Y.DeclaredVariable) → are_plain ds ≡ true → variables_take ds ≡ none_taken
 plain_takes [] h = refl
 plain_takes (d ∷ ds) h =
     let a = and_parts (is_declared d) (are_plain ds) h in

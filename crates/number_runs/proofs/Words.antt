@@ -1,7 +1,7 @@
 -- Variables of a block, scalars and arrays: each is made where the frame ends, behind the one before it.
 use Rattle.std.proofs.Common.{◌≡◌, ℕ, zero, suc, ◌+◌, ◌*◌, ◌^◌, ◌<◌, ◌≤◌, List, [], ◌∷◌, ◌++◌, Option, None, Some, inl}
 use Rattle.std.proofs.Common.{inr, length, true, false, refl, sym, ap, ◌∙◌, subst, arith}
-use Rattle.std.specs.Prelude.{◌==◌, Bool, if◌then◌else◌, is_some, min, slice_get}
+use Rattle.std.specs.Prelude.{◌==◌, ◌%◌, Bool, if◌then◌else◌, is_some, min, slice_get}
 use Rattle.std.proofs.lemmas.Bool.{and_parts, le-leb}
 use Rattle.rv_meaning.specs.declared.instr.Instr.{Instr}
 use Rattle.pli_types.specs.Templates.{Template}
@@ -156,6 +156,32 @@ room_behind w p φ φs e place index more (d ∷ ds) is h =
     (place + variable_bytes d) (index + 1) more ds a.1
     (next_room w p φ φs e place index (bytes_of ds + more) d a.0
     (subst (λ n. HaveRoom w p φ φs place n) all h)))
+
+-- they lie one behind the other at the end of the newest block's frame
+pub record AreLaid (w : Surroundings) (p : Point) (φ : Layer) (φs : List Layer) (xs : List Declared)
+    (bytes : ℕ) : Type 0
+  where
+    pub newest : (all_made w.parts φ xs p).control.layers ≡ layer_after w.parts (p.state.serials + 1) φ xs ∷ φs
+    pub top : (layer_after w.parts (p.state.serials + 1) φ xs).top ≡ φ.top + bytes
+    pub lower : (layer_after w.parts (p.state.serials + 1) φ xs).lower ≡ φ.lower
+
+pub words_laid :
+    (w : Surroundings) (p : Point) (φ : Layer) (φs : List Layer) (e : Environment) (place index : ℕ)
+    (ds : List Y.DeclaredVariable) → are_plain ds ≡ true → p.control.layers ≡ φ ∷ φs → φ.at + place ≡ φ.top →
+    φ.top % 16 ≡ 0 → place + bytes_of ds ≤ last_place → AreLaid w p φ φs (words_from e place index ds) (bytes_of ds)
+words_laid w p φ φs e place index [] is newest here even counted =
+    record { newest = newest; top = omega arith; lower = refl }
+words_laid w p φ φs e place index (d ∷ ds) is newest here even counted =
+    let a = and_parts (is_declared d) (are_plain ds) is in
+    let x = word_made e place index d in
+    let frame = (makeable d a.0).frame w.parts in
+    let whole' = (sized d a.0).even in
+    let rest = words_laid w (behind_made w.parts φ x p) (layer_behind w.parts (p.state.serials + 1) φ x) φs e
+    (place + variable_bytes d) (index + 1) ds a.1 (next_layers w p x φ φs newest)
+    (omega (arith, here, counted, frame)) (omega (arith, here, even, counted, frame, whole'))
+    (omega (arith, counted)) in
+    let top = rest.top in
+    record { newest = rest.newest; top = omega (arith, here, counted, top, frame); lower = rest.lower }
 
 pub room_fewer :
     (w : Surroundings) (p : Point) (φ : Layer) (φs : List Layer) (place m n : ℕ) → m ≤ n → HaveRoom w p φ φs place n →

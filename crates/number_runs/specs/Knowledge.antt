@@ -33,13 +33,13 @@ use Rattle.number_runs.specs.Numbers.{Scope, bounds_known, is_array_known, is_kn
 abbrev pub call_number : Scope → ℕ → Y.Number
 call_number s n = Y.NumberFrom (Y.Calling n s.level Y.NoArgument)
 
--- raises come to what they mean, each variable that may be named is a number of the block, or an array of it, and calls
--- of functions that may be called leave what they mean
+-- raises come to what they mean where there may be any, each variable that may be named is a number of the block, or an
+-- array of it, and calls of functions that may be called leave what they mean
 pub record KnowsNumbers (s : Scope) (k : Setting) : Type 0 where
   pub begun : IsBegun k.block
-  pub overflow : OverflowComes k
-  pub divisor : ZeroDivideComes k
-  pub subscript : SubscriptComes k
+  pub overflow : s.raises ≡ true → OverflowComes k
+  pub divisor : s.raises ≡ true → ZeroDivideComes k
+  pub subscript : s.raises ≡ true → SubscriptComes k
   pub variables : (x : Spot) → is_known s x ≡ true → IsNumber k.block x
   pub arrays : (x : Spot) → is_array_known s x ≡ true → IsArray k.block x (bounds_known s x)
   pub functions : (n : ℕ) → s.is_function n ≡ true → L.Does k 0 (call_number s n)
@@ -115,21 +115,34 @@ pub record KnowsCalls (s : Scope) (k : Block) (own : List Label) (most left' : �
       (stmt_code k.environment none_taken (call_statement s n line)) →
       Does k labels (call_statement s n line) index left'
 
--- a procedure's or a function's own block, whose own list has these labels
-pub record IsReady (s : Scope) (valued : Bool) (k : Block) (labels : List Label) (most left' : ℕ) : Type 0 where
-  pub begun : IsBegun k
+-- jumps out come to what they mean
+abbrev pub KnowsJumps : Scope → Block → (own : List Label) → (left' : ℕ) → Type 0
+KnowsJumps s k own left' =
+    (labels : List Label) (level : ℕ) (label : Label) (line index : ℕ) → Includes own labels →
+    s.is_outer level label ≡ true → line < 2 ^ 31 →
+    Linked k.call.surroundings.links k.call.code index (stmt_code k.environment none_taken (Y.Goto level label line)) →
+    Does k labels (Y.Goto level label line) index left'
+
+-- it is a procedure's or a function's own block, in which a jump comes to a label and a RETURN to the end
+pub record IsHome (s : Scope) (valued : Bool) (k : Block) (left' : ℕ) : Type 0 where
   pub level : k.environment.level ≡ s.level
   pub own : k.environment.level ≡ k.call.beginning.layer.level
   pub block : block_around k.environment k.environment.level ≡ k.environment.block
-  -- there are turns enough for the acts that are allowed
+  pub returns : valued ≡ false → IsOwn k left'
+  pub values : valued ≡ true → IsValued k left'
+
+-- a block whose own list has these labels
+pub record IsReady (s : Scope) (valued : Bool) (k : Block) (labels : List Label) (most left' : ℕ) : Type 0 where
+  pub begun : IsBegun k
+  -- there are turns enough for the acts that are left
   pub acts : k.call.surroundings.acts + 1 < 2 ^ 64
-  pub turns : k.call.surroundings.acts ≤ k.around.turns
+  pub turns : k.call.surroundings.acts < k.around.turns + k.first.state.world.acts
   pub held : k.registers ≤ held_registers
-  pub raises : KnowsRaises k labels most
+  pub raises : s.raises ≡ true → KnowsRaises k labels most
   pub variables : (x : Spot) → is_known s x ≡ true → IsNumber k x
   pub arrays : (x : Spot) → is_array_known s x ≡ true → IsArray k x (bounds_known s x)
   pub calls : KnowsCalls s k labels most left'
+  pub jumps : KnowsJumps s k labels left'
   -- an act pays for a statement and for what a call in it needs
   pub room : most ≤ length k.call.code + 2
-  pub returns : valued ≡ false → IsOwn k left'
-  pub values : valued ≡ true → IsValued k left'
+  pub home : s.own ≡ true → IsHome s valued k left'

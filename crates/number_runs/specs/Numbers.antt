@@ -4,6 +4,7 @@ use Rattle.std.specs.Prelude.{Some}
 use Rattle.std.specs.List.{list_any}
 use Rattle.pli_typing.specs.Signatures.{Bounds}
 use Rattle.pli_typing.specs.TypedTree as Y
+use Rattle.pli_meaning.specs.Control.{Label}
 use Rattle.pli_meaning.specs.DeclaredShapes.{declared_variable}
 use Rattle.pli_coding.specs.Environments.{BlockPlace}
 use Rattle.expression_runs.specs.Variables.{Spot, variable_of}
@@ -19,6 +20,12 @@ pub record Scope : Type 0 where
   pub blocks : List BlockPlace
   pub is_function : ℕ → Bool
   pub is_procedure : ℕ → Bool
+  -- whether expressions may raise conditions
+  pub raises : Bool
+  -- whether statements may return, and jump to labels of their own lists
+  pub own : Bool
+  -- the labels to which they may jump out, each of the block around at a level
+  pub is_outer : ℕ → Label → Bool
 
 -- ---- variables
 
@@ -85,10 +92,11 @@ is_array_known s x = list_any (is_place x) s.blocks && is_array_if (declared_var
 abbrev pub bounds_known : Scope → Spot → Bounds
 bounds_known s x = bounds_if (declared_variable s.program (variable_of x))
 
--- an element of one
+-- an element of one, whose subscript may raise ERROR
 abbrev pub is_element : Scope → Y.Variable → Y.Part → Bool
 is_element s v part =
-    is_automatic v.class && ((part.first == 0) && ((part.count == 1) && is_array_known s (spot_of v)))
+    s.raises
+    && (is_automatic v.class && ((part.first == 0) && ((part.count == 1) && is_array_known s (spot_of v))))
 
 -- ---- numbers
 
@@ -97,14 +105,14 @@ abbrev mutual
   is_number s (Y.NumberConstant n) = nat_lt n (2 ^ 31)
   is_number s (Y.NumberIn r) = is_reference s r
   is_number s (Y.NumberFrom (Y.Calling number level Y.NoArgument)) = (level == s.level) && s.is_function number
-  is_number s (Y.Signed sign x) = is_number s x
-  is_number s (Y.Calculated operator left right) = is_number s left && is_number s right
-  is_number s (Y.Absolute x) = is_number s x
+  is_number s (Y.Signed sign x) = s.raises && is_number s x
+  is_number s (Y.Calculated operator left right) = s.raises && (is_number s left && is_number s right)
+  is_number s (Y.Absolute x) = s.raises && is_number s x
   is_number s (Y.SignOf x) = is_number s x
   is_number s (Y.Extreme extremum first more) = is_number s first && are_numbers s more
-  is_number s (Y.Modulo dividend divisor) = is_number s dividend && is_number s divisor
+  is_number s (Y.Modulo dividend divisor) = s.raises && (is_number s dividend && is_number s divisor)
   is_number s (Y.Divided precision dividend divisor) =
-      (precision == 31) && (is_number s dividend && is_number s divisor)
+      s.raises && ((precision == 31) && (is_number s dividend && is_number s divisor))
   is_number s _ = false
 
   -- a variable, or an element of an array

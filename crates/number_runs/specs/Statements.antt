@@ -1,5 +1,5 @@
 -- Statements over such numbers, as a class that is computed from typed trees.
-use Rattle.std.specs.Prelude.{ℕ, suc, ◌^◌, ◌==◌, ◌&&◌, ◌++◌, Bool, true, false, List, max, nat_lt, not}
+use Rattle.std.specs.Prelude.{ℕ, suc, ◌^◌, ◌==◌, ◌&&◌, ◌||◌, ◌++◌, Bool, true, false, List, max, nat_lt, not}
 use Rattle.pli_typing.specs.TypedTree as Y
 use Rattle.pli_meaning.specs.Control.{Label, is_among}
 use Rattle.pli_meaning.specs.Executing.{labels_in}
@@ -19,7 +19,8 @@ abbrev pub stored_needs : Y.Stored → ℕ
 stored_needs (Y.StoredNumber precision x) = number_needs x
 stored_needs _ = 0
 
--- in a block that returns a number or none; a GOTO may name these labels, those of the lists around it in its block
+-- in a block that returns a number or none; a GOTO may name these labels, those of the lists around it in its block, or
+-- one further out
 abbrev mutual
   pub is_statement : Scope → (valued : Bool) → List Label → Y.Stmt → Bool
   is_statement s valued labels (Y.Null line) = is_line line
@@ -36,11 +37,11 @@ abbrev mutual
       is_line line && (is_test s condition && are_statements s valued (labels_in body ++ labels) body)
   is_statement s valued labels (Y.CallProcedure (Y.Calling number level Y.NoArgument) line) =
       is_line line && ((level == s.level) && s.is_procedure number)
-  is_statement s valued labels (Y.Return line) = is_line line && not valued
+  is_statement s valued labels (Y.Return line) = is_line line && (s.own && not valued)
   is_statement s valued labels (Y.ReturnValue type source line) =
-      is_line line && (valued && (is_fixed type && is_stored s source))
+      is_line line && (s.own && (valued && (is_fixed type && is_stored s source)))
   is_statement s valued labels (Y.Goto level label line) =
-      is_line line && ((level == s.level) && is_among label labels)
+      is_line line && ((s.own && ((level == s.level) && is_among label labels)) || s.is_outer level label)
   is_statement s valued labels (Y.Stop line) = is_line line
   is_statement s valued labels _ = false
 

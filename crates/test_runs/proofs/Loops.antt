@@ -101,6 +101,7 @@ turns_do (suc turns) k labels condition body line index left' need most h tests 
     let all = h.paid in
     let room = h.registers in
     let most' = is.turns in
+    let later = o.later.acts in
     comes_on w.acts (M.met_after_act around' condition w.acts p.state) branch
     (comes_on w.acts (act counted w.acts p.state) tested
     (act_comes (before_closed w.acts tested (before_closed w.acts branch closed)) line c 0 f (o.stands, o.image)
@@ -143,8 +144,8 @@ turns_do (suc turns) k labels condition body line index left' need most h tests 
     (λ c4 f4 v4 height label s4 q4.
     λ i0 f0 v0 from. jumps_repaid debt from (jumps_since (omega (arith, since, since1)) q4))
     (λ c4 f4 v4 r s4 q4. λ i0 f0 v0 from. returns_repaid debt from q4)
-    (list_does k labels body jb left' p1 q.numbers c3 c3 g3 is.begun (omega (arith, most', since1)) each is.marked
-    q.among (front_of part jump lm) (omega arith, omega (arith, all, n0, n1, n2, n3, n4)) at3)))
+    (list_does k labels body jb left' p1 q.numbers c3 c3 g3 is.begun (omega (arith, most', later, since1)) each
+    is.marked q.among (front_of part jump lm) (omega arith, omega (arith, all, n0, n1, n2, n3, n4)) at3)))
     (λ g3 at3.
     none_owed k labels acts end wanted left' (c1 + (3 + size_of met')) debt g3 p1 q.numbers
     (omega (arith, since, since1)) (omega (arith, n1, n2, n4)) q.among
@@ -177,6 +178,7 @@ loop_does k labels condition body line index left' need most h tests is each p n
     let next' : Unit {0} → Meaning (Unit {0}) =
     λ u. repeated_while k.around.turns (M.met_after_act (at_line k.around line) condition) (M.list k.around body) in
     let few = is.turns in
+    let later = o.later.acts in
     let all = h.paid in
     comes_owing debt (M.statement k.around stmt w.acts p.state)
     (comes_on w.acts (act counted w.acts p.state) next'

@@ -1,5 +1,5 @@
 -- Statements that are chosen or repeated by tests, at the points of a block.
-use Rattle.std.specs.Prelude.{ℕ, ◌+◌, ◌≤◌, ◌++◌, List}
+use Rattle.std.specs.Prelude.{ℕ, ◌+◌, ◌<◌, ◌≤◌, ◌++◌, List}
 use Rattle.pli_typing.specs.TypedTree as Y
 use Rattle.pli_meaning.specs.Control.{Label}
 use Rattle.pli_meaning.specs.Executing.{labels_in}
@@ -43,7 +43,7 @@ body_index k condition line index = behind_test k condition (behind_act line (be
 -- its statements do
 pub record IsInner (k : Block) (body : Y.Stmts) (index : ℕ) : Type 0 where
   pub begun : IsBegun k
-  pub turns : k.call.surroundings.acts ≤ k.around.turns
+  pub turns : k.call.surroundings.acts < k.around.turns + k.first.state.world.acts
   pub marked : AreMarked k.call.surroundings.links k.environment body index
 
 -- each does what it means if its test and its statements do

@@ -12,12 +12,12 @@ use Rattle.pli_coding.specs.Environments.{none_taken}
 use Rattle.pli_coding.specs.Images.{linked_code}
 use Rattle.pli_coding.specs.Statements.{marked, stmt_code, stmts_code}
 use Rattle.code_marks.specs.CodeMarks.{MarkedOnce}
-use Rattle.program_places.specs.Programs.{body_for, code_for, environment_for, links_for}
+use Rattle.program_places.specs.Programs.{code_for, environment_for, links_for}
 use Rattle.program_places.proofs.Blocks.{own_block}
 use Rattle.program_places.proofs.Callees.{end_is}
 use Rattle.program_places.proofs.Labels.{are_marked, label_of}
 use Rattle.program_places.proofs.Marks.{placed_back, placed_front}
-use Rattle.program_places.proofs.Procedures.{body_placed, raise_routines}
+use Rattle.program_places.proofs.Procedures.{raise_routines}
 use Rattle.program_places.proofs.Starts.{main_found}
 use Rattle.program_runs.specs.Calls.{left_over}
 use Rattle.program_runs.specs.Starts.{image_parts}
@@ -25,11 +25,12 @@ use Rattle.program_runs.specs.Statements.{Does, IsBegun}
 use Rattle.program_runs.proofs.Statements.{none_does}
 use Rattle.expression_runs.specs.Values.{OverflowComes}
 use Rattle.expression_runs.proofs.Raises.{overflow_ends}
+use Rattle.operator_runs.specs.Divisors.{ZeroDivideComes}
 use Rattle.operator_runs.proofs.Divisors.{zero_divide_ends}
-use Rattle.number_runs.specs.Knowledge.{AreStanding, KnowsNumbers, Standing}
+use Rattle.number_runs.specs.Knowledge.{AreStanding, Includes, IsReady, Standing}
 use Rattle.number_runs.specs.Statements.{is_statement, statement_needs, statements_need}
 use Rattle.number_runs.specs.Variables.{words_in}
-use Rattle.number_runs.proofs.Expressions.{number_does, test_does}
+use Rattle.number_runs.proofs.Statements.{form_does}
 use Rattle.number_headlines.proofs.Mains.{made_system}
 use Rattle.unit_runs.specs.Bodies.{BodyDoes}
 use Rattle.unit_runs.specs.Changing.{AllDo, IsPast, Past, StandsIn, StepDoes, after}
@@ -38,40 +39,12 @@ use Rattle.unit_runs.proofs.Changing.{begun_after, changing_ends}
 use Rattle.unit_runs.proofs.OwnRaises.{past_numbers}
 use Rattle.unit_numbers.specs.Programs.{are_steps, is_step, is_step_with}
 use Rattle.unit_numbers.specs.Units.{own_scope, unit_in}
-use Rattle.unit_numbers.proofs.Forces.{AreOverflow, past_system}
+use Rattle.unit_numbers.proofs.Calls.{main_calls}
+use Rattle.unit_numbers.proofs.Established.{list_placed, main_system, start_of, unit_stands}
 use Rattle.unit_numbers.proofs.Mains.{Main, block_for, main_held, main_number, most_for, own_known, placed}
-use Rattle.unit_numbers.proofs.Places.{on_placed}
 use Rattle.unit_numbers.proofs.Raises.{IsUnitOf, overflow_with, past_setting}
-use Rattle.unit_numbers.proofs.Statements.{Home, Includes, statement_does}
 use Rattle.unit_numbers.proofs.Takes.{unit_found}
 use Rattle.unit_numbers.proofs.Units.{unit_is}
-
-abbrev start_of : {program : Y.Program} → Main program → ℕ
-start_of {program} m = body_for program m.head m.body
-
--- ---- the units that it has by then
-
-list_placed :
-    MarkedOnce → {program : Y.Program} (m : Main program) (input : List ℕ) (acts : ℕ) →
-    AreStanding (block_for m input acts) m.body (start_of m)
-list_placed once {program} m input acts =
-    body_placed once program m.head m.body None m.loadable (main_found program (placed m) m.main)
-
-unit_stands :
-    MarkedOnce → {program : Y.Program} (m : Main program) (input : List ℕ) (acts : ℕ) (e : OnUnit × ℕ) →
-    StandsIn (block_for m input acts) m.body (start_of m) e → IsUnitOf m input acts e.0 e.1
-unit_stands once {program} m input acts e there =
-    on_placed program m.head (labels_in m.body) (block_for m input acts) m.body (start_of m) e m.steps
-    (list_placed once m input acts) there
-
-past_overflow :
-    MarkedOnce → {program : Y.Program} (m : Main program) (input : List ℕ) (acts : ℕ) (past : Past) →
-    IsPast (block_for m input acts) m.body (start_of m) past → AreOverflow past
-past_overflow once m input acts [] known = tt
-past_overflow once {program} m input acts (e ∷ past) known = (
-  (unit_is program m.head (labels_in m.body) e.0 (unit_stands once m input acts e known.1).is).condition,
-  past_overflow once m input acts past known.2,
-)
 
 -- ---- raises
 
@@ -97,69 +70,54 @@ overflow_known once m input more (e ∷ past) labels line few b includes known =
     overflow_with once m input more past labels line e.1 e.0 few b includes
     (unit_stands once m input (suc more) e known.1) known
 
-knows :
+divisor_known :
     MarkedOnce → {program : Y.Program} (m : Main program) (input : List ℕ) (more : ℕ) (past : Past)
-    (labels : List Label) (line : ℕ) → suc more + 1 < 2 ^ 64 → IsBegun (block_for m input (suc more)) →
-    Includes (labels_in m.body) labels →
+    (labels : List Label) (line : ℕ) → suc more + 1 < 2 ^ 64 →
     IsPast (block_for m input (suc more)) m.body (start_of m) past →
-    KnowsNumbers (own_scope program m.head m.head.level) (past_setting m input (suc more) past labels line)
-knows once {program} m input more past labels line few b includes known =
-    let k = block_for m input (suc more) in
+    ZeroDivideComes (past_setting m input (suc more) past labels line)
+divisor_known once {program} m input more past labels line few known =
     let routines = raise_routines once program m.loadable in
     let inside = routines.linked.inside in
-    let xs = words_in (environment_for program m.head) in
-    let all = past_overflow once m input (suc more) past known in
-    record {
-      begun = begun_after k m.body (start_of m) past b known;
-      overflow = overflow_known once m input more past labels line few b includes known;
-      divisor = zero_divide_ends (past_setting m input (suc more) past labels line) (record {
-        routines = routines;
-        divisor = past_system C.ZeroDivide past k.first refl all (made_system image_parts _ xs _ C.ZeroDivide tt);
-        error = past_system C.Error past k.first refl all (made_system image_parts _ xs _ C.Error tt);
-        acts = few;
-        most = omega (arith, inside);
-      });
-      variables = λ x h. past_numbers k past x (main_number m input (suc more) x (own_known m input (suc more) x h) b);
-      functions = λ n h. absurd (cc h);
-    }
+    zero_divide_ends (past_setting m input (suc more) past labels line) (record {
+      routines = routines;
+      divisor = main_system once m input (suc more) past known C.ZeroDivide refl;
+      error = main_system once m input (suc more) past known C.Error refl;
+      acts = few;
+      most = omega (arith, inside);
+    })
 
 -- ---- its statements
 
-main_home :
+main_ready :
     MarkedOnce → {program : Y.Program} (m : Main program) (input : List ℕ) (more : ℕ) (past : Past) →
     suc more + 1 < 2 ^ 64 → IsBegun (block_for m input (suc more)) →
-    IsPast (block_for m input (suc more)) m.body (start_of m) past → Home
-main_home once {program} m input more past few b known =
+    IsPast (block_for m input (suc more)) m.body (start_of m) past →
+    IsReady (own_scope program m.head) false (after (block_for m input (suc more)) past) (labels_in m.body)
+    (most_for program) left_over
+main_ready once {program} m input more past few b known =
     let k = block_for m input (suc more) in
-    let s = own_scope program m.head m.head.level in
     let found = main_found program (placed m) m.main in
     let end = end_is once program m.head m.body m.loadable found in
     let b' = begun_after k m.body (start_of m) past b known in
+    let first = b'.acts in
     record {
-      scope = s;
-      still = false;
-      block = after k past;
-      most = most_for program;
-      left' = left_over;
-      outermost = labels_in m.body;
       begun = b';
       acts = few;
-      turns = omega arith;
+      turns = omega (arith, first);
       held = omega arith;
-      room = omega arith;
+      raises = λ may. record {
+        overflow = λ labels line includes. overflow_known once m input more past labels line few b includes known;
+        divisor = λ labels line includes. divisor_known once m input more past labels line few known;
+      };
       variables = λ x h. past_numbers k past x (main_number m input (suc more) x (own_known m input (suc more) x h) b);
-      numbers = λ labels line x includes is still.
-          number_does s (past_setting m input (suc more) past labels line) x
-          (knows once m input more past labels line few b includes known) is;
-      tests = λ labels line x includes is still.
-          test_does s (past_setting m input (suc more) past labels line) x
-          (knows once m input more past labels line few b includes known) is;
-      alone = λ n. refl;
-      home = λ e. record {
+      calls = main_calls once m input more past few b known;
+      jumps = λ labels level label line index includes h. absurd (cc h);
+      room = omega arith;
+      home = λ may. record {
         level = refl;
         own = refl;
         block = own_block program m.head m.body None found;
-        returns = record {
+        returns = λ e. record {
           owner = refl;
           end = end.place;
           near = end.near;
@@ -169,37 +127,32 @@ main_home once {program} m input more past few b known =
           kind = refl;
           registers = omega arith;
         };
+        values = λ e. absurd (cc e);
       };
     }
 
 main_does :
     MarkedOnce → {program : Y.Program} (m : Main program) (input : List ℕ) (acts : ℕ) → acts + 1 < 2 ^ 64 →
     IsBegun (block_for m input acts) → (stmt : Y.Stmt) (index : ℕ) →
-    is_statement (own_scope program m.head m.head.level) false (labels_in m.body) stmt ≡ true →
+    is_statement (own_scope program m.head) false (labels_in m.body) stmt ≡ true →
     statement_needs stmt ≤ statements_need m.body → Standing (block_for m input acts) stmt index → (past : Past) →
     IsPast (block_for m input acts) m.body (start_of m) past →
     Does (after (block_for m input acts) past) (labels_in m.body) stmt index left_over
-unfolding main_home
 main_does once m input zero few b stmt index is fits at past known =
     let k = block_for m input zero in
     none_does (after k past) (labels_in m.body) stmt index left_over (begun_after k m.body (start_of m) past b known)
     refl
 main_does once {program} m input (suc more) few b stmt index is fits at past known =
     let held = main_held m in
-    statement_does (main_home once m input more past few b known) (labels_in m.body) (labels_in m.body) stmt index
+    form_does (own_scope program m.head) false (after (block_for m input (suc more)) past) (labels_in m.body)
+    (labels_in m.body) stmt index (most_for program) left_over (main_ready once m input more past few b known)
     (record {
+      at = λ label among.
+          label_of (links_for program) (linked_code (code_for program)) (start_of m) (environment_for program m.head)
+          none_taken m.body (list_placed once m input (suc more)) label among;
       includes = λ label among. among;
-      to = inl (
-        refl,
-        (
-          refl,
-          λ label among.
-              label_of (links_for program) (linked_code (code_for program)) (start_of m)
-              (environment_for program m.head) none_taken m.body (list_placed once m input (suc more)) label among,
-        ),
-      );
     })
-    is (omega (arith, fits, held)) (λ e. absurd (cc e)) at
+    is (omega (arith, fits, held)) at
 
 -- ---- the list
 

@@ -10,7 +10,7 @@ use Rattle.activation_relation.specs.ServiceLaws.{IsSystem}
 use Rattle.unit_runs.specs.Changing.{Past, past_point}
 use Rattle.unit_runs.specs.Establishing.{unit_of}
 
-abbrev IsOther : Condition → Type 0
+abbrev pub IsOther : Condition → Type 0
 IsOther c = same_condition C.FixedOverflow c ≡ false
 
 without_other :

@@ -1,12 +1,14 @@
 pub mod Takes
-pub mod Still
-pub mod Statements
 pub mod Places
 pub mod Mains
 pub mod Forces
 pub mod Units
 pub mod Outer
 pub mod Raises
+pub mod Established
+pub mod Called
+pub mod Visits
+pub mod Calls
 pub mod Bodies
 pub mod Kept
 pub mod Rows

@@ -109,7 +109,7 @@ level_of {program} m = (subst HasMain m.main m.loadable.well_formed.main).0
 no_words : {program : Y.Program} (m : Main program) → (procedure_for program m.head m.body).words ≡ 0
 no_words {program} m =
     let plain = block_plain program.variables m.head.number m.plain in
-    (behind_variables (own_scope program m.head m.head.level) program m.head.number (statements_need m.body) m.body
+    (behind_variables (own_scope program m.head) program m.head.number (statements_need m.body) m.body
     plain.0 (steps_taken program m.head (labels_in m.body) m.body m.steps m.fits)).words
 
 -- it saves as many registers as they take
@@ -118,7 +118,7 @@ pub main_held :
     statements_need m.body ≤ block_held (environment_for program m.head) m.head.number m.body
 main_held {program} m =
     let plain = block_plain program.variables m.head.number m.plain in
-    let s = own_scope program m.head m.head.level in
+    let s = own_scope program m.head in
     let n = (behind_variables s program m.head.number (statements_need m.body) m.body plain.0
     (steps_taken program m.head (labels_in m.body) m.body m.steps m.fits)).registers in
     let fits = m.fits in
@@ -221,7 +221,7 @@ block_for {program} m input acts =
 
 pub own_known :
     {program : Y.Program} (m : Main program) (input : List ℕ) (acts : ℕ) (x : Spot) →
-    is_known (own_scope program m.head m.head.level) x ≡ true →
+    is_known (own_scope program m.head) x ≡ true →
     IsOwnWord (main_for m input acts) x
 own_known {program} m input acts x h =
     let plain = is_plain_if (declared_variable program (variable_of x)) in

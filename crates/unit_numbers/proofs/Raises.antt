@@ -1,14 +1,15 @@
 -- A unit of the main procedure where it is raised: it stands in the code, its statements do what they mean, and so
 -- FIXEDOVERFLOW comes to what it means.
 use Rattle.std.proofs.Common.{◌≡◌, ◌⊎◌, inl, inr, ℕ, suc, ◌+◌, ◌*◌, ◌^◌, ◌<◌, ◌≤◌, List, [], ◌∷◌, length}
-use Rattle.std.proofs.Common.{◌++◌, true, false, refl, sym, ap, ◌∙◌, arith}
-use Rattle.std.specs.Prelude.{◌==◌, Bool, cond, nat_lt}
+use Rattle.std.proofs.Common.{◌++◌, true, false, refl, sym, ap, ◌∙◌, subst, arith}
+use Rattle.std.specs.Prelude.{◌==◌, Bool, cond, drop, nat_lt}
 use Rattle.pli_typing.specs.TypedTree as Y
 use Rattle.pli_meaning.specs.Control.{Label, is_among}
 use Rattle.pli_meaning.specs.DeclaredShapes.{head_of}
 use Rattle.pli_meaning.specs.Executing.{entered, labels_in}
 use Rattle.pli_meaning.specs.Raising.{Around}
-use Rattle.pli_meaning.specs.StorageState.{Activation, ancestor, height_of, most_activations, newest_height}
+use Rattle.pli_meaning.specs.StorageState.{Activation, ancestor, ancestor_at, height_of, most_activations}
+use Rattle.pli_meaning.specs.StorageState.{newest_height}
 use Rattle.pli_coding.specs.Assembly.{size_of}
 use Rattle.pli_coding.specs.Environments.{Environment, block_around, none_taken}
 use Rattle.pli_coding.specs.Frames.{frame_end}
@@ -20,7 +21,7 @@ use Rattle.activation_relation.specs.Frames.{frame_under, lower_end, upper_top}
 use Rattle.run_steps.specs.Items.{Linked}
 use Rattle.begin_runs.proofs.FarGotos.{far_does}
 use Rattle.function_runs.proofs.OuterVariables.{same_ancestor}
-use Rattle.std.proofs.lemmas.Bool.{ltb-true}
+use Rattle.std.proofs.lemmas.Bool.{and_parts, eqb-true}
 use Rattle.std.proofs.Common.{None}
 use Rattle.program_places.proofs.Outermost.{outermost_block}
 use Rattle.program_places.proofs.Starts.{main_found}
@@ -32,29 +33,30 @@ use Rattle.program_places.proofs.Labels.{are_marked, label_of}
 use Rattle.program_places.proofs.Procedures.{body_placed, raise_routines}
 use Rattle.program_runs.specs.Calls.{left_over}
 use Rattle.program_runs.specs.Starts.{image_parts}
-use Rattle.program_runs.specs.Statements.{Does, IsBegun, as_outer, own_height}
+use Rattle.program_runs.specs.Statements.{Block, Does, IsBegun, Outer, as_outer, outer_block, own_height}
 use Rattle.expression_runs.specs.Assignments.{setting_of}
 use Rattle.expression_runs.specs.Values.{OverflowComes, Setting}
 use Rattle.expression_runs.specs.Variables.{IsNumber, Spot}
+use Rattle.number_runs.specs.Knowledge.{Includes, IsReady}
 use Rattle.number_runs.specs.Numbers.{is_known}
-use Rattle.number_runs.specs.Statements.{is_line, statements_need}
+use Rattle.number_runs.specs.Statements.{statements_need}
 use Rattle.number_runs.specs.Variables.{words_in}
-use Rattle.number_runs.proofs.Takes.{Takes}
+use Rattle.number_runs.proofs.Statements.{body_does}
+use Rattle.number_runs.proofs.Takes.{Takes, statements_taken}
 use Rattle.number_headlines.proofs.Tables.{block_plain}
 use Rattle.unit_runs.specs.Changing.{IsOwnRaise, IsPast, Past, after, past_point}
 use Rattle.unit_runs.specs.Establishing.{OnUnit, unit_index}
 use Rattle.unit_runs.specs.Raised.{AreMade, IsRaiseOf, IsRaised, Raise, Standing, UnitDoes, list_index, unit_block}
+use Rattle.unit_runs.specs.UnitVariables.{IsOwnUnit}
 use Rattle.unit_runs.proofs.OwnRaises.{own_raised, past_like, past_numbers}
 use Rattle.unit_runs.proofs.UnitRuns.{overflow_returns}
 use Rattle.unit_runs.proofs.UnitVariables.{none_made, outer_number, unit_over}
-use Rattle.unit_numbers.specs.Units.{own_scope}
+use Rattle.unit_numbers.specs.Units.{own_scope, unit_scope}
 use Rattle.unit_numbers.proofs.Mains.{Main, block_for, free, level_of, main_lone, main_number, most_for, own_known}
-use Rattle.unit_numbers.proofs.Mains.{main_begun, main_layer, placed, units_for}
+use Rattle.unit_numbers.proofs.Mains.{Lone, main_begun, main_layer, placed, surroundings_for, units_for}
 use Rattle.unit_numbers.proofs.Outer.{lone_own, made_stacks, main_saves, main_top}
 use Rattle.unit_numbers.proofs.Places.{IsPlaced, one_place}
-use Rattle.unit_numbers.proofs.Statements.{Home, Includes, statements_do}
-use Rattle.unit_numbers.proofs.Still.{still_does, still_tests}
-use Rattle.unit_numbers.proofs.Takes.{list_taken, unit_taken}
+use Rattle.unit_numbers.proofs.Takes.{unit_taken}
 use Rattle.unit_numbers.proofs.Units.{Unit', none_coded, unit_is}
 
 -- ---- where it stands
@@ -74,17 +76,17 @@ IsUnitOf {program} m input acts x index =
     index
 
 -- its temporaries fit registers
-taken_by :
+pub taken_by :
     {program : Y.Program} (m : Main program) (x : OnUnit) → Unit' program m.head (labels_in m.body) x →
     Takes (statements_need x.body) none_taken (unit_takes program x.head x.head.kind x.body)
 taken_by {program} m x u =
-    let s = own_scope program m.head m.head.level in
+    let s = unit_scope program m.head (labels_in m.body) in
     let plain = block_plain program.variables x.head.number m.plain in
     unit_taken s program x.head x.head.kind (statements_need x.body) x.body plain.0
-    (list_taken s (labels_in m.body) x.body u.statements u.fits)
+    (statements_taken s false (labels_in x.body ++ []) x.body u.statements u.fits)
 
 -- procedures stand behind the start and the routines of raises
-entry_low :
+pub entry_low :
     (e : Environment) (number : ℕ) (ps : List Y.Procedure) (index : ℕ) → index ≤ entry_among e number ps index
 entry_low e number [] index = omega arith
 entry_low e number (p ∷ ps) index =
@@ -153,130 +155,113 @@ own_raise once {program} m input more few b x index h =
     kind (inl q) = inl q
     kind (inr q) = inr q.0
 
+-- ---- where it is raised
+
+-- in a block of the program, at a statement in lists with labels; the main procedure has these units by then, and is
+-- carrying out lists with labels; so many entries are left, and acts allowed
+pub record Scene : Type 0 where
+  pub input : List ℕ
+  pub acts : ℕ
+  pub more : ℕ
+  pub past : Past
+  pub carried : List Label
+  pub block : Outer
+  pub outers : List Outer
+  pub labels : List Label
+  pub line : ℕ
+  pub unit : OnUnit
+  pub index : ℕ
+
+abbrev pub scene_block : {program : Y.Program} → Main program → Scene → Block
+scene_block {program} m z =
+    outer_block (surroundings_for m z.input z.acts) (linked_code (code_for program)) z.block z.outers
+
+abbrev pub scene_setting : {program : Y.Program} → Main program → Scene → Setting
+scene_setting {program} m z = setting_of (scene_block m z) z.labels z.line (most_for program)
+
+abbrev pub scene_unit : {program : Y.Program} → Main program → Scene → Standing
+scene_unit m z = unit_at m z.more z.unit z.index
+
+-- the main procedure's block, with the units that it has by then
+abbrev pub scene_main : {program : Y.Program} → Main program → Scene → Block
+scene_main m z = after (block_for m z.input z.acts) z.past
+
+-- the unit's block
+abbrev pub scene_inner : {program : Y.Program} → Main program → Scene → Raise → Block
+scene_inner m z r = unit_block (scene_setting m z) (scene_unit m z) r
+
+-- the unit is in force there; further out is the main procedure, whose variables are those of the unit's block
+pub record IsScene {program : Y.Program} (m : Main program) (z : Scene) : Type 0 where
+  pub few : z.acts + 1 < 2 ^ 64
+  pub begun : IsBegun (block_for m z.input z.acts)
+  pub includes : Includes (labels_in m.body) z.carried
+  pub placed : IsUnitOf m z.input z.acts z.unit z.index
+  pub raised : IsRaised (scene_setting m z) (scene_unit m z) z.more
+  pub behind : ℕ
+  pub there :
+      drop behind (as_outer (scene_block m z) z.labels ∷ z.outers) ≡ as_outer (scene_main m z) z.carried ∷ []
+  pub numbers :
+      (r : Raise) → IsRaiseOf (scene_setting m z) (scene_unit m z) z.more raised r →
+      AreMade (scene_setting m z) (scene_unit m z) r → IsBegun (scene_inner m z r) → (v : Spot) →
+      is_known (own_scope program m.head) v ≡ true → IsNumber (scene_inner m z r) v
+  pub found :
+      (r : Raise) → IsRaiseOf (scene_setting m z) (scene_unit m z) z.more raised r →
+      AreMade (scene_setting m z) (scene_unit m z) r → IsBegun (scene_inner m z r) →
+      height_of (ancestor_at (scene_inner m z r).first.state m.head.level) ≡ 1
+
 -- ---- its statements
 
--- the block in which it is raised, with the units that it has by then
-abbrev pub past_setting :
-    {program : Y.Program} → Main program → (input : List ℕ) → (acts : ℕ) → Past → List Label → (line : ℕ) → Setting
-past_setting {program} m input acts past labels line =
-    setting_of (after (block_for m input acts) past) labels line (most_for program)
-
-unit_number :
-    {program : Y.Program} (m : Main program) (input : List ℕ) (more : ℕ) (past : Past) (labels : List Label)
-    (line index : ℕ) (x : OnUnit) → IsBegun (block_for m input (suc more)) → Unit' program m.head (labels_in m.body) x →
-    (h : IsRaised (past_setting m input (suc more) past labels line) (unit_at m more x index) more) →
-    h.by.height ≡ own_height (block_for m input (suc more)) → (r : Raise) →
-    IsRaiseOf (past_setting m input (suc more) past labels line) (unit_at m more x index) more h r →
-    AreMade (past_setting m input (suc more) past labels line) (unit_at m more x index) r →
-    IsBegun (unit_block (past_setting m input (suc more) past labels line) (unit_at m more x index) r) →
-    (v : Spot) → is_known (own_scope program m.head m.head.level) v ≡ true →
-    IsNumber (unit_block (past_setting m input (suc more) past labels line) (unit_at m more x index) r) v
-unit_number {program} m input more past labels line index x b u h own r is made b' v known =
-    let k = past_setting m input (suc more) past labels line in
-    let y = unit_at m more x index in
-    let o = own_known m input (suc more) v known in
-    let level = u.level in
-    let outer = level_of m in
-    let at = o.level in
-    outer_number k y more h r v
-    (record { own = own; level = refl; inner = refl; program = refl; parts = refl }) is made b'
-    (omega (arith, level, outer, at))
-    (past_numbers (block_for m input (suc more)) past v (main_number m input (suc more) v o b))
-
-unit_home :
-    {program : Y.Program} (m : Main program) (input : List ℕ) (more : ℕ) (past : Past) (labels : List Label)
-    (line index : ℕ) (x : OnUnit) (r : Raise) → suc more + 1 < 2 ^ 64 →
-    IsBegun (unit_block (past_setting m input (suc more) past labels line) (unit_at m more x index) r) →
-    ((v : Spot) → is_known (own_scope program m.head m.head.level) v ≡ true →
-    IsNumber (unit_block (past_setting m input (suc more) past labels line) (unit_at m more x index) r) v) → Home
-unit_home {program} m input more past labels line index x r few b' vs =
-    let s = own_scope program m.head m.head.level in
-    let k = unit_block (past_setting m input (suc more) past labels line) (unit_at m more x index) r in
-    record {
-      scope = s;
-      still = true;
-      block = k;
-      most = most_for program;
-      left' = left_over;
-      outermost = [];
-      begun = b';
-      acts = few;
-      turns = omega arith;
-      held = omega arith;
-      room = omega arith;
-      variables = vs;
-      numbers = λ ls n y includes is still. still_does s (setting_of k ls n (most_for program)) y b' vs is (still refl);
-      tests = λ ls n y includes is still. still_tests s (setting_of k ls n (most_for program)) y b' vs is (still refl);
-      alone = λ n. refl;
-      home = λ e. absurd (cc e);
-    }
-
--- a GOTO of it comes to a label of the main procedure, at whose statement the unit was raised
-unit_far :
-    MarkedOnce → {program : Y.Program} (m : Main program) (input : List ℕ) (more : ℕ) (past : Past)
-    (labels : List Label) (line index : ℕ) (x : OnUnit) → suc more + 1 < 2 ^ 64 →
-    IsBegun (block_for m input (suc more)) → Includes (labels_in m.body) labels →
-    Unit' program m.head (labels_in m.body) x →
-    (h : IsRaised (past_setting m input (suc more) past labels line) (unit_at m more x index) more) →
-    h.by.height ≡ own_height (block_for m input (suc more)) → (r : Raise) →
-    IsRaiseOf (past_setting m input (suc more) past labels line) (unit_at m more x index) more h r →
-    AreMade (past_setting m input (suc more) past labels line) (unit_at m more x index) r →
-    IsBegun (unit_block (past_setting m input (suc more) past labels line) (unit_at m more x index) r) →
-    (label : Label) → is_among label (labels_in m.body) ≡ true → (ls : List Label) (at index' : ℕ) →
-    is_line at ≡ true →
-    Linked (links_for program) (linked_code (code_for program)) index'
-    (stmt_code (unit_environment x.head (environment_for program m.head)) none_taken (Y.Goto m.head.level label at)) →
-    Does (unit_block (past_setting m input (suc more) past labels line) (unit_at m more x index) r) ls
-    (Y.Goto m.head.level label at) index' left_over
-unit_far once {program} m input more past labels line index x few b includes u h own r is made b' label among ls at
-    index' less l =
-    let k = past_setting m input (suc more) past labels line in
-    let k0 = block_for m input (suc more) in
-    let y = unit_at m more x index in
+-- a GOTO of it comes to a label of the main procedure
+scene_far :
+    MarkedOnce → {program : Y.Program} (m : Main program) (z : Scene) (s : IsScene m z) (r : Raise) →
+    IsRaiseOf (scene_setting m z) (scene_unit m z) z.more s.raised r →
+    AreMade (scene_setting m z) (scene_unit m z) r → IsBegun (scene_inner m z r) → (label : Label) →
+    is_among label (labels_in m.body) ≡ true → (ls : List Label) (at index : ℕ) → at < 2 ^ 31 →
+    Linked (links_for program) (linked_code (code_for program)) index
+    (stmt_code (unit_environment z.unit.head (environment_for program m.head)) none_taken
+    (Y.Goto m.head.level label at)) →
+    Does (scene_inner m z r) ls (Y.Goto m.head.level label at) index left_over
+scene_far once {program} m z s r is made b label among ls at index less l =
+    let k0 = block_for m z.input z.acts in
     let e = environment_for program m.head in
+    let u = unit_is program m.head (labels_in m.body) z.unit s.placed.is in
     let outer = level_of m in
     let level = u.level in
-    let like = past_like k0 past in
-    let one = main_lone m input (suc more) in
-    let same = made_stacks (main_layer m input (suc more)) (words_in e) (main_begun m input (suc more)) in
+    let like = past_like k0 z.past in
+    let same = made_stacks (main_layer m z.input z.acts) (words_in e) (main_begun m z.input z.acts) in
     let there = label_of (links_for program) (linked_code (code_for program)) (body_for program m.head m.body) e
     none_taken m.body (body_placed once program m.head m.body None m.loadable (main_found program (placed m) m.main))
     label among in
-    let top = main_top m input (suc more) in
-    let around = outermost_block program (placed m) (unit_environment x.head e) m.loadable.well_formed m.main refl
+    let top = main_top m z.input z.acts in
+    let around = outermost_block program (placed m) (unit_environment z.unit.head e) m.loadable.well_formed m.main refl
     u.later in
-    let block : block_around (unit_environment x.head e) m.head.level ≡ m.head.number =
-    ap (λ n. block_around (unit_environment x.head e) n) outer ∙ around in
-    far_does (unit_block k y r) ls
+    let block : block_around (unit_environment z.unit.head e) m.head.level ≡ m.head.number =
+    ap (λ n. block_around (unit_environment z.unit.head e) n) outer ∙ around in
+    far_does (scene_inner m z r) ls
     (record {
-      behind = 0;
-      outer = as_outer k.block labels;
+      behind = s.behind;
+      outer = as_outer (scene_main m z) z.carried;
       rest = [];
       level = m.head.level;
       label = label;
       at = there.at;
     })
-    at index' left_over
-    (record { line_fits = ltb-true at (2 ^ 31) less; acts = few })
+    at index left_over
+    (record { line_fits = less; acts = s.few })
     (record {
-      begun = b';
-      there = refl;
-      carried = includes label among;
+      begun = b;
+      there = s.there;
+      carried = s.includes label among;
       own = refl;
       inner = omega (arith, outer, level);
       few = omega (arith, level);
-      found = ap height_of (same_ancestor m.head.level (unit_over k y more h r
-          (record { own = own; level = refl; inner = refl; program = refl; parts = refl }) is made b') h.begun
-          is.among (omega (arith, outer, level)))
-          ∙ like.ancestors m.head.level
-          ∙ ap (λ as'. height_of (ancestor as' (newest_height as') m.head.level)) one.is
-          ∙ lone_own m.head.level one.bindings;
+      found = s.found r is made b;
       registers = main_saves m label among;
       entries = like.entries ∙ same.entries;
       edits = like.edits ∙ same.edits;
       top = like.top ∙ top
           ∙ ap (λ n. n + frame_end image_parts program m.head.number m.head.level) (sym like.frame)
-          ∙ ap (λ n. frame_under image_parts (past_point past k0.first).control.layers
+          ∙ ap (λ n. frame_under image_parts (past_point z.past k0.first).control.layers
           + frame_end image_parts program n m.head.level) (sym block);
       block = block;
       place = there.place;
@@ -284,44 +269,91 @@ unit_far once {program} m input more past labels line index x few b includes u h
     })
     l
 
-unit_does :
-    MarkedOnce → {program : Y.Program} (m : Main program) (input : List ℕ) (more : ℕ) (past : Past)
-    (labels : List Label) (line index : ℕ) (x : OnUnit) → suc more + 1 < 2 ^ 64 →
-    IsBegun (block_for m input (suc more)) → Includes (labels_in m.body) labels → IsUnitOf m input (suc more) x index →
-    (h : IsRaised (past_setting m input (suc more) past labels line) (unit_at m more x index) more) →
-    h.by.height ≡ own_height (block_for m input (suc more)) →
-    UnitDoes (past_setting m input (suc more) past labels line) (unit_at m more x index) more h
-unfolding unit_home
-unit_does once {program} m input more past labels line index x few b includes placed h own r is =
-    let k = past_setting m input (suc more) past labels line in
+scene_ready :
+    MarkedOnce → {program : Y.Program} (m : Main program) (z : Scene) (s : IsScene m z) (r : Raise) →
+    IsRaiseOf (scene_setting m z) (scene_unit m z) z.more s.raised r →
+    AreMade (scene_setting m z) (scene_unit m z) r → IsBegun (scene_inner m z r) →
+    IsReady (unit_scope program m.head (labels_in m.body)) false (scene_inner m z r) (labels_in z.unit.body ++ [])
+    (most_for program) left_over
+scene_ready once {program} m z s r is made b =
+    let enough = s.raised.enough in
+    let later = is.later in
+    record {
+      begun = b;
+      acts = s.few;
+      turns = omega (arith, enough, later);
+      held = omega arith;
+      raises = λ may. absurd (cc may);
+      variables = λ v known. s.numbers r is made b v known;
+      calls = record {
+        functions = λ ls at n inside call. absurd (cc call);
+        procedures = λ ls n at index inside call. absurd (cc call);
+      };
+      jumps = λ ls level label at index inside out less.
+          let a = and_parts (level == m.head.level) (is_among label (labels_in m.body)) out in
+          subst (λ n. Linked (links_for program) (linked_code (code_for program)) index
+          (stmt_code (unit_environment z.unit.head (environment_for program m.head)) none_taken (Y.Goto n label at)) →
+          Does (scene_inner m z r) ls (Y.Goto n label at) index left_over) (sym (eqb-true level m.head.level a.0))
+          (λ l. scene_far once m z s r is made b label a.1 ls at index less l);
+      room = omega arith;
+      home = λ may. absurd (cc may);
+    }
+
+scene_does :
+    MarkedOnce → {program : Y.Program} (m : Main program) (z : Scene) (s : IsScene m z) →
+    UnitDoes (scene_setting m z) (scene_unit m z) z.more s.raised
+scene_does once {program} m z s r is =
+    let k = scene_setting m z in
     let e = environment_for program m.head in
-    let y = unit_at m more x index in
-    let u = unit_is program m.head (labels_in m.body) x placed.is in
+    let y = scene_unit m z in
+    let x = z.unit in
+    let u = unit_is program m.head (labels_in m.body) x s.placed.is in
     let made = none_made k y r (record { kind = u.bare; code = none_coded program e x.head refl u.bare; made = refl })
     in
     let n = (taken_by m x u).registers in
     let fits = u.fits in (
       made,
-      λ b'.
-          statements_do
-          (unit_home m input more past labels line index x r few b'
-          (unit_number m input more past labels line index x b u h own r is made b'))
-          (labels_in m.body) (labels_in x.body ++ []) x.body (list_index y)
-          (record {
-            includes = λ label among. absurd (cc among);
-            to = inr (
-              refl,
-              λ label among ls at index' less l.
-                  unit_far once m input more past labels line index x few b includes u h own r is made b' label among
-                  ls at index' less l,
-            );
-          })
-          u.statements (omega (arith, n, fits)) (λ q. u.still)
-          (unit_list_placed (links_for program) (linked_code (code_for program)) index e x (around_for program more)
-          (λ q. q) placed.placed),
+      λ b.
+          body_does (unit_scope program m.head (labels_in m.body)) false (scene_inner m z r) x.body (list_index y)
+          (most_for program) left_over (scene_ready once m z s r is made b) u.statements (omega (arith, n, fits))
+          (unit_list_placed (links_for program) (linked_code (code_for program)) z.index e x
+          (around_for program z.more) (λ q. q) s.placed.placed),
     )
 
 -- so it comes to what it means
+pub overflow_at :
+    MarkedOnce → {program : Y.Program} (m : Main program) (z : Scene) → IsScene m z →
+    OverflowComes (scene_setting m z)
+overflow_at once {program} m z s =
+    overflow_returns (scene_setting m z) (scene_unit m z) z.more s.raised (scene_does once m z s)
+    (unit_is program m.head (labels_in m.body) z.unit s.placed.is).condition
+
+-- ---- in the main procedure itself
+
+-- the block in which it is raised, with the units that it has by then
+abbrev pub past_setting :
+    {program : Y.Program} → Main program → (input : List ℕ) → (acts : ℕ) → Past → List Label → (line : ℕ) → Setting
+past_setting {program} m input acts past labels line =
+    setting_of (after (block_for m input acts) past) labels line (most_for program)
+
+abbrev own_scene :
+    {program : Y.Program} → Main program → (input : List ℕ) → (more : ℕ) → Past → List Label → (line index : ℕ) →
+    OnUnit → Scene
+own_scene m input more past labels line index x =
+    record {
+      input = input;
+      acts = suc more;
+      more = more;
+      past = past;
+      carried = labels;
+      block = as_outer (after (block_for m input (suc more)) past) labels;
+      outers = [];
+      labels = labels;
+      line = line;
+      unit = x;
+      index = index;
+    }
+
 pub overflow_with :
     MarkedOnce → {program : Y.Program} (m : Main program) (input : List ℕ) (more : ℕ) (past : Past)
     (labels : List Label) (line index : ℕ) (x : OnUnit) → suc more + 1 < 2 ^ 64 →
@@ -329,9 +361,52 @@ pub overflow_with :
     IsPast (block_for m input (suc more)) m.body (body_for program m.head m.body) ((x, index) ∷ past) →
     OverflowComes (past_setting m input (suc more) ((x, index) ∷ past) labels line)
 overflow_with once {program} m input more past labels line index x few b includes placed known =
-    let y = unit_at m more x index in
-    let r = own_raised (block_for m input (suc more)) m.body (body_for program m.head m.body) labels y index line
-    (most_for program) more past b known (own_raise once m input more few b x index placed) in
-    overflow_returns (past_setting m input (suc more) ((x, index) ∷ past) labels line) y more r.0
-    (unit_does once m input more ((x, index) ∷ past) labels line index x few b includes placed r.0 r.1)
-    (unit_is program m.head (labels_in m.body) x placed.is).condition
+    overflow_at once m (own_scene m input more all labels line index x)
+    (record {
+      few = few;
+      begun = b;
+      includes = includes;
+      placed = placed;
+      raised = h.0;
+      behind = 0;
+      there = refl;
+      numbers = λ r is made b' v named.
+          let at = (own_known m input (suc more) v named).level in
+          outer_number k y more h.0 r v own is made b' (omega (arith, level, outer, at))
+          (past_numbers k0 all v (main_number m input (suc more) v (own_known m input (suc more) v named) b));
+      found = λ r is made b'.
+          ap height_of (same_ancestor m.head.level (unit_over k y more h.0 r own is made b') h.0.begun is.among
+          (omega (arith, outer, level)))
+          ∙ (past_like k0 all).ancestors m.head.level
+          ∙ ap (λ as'. height_of (ancestor as' (newest_height as') m.head.level)) one.is
+          ∙ lone_own m.head.level one.bindings;
+    })
+  where
+    all : Past
+    all = (x, index) ∷ past
+
+    k0 : Block
+    k0 = block_for m input (suc more)
+
+    k : Setting
+    k = past_setting m input (suc more) all labels line
+
+    y : Standing
+    y = unit_at m more x index
+
+    one : Lone m.head.level k0.first.state.activations
+    one = main_lone m input (suc more)
+
+    level : x.head.level ≡ 1
+    level = (unit_is program m.head (labels_in m.body) x placed.is).level
+
+    outer : m.head.level ≡ 0
+    outer = level_of m
+
+    h : (h' : IsRaised k y more) × (h'.by.height ≡ own_height k0)
+    h =
+        own_raised k0 m.body (body_for program m.head m.body) labels y index line (most_for program) more past b known
+        (own_raise once m input more few b x index placed)
+
+    own : IsOwnUnit k y more h.0
+    own = record { own = h.1; level = refl; inner = refl; program = refl; parts = refl }

@@ -1,21 +1,18 @@
 -- What the temporaries of the main procedure and of its units take: registers, and no words of their frames.
-use Rattle.std.proofs.Common.{◌≡◌, ℕ, ◌≤◌, List, [], ◌++◌, Option, Some, None, true, false}
-use Rattle.std.proofs.Common.{refl, sym, ap, ◌∙◌, subst, arith}
-use Rattle.std.specs.Prelude.{◌&&◌, Bool}
+use Rattle.std.proofs.Common.{◌≡◌, ℕ, ◌≤◌, List, [], Option, Some, None, true, false}
+use Rattle.std.proofs.Common.{refl, sym, ap, subst, arith}
 use Rattle.std.proofs.lemmas.Bool.{and_parts}
-use Rattle.std.proofs.lemmas.List.{append-nil}
 use Rattle.pli_typing.specs.TypedTree as Y
 use Rattle.pli_meaning.specs.Control.{Label}
 use Rattle.pli_meaning.specs.DeclaredShapes.{variables_of_block}
-use Rattle.pli_meaning.specs.Executing.{labels_in}
 use Rattle.pli_coding.specs.Environments.{none_taken}
 use Rattle.pli_coding.specs.Registers.{held_registers}
 use Rattle.pli_coding.specs.Statements.{block_takes, stmt_takes, stmts_take, unit_takes}
 use Rattle.unit_runs.specs.Establishing.{OnUnit, on_of}
 use Rattle.number_runs.specs.Numbers.{Scope}
-use Rattle.number_runs.specs.Statements.{are_statements, is_statement, statement_needs, statements_need}
+use Rattle.number_runs.specs.Statements.{statement_needs, statements_need}
 use Rattle.number_runs.specs.Variables.{are_plain}
-use Rattle.number_runs.proofs.Takes.{Takes, block_taken}
+use Rattle.number_runs.proofs.Takes.{Takes, block_taken, statement_taken}
 use Rattle.unit_numbers.specs.Programs.{are_steps, is_step, is_step_with}
 use Rattle.unit_numbers.specs.Units.{own_scope, unit_in}
 
@@ -55,45 +52,6 @@ unit_found (Y.Put skip pairs line) x e = absurd (cc e)
 
 -- ---- lists
 
-abbrev nothing : Y.Program
-nothing = record { variables = []; procedures = [] }
-
--- as in a block that declares nothing
-list_by :
-    (s : Scope) (valued : Bool) (body : Y.Stmts) → are_statements s valued (labels_in body ++ []) body ≡ true →
-    statements_need body ≤ held_registers → Takes (statements_need body) none_taken (stmts_take none_taken body)
-list_by s valued body h fits =
-    let n = block_taken s valued nothing 0 body refl h fits in
-    let p = n.registers in
-    let u = n.words in
-    record { registers = omega (arith, p); words = omega (arith, u) }
-
-statement_taken :
-    (s : Scope) (labels : List Label) (stmt : Y.Stmt) → is_statement s false labels stmt ≡ true →
-    statement_needs stmt ≤ held_registers → Takes (statement_needs stmt) none_taken (stmt_takes none_taken stmt)
-statement_taken s labels stmt h fits =
-    let body = Y.StmtThen labels stmt (Y.EndOfList []) in
-    let same : (labels ++ []) ++ [] ≡ labels = append-nil (labels ++ []) ∙ append-nil labels in
-    let h' = subst (λ ls. is_statement s false ls stmt && true ≡ true) (sym same) (ap (λ q. q && true) h) in
-    let n = list_by s false body h' (omega (arith, fits)) in
-    let p = n.registers in
-    let u = n.words in
-    record { registers = omega (arith, p); words = omega (arith, u) }
-
-pub list_taken :
-    (s : Scope) (labels : List Label) (body : Y.Stmts) → are_statements s false labels body ≡ true →
-    statements_need body ≤ held_registers → Takes (statements_need body) none_taken (stmts_take none_taken body)
-list_taken s labels (Y.EndOfList own) h fits = record { registers = omega arith; words = refl }
-list_taken s labels (Y.StmtThen own first rest) h fits =
-    let a = and_parts (is_statement s false labels first) (are_statements s false labels rest) h in
-    let x = statement_taken s labels first a.0 (omega (arith, fits)) in
-    let y = list_taken s labels rest a.1 (omega (arith, fits)) in
-    let p = x.registers in
-    let q = y.registers in
-    let u = x.words in
-    let v = y.words in
-    record { registers = omega (arith, p, q); words = omega (arith, u, v) }
-
 step_taken :
     (program : Y.Program) (main : Y.BlockHead) (labels : List Label) (stmt : Y.Stmt) →
     is_step program main labels stmt ≡ true → statement_needs stmt ≤ held_registers →
@@ -103,7 +61,7 @@ step_taken program main labels stmt h fits = by (unit_in stmt) refl h
     by :
         (o : Option OnUnit) → unit_in stmt ≡ o → is_step_with program main labels o stmt ≡ true →
         Takes (statement_needs stmt) none_taken (stmt_takes none_taken stmt)
-    by None e is = statement_taken (own_scope program main main.level) labels stmt is fits
+    by None e is = statement_taken (own_scope program main) false labels stmt is fits
     by (Some x) e is =
         subst (λ f. Takes (statement_needs f) none_taken (stmt_takes none_taken f)) (sym (unit_found stmt x e))
         (record { registers = omega arith; words = refl })

@@ -1,5 +1,5 @@
 -- A unit of the main procedure: what the class says of it, and what of its frame.
-use Rattle.std.proofs.Common.{◌≡◌, ◌⊎◌, inl, inr, ◌^◌, ◌<◌, ◌≤◌, List, [], ◌∷◌, true, false, refl}
+use Rattle.std.proofs.Common.{◌≡◌, ◌⊎◌, inl, inr, ◌^◌, ◌<◌, ◌≤◌, List, [], ◌∷◌, ◌++◌, true, false, refl}
 use Rattle.std.proofs.Common.{ap, ◌∙◌}
 use Rattle.std.specs.Prelude.{◌&&◌, ◌==◌, nat_le}
 use Rattle.std.proofs.lemmas.Bool.{and_parts, eqb-true, leb-true, ltb-true}
@@ -16,7 +16,8 @@ use Rattle.pli_coding.specs.Statements.{unit_environment, unit_variables}
 use Rattle.unit_runs.specs.Establishing.{OnUnit}
 use Rattle.number_runs.specs.Numbers.{has_none}
 use Rattle.number_runs.specs.Statements.{are_statements, is_line, statements_need}
-use Rattle.unit_numbers.specs.Units.{are_still, is_bare, is_overflow, is_unit, is_unit_list, own_scope}
+use Rattle.number_headlines.specs.Programs.{is_body}
+use Rattle.unit_numbers.specs.Units.{is_bare, is_overflow, is_unit, unit_scope}
 
 abbrev pub IsBare : Y.Program → Y.BlockHead → Type 0
 IsBare program head =
@@ -30,10 +31,8 @@ pub record Unit' (program : Y.Program) (main : Y.BlockHead) (labels : List Label
   pub level : x.head.level ≡ 1
   pub later : main.number ≤ x.head.number
   pub bare : IsBare program x.head
-  pub statements : are_statements (own_scope program main main.level) false labels x.body ≡ true
+  pub statements : are_statements (unit_scope program main labels) false (labels_in x.body ++ []) x.body ≡ true
   pub fits : statements_need x.body ≤ held_registers
-  pub unlabelled : labels_in x.body ≡ []
-  pub still : are_still x.body ≡ true
 
 overflow_is : (c : Condition) → is_overflow c ≡ true → c ≡ C.FixedOverflow
 overflow_is C.FixedOverflow h = refl
@@ -58,11 +57,10 @@ pub unit_is :
     (program : Y.Program) (main : Y.BlockHead) (labels : List Label) (x : OnUnit) →
     is_unit program main labels x ≡ true → Unit' program main labels x
 unit_is program main labels x h =
-    let s = own_scope program main main.level in
+    let s = unit_scope program main labels in
     let fits = nat_le (statements_need x.body) held_registers in
     let bare = is_bare program x.head x.head.kind in
-    let none = has_none (labels_in x.body) in
-    let five = bare && is_unit_list program main labels x.body in
+    let five = bare && is_body s false x.body in
     let four = nat_le main.number x.head.number && five in
     let three = (x.head.level == 1) && four in
     let two = is_line x.head.line && three in
@@ -71,10 +69,8 @@ unit_is program main labels x h =
     let c = and_parts (is_line x.head.line) three b.1 in
     let d = and_parts (x.head.level == 1) four c.1 in
     let e = and_parts (nat_le main.number x.head.number) five d.1 in
-    let f = and_parts bare (is_unit_list program main labels x.body) e.1 in
-    let g = and_parts (are_statements s false labels x.body) (fits && (none && are_still x.body)) f.1 in
-    let i = and_parts fits (none && are_still x.body) g.1 in
-    let j = and_parts none (are_still x.body) i.1 in
+    let f = and_parts bare (is_body s false x.body) e.1 in
+    let g = and_parts (are_statements s false (labels_in x.body ++ []) x.body) fits f.1 in
     record {
       condition = overflow_is x.condition a.0;
       line = ltb-true x.line (2 ^ 31) b.0;
@@ -83,9 +79,7 @@ unit_is program main labels x h =
       later = leb-true main.number x.head.number e.0;
       bare = bare_is program x.head x.head.kind refl f.0;
       statements = g.0;
-      fits = leb-true (statements_need x.body) held_registers i.0;
-      unlabelled = none_of (labels_in x.body) j.0;
-      still = j.1;
+      fits = leb-true (statements_need x.body) held_registers g.1;
     }
 
 -- it makes no variables

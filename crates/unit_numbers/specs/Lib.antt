@@ -1,3 +1,4 @@
+pub mod Calls
 pub mod Units
 pub mod Programs
 pub mod Headlines

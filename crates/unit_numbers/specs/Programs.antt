@@ -15,7 +15,7 @@ use Rattle.unit_numbers.specs.Units.{is_unit, own_scope, unit_in}
 -- ---- the list of the main procedure: ON stands anywhere in it, and in no list inside it
 
 abbrev pub is_step_with : Y.Program → (main : Y.BlockHead) → List Label → Option OnUnit → Y.Stmt → Bool
-is_step_with program main labels None stmt = is_statement (own_scope program main main.level) false labels stmt
+is_step_with program main labels None stmt = is_statement (own_scope program main) false labels stmt
 is_step_with program main labels (Some x) stmt = is_unit program main labels x
 
 abbrev pub is_step : Y.Program → (main : Y.BlockHead) → List Label → Y.Stmt → Bool

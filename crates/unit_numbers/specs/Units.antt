@@ -1,65 +1,45 @@
 -- On-units of FIXEDOVERFLOW over FIXED BINARY(31) numbers, as a class that is computed from typed trees.
-use Rattle.std.specs.Prelude.{◌&&◌, ◌==◌, ℕ, Bool, true, false, List, [], ◌∷◌, nat_le, Option, None, Some}
+use Rattle.std.specs.Prelude.{◌&&◌, ◌==◌, Bool, true, false, List, [], ◌∷◌, nat_le, Option, None, Some}
 use Rattle.pli_language.specs.declared.condition.Condition.{Condition}
 use Rattle.pli_language.specs.declared.condition.Condition.TheVariants as C
 use Rattle.pli_typing.specs.TypedTree as Y
-use Rattle.pli_meaning.specs.Control.{Label}
+use Rattle.pli_meaning.specs.Control.{Label, is_among}
 use Rattle.pli_meaning.specs.DeclaredShapes.{variables_of_block}
-use Rattle.pli_meaning.specs.Executing.{labels_in}
 use Rattle.pli_coding.specs.Images.{place_of_head}
-use Rattle.pli_coding.specs.Registers.{held_registers}
 use Rattle.unit_runs.specs.Establishing.{OnUnit}
 use Rattle.number_runs.specs.Numbers.{Scope, has_none}
-use Rattle.number_runs.specs.Statements.{are_statements, is_line, statements_need}
+use Rattle.number_runs.specs.Statements.{is_line}
+use Rattle.number_headlines.specs.Programs.{is_body}
+use Rattle.unit_numbers.specs.Calls.{may_call}
 
--- the statements of the main procedure, and of units in it, may name the variables of the main procedure, and call
--- nothing
-abbrev pub own_scope : Y.Program → (main : Y.BlockHead) → (level : ℕ) → Scope
-own_scope program main level =
+-- the statements of the main procedure may name its variables, and call such functions and procedures
+abbrev pub own_scope : Y.Program → (main : Y.BlockHead) → Scope
+own_scope program main =
     record {
       program = program;
-      level = level;
+      level = main.level;
+      blocks = place_of_head main ∷ [];
+      is_function = may_call program main true;
+      is_procedure = may_call program main false;
+      raises = true;
+      own = true;
+      is_outer = λ level label. false;
+    }
+
+-- those of a unit in it may name them, too, and jump to these labels of the main procedure; they call nothing, raise
+-- nothing, and don't return
+abbrev pub unit_scope : Y.Program → (main : Y.BlockHead) → List Label → Scope
+unit_scope program main labels =
+    record {
+      program = program;
+      level = main.level;
       blocks = place_of_head main ∷ [];
       is_function = λ n. false;
       is_procedure = λ n. false;
+      raises = false;
+      own = false;
+      is_outer = λ level label. (level == main.level) && is_among label labels;
     }
-
--- ---- what raises nothing: constants and variables, tests of them, and statements over them; groups have no labels
-
-abbrev pub is_still : Y.Number → Bool
-is_still (Y.NumberConstant n) = true
-is_still (Y.NumberIn r) = true
-is_still _ = false
-
-abbrev pub is_still_test : Y.Bit → Bool
-is_still_test (Y.BitConstant b) = true
-is_still_test (Y.Negated x) = is_still_test x
-is_still_test (Y.Combined operator left right) = is_still_test left && is_still_test right
-is_still_test (Y.NumbersCompared comparison left right) = is_still left && is_still right
-is_still_test (Y.BitsCompared comparison left right) = is_still_test left && is_still_test right
-is_still_test _ = false
-
-abbrev pub is_still_source : Y.Stored → Bool
-is_still_source (Y.StoredNumber precision x) = is_still x
-is_still_source _ = false
-
-abbrev mutual
-  pub is_still_statement : Y.Stmt → Bool
-  is_still_statement (Y.Null line) = true
-  is_still_statement (Y.Assign target source line) = is_still_source source
-  is_still_statement (Y.If condition unit line) = is_still_test condition && is_still_statement unit
-  is_still_statement (Y.IfElse condition unit otherwise line) =
-      is_still_test condition && (is_still_statement unit && is_still_statement otherwise)
-  is_still_statement (Y.Do body line) = has_none (labels_in body) && are_still body
-  is_still_statement (Y.DoWhile condition body line) =
-      is_still_test condition && (has_none (labels_in body) && are_still body)
-  is_still_statement (Y.Goto level label line) = true
-  is_still_statement (Y.Stop line) = true
-  is_still_statement _ = false
-
-  pub are_still : Y.Stmts → Bool
-  are_still (Y.EndOfList own) = true
-  are_still (Y.StmtThen own first rest) = is_still_statement first && are_still rest
 
 -- ---- units
 
@@ -79,12 +59,6 @@ is_bare program head Y.SimpleUnit = true
 is_bare program head Y.UnitBlock = has_none (variables_of_block program head.number)
 is_bare program head _ = false
 
--- its statements raise nothing, and have no labels; a GOTO may name these labels of the main procedure
-abbrev pub is_unit_list : Y.Program → (main : Y.BlockHead) → List Label → Y.Stmts → Bool
-is_unit_list program main labels body =
-    are_statements (own_scope program main main.level) false labels body
-    && (nat_le (statements_need body) held_registers && (has_none (labels_in body) && are_still body))
-
 -- a unit of the main procedure, whose list has these labels
 abbrev pub is_unit : Y.Program → (main : Y.BlockHead) → List Label → OnUnit → Bool
 is_unit program main labels x =
@@ -93,4 +67,4 @@ is_unit program main labels x =
     && (is_line x.head.line
     && ((x.head.level == 1)
     && (nat_le main.number x.head.number
-    && (is_bare program x.head x.head.kind && is_unit_list program main labels x.body)))))
+    && (is_bare program x.head x.head.kind && is_body (unit_scope program main labels) false x.body)))))

@@ -1,0 +1,371 @@
+-- Procedures and functions of level 1 that the main procedure calls, whatever units it has by then.
+use Rattle.std.proofs.Common.{◌≡◌, ℕ, suc, ◌+◌, ◌*◌, ◌^◌, ◌<◌, ◌≤◌, List, [], ◌∷◌, ◌++◌, Option, None, Some}
+use Rattle.std.proofs.Common.{true, false, length, refl, sym, ap, ◌∙◌, subst, arith, inl, inr, ◌⊎◌}
+use Rattle.std.specs.Prelude.{◌&&◌, ◌==◌, ◌||◌, Bool, cond, nat_le, nat_lt}
+use Rattle.std.proofs.lemmas.Bool.{and_parts, eqb-true, leb-true}
+use Rattle.std.proofs.lemmas.Option.{same_Some}
+use Rattle.pli_language.specs.declared.condition.Condition.{Condition}
+use Rattle.pli_typing.specs.TypedTree as Y
+use Rattle.pli_meaning.specs.Control.{Label}
+use Rattle.pli_meaning.specs.DeclaredShapes.{declared_variable, head_of, procedure_numbered, variables_of_block}
+use Rattle.pli_meaning.specs.Executing.{entered, labels_in}
+use Rattle.pli_meaning.specs.StorageState as M
+use Rattle.pli_meaning.specs.StorageState.{Activation, Binding, BlockUnit, OnUnit, SystemUnit, ancestor}
+use Rattle.pli_meaning.specs.StorageState.{automatic_in_use, height_of, most_activations, without_unit}
+use Rattle.pli_serving.specs.ServiceState as S
+use Rattle.pli_serving.specs.Templates.{shape_at}
+use Rattle.pli_coding.specs.Frames.{fixed_size, parameters_in}
+use Rattle.pli_coding.specs.SignatureTable.{number_in_table, table_of}
+use Rattle.pli_coding.specs.Images.{linked_code, place_of_head}
+use Rattle.pli_coding.specs.Registers.{held_registers}
+use Rattle.activation_relation.specs.Chains.{HasParent}
+use Rattle.activation_relation.specs.Changes.{newest_with}
+use Rattle.activation_relation.specs.Frames.{lower_end, upper_top}
+use Rattle.activation_relation.specs.Layers.{Layer, Point}
+use Rattle.program_places.specs.Programs.{IsProcedure, Site, body_for, callee_at, code_for, environment_for}
+use Rattle.program_places.specs.Programs.{procedure_for}
+use Rattle.program_places.proofs.Found.{known}
+use Rattle.program_runs.specs.Calls.{AreMade, Callee}
+use Rattle.program_runs.specs.Procedures.{HasRoom}
+use Rattle.program_runs.specs.Starts.{image_parts}
+use Rattle.program_runs.specs.Statements.{Block, IsAmong, IsBegun}
+use Rattle.program_runs.specs.Variables.{Declared}
+use Rattle.expression_runs.specs.Variables.{Spot, variable_of}
+use Rattle.variable_runs.specs.Lists.{AreAll, all_made, behind_made, layer_behind}
+use Rattle.variable_runs.proofs.Lists.{all_procedure}
+use Rattle.number_runs.specs.Knowledge.{Includes}
+use Rattle.number_runs.specs.Numbers.{has_none, is_known, is_place, is_plain_if}
+use Rattle.number_runs.specs.Statements.{are_statements, statements_need}
+use Rattle.number_runs.specs.Variables.{HasWords, words_in}
+use Rattle.number_runs.proofs.Takes.{words_none}
+use Rattle.number_runs.proofs.Words.{words_anywhere}
+use Rattle.number_headlines.specs.Programs.{body_of, has_result, is_body}
+use Rattle.number_headlines.proofs.Mains.{made_for, procedure_is, result_of}
+use Rattle.number_headlines.proofs.Tables.{block_plain, has_table, word_signature}
+use Rattle.unit_runs.specs.Changing.{IsPast, Past, after, past_point}
+use Rattle.unit_runs.specs.Establishing.{unit_of}
+use Rattle.unit_runs.proofs.Changing.{begun_after}
+use Rattle.unit_runs.proofs.OwnRaises.{past_like}
+use Rattle.unit_numbers.specs.Calls.{called_scope, is_called_if, may_call}
+use Rattle.unit_numbers.proofs.Mains.{Main, block_for, free, level_of, main_begun, main_layer, main_lone}
+use Rattle.unit_numbers.proofs.Mains.{surroundings_for}
+
+-- ---- what a number finds
+
+pub record Inner {program : Y.Program} (m : Main program) (valued : Bool) (number : ℕ) : Type 0 where
+  pub head : Y.BlockHead
+  pub body : Y.Stmts
+  pub is : IsProcedure program head body (result_of valued)
+  pub numbered : head.number ≡ number
+  pub level : head.level ≡ 1
+  pub statements : are_statements (called_scope program m.head head) valued (labels_in body ++ []) body ≡ true
+  pub fits : statements_need body ≤ held_registers
+
+number_found :
+    (number : ℕ) (p : Y.Procedure) (ps : List Y.Procedure) → procedure_numbered number ps ≡ Some p →
+    (head_of p.block).number ≡ number
+number_found number p [] e = absurd (cc e)
+number_found number p (q ∷ qs) e = by ((head_of q.block).number == number) refl e (number_found number p qs)
+  where
+    by :
+        (t : Bool) → ((head_of q.block).number == number) ≡ t →
+        cond t (Some q) (procedure_numbered number qs) ≡ Some p →
+        (procedure_numbered number qs ≡ Some p → (head_of p.block).number ≡ number) → (head_of p.block).number ≡ number
+    by true e f rest =
+        ap (λ (x : Y.Procedure). (head_of x.block).number) (sym (same_Some q p f))
+        ∙ eqb-true (head_of q.block).number number e
+    by false e f rest = rest f
+
+pub inner_is :
+    {program : Y.Program} (m : Main program) (valued : Bool) (number : ℕ) →
+    may_call program m.head valued number ≡ true → Inner m valued number
+inner_is {program} m valued number h = by (procedure_numbered number program.procedures) refl h
+  where
+    by :
+        (o : Option Y.Procedure) → procedure_numbered number program.procedures ≡ o →
+        is_called_if program m.head valued o ≡ true → Inner m valued number
+    by None e h = absurd (cc h)
+    by (Some p) e h =
+        let head = head_of p.block in
+        let body = body_of p.block in
+        let s = called_scope program m.head head in
+        let last = is_body s valued body in
+        let a = and_parts (has_none p.parameters) (has_result valued p.result && ((head.level == 1) && last)) h in
+        let b = and_parts (has_result valued p.result) ((head.level == 1) && last) a.1 in
+        let c = and_parts (head.level == 1) last b.1 in
+        let d = and_parts (are_statements s valued (labels_in body ++ []) body)
+        (nat_le (statements_need body) held_registers) c.1 in
+        let n = number_found number p program.procedures e in
+        record {
+          head = head;
+          body = body;
+          is =
+              ap (λ k. procedure_numbered k program.procedures) n ∙ e
+              ∙ ap (λ q. Some q) (procedure_is valued p a.0 b.0);
+          numbered = n;
+          level = eqb-true head.level 1 c.0;
+          statements = d.0;
+          fits = leb-true (statements_need body) held_registers d.1;
+        }
+
+-- ---- the main procedure where it calls
+
+-- what variables and units leave as it was
+record Same (p q : Point) : Type 0 where
+  signatures : q.places.signatures ≡ p.places.signatures
+  low : q.places.low ≡ p.places.low
+  waiting : q.control.waiting ≡ p.control.waiting
+
+made_same :
+    (φ : Layer) (xs : List Declared) (p : Point) → Same p (all_made image_parts φ xs p)
+made_same φ [] p = record { signatures = refl; low = refl; waiting = refl }
+made_same φ (x ∷ xs) p =
+    let h = made_same (layer_behind image_parts (p.state.serials + 1) φ x) xs (behind_made image_parts φ x p) in
+    record { signatures = h.signatures; low = h.low; waiting = h.waiting }
+
+past_same : (past : Past) (p : Point) → Same p (past_point past p)
+past_same [] p = record { signatures = refl; low = refl; waiting = refl }
+past_same (e ∷ past) p =
+    let h = past_same past p in
+    record { signatures = h.signatures; low = h.low; waiting = h.waiting }
+
+past_living : (past : Past) (p : Point) → (past_point past p).state.living ≡ p.state.living
+past_living [] p = refl
+past_living (e ∷ past) p = past_living past p
+
+lower_same :
+    (xs : List (Condition × S.OnUnit)) (φs : List Layer) →
+    lower_end image_parts (newest_with xs φs) ≡ lower_end image_parts φs
+lower_same xs [] = refl
+lower_same xs (φ ∷ φs) = refl
+
+pub past_lower :
+    (past : Past) (p : Point) →
+    lower_end image_parts (past_point past p).control.layers ≡ lower_end image_parts p.control.layers
+past_lower [] p = refl
+past_lower (e ∷ past) p = lower_same _ (past_point past p).control.layers ∙ past_lower past p
+
+-- the one activation, with the variables and the units that it has by then
+abbrev pub alone : (level : ℕ) → List Binding → List (Condition × OnUnit) → List Activation
+alone level bindings units =
+    record { height = 1; level = level; parent = 0; oncode = 0; bindings = bindings; units = units } ∷ []
+
+pub record Alone (level : ℕ) (as' : List Activation) : Type 0 where
+  pub bindings : List Binding
+  pub units : List (Condition × OnUnit)
+  pub is : as' ≡ alone level bindings units
+
+past_alone :
+    (level : ℕ) (past : Past) (p : Point) → Alone level p.state.activations →
+    Alone level (past_point past p).state.activations
+past_alone level [] p h = h
+past_alone level (e ∷ past) p h =
+    let c = e.0.condition in
+    let o = past_alone level past p h in
+    record {
+      bindings = o.bindings;
+      units = (c, BlockUnit (unit_of e.0)) ∷ without_unit c o.units;
+      is = ap (λ as'. M.established c (BlockUnit (unit_of e.0)) as') o.is;
+    }
+
+-- the main procedure's block, with these units
+abbrev pub main_past : {program : Y.Program} → Main program → (input : List ℕ) → (acts : ℕ) → Past → Block
+main_past m input acts past = after (block_for m input acts) past
+
+pub main_alone :
+    {program : Y.Program} (m : Main program) (input : List ℕ) (acts : ℕ) (past : Past) →
+    Alone m.head.level (main_past m input acts past).first.state.activations
+main_alone {program} m input acts past =
+    let one = main_lone m input acts in
+    past_alone m.head.level past (block_for m input acts).first
+    (record { bindings = one.bindings; units = []; is = one.is })
+
+alone_parent :
+    (level : ℕ) (bs : List Binding) (us : List (Condition × OnUnit)) → level ≡ 0 →
+    height_of (ancestor (alone level bs us) 1 0) ≡ 1
+alone_parent level bs us e = subst (λ l. height_of (ancestor (alone l bs us) 1 0) ≡ 1) (sym e) refl
+
+-- ---- what is called
+
+abbrev pub site_for : Y.Program → Y.BlockHead → (more call : ℕ) → Site
+site_for program head more call =
+    record {
+      parent = 1;
+      call = call;
+      around = record { program = program; enter = entered program more; turns = suc more; line = 0 };
+      made = made_for program head;
+    }
+
+abbrev pub inner_for :
+    {program : Y.Program} → (m : Main program) → {valued : Bool} → {number : ℕ} → Inner m valued number →
+    (more call end : ℕ) → Callee
+inner_for {program} m i more call end = callee_at program i.head i.body (site_for program i.head more call) end
+
+pub no_inner_words :
+    {program : Y.Program} (m : Main program) {valued : Bool} {number : ℕ} (i : Inner m valued number) →
+    (procedure_for program i.head i.body).words ≡ 0
+no_inner_words {program} m {valued} i =
+    let plain = block_plain program.variables i.head.number m.plain in
+    words_none (called_scope program m.head i.head) valued (environment_for program i.head) i.head.number i.body
+    plain.0 i.statements i.fits
+
+pub inner_room :
+    {program : Y.Program} (m : Main program) {valued : Bool} {number : ℕ} (i : Inner m valued number)
+    (input : List ℕ) (acts : ℕ) (past : Past) (more call end : ℕ) →
+    HasRoom (surroundings_for m input acts) (main_past m input acts past).first
+    (procedure_for program i.head i.body) (inner_for m i more call end).calling
+inner_room {program} m i input acts past more call end =
+    let k0 = block_for m input acts in
+    let words = no_inner_words m i in
+    let level = i.level in
+    let f = free m input acts in
+    let fits = f.fits in
+    let top = ap (λ ls. upper_top image_parts ls) f.newest in
+    let low = ap (λ ls. lower_end image_parts ls) f.newest in
+    let top' = (past_like k0 past).top in
+    let low' = past_lower past k0.first in
+    let one = main_alone m input acts past in
+    let same = made_same (main_layer m input acts) (words_in (environment_for program m.head)) (main_begun m input acts)
+    in
+    record {
+      room = omega (arith, words, level, fits, top, low, top', low');
+      shallow = ap (λ (as' : List Activation). nat_lt (length as') most_activations) one.is;
+      parent =
+          subst (λ l. HasParent l 1 (main_past m input acts past).first.state.activations) (sym level) (
+            omega arith,
+            ap (λ as'. height_of (ancestor as' 1 0)) one.is
+                ∙ alone_parent m.head.level one.bindings one.units (level_of m),
+          );
+      idle = (past_same past k0.first).waiting ∙ same.waiting;
+    }
+
+pub inner_words :
+    {program : Y.Program} (m : Main program) {valued : Bool} {number : ℕ} (i : Inner m valued number)
+    (input : List ℕ) (acts : ℕ) (past : Past) (more call end : ℕ) (numbers : ℕ → ℕ) →
+    HasWords (surroundings_for m input acts) (inner_for m i more call end) (main_past m input acts past).first numbers
+inner_words {program} m {valued} i input acts past more call end numbers =
+    let k0 = block_for m input acts in
+    let words = no_inner_words m i in
+    let level = i.level in
+    let f = free m input acts in
+    let fits = f.fits in
+    let even = f.even in
+    let limit = f.limit in
+    let low0 = f.low in
+    let top = ap (λ ls. upper_top image_parts ls) f.newest in
+    let low = ap (λ ls. lower_end image_parts ls) f.newest in
+    let top' = (past_like k0 past).top in
+    let low' = past_lower past k0.first in
+    let past' = past_same past k0.first in
+    let places = past'.low in
+    let living = ap (λ ls. automatic_in_use ls) (past_living past k0.first) in
+    let kind = (known program i.head i.body (result_of valued) m.loadable.well_formed i.is).kind in
+    let plain = block_plain program.variables i.head.number m.plain in
+    let few = plain.1 in
+    let table = has_table program i.head.number m.plain in
+    let same = made_same (main_layer m input acts) (words_in (environment_for program m.head)) (main_begun m input acts)
+    in
+    record {
+      kind = kind;
+      code = refl;
+      block = refl;
+      level = refl;
+      program = refl;
+      parts = refl;
+      bare = ap parameters_in i.is;
+      made = refl;
+      plain = plain.0;
+      few = few;
+      small = table.small;
+      shape = λ some. ap (λ t. shape_at t
+          (number_in_table word_signature
+          (table_of program))) (past'.signatures ∙ same.signatures) ∙ table.shape some;
+      room = record {
+        newest = refl;
+        here = refl;
+        even = omega (arith, words, level, even, top, top');
+        counted = omega (arith, level, few);
+        fits = omega (arith, words, level, few, fits, top, low, top', low');
+        low = omega (arith, low0, places);
+        limit = omega (arith, few, limit, living);
+      };
+    }
+
+-- ---- one call: the labels of lists that the main procedure is carrying out, and where
+
+pub record Visit : Type 0 where
+  pub input : List ℕ
+  pub labels : List Label
+  pub call : ℕ
+  pub end : ℕ
+  pub point : Point
+  pub numbers : ℕ → ℕ
+
+-- while it has these units, and so many entries are left
+pub record IsVisit {program : Y.Program} (m : Main program) (v : Visit) (more : ℕ) (past : Past) : Type 0 where
+  pub few : suc more + 1 < 2 ^ 64
+  pub begun : IsBegun (block_for m v.input (suc more))
+  pub known : IsPast (block_for m v.input (suc more)) m.body (body_for program m.head m.body) past
+  pub includes : Includes (labels_in m.body) v.labels
+  pub among : IsAmong (main_past m v.input (suc more) past) v.numbers v.point
+
+abbrev pub visit_callee :
+    {program : Y.Program} → (m : Main program) → {valued : Bool} → {number : ℕ} → Inner m valued number → Visit →
+    (more : ℕ) → Callee
+visit_callee m i v more = inner_for m i more v.call v.end
+
+pub visit_begun :
+    {program : Y.Program} (m : Main program) (v : Visit) (more : ℕ) (past : Past) → IsVisit m v more past →
+    IsBegun (main_past m v.input (suc more) past)
+visit_begun {program} m v more past h =
+    begun_after (block_for m v.input (suc more)) m.body (body_for program m.head m.body) past h.begun h.known
+
+pub visit_all :
+    {program : Y.Program} (m : Main program) {valued : Bool} {number : ℕ} (i : Inner m valued number) (v : Visit)
+    (more : ℕ) (past : Past) → IsVisit m v more past →
+    AreAll (surroundings_for m v.input (suc more)) (visit_callee m i v more) v.point v.numbers
+    (words_in (environment_for program i.head))
+visit_all {program} m i v more past h =
+    words_anywhere (main_past m v.input (suc more) past) (visit_callee m i v more) v.point v.numbers
+    (visit_begun m v more past h) h.among
+    (inner_words m i v.input (suc more) past more v.call v.end v.numbers)
+
+pub visit_made :
+    {program : Y.Program} (m : Main program) {valued : Bool} {number : ℕ} (i : Inner m valued number) (v : Visit)
+    (more : ℕ) (past : Past) → IsVisit m v more past →
+    AreMade (surroundings_for m v.input (suc more)) (linked_code (code_for program)) (visit_callee m i v more) v.point
+    v.numbers
+visit_made {program} m i v more past h =
+    all_procedure (surroundings_for m v.input (suc more)) (linked_code (code_for program)) (visit_callee m i v more)
+    v.point v.numbers (words_in (environment_for program i.head)) (visit_all m i v more past h)
+
+-- ---- the variables that it may name
+
+pub record Named {program : Y.Program} (m : Main program) {valued : Bool} {number : ℕ} (i : Inner m valued number)
+    (x : Spot) : Type 0
+  where
+    pub plain : is_plain_if (declared_variable program (variable_of x)) ≡ true
+    pub of :
+        ((x.block ≡ i.head.number) × (x.level ≡ i.head.level)) ⊎ ((x.block ≡ m.head.number) × (x.level ≡ m.head.level))
+
+pub named_is :
+    {program : Y.Program} (m : Main program) {valued : Bool} {number : ℕ} (i : Inner m valued number) (x : Spot) →
+    is_known (called_scope program m.head i.head) x ≡ true → Named m i x
+named_is {program} m i x h =
+    let plain = is_plain_if (declared_variable program (variable_of x)) in
+    let own = is_place x (place_of_head i.head) in
+    let outer = is_place x (place_of_head m.head) in
+    let a = and_parts (own || (outer || false)) plain h in
+    record { plain = a.1; of = by own outer refl refl a.0 }
+  where
+    by :
+        (q r : Bool) → q ≡ is_place x (place_of_head i.head) → r ≡ is_place x (place_of_head m.head) →
+        (q || (r || false)) ≡ true →
+        ((x.block ≡ i.head.number) × (x.level ≡ i.head.level)) ⊎ ((x.block ≡ m.head.number) × (x.level ≡ m.head.level))
+    by true r e f g =
+        let b = and_parts (x.block == i.head.number) (x.level == i.head.level) (sym e) in
+        inl (eqb-true x.block i.head.number b.0, eqb-true x.level i.head.level b.1)
+    by false true e f g =
+        let b = and_parts (x.block == m.head.number) (x.level == m.head.level) (sym f) in
+        inr (eqb-true x.block m.head.number b.0, eqb-true x.level m.head.level b.1)
+    by false false e f g = absurd (cc g)

@@ -1,0 +1,37 @@
+-- What the main procedure of such a program may call: procedures and functions of level 1 without parameters, in which
+-- its units may be raised, too.
+use Rattle.std.specs.Prelude.{ℕ, ◌&&◌, ◌==◌, Bool, true, false, [], ◌∷◌, Option, None, Some}
+use Rattle.pli_typing.specs.TypedTree as Y
+use Rattle.pli_meaning.specs.DeclaredShapes.{head_of, procedure_numbered}
+use Rattle.pli_coding.specs.Images.{place_of_head}
+use Rattle.number_runs.specs.Numbers.{Scope, has_none}
+use Rattle.number_headlines.specs.Programs.{body_of, has_result, is_body}
+
+-- one may name its own variables and those of the main procedure, and calls none
+abbrev pub called_scope : Y.Program → (main head : Y.BlockHead) → Scope
+called_scope program main head =
+    record {
+      program = program;
+      level = head.level;
+      blocks = place_of_head head ∷ place_of_head main ∷ [];
+      is_function = λ n. false;
+      is_procedure = λ n. false;
+      raises = true;
+      own = true;
+      is_outer = λ level label. false;
+    }
+
+abbrev pub is_called : Y.Program → (main : Y.BlockHead) → (valued : Bool) → Y.Procedure → Bool
+is_called program main valued p =
+    has_none p.parameters
+    && (has_result valued p.result
+    && (((head_of p.block).level == 1)
+    && is_body (called_scope program main (head_of p.block)) valued (body_of p.block)))
+
+abbrev pub is_called_if : Y.Program → (main : Y.BlockHead) → (valued : Bool) → Option Y.Procedure → Bool
+is_called_if program main valued None = false
+is_called_if program main valued (Some p) = is_called program main valued p
+
+-- what a number finds is one
+abbrev pub may_call : Y.Program → (main : Y.BlockHead) → (valued : Bool) → (number : ℕ) → Bool
+may_call program main valued number = is_called_if program main valued (procedure_numbered number program.procedures)
