@@ -31,14 +31,18 @@ use Rattle.program_runs.proofs.Statements.{none_does}
 use Rattle.expression_runs.specs.Variables.{IsNumber, Spot}
 use Rattle.function_runs.proofs.OuterVariables.{procedure_number}
 use Rattle.number_runs.specs.Knowledge.{IsReady, call_statement}
-use Rattle.number_runs.specs.Numbers.{is_known}
+use Rattle.element_runs.specs.Arrays.{IsArray}
+use Rattle.element_runs.proofs.Outer.{outer_array, procedure_known}
+use Rattle.number_runs.specs.Numbers.{bounds_known, is_array_known, is_known}
 use Rattle.number_runs.specs.Variables.{words_in}
 use Rattle.number_runs.proofs.Statements.{body_does, none_raised}
 use Rattle.number_runs.proofs.Takes.{registers_held}
-use Rattle.number_runs.proofs.Words.{own_word}
+use Rattle.number_runs.proofs.Words.{own_array, own_word}
 use Rattle.number_headlines.specs.Programs.{inner_scope, is_callable, main_scope}
+use Rattle.number_headlines.proofs.Inner.{IsOfBoth, NamedArray, named_array}
 use Rattle.number_headlines.proofs.Inner.{Inner, Named, inner_all, inner_for, inner_is, inner_made, inner_room}
 use Rattle.number_headlines.proofs.Inner.{inner_words, named_is, site_for}
+use Rattle.number_headlines.proofs.Mains.{error_at, main_array}
 use Rattle.number_headlines.proofs.Mains.{Main, block_for, level_of, made_system, main_number, most_for, run_for}
 use Rattle.number_headlines.proofs.Mains.{start_for, surroundings_for}
 use Rattle.number_headlines.proofs.Tables.{block_plain}
@@ -109,6 +113,55 @@ inner_number {program} m i input acts more call {p} {numbers} o b x h =
         (main_number m input acts x (record { block = is.0; level = is.1; plain = n.plain }) o.begun) p numbers o.among
         (inner_made m i input acts more call end p numbers o.begun o.among) b
 
+inner_array :
+    {program : Y.Program} (m : Main program) {number : ℕ} (i : Inner m false number) (input : List ℕ)
+    (acts more call : ℕ) {p : Point} {numbers : ℕ → ℕ} (o : Moment m input acts p numbers) →
+    IsBegun (inner_block m i input acts more call p numbers) → (x : Spot) →
+    is_array_known (inner_scope program m.head i.head) x ≡ true →
+    IsArray (inner_block m i input acts more call p numbers) x (bounds_known (inner_scope program m.head i.head) x)
+inner_array {program} m i input acts more call {p} {numbers} o b x h =
+    let named = named_array m i x h in
+    by named named.of
+  where
+    level : i.head.level ≡ 1
+    level = i.level
+
+    outer : m.head.level ≡ 0
+    outer = level_of m
+
+    end : ℕ
+    end = behind_body program i.head i.body
+
+    by :
+        NamedArray m i x → IsOfBoth m i x →
+        IsArray (inner_block m i input acts more call p numbers) x
+        (bounds_known (inner_scope program m.head i.head) x)
+    by n (inl is) =
+        own_array (surroundings_for program input acts) (linked_code (code_for program)) (called_for m i more call) p
+        (block_for m input acts).first numbers x (record { high = omega arith; inside = omega arith }) (
+          inner_words m i input acts more call end numbers,
+          inner_all m i input acts more call end p numbers o.begun o.among,
+        )
+        (record { block = is.0; level = is.1; array = n.array }) b
+    by n (inr is) =
+        let at = is.1 in
+        outer_array (block_for m input acts) (inner_block m i input acts more call p numbers) x
+        (bounds_known (main_scope program m.head) x)
+        (λ d known.
+        procedure_known (block_for m input acts) (called_for m i more call) x d
+        (record {
+          begun = o.begun;
+          level = refl;
+          parent = refl;
+          inner = refl;
+          further = omega (arith, at, level, outer);
+          few = omega (arith, level);
+          program = refl;
+          parts = refl;
+        })
+        known p numbers o.among (inner_made m i input acts more call end p numbers o.begun o.among) b)
+        (main_array m input acts x (record { block = is.0; level = is.1; array = n.array }) o.begun)
+
 inner_system :
     {program : Y.Program} (m : Main program) {number : ℕ} (i : Inner m false number) (input : List ℕ)
     (acts more call : ℕ) {p : Point} {numbers : ℕ → ℕ} (o : Moment m input acts p numbers) (c : Condition) →
@@ -138,6 +191,7 @@ inner_ready once {program} m i input more call {p} {numbers} o b =
       raises = λ may. none_raised (inner_block m i input (suc more) more call p numbers) (labels_in i.body ++ [])
       (most_for program) (record {
         routines = routines;
+        place = error_at once program m.loadable;
         overflow = inner_system m i input (suc more) more call o C.FixedOverflow
             (made_system image_parts _ xs _ C.FixedOverflow tt);
         divisor = inner_system m i input (suc more) more call o C.ZeroDivide
@@ -147,6 +201,7 @@ inner_ready once {program} m i input more call {p} {numbers} o b =
         few = omega (arith, inside);
       });
       variables = λ x h. inner_number m i input (suc more) more call o b x h;
+      arrays = λ x h. inner_array m i input (suc more) more call o b x h;
       calls = record {
         functions = λ labels line n includes h. absurd (cc h);
         procedures = λ labels n line index includes h. absurd (cc h);
@@ -182,7 +237,7 @@ inner_each once {program} m i input more call {p} {numbers} o b =
     let s = inner_scope program m.head i.head in
     body_does s false (inner_block m i input (suc more) more call p numbers) i.body (body_for program i.head i.body)
     (most_for program) left_over (inner_ready once m i input more call o b) i.statements
-    (registers_held s false (environment_for program i.head) i.head.number i.body plain.0 i.statements i.fits)
+    (registers_held s false (environment_for program i.head) i.head.number i.body plain.plain i.statements i.fits)
     (body_placed once program i.head i.body None m.loadable i.is)
 
 -- ---- the statement

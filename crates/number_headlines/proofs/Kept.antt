@@ -34,6 +34,7 @@ use Rattle.number_headlines.specs.Programs.{are_all_plain, has_main, main_scope}
 use Rattle.number_headlines.specs.Programs.{most_words}
 use Rattle.number_headlines.proofs.Tables.{block_plain, has_start}
 use Rattle.number_headlines.proofs.Mains.{Main, block_for, made_for, made_system, main_all, main_for, main_is}
+use Rattle.number_headlines.proofs.Mains.{error_at, main_array, own_array_known}
 use Rattle.number_headlines.proofs.Mains.{main_number, main_room, most_for, own_known, run_for, start_for}
 use Rattle.number_headlines.proofs.Mains.{placed, surroundings_for}
 use Rattle.number_headlines.proofs.Calls.{procedure_called}
@@ -61,6 +62,7 @@ main_ready once {program} m input acts few b calls =
       raises = λ may. none_raised (block_for m input acts) (labels_in m.body ++ [])
       (most_for program) (record {
         routines = routines;
+        place = error_at once program m.loadable;
         overflow = made_system image_parts _ xs _ C.FixedOverflow tt;
         divisor = made_system image_parts _ xs _ C.ZeroDivide tt;
         error = made_system image_parts _ xs _ C.Error tt;
@@ -68,6 +70,7 @@ main_ready once {program} m input acts few b calls =
         few = omega (arith, inside);
       });
       variables = λ x h. main_number m input acts x (own_known m input acts x h) b;
+      arrays = λ x h. main_array m input acts x (own_array_known m input acts x h) b;
       calls = calls;
       jumps = λ labels level label line index includes h. absurd (cc h);
       room = omega arith;
@@ -110,7 +113,7 @@ main_each once {program} m input acts few b =
     let plain = block_plain program.variables m.head.number m.plain in
     body_does (main_scope program m.head) false (block_for m input acts) m.body (body_for program m.head m.body)
     (most_for program) left_over (main_ready once m input acts few b (main_calls once m input acts few b)) m.statements
-    (registers_held (main_scope program m.head) false (environment_for program m.head) m.head.number m.body plain.0
+    (registers_held (main_scope program m.head) false (environment_for program m.head) m.head.number m.body plain.plain
     m.statements m.fits)
     (body_placed once program m.head m.body None m.loadable found)
 

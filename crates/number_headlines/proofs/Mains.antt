@@ -1,5 +1,5 @@
 -- The main procedure of a program of the class where it begins: its variables are made, and there is room for more.
-use Rattle.std.proofs.Common.{◌≡◌, ℕ, ◌+◌, ◌≤◌, List, [], ◌∷◌, ◌++◌, Option, None, Some}
+use Rattle.std.proofs.Common.{◌≡◌, ℕ, ◌+◌, ◌*◌, ◌≤◌, List, [], ◌∷◌, ◌++◌, Option, None, Some}
 use Rattle.std.proofs.Common.{true, false}
 use Rattle.std.proofs.Common.{length, refl, sym, ap, ◌∙◌, subst, arith}
 use Rattle.std.specs.Prelude.{◌&&◌, ◌==◌, ◌||◌, Bool, nat_le}
@@ -11,16 +11,21 @@ use Rattle.pli_meaning.specs.Executing.{labels_in}
 use Rattle.pli_meaning.specs.Making.{with_binding}
 use Rattle.pli_meaning.specs.StorageState.{Activation, BlockUnit, OnUnit, SystemUnit, force, first_unit, unit_for}
 use Rattle.pli_meaning.specs.StorageState.{Binding}
+use Rattle.pli_coding.specs.Environments.{BlockPlace}
 use Rattle.pli_coding.specs.Frames.{MemoryParts, fixed_size, parameters_in}
 use Rattle.pli_coding.specs.Images.{linked_code, place_of_head}
+use Rattle.pli_coding.specs.Assembly.{RaiseError}
+use Rattle.pli_coding.specs.Linking.{place_of}
 use Rattle.pli_coding.specs.Registers.{held_registers}
+use Rattle.code_marks.specs.CodeMarks.{MarkedOnce}
 use Rattle.activation_relation.specs.Chains.{HasParent}
 use Rattle.activation_relation.specs.Layers.{Layer, Point}
 use Rattle.activation_relation.specs.ServiceLaws.{IsSystem}
-use Rattle.program_places.specs.Programs.{IsLoadable, IsMain, Run, code_for, environment_for, image_for}
+use Rattle.program_places.specs.Programs.{IsLoadable, IsMain, Run, code_for, environment_for, image_for, links_for}
 use Rattle.program_places.specs.Programs.{procedure_for, whole_for}
 use Rattle.program_places.specs.Programs as Placed
 use Rattle.program_places.proofs.Found.{known}
+use Rattle.program_places.proofs.Procedures.{error_place, raise_routines, routines_at}
 use Rattle.program_places.proofs.Starts.{main_found}
 use Rattle.program_runs.specs.Calls.{Callee, begun_at, block_at}
 use Rattle.program_runs.specs.Procedures.{HasRoom, layer_for}
@@ -32,14 +37,16 @@ use Rattle.expression_runs.specs.Variables.{IsNumber, Spot, variable_of}
 use Rattle.activation_relation.specs.Points.{Surroundings}
 use Rattle.variable_runs.specs.Lists.{AreAll, all_made, behind_made, layer_behind, newest_all}
 use Rattle.well_formed_trees.specs.WellFormed.{HasMain}
-use Rattle.number_runs.specs.Numbers.{has_none, is_known, is_place, is_plain_if}
+use Rattle.element_runs.specs.Arrays.{IsArray}
+use Rattle.number_runs.specs.Arrays.{is_array_if}
+use Rattle.number_runs.specs.Numbers.{bounds_known, has_none, is_array_known, is_known, is_place, is_plain_if}
 use Rattle.number_runs.specs.Statements.{are_statements, statements_need}
-use Rattle.number_runs.specs.Variables.{HasWords, HaveRoom, IsOwnWord, words_in}
+use Rattle.number_runs.specs.Variables.{HasWords, HaveRoom, IsOwnArray, IsOwnWord, bytes_of, words_in}
 use Rattle.number_runs.proofs.Takes.{words_none}
-use Rattle.number_runs.proofs.Words.{all_words, own_word, room_fewer}
+use Rattle.number_runs.proofs.Words.{all_words, own_array, own_word, room_fewer}
 use Rattle.number_runs.proofs.Variables.{fixed_is}
 use Rattle.number_headlines.specs.Programs.{are_all_plain, body_of, has_main, has_result, is_body, main_scope}
-use Rattle.number_headlines.specs.Programs.{most_words}
+use Rattle.number_headlines.specs.Programs.{most_bytes, most_words}
 use Rattle.number_headlines.proofs.Tables.{block_plain, has_table}
 
 -- ---- no unit comes with variables
@@ -158,7 +165,7 @@ level_of {program} m = (subst HasMain m.main m.loadable.well_formed.main).0
 no_words : {program : Y.Program} (m : Main program) → (procedure_for program m.head m.body).words ≡ 0
 no_words {program} m =
     let plain = block_plain program.variables m.head.number m.plain in
-    words_none (main_scope program m.head) false (environment_for program m.head) m.head.number m.body plain.0
+    words_none (main_scope program m.head) false (environment_for program m.head) m.head.number m.body plain.plain
     m.statements m.fits
 
 parented : (level parent : ℕ) → level ≡ 0 → HasParent level parent []
@@ -181,7 +188,7 @@ main_room {program} m input acts =
 
 -- what stays free behind the main procedure's variables: the variables of one block more, and its frame
 abbrev pub spare : ℕ
-spare = most_words + 16
+spare = most_bytes + 32 * 16
 
 abbrev pub main_layer : {program : Y.Program} → Main program → (input : List ℕ) → (acts : ℕ) → Layer
 main_layer {program} m input acts =
@@ -199,11 +206,11 @@ pub main_spare :
     {program : Y.Program} (m : Main program) (input : List ℕ) (acts : ℕ) →
     HaveRoom (surroundings_for program input acts) (main_begun m input acts)
     (main_layer m input acts) [] (fixed_size m.head.level 0)
-    (length (variables_of_block program m.head.number) + spare)
+    (bytes_of (variables_of_block program m.head.number) + spare)
 main_spare {program} m input acts =
     let words = no_words m in
     let level = level_of m in
-    let few = (block_plain program.variables m.head.number m.plain).1 in
+    let few = (block_plain program.variables m.head.number m.plain).room in
     let code = m.loadable.fits in
     record {
       newest = refl;
@@ -224,8 +231,7 @@ main_words {program} m input acts =
     let found = main_found program (placed m) m.main in
     let kind = (known program m.head m.body None m.loadable.well_formed found).kind in
     let plain = block_plain program.variables m.head.number m.plain in
-    let table = has_table program m.head.number m.plain in
-    let n = length (variables_of_block program m.head.number) in
+    let n = bytes_of (variables_of_block program m.head.number) in
     record {
       kind = kind;
       code = refl;
@@ -235,10 +241,9 @@ main_words {program} m input acts =
       parts = refl;
       bare = ap parameters_in found;
       made = refl;
-      plain = plain.0;
-      few = plain.1;
-      small = table.small;
-      shape = table.shape;
+      plain = plain.plain;
+      few = plain.few;
+      tabled = has_table program m.head m.plain;
       room = room_fewer (surroundings_for program input acts) (main_begun m input acts)
           (main_layer m input acts) [] (fixed_size m.head.level 0) n (n + spare) (omega arith)
           (main_spare m input acts);
@@ -260,6 +265,15 @@ block_for {program} m input acts =
     (main_for m input acts)
     (start_for program input acts) no_numbers
 
+in_place : (x : Spot) (b : BlockPlace) → (is_place x b || false) ≡ true → (x.block ≡ b.number) × (x.level ≡ b.level)
+in_place x b h =
+    let c = and_parts (x.block == b.number) (x.level == b.level) (one (is_place x b) h) in
+    (eqb-true x.block b.number c.0, eqb-true x.level b.level c.1)
+  where
+    one : (q : Bool) → (q || false) ≡ true → q ≡ true
+    one true e = refl
+    one false e = absurd (cc e)
+
 pub own_known :
     {program : Y.Program} (m : Main program) (input : List ℕ) (acts : ℕ) (x : Spot) →
     is_known (main_scope program m.head) x ≡ true →
@@ -267,17 +281,18 @@ pub own_known :
 own_known {program} m input acts x h =
     let plain = is_plain_if (declared_variable program (variable_of x)) in
     let a = and_parts (is_place x (place_of_head m.head) || false) plain h in
-    let b = and_parts (x.block == m.head.number) (x.level == m.head.level)
-    (one (is_place x (place_of_head m.head)) a.0) in
-    record {
-      block = eqb-true x.block m.head.number b.0;
-      level = eqb-true x.level m.head.level b.1;
-      plain = a.1;
-    }
-  where
-    one : (q : Bool) → (q || false) ≡ true → q ≡ true
-    one true e = refl
-    one false e = absurd (cc e)
+    let b = in_place x (place_of_head m.head) a.0 in
+    record { block = b.0; level = b.1; plain = a.1 }
+
+pub own_array_known :
+    {program : Y.Program} (m : Main program) (input : List ℕ) (acts : ℕ) (x : Spot) →
+    is_array_known (main_scope program m.head) x ≡ true →
+    IsOwnArray (main_for m input acts) x
+own_array_known {program} m input acts x h =
+    let array = is_array_if (declared_variable program (variable_of x)) in
+    let a = and_parts (is_place x (place_of_head m.head) || false) array h in
+    let b = in_place x (place_of_head m.head) a.0 in
+    record { block = b.0; level = b.1; array = a.1 }
 
 abbrev pub most_for : Y.Program → ℕ
 most_for program = length (linked_code (code_for program)) + 2
@@ -290,3 +305,20 @@ main_number {program} m input acts x own b =
     own_word (surroundings_for program input acts) (linked_code (code_for program)) (main_for m input acts)
     (start_for program input acts) (start_for program input acts) no_numbers x
     (record { high = omega arith; inside = omega arith }) (main_words m input acts, main_all m input acts) own b
+
+-- and each array an array of it
+pub main_array :
+    {program : Y.Program} (m : Main program) (input : List ℕ) (acts : ℕ) (x : Spot) →
+    IsOwnArray (main_for m input acts) x → IsBegun (block_for m input acts) →
+    IsArray (block_for m input acts) x (bounds_known (main_scope program m.head) x)
+main_array {program} m input acts x own b =
+    own_array (surroundings_for program input acts) (linked_code (code_for program)) (main_for m input acts)
+    (start_for program input acts) (start_for program input acts) no_numbers x
+    (record { high = omega arith; inside = omega arith }) (main_words m input acts, main_all m input acts) own b
+
+-- where the routine of ERROR stands
+pub error_at :
+    (once : MarkedOnce) (program : Y.Program) (h : IsLoadable program) →
+    place_of (links_for program) RaiseError ≡ 4 * ((raise_routines once program h).at + 8)
+error_at once program h =
+    error_place once program h ∙ ap (λ n. 4 * (n + 8)) (sym (routines_at once program h))
