@@ -201,7 +201,7 @@ inner_ready once {program} m i input more call {p} {numbers} o b =
         few = omega (arith, inside);
       });
       variables = λ x h. inner_number m i input (suc more) more call o b x h;
-      arrays = λ x h. inner_array m i input (suc more) more call o b x h;
+      arrays = λ may x h. inner_array m i input (suc more) more call o b x h;
       calls = record {
         functions = λ labels line n includes h. absurd (cc h);
         procedures = λ labels n line index includes h. absurd (cc h);

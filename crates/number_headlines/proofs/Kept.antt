@@ -70,7 +70,7 @@ main_ready once {program} m input acts few b calls =
         few = omega (arith, inside);
       });
       variables = λ x h. main_number m input acts x (own_known m input acts x h) b;
-      arrays = λ x h. main_array m input acts x (own_array_known m input acts x h) b;
+      arrays = λ may x h. main_array m input acts x (own_array_known m input acts x h) b;
       calls = calls;
       jumps = λ labels level label line index includes h. absurd (cc h);
       room = omega arith;

@@ -265,7 +265,7 @@ block_for {program} m input acts =
     (main_for m input acts)
     (start_for program input acts) no_numbers
 
-in_place : (x : Spot) (b : BlockPlace) → (is_place x b || false) ≡ true → (x.block ≡ b.number) × (x.level ≡ b.level)
+pub in_place : (x : Spot) (b : BlockPlace) → (is_place x b || false) ≡ true → (x.block ≡ b.number) × (x.level ≡ b.level)
 in_place x b h =
     let c = and_parts (x.block == b.number) (x.level == b.level) (one (is_place x b) h) in
     (eqb-true x.block b.number c.0, eqb-true x.level b.level c.1)

@@ -117,7 +117,7 @@ mutual
       let w = element_is s v part subscript a.0 in
       let need = max (number_needs subscript) 1 in
       subst (λ r. Does k need (Y.NumberIn r)) (sym w.is)
-      (element_does k w.spot (bounds_known s w.spot) subscript need h.begun (h.arrays w.spot w.known)
+      (element_does k w.spot (bounds_known s w.spot) subscript need h.begun (h.arrays w.raises w.spot w.known)
       (h.subscript w.raises)
       (subscript_given s k 0 need subscript h a.1 (omega arith) (number_does s k subscript h a.1)))
   reference_does s k (Y.Referring v Y.NotLocated part (Y.NumberThen first (Y.NumberThen second rest))) h is =

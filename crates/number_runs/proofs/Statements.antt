@@ -194,7 +194,7 @@ element_given h labels v part subscript source line index includes is one number
     (record {
       act = act_of h line is;
       begun = h.ready.begun;
-      array = h.ready.arrays t.spot t.known;
+      array = h.ready.arrays t.raises t.spot t.known;
       registers = omega (arith, fits, needs, more);
       held = h.ready.held;
       statement = l;

@@ -41,7 +41,7 @@ pub record KnowsNumbers (s : Scope) (k : Setting) : Type 0 where
   pub divisor : s.raises ≡ true → ZeroDivideComes k
   pub subscript : s.raises ≡ true → SubscriptComes k
   pub variables : (x : Spot) → is_known s x ≡ true → IsNumber k.block x
-  pub arrays : (x : Spot) → is_array_known s x ≡ true → IsArray k.block x (bounds_known s x)
+  pub arrays : s.raises ≡ true → (x : Spot) → is_array_known s x ≡ true → IsArray k.block x (bounds_known s x)
   pub functions : (n : ℕ) → s.is_function n ≡ true → L.Does k 0 (call_number s n)
 
 -- ---- around statements
@@ -140,7 +140,7 @@ pub record IsReady (s : Scope) (valued : Bool) (k : Block) (labels : List Label)
   pub held : k.registers ≤ held_registers
   pub raises : s.raises ≡ true → KnowsRaises k labels most
   pub variables : (x : Spot) → is_known s x ≡ true → IsNumber k x
-  pub arrays : (x : Spot) → is_array_known s x ≡ true → IsArray k x (bounds_known s x)
+  pub arrays : s.raises ≡ true → (x : Spot) → is_array_known s x ≡ true → IsArray k x (bounds_known s x)
   pub calls : KnowsCalls s k labels most left'
   pub jumps : KnowsJumps s k labels left'
   -- an act pays for a statement and for what a call in it needs

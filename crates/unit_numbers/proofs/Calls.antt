@@ -47,10 +47,11 @@ use Rattle.jump_runs.proofs.FunctionLists.{each_ends, system_ends}
 use Rattle.jump_runs.proofs.Functions.{jump_function_does}
 use Rattle.text_runs.proofs.Points.{alone_does}
 use Rattle.number_runs.specs.Knowledge.{Includes, IsHome, IsReady, KnowsCalls, KnowsRaises, call_number, call_statement}
+use Rattle.element_runs.proofs.Outside.{subscripts_end}
 use Rattle.number_runs.specs.Variables.{words_in}
 use Rattle.number_runs.proofs.Statements.{body_does}
 use Rattle.number_runs.proofs.Takes.{registers_held}
-use Rattle.number_headlines.proofs.Mains.{made_system, result_of}
+use Rattle.number_headlines.proofs.Mains.{error_at, made_system, result_of}
 use Rattle.number_headlines.proofs.Tables.{block_plain}
 use Rattle.unit_runs.specs.Changing.{IsPast, Past}
 use Rattle.unit_runs.proofs.Changing.{begun_after}
@@ -62,7 +63,7 @@ use Rattle.unit_numbers.proofs.Called.{visit_begun, visit_callee, visit_made}
 use Rattle.unit_numbers.proofs.Established.{main_system, unit_stands}
 use Rattle.unit_numbers.proofs.Mains.{Main, block_for, most_for, run_for, start_for, surroundings_for}
 use Rattle.unit_numbers.proofs.Raises.{entry_low}
-use Rattle.unit_numbers.proofs.Visits.{visit_block, visit_number, visit_overflow, visit_system}
+use Rattle.unit_numbers.proofs.Visits.{visit_array, visit_block, visit_number, visit_overflow, visit_system}
 
 -- ---- raises in what is called
 
@@ -129,6 +130,15 @@ called_raises once {program} m i v more past entry function own h b =
             acts = h.few;
             most = omega (arith, inside);
           });
+      subscript = λ labels line includes.
+          subscripts_end (visit_setting m i v more past entry function labels line) (record {
+            routines = routines;
+            place = error_at once program m.loadable;
+            error = visit_system m i v more past entry function h C.Error
+                (main_system once m v.input (suc more) past h.known C.Error refl);
+            acts = h.few;
+            most = omega (arith, inside);
+          });
     }
 
 -- ---- its statements
@@ -149,6 +159,7 @@ called_ready once m i v more past entry function h b home =
       held = omega arith;
       raises = λ may. called_raises once m i v more past entry function (labels_in i.body ++ []) h b;
       variables = λ x known. visit_number m i v more past entry function h b x known;
+      arrays = λ may x known. visit_array m i v more past entry function h b x known;
       calls = record {
         functions = λ labels line n includes call. absurd (cc call);
         procedures = λ labels n line index includes call. absurd (cc call);
@@ -170,7 +181,7 @@ called_each once {program} m {valued} i v more past entry function h b home =
     let s = called_scope program m.head i.head in
     body_does s valued (visit_block m i v more past entry function) i.body (body_for program i.head i.body)
     (most_for program) left_over (called_ready once m i v more past entry function h b home) i.statements
-    (registers_held s valued (environment_for program i.head) i.head.number i.body plain.0 i.statements i.fits)
+    (registers_held s valued (environment_for program i.head) i.head.number i.body plain.plain i.statements i.fits)
     (body_placed once program i.head i.body (result_of valued) m.loadable i.is)
 
 called_marked :

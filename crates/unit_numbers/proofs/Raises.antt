@@ -82,7 +82,7 @@ pub taken_by :
 taken_by {program} m x u =
     let s = unit_scope program m.head (labels_in m.body) in
     let plain = block_plain program.variables x.head.number m.plain in
-    unit_taken s program x.head x.head.kind (statements_need x.body) x.body plain.0
+    unit_taken s program x.head x.head.kind (statements_need x.body) x.body plain.plain
     (statements_taken s false (labels_in x.body ++ []) x.body u.statements u.fits)
 
 -- procedures stand behind the start and the routines of raises
@@ -285,6 +285,7 @@ scene_ready once {program} m z s r is made b =
       held = omega arith;
       raises = λ may. absurd (cc may);
       variables = λ v known. s.numbers r is made b v known;
+      arrays = λ may v known. absurd (cc may);
       calls = record {
         functions = λ ls at n inside call. absurd (cc call);
         procedures = λ ls n at index inside call. absurd (cc call);
