@@ -187,17 +187,17 @@ valued_ready once {program} m i input more call {p} {numbers} o b =
       turns = omega (arith, first);
       held = omega arith;
       raises = λ may. none_raised (valued_block m i input (suc more) more call p numbers) (labels_in i.body ++ [])
-      (most_for program) (record {
-        routines = routines;
-        place = error_at once program m.loadable;
-        overflow = valued_system m i input (suc more) more call o C.FixedOverflow
-            (made_system image_parts _ xs _ C.FixedOverflow tt);
-        divisor = valued_system m i input (suc more) more call o C.ZeroDivide
-            (made_system image_parts _ xs _ C.ZeroDivide tt);
-        error = valued_system m i input (suc more) more call o C.Error (made_system image_parts _ xs _ C.Error tt);
-        acts = o.few;
-        few = omega (arith, inside);
-      });
+          (most_for program) (record {
+            routines = routines;
+            place = error_at once program m.loadable;
+            overflow = valued_system m i input (suc more) more call o C.FixedOverflow
+                (made_system image_parts _ xs _ C.FixedOverflow tt);
+            divisor = valued_system m i input (suc more) more call o C.ZeroDivide
+                (made_system image_parts _ xs _ C.ZeroDivide tt);
+            error = valued_system m i input (suc more) more call o C.Error (made_system image_parts _ xs _ C.Error tt);
+            acts = o.few;
+            few = omega (arith, inside);
+          });
       variables = λ x h. valued_number m i input (suc more) more call o b x h;
       arrays = λ may x h. valued_array m i input (suc more) more call o b x h;
       calls = record {

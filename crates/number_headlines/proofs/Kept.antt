@@ -60,15 +60,15 @@ main_ready once {program} m input acts few b calls =
       turns = omega (arith, first);
       held = omega arith;
       raises = λ may. none_raised (block_for m input acts) (labels_in m.body ++ [])
-      (most_for program) (record {
-        routines = routines;
-        place = error_at once program m.loadable;
-        overflow = made_system image_parts _ xs _ C.FixedOverflow tt;
-        divisor = made_system image_parts _ xs _ C.ZeroDivide tt;
-        error = made_system image_parts _ xs _ C.Error tt;
-        acts = few;
-        few = omega (arith, inside);
-      });
+          (most_for program) (record {
+            routines = routines;
+            place = error_at once program m.loadable;
+            overflow = made_system image_parts _ xs _ C.FixedOverflow tt;
+            divisor = made_system image_parts _ xs _ C.ZeroDivide tt;
+            error = made_system image_parts _ xs _ C.Error tt;
+            acts = few;
+            few = omega (arith, inside);
+          });
       variables = λ x h. main_number m input acts x (own_known m input acts x h) b;
       arrays = λ may x h. main_array m input acts x (own_array_known m input acts x h) b;
       calls = calls;

@@ -6,3 +6,4 @@ pub mod Functions
 pub mod Kept
 pub mod Rows
 pub mod CallRows
+pub mod ArrayRows

@@ -2,3 +2,4 @@ pub mod Programs
 pub mod Headlines
 pub mod Rows
 pub mod CallRows
+pub mod ArrayRows

@@ -1,5 +1,6 @@
 // Laws of the definitions: each function's contract is one law, and calling it does nothing.
 
+ghost use Rattle.number_headlines.specs.ArrayRows.{SieveKept};
 ghost use Rattle.number_headlines.specs.CallRows.{CallingKept};
 ghost use Rattle.number_headlines.specs.Headlines.{NumberHeadlinesKept};
 ghost use Rattle.number_headlines.specs.Rows.{TotalKept};
@@ -27,6 +28,13 @@ pub fn total_kept()
 /// A worked row with calls: the same loop, in which a procedure and a function of the main procedure are called.
 pub fn calling_kept()
     ensures { CallingKept }
+{
+    number_headlines_kept();
+}
+
+/// A worked row with an array: flags are struck at places that a function returns, and its last subscript is too great.
+pub fn sieve_kept()
+    ensures { SieveKept }
 {
     number_headlines_kept();
 }

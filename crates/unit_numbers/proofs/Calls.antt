@@ -270,7 +270,7 @@ call_by once {program} m i input more past few b known labels includes line inde
     let call = index + size_of one + size_of given' in
     let c = inner_for m i more call end in
     let visit : (p : Point) (numbers : ℕ → ℕ) → IsAmong k numbers p →
-        IsVisit m (procedure_visit m i input labels call p numbers) more past =
+    IsVisit m (procedure_visit m i input labels call p numbers) more past =
     λ p numbers o. record { few = few; begun = b; known = known; includes = includes; among = o } in
     let b' = begun_after (block_for m input (suc more)) m.body (body_for program m.head m.body) past b known in
     let first = b'.acts in
@@ -381,8 +381,8 @@ call_value once {program} m i input more past few b known labels includes line =
     let b' = begun_after (block_for m input (suc more)) m.body (body_for program m.head m.body) past b known in
     let first = b'.acts in
     let visit : (call : ℕ) (p : Point) (numbers : ℕ → ℕ) →
-        IsAmong (main_past m input (suc more) past) numbers p →
-        IsVisit m (function_visit m i input labels call p numbers) more past =
+    IsAmong (main_past m input (suc more) past) numbers p →
+    IsVisit m (function_visit m i input labels call p numbers) more past =
     λ call p numbers o. record { few = few; begun = b; known = known; includes = includes; among = o } in
     alone_does k (Y.NumberFrom (Y.Calling i.head.number m.head.level Y.NoArgument)) 0
     (jump_function_does [] k c more
