@@ -188,8 +188,8 @@ inner_ready once {program} m i input more call {p} {numbers} o b =
       acts = o.few;
       turns = omega (arith, first);
       held = omega arith;
-      raises = λ may. none_raised (inner_block m i input (suc more) more call p numbers) (labels_in i.body ++ [])
-          (most_for program) (record {
+      raises = none_raised (inner_scope program m.head i.head) (inner_block m i input (suc more) more call p numbers)
+          (labels_in i.body ++ []) (most_for program) (record {
             routines = routines;
             place = error_at once program m.loadable;
             overflow = inner_system m i input (suc more) more call o C.FixedOverflow

@@ -59,7 +59,7 @@ main_ready once {program} m input acts few b calls =
       acts = few;
       turns = omega (arith, first);
       held = omega arith;
-      raises = λ may. none_raised (block_for m input acts) (labels_in m.body ++ [])
+      raises = none_raised (main_scope program m.head) (block_for m input acts) (labels_in m.body ++ [])
           (most_for program) (record {
             routines = routines;
             place = error_at once program m.loadable;

@@ -61,7 +61,9 @@ inner_scope program main head =
       blocks = place_of_head head ∷ place_of_head main ∷ [];
       is_function = λ n. false;
       is_procedure = λ n. false;
-      raises = true;
+      overflows = true;
+      divides = true;
+      elements = true;
       own = true;
       is_outer = λ level label. false;
     }
@@ -90,7 +92,9 @@ main_scope program head =
       blocks = place_of_head head ∷ [];
       is_function = is_callable program head true;
       is_procedure = is_callable program head false;
-      raises = true;
+      overflows = true;
+      divides = true;
+      elements = true;
       own = true;
       is_outer = λ level label. false;
     }

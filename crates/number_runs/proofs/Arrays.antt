@@ -103,7 +103,7 @@ pub record IsElementOf (s : Scope) (v : Y.Variable) (part : Y.Part) (subscript :
   pub spot : Spot
   pub is : Y.Referring v Y.NotLocated part (Y.NumberThen subscript Y.NoNumber) ≡ element spot subscript
   pub known : is_array_known s spot ≡ true
-  pub raises : s.raises ≡ true
+  pub may : s.elements ≡ true
 
 pub element_is :
     (s : Scope) (v : Y.Variable) (part : Y.Part) (subscript : Y.Number) → is_element s v part ≡ true →
@@ -111,7 +111,7 @@ pub element_is :
 element_is s v part subscript h =
     let known = is_array_known s (spot_of v) in
     let all = (part.first == 0) && ((part.count == 1) && known) in
-    let d = and_parts s.raises (is_automatic v.class && all) h in
+    let d = and_parts s.elements (is_automatic v.class && all) h in
     let a = and_parts (is_automatic v.class) all d.1 in
     let b = and_parts (part.first == 0) ((part.count == 1) && known) a.1 in
     let c = and_parts (part.count == 1) known b.1 in
@@ -122,7 +122,7 @@ element_is s v part subscript h =
           ap (λ k. Y.Referring (record v { class = k }) Y.NotLocated part one) (automatic_is v.class a.0)
           ∙ ap (λ p. Y.Referring (variable_of (spot_of v)) Y.NotLocated p one) (part_is part b.0 c.0);
       known = c.1;
-      raises = d.0;
+      may = d.0;
     }
 
 -- ---- subscripts

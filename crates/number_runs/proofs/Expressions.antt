@@ -19,7 +19,7 @@ use Rattle.test_runs.proofs.Bits.{and_tests, bits_tests, constant_tests, negated
 use Rattle.element_runs.proofs.Elements.{element_does}
 use Rattle.number_runs.specs.Knowledge.{KnowsNumbers}
 use Rattle.number_runs.specs.Numbers.{Scope, are_numbers, bounds_known, is_element, is_number, is_reference, is_test}
-use Rattle.number_runs.specs.Numbers.{number_needs, numbers_need, reference_needs, test_needs}
+use Rattle.number_runs.specs.Numbers.{may_calculate, number_needs, numbers_need, reference_needs, test_needs}
 use Rattle.number_runs.proofs.Arrays.{element_is, subscript_given}
 use Rattle.number_runs.proofs.Variables.{variable_is}
 
@@ -35,7 +35,8 @@ all_with_more k m n (Y.NumberThen first rest) few does =
     (more_registers k m n first few does.0, all_with_more k m n rest few does.1)
 
 signed_does :
-    (s : Scope) (k : Setting) (sign : Y.Sign) (x : Y.Number) (n : ℕ) → KnowsNumbers s k → s.raises ≡ true → Does k n x →
+    (s : Scope) (k : Setting) (sign : Y.Sign) (x : Y.Number) (n : ℕ) → KnowsNumbers s k → s.overflows ≡ true →
+    Does k n x →
     Does k (max n 1) (Y.Signed sign x)
 signed_does s k Y.Positive x n h may does =
     more_registers k n (max n 1) (Y.Signed Y.Positive x) (omega arith) (positive_does k x n does)
@@ -43,13 +44,14 @@ signed_does s k Y.Negative x n h may does = negative_does k x n (h.overflow may)
 
 calculated_does :
     (s : Scope) (k : Setting) (operator : Y.ArithmeticOperator) (left right : Y.Number) (m n : ℕ) →
-    KnowsNumbers s k → s.raises ≡ true → Does k m left → Does k n right →
+    KnowsNumbers s k → may_calculate s operator ≡ true → Does k m left → Does k n right →
     Does k (max m (suc n)) (Y.Calculated operator left right)
 calculated_does s k Y.Sum left right m n h may l r = sum_does k left right m n (h.overflow may) l r
 calculated_does s k Y.Difference left right m n h may l r = difference_does k left right m n (h.overflow may) l r
 calculated_does s k Y.Product left right m n h may l r = product_does k left right m n (h.overflow may) l r
 calculated_does s k Y.Quotient left right m n h may l r =
-    quotient_does k left right m n (h.overflow may) (h.divisor may) l r
+    let a = and_parts s.overflows s.divides may in
+    quotient_does k left right m n (h.overflow a.0) (h.divisor a.1) l r
 
 called_does :
     (s : Scope) (k : Setting) (c : Y.Call) → KnowsNumbers s k → is_number s (Y.NumberFrom c) ≡ true →
@@ -67,15 +69,15 @@ mutual
   number_does s k (Y.NumberIn r) h is = reference_does s k r h is
   number_does s k (Y.NumberFrom c) h is = called_does s k c h is
   number_does s k (Y.Signed sign x) h is =
-      let a = and_parts s.raises (is_number s x) is in
+      let a = and_parts s.overflows (is_number s x) is in
       signed_does s k sign x (number_needs x) h a.0 (number_does s k x h a.1)
   number_does s k (Y.Calculated operator left right) h is =
-      let r = and_parts s.raises (is_number s left && is_number s right) is in
+      let r = and_parts (may_calculate s operator) (is_number s left && is_number s right) is in
       let a = and_parts (is_number s left) (is_number s right) r.1 in
       calculated_does s k operator left right (number_needs left) (number_needs right) h r.0
       (number_does s k left h a.0) (number_does s k right h a.1)
   number_does s k (Y.Absolute x) h is =
-      let a = and_parts s.raises (is_number s x) is in
+      let a = and_parts s.overflows (is_number s x) is in
       absolute_does k x (number_needs x) (h.overflow a.0) (number_does s k x h a.1)
   number_does s k (Y.SignOf x) h is = sign_does k x (number_needs x) (number_does s k x h is)
   number_does s k (Y.Extreme extremum first more) h is =
@@ -83,17 +85,19 @@ mutual
       extreme_does k extremum first more (number_needs first) (numbers_need more) (number_does s k first h a.0)
       (numbers_do s k more h a.1)
   number_does s k (Y.Modulo left right) h is =
-      let r = and_parts s.raises (is_number s left && is_number s right) is in
+      let r = and_parts s.divides (is_number s left && is_number s right) is in
       let a = and_parts (is_number s left) (is_number s right) r.1 in
       modulo_does k left right (number_needs left) (number_needs right) (h.divisor r.0) (number_does s k left h a.0)
       (number_does s k right h a.1)
   number_does s k (Y.Divided precision left right) h is =
-      let r = and_parts s.raises ((precision == 31) && (is_number s left && is_number s right)) is in
+      let both = s.overflows && s.divides in
+      let r = and_parts both ((precision == 31) && (is_number s left && is_number s right)) is in
+      let may = and_parts s.overflows s.divides r.0 in
       let a = and_parts (precision == 31) (is_number s left && is_number s right) r.1 in
       let b = and_parts (is_number s left) (is_number s right) a.1 in
       subst (λ n. Does k (max (number_needs left) (suc (number_needs right))) (Y.Divided n left right))
       (sym (eqb-true precision 31 a.0))
-      (divided_does k left right (number_needs left) (number_needs right) (h.overflow r.0) (h.divisor r.0)
+      (divided_does k left right (number_needs left) (number_needs right) (h.overflow may.0) (h.divisor may.1)
       (number_does s k left h b.0) (number_does s k right h b.1))
   number_does s k (Y.NumberOfText x) h is = absurd (cc is)
   number_does s k (Y.NumberOfBit x) h is = absurd (cc is)
@@ -117,8 +121,8 @@ mutual
       let w = element_is s v part subscript a.0 in
       let need = max (number_needs subscript) 1 in
       subst (λ r. Does k need (Y.NumberIn r)) (sym w.is)
-      (element_does k w.spot (bounds_known s w.spot) subscript need h.begun (h.arrays w.raises w.spot w.known)
-      (h.subscript w.raises)
+      (element_does k w.spot (bounds_known s w.spot) subscript need h.begun (h.arrays w.may w.spot w.known)
+      (h.subscript w.may)
       (subscript_given s k 0 need subscript h a.1 (omega arith) (number_does s k subscript h a.1)))
   reference_does s k (Y.Referring v Y.NotLocated part (Y.NumberThen first (Y.NumberThen second rest))) h is =
       absurd (cc is)

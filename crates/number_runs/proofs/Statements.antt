@@ -58,24 +58,25 @@ pub record Home : Type 0 where
   pub ready : IsReady scope valued block own most left'
 
 -- without units raises end the run
-pub none_raised : (k : Block) (own : List Label) (most : ℕ) → IsUnraised k most → KnowsRaises k own most
-none_raised k own most u =
+pub none_raised :
+    (s : Scope) (k : Block) (own : List Label) (most : ℕ) → IsUnraised k most → KnowsRaises s k own most
+none_raised s k own most u =
     record {
-      overflow = λ labels line includes. overflow_ends (setting_of k labels line most) (record {
+      overflow = λ may labels line includes. overflow_ends (setting_of k labels line most) (record {
         routines = u.routines;
         overflow = u.overflow;
         error = u.error;
         acts = u.acts;
         most = u.few;
       });
-      divisor = λ labels line includes. zero_divide_ends (setting_of k labels line most) (record {
+      divisor = λ may labels line includes. zero_divide_ends (setting_of k labels line most) (record {
         routines = u.routines;
         divisor = u.divisor;
         error = u.error;
         acts = u.acts;
         most = u.few;
       });
-      subscript = λ labels line includes. subscripts_end (setting_of k labels line most) (record {
+      subscript = λ may labels line includes. subscripts_end (setting_of k labels line most) (record {
         routines = u.routines;
         place = u.place;
         error = u.error;
@@ -102,9 +103,9 @@ knows h labels line includes =
     let r = h.ready in
     record {
       begun = r.begun;
-      overflow = λ may. (r.raises may).overflow labels line includes;
-      divisor = λ may. (r.raises may).divisor labels line includes;
-      subscript = λ may. (r.raises may).subscript labels line includes;
+      overflow = λ may. r.raises.overflow may labels line includes;
+      divisor = λ may. r.raises.divisor may labels line includes;
+      subscript = λ may. r.raises.subscript may labels line includes;
       variables = r.variables;
       arrays = r.arrays;
       functions = λ n is. r.calls.functions labels line n includes is;
@@ -194,13 +195,13 @@ element_given h labels v part subscript source line index includes is one number
     (record {
       act = act_of h line is;
       begun = h.ready.begun;
-      array = h.ready.arrays t.raises t.spot t.known;
+      array = h.ready.arrays t.may t.spot t.known;
       registers = omega (arith, fits, needs, more);
       held = h.ready.held;
       statement = l;
       paid = paid_for h (Y.Assign (element t.spot subscript) (Y.StoredNumber 31 x.number) line) index l;
     })
-    (knows'.subscript t.raises) (number_does s k x.number knows' x.known)
+    (knows'.subscript t.may) (number_does s k x.number knows' x.known)
     (subscript_given s k 1 second subscript knows' number (omega arith) (number_does s k subscript knows' number))))
 
 given_does :

@@ -15,7 +15,8 @@ use Rattle.pli_coding.specs.Storing.{assigned_takes}
 use Rattle.pli_coding.specs.Temporaries.{bit_takes, number_takes, numbers_take, reference_takes, stored_takes}
 use Rattle.expression_runs.specs.Variables.{Spot, whole}
 use Rattle.number_runs.specs.Numbers.{Scope, are_numbers, is_element, is_fixed, is_number, is_reference, is_test}
-use Rattle.number_runs.specs.Numbers.{is_variable, number_needs, numbers_need, reference_needs, test_needs}
+use Rattle.number_runs.specs.Numbers.{is_variable, may_calculate, number_needs, numbers_need, reference_needs}
+use Rattle.number_runs.specs.Numbers.{test_needs}
 use Rattle.number_runs.specs.Statements.{are_statements, is_line, is_statement, is_stored, statement_needs}
 use Rattle.number_runs.specs.Statements.{statements_need, stored_needs}
 use Rattle.number_runs.specs.Variables.{are_plain, is_declared}
@@ -109,27 +110,28 @@ mutual
   number_taken s (Y.NumberFrom c) t h fits = called_takes s c t h
   number_taken s (Y.Signed sign x) t h fits =
       takes_signed (number_needs x) t (number_takes t x) (omega (arith, fits))
-      (number_taken s x t (and_parts s.raises (is_number s x) h).1 (omega (arith, fits)))
+      (number_taken s x t (and_parts s.overflows (is_number s x) h).1 (omega (arith, fits)))
   number_taken s (Y.Calculated operator left right) t h fits =
-      let r = and_parts s.raises (is_number s left && is_number s right) h in
+      let r = and_parts (may_calculate s operator) (is_number s left && is_number s right) h in
       let a = and_parts (is_number s left) (is_number s right) r.1 in
       takes_two (number_needs left) (number_needs right) t (number_takes t left) (λ u. number_takes u right) fits
       (number_taken s left t a.0 (omega (arith, fits))) (number_taken s right (one_more t) a.1 (omega (arith, fits)))
   number_taken s (Y.Absolute x) t h fits =
       takes_signed (number_needs x) t (number_takes t x) (omega (arith, fits))
-      (number_taken s x t (and_parts s.raises (is_number s x) h).1 (omega (arith, fits)))
+      (number_taken s x t (and_parts s.overflows (is_number s x) h).1 (omega (arith, fits)))
   number_taken s (Y.SignOf x) t h fits = number_taken s x t h fits
   number_taken s (Y.Extreme extremum first more) t h fits =
       let a = and_parts (is_number s first) (are_numbers s more) h in
       takes_two (number_needs first) (numbers_need more) t (number_takes t first) (λ u. numbers_take u more) fits
       (number_taken s first t a.0 (omega (arith, fits))) (numbers_taken s more (one_more t) a.1 (omega (arith, fits)))
   number_taken s (Y.Modulo left right) t h fits =
-      let r = and_parts s.raises (is_number s left && is_number s right) h in
+      let r = and_parts s.divides (is_number s left && is_number s right) h in
       let a = and_parts (is_number s left) (is_number s right) r.1 in
       takes_two (number_needs left) (number_needs right) t (number_takes t left) (λ u. number_takes u right) fits
       (number_taken s left t a.0 (omega (arith, fits))) (number_taken s right (one_more t) a.1 (omega (arith, fits)))
   number_taken s (Y.Divided precision left right) t h fits =
-      let r = and_parts s.raises ((precision == 31) && (is_number s left && is_number s right)) h in
+      let both = s.overflows && s.divides in
+      let r = and_parts both ((precision == 31) && (is_number s left && is_number s right)) h in
       let b = and_parts (precision == 31) (is_number s left && is_number s right) r.1 in
       let a = and_parts (is_number s left) (is_number s right) b.1 in
       takes_two (number_needs left) (number_needs right) t (number_takes t left) (λ u. number_takes u right) fits

@@ -37,11 +37,11 @@ call_number s n = Y.NumberFrom (Y.Calling n s.level Y.NoArgument)
 -- array of it, and calls of functions that may be called leave what they mean
 pub record KnowsNumbers (s : Scope) (k : Setting) : Type 0 where
   pub begun : IsBegun k.block
-  pub overflow : s.raises ≡ true → OverflowComes k
-  pub divisor : s.raises ≡ true → ZeroDivideComes k
-  pub subscript : s.raises ≡ true → SubscriptComes k
+  pub overflow : s.overflows ≡ true → OverflowComes k
+  pub divisor : s.divides ≡ true → ZeroDivideComes k
+  pub subscript : s.elements ≡ true → SubscriptComes k
   pub variables : (x : Spot) → is_known s x ≡ true → IsNumber k.block x
-  pub arrays : s.raises ≡ true → (x : Spot) → is_array_known s x ≡ true → IsArray k.block x (bounds_known s x)
+  pub arrays : s.elements ≡ true → (x : Spot) → is_array_known s x ≡ true → IsArray k.block x (bounds_known s x)
   pub functions : (n : ℕ) → s.is_function n ≡ true → L.Does k 0 (call_number s n)
 
 -- ---- around statements
@@ -92,13 +92,16 @@ pub record AreAround (k : Block) (own labels : List Label) : Type 0 where
   pub includes : Includes own labels
 
 -- raises in its statements come to what they mean, also where a unit goes on at a label of the block's own list
-pub record KnowsRaises (k : Block) (own : List Label) (most : ℕ) : Type 0 where
+pub record KnowsRaises (s : Scope) (k : Block) (own : List Label) (most : ℕ) : Type 0 where
   pub overflow :
-      (labels : List Label) (line : ℕ) → Includes own labels → OverflowComes (setting_of k labels line most)
+      s.overflows ≡ true → (labels : List Label) (line : ℕ) → Includes own labels →
+      OverflowComes (setting_of k labels line most)
   pub divisor :
-      (labels : List Label) (line : ℕ) → Includes own labels → ZeroDivideComes (setting_of k labels line most)
+      s.divides ≡ true → (labels : List Label) (line : ℕ) → Includes own labels →
+      ZeroDivideComes (setting_of k labels line most)
   pub subscript :
-      (labels : List Label) (line : ℕ) → Includes own labels → SubscriptComes (setting_of k labels line most)
+      s.elements ≡ true → (labels : List Label) (line : ℕ) → Includes own labels →
+      SubscriptComes (setting_of k labels line most)
 
 abbrev pub call_statement : Scope → (number line : ℕ) → Y.Stmt
 call_statement s n line = Y.CallProcedure (Y.Calling n s.level Y.NoArgument) line
@@ -138,9 +141,9 @@ pub record IsReady (s : Scope) (valued : Bool) (k : Block) (labels : List Label)
   pub acts : k.call.surroundings.acts + 1 < 2 ^ 64
   pub turns : k.call.surroundings.acts < k.around.turns + k.first.state.world.acts
   pub held : k.registers ≤ held_registers
-  pub raises : s.raises ≡ true → KnowsRaises k labels most
+  pub raises : KnowsRaises s k labels most
   pub variables : (x : Spot) → is_known s x ≡ true → IsNumber k x
-  pub arrays : s.raises ≡ true → (x : Spot) → is_array_known s x ≡ true → IsArray k x (bounds_known s x)
+  pub arrays : s.elements ≡ true → (x : Spot) → is_array_known s x ≡ true → IsArray k x (bounds_known s x)
   pub calls : KnowsCalls s k labels most left'
   pub jumps : KnowsJumps s k labels left'
   -- an act pays for a statement and for what a call in it needs

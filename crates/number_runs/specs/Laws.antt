@@ -42,7 +42,7 @@ pub record BodiesDo : Type 0 where
       AreMarked k.call.surroundings.links k.environment body index
   -- and raises end the run where no unit is in force
   pub unraised :
-      (k : Block) (own : List Label) (most : ℕ) → IsUnraised k most → KnowsRaises k own most
+      (s : Scope) (k : Block) (own : List Label) (most : ℕ) → IsUnraised k most → KnowsRaises s k own most
 
 -- a block whose variables and statements are these, and whose temporaries fit registers: they take no words of its
 -- frame, and no register that it doesn't save

@@ -20,8 +20,11 @@ pub record Scope : Type 0 where
   pub blocks : List BlockPlace
   pub is_function : ℕ → Bool
   pub is_procedure : ℕ → Bool
-  -- whether expressions may raise conditions
-  pub raises : Bool
+  -- whether expressions may raise FIXEDOVERFLOW, and ZERODIVIDE
+  pub overflows : Bool
+  pub divides : Bool
+  -- whether they may have elements of arrays, whose subscripts may raise ERROR
+  pub elements : Bool
   -- whether statements may return, and jump to labels of their own lists
   pub own : Bool
   -- the labels to which they may jump out, each of the block around at a level
@@ -92,27 +95,33 @@ is_array_known s x = list_any (is_place x) s.blocks && is_array_if (declared_var
 abbrev pub bounds_known : Scope → Spot → Bounds
 bounds_known s x = bounds_if (declared_variable s.program (variable_of x))
 
--- an element of one, whose subscript may raise ERROR
+-- an element of one
 abbrev pub is_element : Scope → Y.Variable → Y.Part → Bool
 is_element s v part =
-    s.raises
+    s.elements
     && (is_automatic v.class && ((part.first == 0) && ((part.count == 1) && is_array_known s (spot_of v))))
 
 -- ---- numbers
+
+-- what an operator may raise
+abbrev pub may_calculate : Scope → Y.ArithmeticOperator → Bool
+may_calculate s Y.Quotient = s.overflows && s.divides
+may_calculate s _ = s.overflows
 
 abbrev mutual
   pub is_number : Scope → Y.Number → Bool
   is_number s (Y.NumberConstant n) = nat_lt n (2 ^ 31)
   is_number s (Y.NumberIn r) = is_reference s r
   is_number s (Y.NumberFrom (Y.Calling number level Y.NoArgument)) = (level == s.level) && s.is_function number
-  is_number s (Y.Signed sign x) = s.raises && is_number s x
-  is_number s (Y.Calculated operator left right) = s.raises && (is_number s left && is_number s right)
-  is_number s (Y.Absolute x) = s.raises && is_number s x
+  is_number s (Y.Signed sign x) = s.overflows && is_number s x
+  is_number s (Y.Calculated operator left right) =
+      may_calculate s operator && (is_number s left && is_number s right)
+  is_number s (Y.Absolute x) = s.overflows && is_number s x
   is_number s (Y.SignOf x) = is_number s x
   is_number s (Y.Extreme extremum first more) = is_number s first && are_numbers s more
-  is_number s (Y.Modulo dividend divisor) = s.raises && (is_number s dividend && is_number s divisor)
+  is_number s (Y.Modulo dividend divisor) = s.divides && (is_number s dividend && is_number s divisor)
   is_number s (Y.Divided precision dividend divisor) =
-      s.raises && ((precision == 31) && (is_number s dividend && is_number s divisor))
+      (s.overflows && s.divides) && ((precision == 31) && (is_number s dividend && is_number s divisor))
   is_number s _ = false
 
   -- a variable, or an element of an array

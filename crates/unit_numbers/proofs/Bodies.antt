@@ -20,7 +20,6 @@ use Rattle.program_places.proofs.Marks.{placed_back, placed_front}
 use Rattle.program_places.proofs.Procedures.{raise_routines}
 use Rattle.program_places.proofs.Starts.{main_found}
 use Rattle.program_runs.specs.Calls.{left_over}
-use Rattle.program_runs.specs.Starts.{image_parts}
 use Rattle.program_runs.specs.Statements.{Does, IsBegun}
 use Rattle.program_runs.proofs.Statements.{none_does}
 use Rattle.expression_runs.specs.Values.{OverflowComes}
@@ -32,9 +31,8 @@ use Rattle.element_runs.specs.Subscripts.{SubscriptComes}
 use Rattle.element_runs.proofs.Outside.{subscripts_end}
 use Rattle.number_runs.specs.Numbers.{bounds_known}
 use Rattle.number_runs.specs.Statements.{is_statement, statement_needs, statements_need}
-use Rattle.number_runs.specs.Variables.{words_in}
 use Rattle.number_runs.proofs.Statements.{form_does}
-use Rattle.number_headlines.proofs.Mains.{error_at, made_system}
+use Rattle.number_headlines.proofs.Mains.{error_at}
 use Rattle.unit_runs.specs.Bodies.{BodyDoes}
 use Rattle.unit_runs.specs.Changing.{AllDo, IsPast, Past, StandsIn, StepDoes, after}
 use Rattle.unit_runs.specs.Establishing.{IsOn, OnUnit, on_of}
@@ -44,10 +42,11 @@ use Rattle.unit_numbers.specs.Programs.{are_steps, is_step, is_step_with}
 use Rattle.unit_numbers.specs.Units.{own_scope, unit_in}
 use Rattle.unit_numbers.proofs.Arrays.{past_array}
 use Rattle.unit_numbers.proofs.Calls.{main_calls}
-use Rattle.unit_numbers.proofs.Established.{list_placed, main_system, start_of, unit_stands}
-use Rattle.unit_numbers.proofs.Mains.{Main, block_for, main_array, main_held, main_number, most_for}
-use Rattle.unit_numbers.proofs.Mains.{own_known, placed}
-use Rattle.unit_numbers.proofs.Raises.{IsUnitOf, overflow_with, past_setting}
+use Rattle.unit_numbers.proofs.Established.{InForce, IsUnitOf, error_system, in_force, list_placed, start_of}
+use Rattle.unit_numbers.proofs.Established.{unit_stands}
+use Rattle.unit_numbers.proofs.Mains.{Main, block_for, main_array, main_held, main_number, most_for, own_known}
+use Rattle.unit_numbers.proofs.Mains.{placed}
+use Rattle.unit_numbers.proofs.Raises.{divide_with, overflow_with, past_setting}
 use Rattle.unit_numbers.proofs.Takes.{unit_found}
 use Rattle.unit_numbers.proofs.Units.{unit_is}
 
@@ -56,40 +55,40 @@ use Rattle.unit_numbers.proofs.Units.{unit_is}
 overflow_known :
     MarkedOnce → {program : Y.Program} (m : Main program) (input : List ℕ) (more : ℕ) (past : Past)
     (labels : List Label) (line : ℕ) → suc more + 1 < 2 ^ 64 → IsBegun (block_for m input (suc more)) →
-    Includes (labels_in m.body) labels →
-    IsPast (block_for m input (suc more)) m.body (start_of m) past →
-    OverflowComes (past_setting m input (suc more) past labels line)
-overflow_known once {program} m input more [] labels line few b includes known =
+    Includes (labels_in m.body) labels → IsPast (block_for m input (suc more)) m.body (start_of m) past →
+    InForce m input (suc more) past C.FixedOverflow → OverflowComes (past_setting m input (suc more) past labels line)
+overflow_known once {program} m input more past labels line few b includes known (inl system) =
     let routines = raise_routines once program m.loadable in
     let inside = routines.linked.inside in
-    let xs = words_in (environment_for program m.head) in
-    overflow_ends (past_setting m input (suc more) [] labels line)
+    overflow_ends (past_setting m input (suc more) past labels line)
     (record {
       routines = routines;
-      overflow = made_system image_parts _ xs _ C.FixedOverflow tt;
-      error = made_system image_parts _ xs _ C.Error tt;
+      overflow = system;
+      error = error_system once m input (suc more) past known;
       acts = few;
       most = omega (arith, inside);
     })
-overflow_known once m input more (e ∷ past) labels line few b includes known =
-    overflow_with once m input more past labels line e.1 e.0 few b includes
-    (unit_stands once m input (suc more) e known.1) known
+overflow_known once m input more past labels line few b includes known (inr n) =
+    overflow_with once m input more past labels line few b includes known n
 
 divisor_known :
     MarkedOnce → {program : Y.Program} (m : Main program) (input : List ℕ) (more : ℕ) (past : Past)
-    (labels : List Label) (line : ℕ) → suc more + 1 < 2 ^ 64 →
-    IsPast (block_for m input (suc more)) m.body (start_of m) past →
-    ZeroDivideComes (past_setting m input (suc more) past labels line)
-divisor_known once {program} m input more past labels line few known =
+    (labels : List Label) (line : ℕ) → suc more + 1 < 2 ^ 64 → IsBegun (block_for m input (suc more)) →
+    Includes (labels_in m.body) labels → IsPast (block_for m input (suc more)) m.body (start_of m) past →
+    InForce m input (suc more) past C.ZeroDivide → ZeroDivideComes (past_setting m input (suc more) past labels line)
+divisor_known once {program} m input more past labels line few b includes known (inl system) =
     let routines = raise_routines once program m.loadable in
     let inside = routines.linked.inside in
-    zero_divide_ends (past_setting m input (suc more) past labels line) (record {
+    zero_divide_ends (past_setting m input (suc more) past labels line)
+    (record {
       routines = routines;
-      divisor = main_system once m input (suc more) past known C.ZeroDivide refl;
-      error = main_system once m input (suc more) past known C.Error refl;
+      divisor = system;
+      error = error_system once m input (suc more) past known;
       acts = few;
       most = omega (arith, inside);
     })
+divisor_known once m input more past labels line few b includes known (inr n) =
+    divide_with once m input more past labels line few b includes known n
 
 subscript_known :
     MarkedOnce → {program : Y.Program} (m : Main program) (input : List ℕ) (more : ℕ) (past : Past)
@@ -102,7 +101,7 @@ subscript_known once {program} m input more past labels line few known =
     subscripts_end (past_setting m input (suc more) past labels line) (record {
       routines = routines;
       place = error_at once program m.loadable;
-      error = main_system once m input (suc more) past known C.Error refl;
+      error = error_system once m input (suc more) past known;
       acts = few;
       most = omega (arith, inside);
     })
@@ -126,10 +125,14 @@ main_ready once {program} m input more past few b known =
       acts = few;
       turns = omega (arith, first);
       held = omega arith;
-      raises = λ may. record {
-        overflow = λ labels line includes. overflow_known once m input more past labels line few b includes known;
-        divisor = λ labels line includes. divisor_known once m input more past labels line few known;
-        subscript = λ labels line includes. subscript_known once m input more past labels line few known;
+      raises = record {
+        overflow = λ may labels line includes.
+            overflow_known once m input more past labels line few b includes known
+            (in_force once m input (suc more) past known C.FixedOverflow);
+        divisor = λ may labels line includes.
+            divisor_known once m input more past labels line few b includes known
+            (in_force once m input (suc more) past known C.ZeroDivide);
+        subscript = λ may labels line includes. subscript_known once m input more past labels line few known;
       };
       variables = λ x h. past_numbers k past x (main_number m input (suc more) x (own_known m input (suc more) x h) b);
       arrays = λ may x h. past_array k past x (bounds_known (own_scope program m.head) x)
@@ -186,7 +189,7 @@ is_on :
     IsPast (block_for m input acts) m.body (start_of m) past → IsOn (after (block_for m input acts) past) x index
 is_on once {program} m input acts few b x index h past known =
     record {
-      act = record { line_fits = (unit_is program m.head (labels_in m.body) x h.is).line; acts = few };
+      act = record { line_fits = (unit_is program m.head m.body x h.is).line; acts = few };
       begun = begun_after (block_for m input acts) m.body (start_of m) past b known;
       statement = h.placed.linked;
       place = h.stands;
@@ -195,14 +198,14 @@ is_on once {program} m input acts few b x index h past known =
 step_does :
     MarkedOnce → {program : Y.Program} (m : Main program) (input : List ℕ) (acts : ℕ) → acts + 1 < 2 ^ 64 →
     IsBegun (block_for m input acts) → (stmt : Y.Stmt) (index : ℕ) →
-    is_step program m.head (labels_in m.body) stmt ≡ true → statement_needs stmt ≤ statements_need m.body →
+    is_step program m.head m.body stmt ≡ true → statement_needs stmt ≤ statements_need m.body →
     Standing (block_for m input acts) stmt index →
     ((x : OnUnit) → stmt ≡ on_of x → IsUnitOf m input acts x index) →
     StepDoes (block_for m input acts) m.body (start_of m) stmt index left_over
 step_does once {program} m input acts few b stmt index is fits at units = by (unit_in stmt) refl is
   where
     by :
-        (o : Option OnUnit) → unit_in stmt ≡ o → is_step_with program m.head (labels_in m.body) o stmt ≡ true →
+        (o : Option OnUnit) → unit_in stmt ≡ o → is_step_with program m.head m.body o stmt ≡ true →
         StepDoes (block_for m input acts) m.body (start_of m) stmt index left_over
     by None e is = inr (λ past known. main_does once m input acts few b stmt index is fits at past known)
     by (Some x) e is =
@@ -212,7 +215,7 @@ step_does once {program} m input acts few b stmt index is fits at units = by (un
 all_do :
     MarkedOnce → {program : Y.Program} (m : Main program) (input : List ℕ) (acts : ℕ) → acts + 1 < 2 ^ 64 →
     IsBegun (block_for m input acts) → (rest : Y.Stmts) (index : ℕ) →
-    are_steps program m.head (labels_in m.body) rest ≡ true → statements_need rest ≤ statements_need m.body →
+    are_steps program m.head m.body rest ≡ true → statements_need rest ≤ statements_need m.body →
     AreStanding (block_for m input acts) rest index →
     ((e : OnUnit × ℕ) → StandsIn (block_for m input acts) rest index e →
     StandsIn (block_for m input acts) m.body (start_of m) e) →
@@ -225,7 +228,7 @@ all_do once {program} m input acts few b (Y.StmtThen own first rest) index is fi
     let at' = placed_back (marked e.block own) (one ++ more) at in
     let here = index + size_of (marked e.block own) in
     let labels = labels_in m.body in
-    let a = and_parts (is_step program m.head labels first) (are_steps program m.head labels rest) is in (
+    let a = and_parts (is_step program m.head m.body first) (are_steps program m.head m.body rest) is in (
       step_does once m input acts few b first here a.0 (omega (arith, fits)) (placed_front one more at')
           (λ x same. unit_stands once m input acts (x, here) (there (x, here) (inl (same, refl)))),
       all_do once m input acts few b rest (here + size_of one) a.1 (omega (arith, fits)) (placed_back one more at')

@@ -4,32 +4,26 @@ use Rattle.std.proofs.Common.{true, false, length, refl, sym, ap, ◌∙◌, sub
 use Rattle.std.specs.Prelude.{◌&&◌, ◌==◌, ◌||◌, Bool, cond, nat_le, nat_lt}
 use Rattle.std.proofs.lemmas.Bool.{and_parts, eqb-true, leb-true}
 use Rattle.std.proofs.lemmas.Option.{same_Some}
-use Rattle.pli_language.specs.declared.condition.Condition.{Condition}
 use Rattle.pli_typing.specs.TypedTree as Y
 use Rattle.pli_meaning.specs.Control.{Label}
 use Rattle.pli_meaning.specs.DeclaredShapes.{declared_variable, head_of, procedure_numbered, variables_of_block}
 use Rattle.pli_meaning.specs.Executing.{entered, labels_in}
-use Rattle.pli_meaning.specs.StorageState as M
-use Rattle.pli_meaning.specs.StorageState.{Activation, Binding, BlockUnit, OnUnit, SystemUnit, ancestor}
-use Rattle.pli_meaning.specs.StorageState.{automatic_in_use, height_of, most_activations, without_unit}
-use Rattle.pli_serving.specs.ServiceState as S
+use Rattle.pli_meaning.specs.StorageState.{Activation, ancestor, automatic_in_use, height_of, most_activations}
 use Rattle.pli_coding.specs.Frames.{fixed_size, parameters_in}
 use Rattle.pli_coding.specs.Images.{linked_code, place_of_head}
 use Rattle.pli_coding.specs.Registers.{held_registers}
 use Rattle.activation_relation.specs.Chains.{HasParent}
-use Rattle.activation_relation.specs.Changes.{newest_with}
 use Rattle.activation_relation.specs.Frames.{lower_end, upper_top}
-use Rattle.activation_relation.specs.Layers.{Layer, Point}
+use Rattle.activation_relation.specs.Layers.{Point}
 use Rattle.program_places.specs.Programs.{IsProcedure, Site, body_for, callee_at, code_for, environment_for}
 use Rattle.program_places.specs.Programs.{procedure_for}
 use Rattle.program_places.proofs.Found.{known}
 use Rattle.program_runs.specs.Calls.{AreMade, Callee}
 use Rattle.program_runs.specs.Procedures.{HasRoom}
 use Rattle.program_runs.specs.Starts.{image_parts}
-use Rattle.program_runs.specs.Statements.{Block, IsAmong, IsBegun}
-use Rattle.program_runs.specs.Variables.{Declared}
+use Rattle.program_runs.specs.Statements.{IsAmong, IsBegun}
 use Rattle.expression_runs.specs.Variables.{Spot, variable_of}
-use Rattle.variable_runs.specs.Lists.{AreAll, all_made, behind_made, layer_behind}
+use Rattle.variable_runs.specs.Lists.{AreAll}
 use Rattle.variable_runs.proofs.Lists.{all_procedure}
 use Rattle.number_runs.specs.Knowledge.{Includes}
 use Rattle.number_runs.specs.Arrays.{is_array_if}
@@ -41,13 +35,12 @@ use Rattle.number_runs.proofs.Words.{words_anywhere}
 use Rattle.number_headlines.specs.Programs.{body_of, has_result, is_body}
 use Rattle.number_headlines.proofs.Mains.{made_for, procedure_is, result_of}
 use Rattle.number_headlines.proofs.Tables.{block_plain, has_table}
-use Rattle.unit_runs.specs.Changing.{IsPast, Past, after, past_point}
-use Rattle.unit_runs.specs.Establishing.{unit_of}
+use Rattle.unit_runs.specs.Changing.{IsPast, Past}
 use Rattle.unit_runs.proofs.Changing.{begun_after}
 use Rattle.unit_runs.proofs.OwnRaises.{past_like}
 use Rattle.unit_numbers.specs.Calls.{called_scope, is_called_if, may_call}
-use Rattle.unit_numbers.proofs.Mains.{Main, block_for, free, level_of, main_begun, main_layer, main_lone}
-use Rattle.unit_numbers.proofs.Mains.{surroundings_for}
+use Rattle.unit_numbers.proofs.Mains.{Main, block_for, free, level_of, main_begun, main_layer, surroundings_for}
+use Rattle.unit_numbers.proofs.Past.{alone_parent, made_same, main_alone, main_past, past_living, past_lower, past_same}
 
 -- ---- what a number finds
 
@@ -106,83 +99,6 @@ inner_is {program} m valued number h = by (procedure_numbered number program.pro
           statements = d.0;
           fits = leb-true (statements_need body) held_registers d.1;
         }
-
--- ---- the main procedure where it calls
-
--- what variables and units leave as it was
-record Same (p q : Point) : Type 0 where
-  signatures : q.places.signatures ≡ p.places.signatures
-  low : q.places.low ≡ p.places.low
-  waiting : q.control.waiting ≡ p.control.waiting
-
-made_same :
-    (φ : Layer) (xs : List Declared) (p : Point) → Same p (all_made image_parts φ xs p)
-made_same φ [] p = record { signatures = refl; low = refl; waiting = refl }
-made_same φ (x ∷ xs) p =
-    let h = made_same (layer_behind image_parts (p.state.serials + 1) φ x) xs (behind_made image_parts φ x p) in
-    record { signatures = h.signatures; low = h.low; waiting = h.waiting }
-
-past_same : (past : Past) (p : Point) → Same p (past_point past p)
-past_same [] p = record { signatures = refl; low = refl; waiting = refl }
-past_same (e ∷ past) p =
-    let h = past_same past p in
-    record { signatures = h.signatures; low = h.low; waiting = h.waiting }
-
-past_living : (past : Past) (p : Point) → (past_point past p).state.living ≡ p.state.living
-past_living [] p = refl
-past_living (e ∷ past) p = past_living past p
-
-lower_same :
-    (xs : List (Condition × S.OnUnit)) (φs : List Layer) →
-    lower_end image_parts (newest_with xs φs) ≡ lower_end image_parts φs
-lower_same xs [] = refl
-lower_same xs (φ ∷ φs) = refl
-
-pub past_lower :
-    (past : Past) (p : Point) →
-    lower_end image_parts (past_point past p).control.layers ≡ lower_end image_parts p.control.layers
-past_lower [] p = refl
-past_lower (e ∷ past) p = lower_same _ (past_point past p).control.layers ∙ past_lower past p
-
--- the one activation, with the variables and the units that it has by then
-abbrev pub alone : (level : ℕ) → List Binding → List (Condition × OnUnit) → List Activation
-alone level bindings units =
-    record { height = 1; level = level; parent = 0; oncode = 0; bindings = bindings; units = units } ∷ []
-
-pub record Alone (level : ℕ) (as' : List Activation) : Type 0 where
-  pub bindings : List Binding
-  pub units : List (Condition × OnUnit)
-  pub is : as' ≡ alone level bindings units
-
-past_alone :
-    (level : ℕ) (past : Past) (p : Point) → Alone level p.state.activations →
-    Alone level (past_point past p).state.activations
-past_alone level [] p h = h
-past_alone level (e ∷ past) p h =
-    let c = e.0.condition in
-    let o = past_alone level past p h in
-    record {
-      bindings = o.bindings;
-      units = (c, BlockUnit (unit_of e.0)) ∷ without_unit c o.units;
-      is = ap (λ as'. M.established c (BlockUnit (unit_of e.0)) as') o.is;
-    }
-
--- the main procedure's block, with these units
-abbrev pub main_past : {program : Y.Program} → Main program → (input : List ℕ) → (acts : ℕ) → Past → Block
-main_past m input acts past = after (block_for m input acts) past
-
-pub main_alone :
-    {program : Y.Program} (m : Main program) (input : List ℕ) (acts : ℕ) (past : Past) →
-    Alone m.head.level (main_past m input acts past).first.state.activations
-main_alone {program} m input acts past =
-    let one = main_lone m input acts in
-    past_alone m.head.level past (block_for m input acts).first
-    (record { bindings = one.bindings; units = []; is = one.is })
-
-alone_parent :
-    (level : ℕ) (bs : List Binding) (us : List (Condition × OnUnit)) → level ≡ 0 →
-    height_of (ancestor (alone level bs us) 1 0) ≡ 1
-alone_parent level bs us e = subst (λ l. height_of (ancestor (alone l bs us) 1 0) ≡ 1) (sym e) refl
 
 -- ---- what is called
 

@@ -1,7 +1,7 @@
 -- Calls of procedures and functions of level 1 by the main procedure, whatever units it has by then: raises in them
 -- come to its units.
 use Rattle.std.proofs.Common.{◌≡◌, ℕ, zero, suc, ◌+◌, ◌^◌, ◌<◌, List, [], ◌∷◌, ◌++◌, Option, Some, None}
-use Rattle.std.proofs.Common.{true, false, refl, sym, ap, subst, arith}
+use Rattle.std.proofs.Common.{true, false, inl, inr, refl, sym, ap, subst, arith}
 use Rattle.std.specs.Prelude.{Bool}
 use Rattle.pli_language.specs.declared.condition.Condition.TheVariants as C
 use Rattle.pli_typing.specs.Signatures.{Fixed}
@@ -33,13 +33,14 @@ use Rattle.program_places.proofs.Labels.{are_marked}
 use Rattle.program_places.proofs.Procedures.{body_placed, raise_routines}
 use Rattle.program_runs.specs.Calls.{left_over}
 use Rattle.program_runs.specs.Procedures.{block_of}
-use Rattle.program_runs.specs.Starts.{image_parts, no_numbers}
+use Rattle.program_runs.specs.Starts.{no_numbers}
 use Rattle.program_runs.specs.Statements.{AreMarked, Block, Does, EachDoes, IsAmong, IsBegun}
 use Rattle.program_runs.proofs.CallStatements.{statement_at}
 use Rattle.expression_runs.specs.Assignments.{setting_of}
 use Rattle.expression_runs.specs.Laws as L
 use Rattle.expression_runs.specs.Values.{OverflowComes, Setting}
 use Rattle.expression_runs.proofs.Raises.{overflow_ends}
+use Rattle.operator_runs.specs.Divisors.{ZeroDivideComes}
 use Rattle.operator_runs.proofs.Divisors.{zero_divide_ends}
 use Rattle.function_runs.specs.Functions.{function_entry}
 use Rattle.jump_runs.proofs.Calls.{jump_call_does}
@@ -47,23 +48,25 @@ use Rattle.jump_runs.proofs.FunctionLists.{each_ends, system_ends}
 use Rattle.jump_runs.proofs.Functions.{jump_function_does}
 use Rattle.text_runs.proofs.Points.{alone_does}
 use Rattle.number_runs.specs.Knowledge.{Includes, IsHome, IsReady, KnowsCalls, KnowsRaises, call_number, call_statement}
+use Rattle.element_runs.specs.Subscripts.{SubscriptComes}
 use Rattle.element_runs.proofs.Outside.{subscripts_end}
-use Rattle.number_runs.specs.Variables.{words_in}
 use Rattle.number_runs.proofs.Statements.{body_does}
 use Rattle.number_runs.proofs.Takes.{registers_held}
-use Rattle.number_headlines.proofs.Mains.{error_at, made_system, result_of}
+use Rattle.number_headlines.proofs.Mains.{error_at, result_of}
 use Rattle.number_headlines.proofs.Tables.{block_plain}
 use Rattle.unit_runs.specs.Changing.{IsPast, Past}
 use Rattle.unit_runs.proofs.Changing.{begun_after}
 use Rattle.unit_runs.proofs.InnerLists.{each_list}
 use Rattle.unit_numbers.specs.Calls.{called_scope, may_call}
 use Rattle.unit_numbers.specs.Units.{own_scope}
-use Rattle.unit_numbers.proofs.Called.{Inner, IsVisit, Visit, inner_for, inner_is, inner_room, main_past, site_for}
+use Rattle.unit_numbers.proofs.Called.{Inner, IsVisit, Visit, inner_for, inner_is, inner_room, site_for}
 use Rattle.unit_numbers.proofs.Called.{visit_begun, visit_callee, visit_made}
-use Rattle.unit_numbers.proofs.Established.{main_system, unit_stands}
+use Rattle.unit_numbers.proofs.Established.{InForce, error_system, in_force}
+use Rattle.unit_numbers.proofs.Past.{main_past}
 use Rattle.unit_numbers.proofs.Mains.{Main, block_for, most_for, run_for, start_for, surroundings_for}
 use Rattle.unit_numbers.proofs.Raises.{entry_low}
-use Rattle.unit_numbers.proofs.Visits.{visit_array, visit_block, visit_number, visit_overflow, visit_system}
+use Rattle.unit_numbers.proofs.Visits.{visit_array, visit_block, visit_divides, visit_number, visit_overflow}
+use Rattle.unit_numbers.proofs.Visits.{visit_system}
 
 -- ---- raises in what is called
 
@@ -76,69 +79,97 @@ visit_setting {program} m i v more past entry function labels line =
 -- where no second act is allowed none is raised
 none_left :
     {program : Y.Program} (m : Main program) {valued : Bool} {number : ℕ} (i : Inner m valued number) (v : Visit)
-    (past : Past) (entry : Entry) (function : Option Function) (labels : List Label) (line : ℕ) →
-    IsVisit m v zero past → OverflowComes (visit_setting m i v zero past entry function labels line)
-none_left m i v past entry function labels line h p numbers taken credits index given f o at room less l paid there =
+    (past : Past) (entry : Entry) (function : Option Function) (numbers : ℕ → ℕ) (p : Point) →
+    IsVisit m v zero past → IsAmong (visit_block m i v zero past entry function) numbers p → ⊥
+none_left m i v past entry function numbers p h o =
     let allowed = o.stands.allowed in
     let later = o.later.acts in
     let world = ap (λ (w : World). w.acts) (visit_made m i v zero past h).world in
     let first = h.among.later.acts in
     let some = (visit_begun m v zero past h).acts in
-    absurd (omega (arith, allowed, later, world, first, some))
+    omega (arith, allowed, later, world, first, some)
 
 called_overflow :
     MarkedOnce → {program : Y.Program} (m : Main program) {valued : Bool} {number : ℕ} (i : Inner m valued number)
     (v : Visit) (more : ℕ) (past : Past) (entry : Entry) (function : Option Function) (labels : List Label)
     (line : ℕ) → IsVisit m v more past → IsBegun (visit_block m i v more past entry function) →
+    InForce m v.input (suc more) past C.FixedOverflow →
     OverflowComes (visit_setting m i v more past entry function labels line)
-called_overflow once {program} m i v more [] entry function labels line h b =
+called_overflow once {program} m i v more past entry function labels line h b (inl system) =
     let routines = raise_routines once program m.loadable in
     let inside = routines.linked.inside in
-    overflow_ends (visit_setting m i v more [] entry function labels line)
+    overflow_ends (visit_setting m i v more past entry function labels line)
     (record {
       routines = routines;
-      overflow = visit_system m i v more [] entry function h C.FixedOverflow
-          (made_system image_parts _ (words_in (environment_for program m.head)) _ C.FixedOverflow tt);
-      error = visit_system m i v more [] entry function h C.Error
-          (main_system once m v.input (suc more) [] h.known C.Error refl);
+      overflow = visit_system m i v more past entry function h C.FixedOverflow system;
+      error = visit_system m i v more past entry function h C.Error
+          (error_system once m v.input (suc more) past h.known);
       acts = h.few;
       most = omega (arith, inside);
     })
-called_overflow once m i v zero (e ∷ past) entry function labels line h b =
-    none_left m i v (e ∷ past) entry function labels line h
-called_overflow once m i v (suc more) (e ∷ past) entry function labels line h b =
-    visit_overflow once m i v more past entry function labels line e.1 e.0 h
-    (unit_stands once m v.input (suc (suc more)) e h.known.1) b
+called_overflow once m i v zero past entry function labels line h b (inr n) =
+    λ p numbers taken credits index given f o at room less l paid there.
+    absurd (none_left m i v past entry function numbers p h o)
+called_overflow once m i v (suc more) past entry function labels line h b (inr n) =
+    visit_overflow once m i v more past entry function labels line h n b
+
+called_divides :
+    MarkedOnce → {program : Y.Program} (m : Main program) {valued : Bool} {number : ℕ} (i : Inner m valued number)
+    (v : Visit) (more : ℕ) (past : Past) (entry : Entry) (function : Option Function) (labels : List Label)
+    (line : ℕ) → IsVisit m v more past → IsBegun (visit_block m i v more past entry function) →
+    InForce m v.input (suc more) past C.ZeroDivide →
+    ZeroDivideComes (visit_setting m i v more past entry function labels line)
+called_divides once {program} m i v more past entry function labels line h b (inl system) =
+    let routines = raise_routines once program m.loadable in
+    let inside = routines.linked.inside in
+    zero_divide_ends (visit_setting m i v more past entry function labels line)
+    (record {
+      routines = routines;
+      divisor = visit_system m i v more past entry function h C.ZeroDivide system;
+      error = visit_system m i v more past entry function h C.Error
+          (error_system once m v.input (suc more) past h.known);
+      acts = h.few;
+      most = omega (arith, inside);
+    })
+called_divides once m i v zero past entry function labels line h b (inr n) =
+    λ p numbers taken credits index f o at room l paid there.
+    absurd (none_left m i v past entry function numbers p h o)
+called_divides once m i v (suc more) past entry function labels line h b (inr n) =
+    visit_divides once m i v more past entry function labels line h n b
+
+called_subscript :
+    MarkedOnce → {program : Y.Program} (m : Main program) {valued : Bool} {number : ℕ} (i : Inner m valued number)
+    (v : Visit) (more : ℕ) (past : Past) (entry : Entry) (function : Option Function) (labels : List Label)
+    (line : ℕ) → IsVisit m v more past → SubscriptComes (visit_setting m i v more past entry function labels line)
+called_subscript once {program} m i v more past entry function labels line h =
+    let routines = raise_routines once program m.loadable in
+    let inside = routines.linked.inside in
+    subscripts_end (visit_setting m i v more past entry function labels line)
+    (record {
+      routines = routines;
+      place = error_at once program m.loadable;
+      error = visit_system m i v more past entry function h C.Error
+          (error_system once m v.input (suc more) past h.known);
+      acts = h.few;
+      most = omega (arith, inside);
+    })
 
 called_raises :
     MarkedOnce → {program : Y.Program} (m : Main program) {valued : Bool} {number : ℕ} (i : Inner m valued number)
     (v : Visit) (more : ℕ) (past : Past) (entry : Entry) (function : Option Function) (own : List Label) →
     IsVisit m v more past → IsBegun (visit_block m i v more past entry function) →
-    KnowsRaises (visit_block m i v more past entry function) own (most_for program)
-called_raises once {program} m i v more past entry function own h b =
-    let routines = raise_routines once program m.loadable in
-    let inside = routines.linked.inside in
+    KnowsRaises (called_scope program m.head i.head) (visit_block m i v more past entry function) own
+    (most_for program)
+called_raises once m i v more past entry function own h b =
     record {
-      overflow = λ labels line includes. called_overflow once m i v more past entry function labels line h b;
-      divisor = λ labels line includes.
-          zero_divide_ends (visit_setting m i v more past entry function labels line) (record {
-            routines = routines;
-            divisor = visit_system m i v more past entry function h C.ZeroDivide
-                (main_system once m v.input (suc more) past h.known C.ZeroDivide refl);
-            error = visit_system m i v more past entry function h C.Error
-                (main_system once m v.input (suc more) past h.known C.Error refl);
-            acts = h.few;
-            most = omega (arith, inside);
-          });
-      subscript = λ labels line includes.
-          subscripts_end (visit_setting m i v more past entry function labels line) (record {
-            routines = routines;
-            place = error_at once program m.loadable;
-            error = visit_system m i v more past entry function h C.Error
-                (main_system once m v.input (suc more) past h.known C.Error refl);
-            acts = h.few;
-            most = omega (arith, inside);
-          });
+      overflow = λ may labels line includes.
+          called_overflow once m i v more past entry function labels line h b
+          (in_force once m v.input (suc more) past h.known C.FixedOverflow);
+      divisor = λ may labels line includes.
+          called_divides once m i v more past entry function labels line h b
+          (in_force once m v.input (suc more) past h.known C.ZeroDivide);
+      subscript = λ may labels line includes.
+          called_subscript once m i v more past entry function labels line h;
     }
 
 -- ---- its statements
@@ -157,7 +188,7 @@ called_ready once m i v more past entry function h b home =
       acts = h.few;
       turns = omega (arith, first);
       held = omega arith;
-      raises = λ may. called_raises once m i v more past entry function (labels_in i.body ++ []) h b;
+      raises = called_raises once m i v more past entry function (labels_in i.body ++ []) h b;
       variables = λ x known. visit_number m i v more past entry function h b x known;
       arrays = λ may x known. visit_array m i v more past entry function h b x known;
       calls = record {
@@ -410,7 +441,7 @@ call_value once {program} m i input more past few b known labels includes line =
     (function_home once m i input labels call p numbers more past))
     (system_ends (function_block m i v more past) i.body (body_for program i.head i.body) [] w
     (visit_system m i v more past entry valued_function h C.Error
-    (main_system once m input (suc more) past known C.Error refl)))))
+    (error_system once m input (suc more) past known)))))
 
 function_called :
     MarkedOnce → {program : Y.Program} (m : Main program) (input : List ℕ) (more : ℕ) (past : Past) →

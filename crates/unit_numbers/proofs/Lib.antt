@@ -5,11 +5,14 @@ pub mod Mains
 pub mod Forces
 pub mod Units
 pub mod Outer
-pub mod Raises
+pub mod Past
 pub mod Established
+pub mod Divides
+pub mod Raises
 pub mod Called
 pub mod Visits
 pub mod Calls
 pub mod Bodies
 pub mod Kept
 pub mod Rows
+pub mod GuardRows

@@ -3,12 +3,13 @@ use Rattle.std.proofs.Common.{◌≡◌, ℕ, ◌+◌, ◌*◌, ◌≤◌, List,
 use Rattle.std.proofs.Common.{length, refl, sym, ap, ◌∙◌, subst, arith}
 use Rattle.std.specs.Prelude.{◌&&◌, ◌==◌, ◌||◌, Bool, nat_le}
 use Rattle.std.proofs.lemmas.Bool.{and_parts, eqb-true, leb-true}
+use Rattle.pli_language.specs.declared.condition.Condition.{Condition}
 use Rattle.pli_typing.specs.TypedTree as Y
 use Rattle.pli_meaning.specs.BasicValues.{VariableName}
 use Rattle.pli_meaning.specs.DeclaredShapes.{declared_variable, head_of, variables_of_block}
 use Rattle.pli_meaning.specs.Executing.{labels_in}
 use Rattle.pli_meaning.specs.Making.{with_binding}
-use Rattle.pli_meaning.specs.StorageState.{Activation, Binding}
+use Rattle.pli_meaning.specs.StorageState.{Activation, Binding, OnUnit}
 use Rattle.pli_coding.specs.Frames.{fixed_size, parameters_in}
 use Rattle.pli_coding.specs.Images.{linked_code, place_of_head}
 use Rattle.pli_coding.specs.Locating.{table_number}
@@ -53,7 +54,7 @@ pub record Main (program : Y.Program) : Type 0 where
   pub main : IsMain program (record { head = head; body = body; others = others })
   pub plain : are_all_plain program.variables ≡ true
   pub loadable : IsLoadable program
-  pub steps : are_steps program head (labels_in body) body ≡ true
+  pub steps : are_steps program head body body ≡ true
   pub apart : are_apart body ≡ true
   pub fits : statements_need body ≤ held_registers
 
@@ -72,7 +73,7 @@ main_is program (p ∷ ps) e plain load h =
     let fits = nat_le (statements_need body) held_registers in
     let a = and_parts (has_none p.parameters) (has_result false p.result && inner) h in
     let b = and_parts (has_result false p.result) inner a.1 in
-    let c = and_parts (are_steps program head (labels_in body) body) (are_apart body && fits) b.1 in
+    let c = and_parts (are_steps program head body body) (are_apart body && fits) b.1 in
     let d = and_parts (are_apart body) fits c.1 in
     record {
       head = head;
@@ -112,7 +113,7 @@ no_words : {program : Y.Program} (m : Main program) → (procedure_for program m
 no_words {program} m =
     let plain = block_plain program.variables m.head.number m.plain in
     (behind_variables (own_scope program m.head) program m.head.number (statements_need m.body) m.body
-    plain.plain (steps_taken program m.head (labels_in m.body) m.body m.steps m.fits)).words
+    plain.plain (steps_taken program m.head m.body m.body m.steps m.fits)).words
 
 -- it saves as many registers as they take
 pub main_held :
@@ -122,7 +123,7 @@ main_held {program} m =
     let plain = block_plain program.variables m.head.number m.plain in
     let s = own_scope program m.head in
     let n = (behind_variables s program m.head.number (statements_need m.body) m.body plain.plain
-    (steps_taken program m.head (labels_in m.body) m.body m.steps m.fits)).registers in
+    (steps_taken program m.head m.body m.body m.steps m.fits)).registers in
     let fits = m.fits in
     omega (arith, n, fits)
 
@@ -269,35 +270,36 @@ main_array m input acts x h b = own_main_array m input acts x (own_array_known m
 
 -- ---- where units are raised in it
 
--- the one activation, with the variables that it has by then
-abbrev pub lone : (level : ℕ) → List Binding → List Activation
-lone level bindings =
-    record { height = 1; level = level; parent = 0; oncode = 0; bindings = bindings; units = [] } ∷ []
+-- the one activation, with the variables and the units that it has by then
+abbrev pub alone : (level : ℕ) → List Binding → List (Condition × OnUnit) → List Activation
+alone level bindings units =
+    record { height = 1; level = level; parent = 0; oncode = 0; bindings = bindings; units = units } ∷ []
 
-pub record Lone (level : ℕ) (as' : List Activation) : Type 0 where
+pub record Alone (level : ℕ) (as' : List Activation) : Type 0 where
   pub bindings : List Binding
-  pub is : as' ≡ lone level bindings
+  pub units : List (Condition × OnUnit)
+  pub is : as' ≡ alone level bindings units
 
-made_lone :
-    (level : ℕ) (φ : Layer) (xs : List Declared) (p : Point) → Lone level p.state.activations →
-    Lone level (all_made image_parts φ xs p).state.activations
-made_lone level φ [] p h = h
-made_lone level φ (x ∷ xs) p h =
+made_alone :
+    (level : ℕ) (φ : Layer) (xs : List Declared) (p : Point) → Alone level p.state.activations →
+    Alone level (all_made image_parts φ xs p).state.activations
+made_alone level φ [] p h = h
+made_alone level φ (x ∷ xs) p h =
     let b : Binding = record {
       variable = x.index;
       name = VariableName (p.state.serials + 1);
       shape = (generation_for x).shape;
     } in
-    made_lone level (layer_behind image_parts (p.state.serials + 1) φ x) xs (behind_made image_parts φ x p)
-    (record { bindings = b ∷ h.bindings; is = ap (λ as'. with_binding b as') h.is })
+    made_alone level (layer_behind image_parts (p.state.serials + 1) φ x) xs (behind_made image_parts φ x p)
+    (record { bindings = b ∷ h.bindings; units = h.units; is = ap (λ as'. with_binding b as') h.is })
 
-pub main_lone :
+pub first_alone :
     {program : Y.Program} (m : Main program) (input : List ℕ) (acts : ℕ) →
-    Lone m.head.level (block_for m input acts).first.state.activations
-main_lone {program} m input acts =
-    made_lone m.head.level (main_layer m input acts) (words_in (environment_for program m.head))
+    Alone m.head.level (block_for m input acts).first.state.activations
+first_alone {program} m input acts =
+    made_alone m.head.level (main_layer m input acts) (words_in (environment_for program m.head))
     (main_begun m input acts)
-    (record { bindings = []; is = refl })
+    (record { bindings = []; units = []; is = refl })
 
 -- the layer behind its variables, with what stays free
 abbrev pub layer_behind_all : {program : Y.Program} → Main program → (input : List ℕ) → (acts : ℕ) → Layer

@@ -5,11 +5,12 @@ use Rattle.std.specs.Prelude.{min}
 use Rattle.std.proofs.Common.{Some, None}
 use Rattle.std.specs.Prelude.{cond}
 use Rattle.std.proofs.lemmas.Bool.{and_parts, eq-eqb}
+use Rattle.pli_language.specs.declared.condition.Condition.{Condition}
 use Rattle.pli_typing.specs.TypedTree as Y
 use Rattle.pli_meaning.specs.Control.{Label, is_among}
 use Rattle.pli_meaning.specs.DeclaredShapes.{variables_of_block}
 use Rattle.pli_meaning.specs.Executing.{labels_in}
-use Rattle.pli_meaning.specs.StorageState.{Activation, Binding, ancestor, height_of, newest_height}
+use Rattle.pli_meaning.specs.StorageState.{Activation, Binding, OnUnit, ancestor, height_of, newest_height}
 use Rattle.pli_coding.specs.Frames.{MemoryParts, fixed_size, frame_bytes, frame_end, last_place, parameters_of_block}
 use Rattle.pli_coding.specs.Frames.{variable_place}
 use Rattle.pli_coding.specs.Registers.{held_registers}
@@ -23,17 +24,17 @@ use Rattle.variable_runs.specs.Lists.{all_made, behind_made, layer_behind}
 use Rattle.number_runs.specs.Variables.{are_plain, bytes_of, is_declared, variable_bytes}
 use Rattle.number_runs.proofs.Declared.{makeable}
 use Rattle.number_headlines.proofs.Tables.{block_plain}
-use Rattle.unit_numbers.proofs.Mains.{Main, block_for, free, lone, main_spare, main_words}
+use Rattle.unit_numbers.proofs.Mains.{Main, alone, block_for, free, main_spare, main_words}
 
 -- ---- its activation
 
-pub lone_own :
-    (level : ℕ) (bs : List Binding) →
-    height_of (ancestor (lone level bs) (newest_height (lone level bs)) level) ≡ 1
-lone_own level bs = ap (λ q. height_of (cond q (Some one) None)) (eq-eqb level level refl)
+pub alone_own :
+    (level : ℕ) (bs : List Binding) (us : List (Condition × OnUnit)) →
+    height_of (ancestor (alone level bs us) (newest_height (alone level bs us)) level) ≡ 1
+alone_own level bs us = ap (λ q. height_of (cond q (Some one) None)) (eq-eqb level level refl)
   where
     one : Activation
-    one = record { height = 1; level = level; parent = 0; oncode = 0; bindings = bs; units = [] }
+    one = record { height = 1; level = level; parent = 0; oncode = 0; bindings = bs; units = us }
 
 -- ---- stacks, while variables are made
 

@@ -1,15 +1,17 @@
--- A unit of the main procedure where it is raised: it stands in the code, its statements do what they mean, and so
--- FIXEDOVERFLOW comes to what it means.
+-- A unit of the main procedure where it is raised: it stands in the code, its statements do what they mean, and so the
+-- raise comes to what it means.
 use Rattle.std.proofs.Common.{◌≡◌, ◌⊎◌, inl, inr, ℕ, suc, ◌+◌, ◌*◌, ◌^◌, ◌<◌, ◌≤◌, List, [], ◌∷◌, length}
 use Rattle.std.proofs.Common.{◌++◌, true, false, refl, sym, ap, ◌∙◌, subst, arith}
 use Rattle.std.specs.Prelude.{◌==◌, Bool, cond, drop, nat_lt}
+use Rattle.pli_language.specs.declared.condition.Condition.{Condition}
+use Rattle.pli_language.specs.declared.condition.Condition.TheVariants as C
 use Rattle.pli_typing.specs.TypedTree as Y
 use Rattle.pli_meaning.specs.Control.{Label, is_among}
 use Rattle.pli_meaning.specs.DeclaredShapes.{head_of}
 use Rattle.pli_meaning.specs.Executing.{entered, labels_in}
 use Rattle.pli_meaning.specs.Raising.{Around}
-use Rattle.pli_meaning.specs.StorageState.{Activation, ancestor, ancestor_at, height_of, most_activations}
-use Rattle.pli_meaning.specs.StorageState.{newest_height}
+use Rattle.pli_meaning.specs.StorageState.{Activation, BlockUnit, ancestor, ancestor_at, force, height_of}
+use Rattle.pli_meaning.specs.StorageState.{most_activations, newest_height}
 use Rattle.pli_coding.specs.Assembly.{size_of}
 use Rattle.pli_coding.specs.Environments.{Environment, block_around, none_taken}
 use Rattle.pli_coding.specs.Frames.{frame_end}
@@ -17,12 +19,14 @@ use Rattle.pli_coding.specs.Images.{linked_code}
 use Rattle.pli_coding.specs.Procedures.{procedure_of_block}
 use Rattle.pli_coding.specs.Statements.{stmt_code, unit_environment, unit_takes}
 use Rattle.code_marks.specs.CodeMarks.{MarkedOnce}
+use Rattle.activation_relation.specs.Chains.{HasParent}
+use Rattle.activation_relation.specs.ServiceLaws.{IsSystem}
 use Rattle.activation_relation.specs.Frames.{frame_under, lower_end, upper_top}
 use Rattle.run_steps.specs.Items.{Linked}
 use Rattle.begin_runs.proofs.FarGotos.{far_does}
 use Rattle.function_runs.proofs.OuterVariables.{same_ancestor}
 use Rattle.std.proofs.lemmas.Bool.{and_parts, eqb-true}
-use Rattle.std.proofs.Common.{None}
+use Rattle.std.proofs.Common.{None, Some}
 use Rattle.program_places.proofs.Outermost.{outermost_block}
 use Rattle.program_places.proofs.Starts.{main_found}
 use Rattle.program_places.specs.Inner.{standing_for}
@@ -37,7 +41,10 @@ use Rattle.program_runs.specs.Statements.{Block, Does, IsBegun, Outer, as_outer,
 use Rattle.expression_runs.specs.Assignments.{setting_of}
 use Rattle.expression_runs.specs.Values.{OverflowComes, Setting}
 use Rattle.expression_runs.specs.Variables.{IsNumber, Spot}
-use Rattle.number_runs.specs.Knowledge.{Includes, IsReady}
+use Rattle.expression_runs.proofs.Raises.{overflow_ends}
+use Rattle.operator_runs.specs.Divisors.{ZeroDivideComes}
+use Rattle.operator_runs.proofs.Divisors.{zero_divide_ends}
+use Rattle.number_runs.specs.Knowledge.{Includes, IsReady, KnowsRaises}
 use Rattle.number_runs.specs.Numbers.{is_known}
 use Rattle.number_runs.specs.Statements.{statements_need}
 use Rattle.number_runs.specs.Variables.{words_in}
@@ -45,17 +52,21 @@ use Rattle.number_runs.proofs.Statements.{body_does}
 use Rattle.number_runs.proofs.Takes.{Takes, statements_taken}
 use Rattle.number_headlines.proofs.Tables.{block_plain}
 use Rattle.unit_runs.specs.Changing.{IsOwnRaise, IsPast, Past, after, past_point}
-use Rattle.unit_runs.specs.Establishing.{OnUnit, unit_index}
+use Rattle.unit_runs.specs.Establishing.{OnUnit, unit_index, unit_of}
 use Rattle.unit_runs.specs.Raised.{AreMade, IsRaiseOf, IsRaised, Raise, Standing, UnitDoes, list_index, unit_block}
 use Rattle.unit_runs.specs.UnitVariables.{IsOwnUnit}
-use Rattle.unit_runs.proofs.OwnRaises.{own_raised, past_like, past_numbers}
+use Rattle.unit_runs.proofs.Changing.{begun_after}
+use Rattle.unit_runs.proofs.OwnRaises.{past_like, past_numbers}
 use Rattle.unit_runs.proofs.UnitRuns.{overflow_returns}
 use Rattle.unit_runs.proofs.UnitVariables.{none_made, outer_number, unit_over}
 use Rattle.unit_numbers.specs.Units.{own_scope, unit_scope}
-use Rattle.unit_numbers.proofs.Mains.{Main, block_for, free, level_of, main_lone, main_number, most_for, own_known}
-use Rattle.unit_numbers.proofs.Mains.{Lone, main_begun, main_layer, placed, surroundings_for, units_for}
-use Rattle.unit_numbers.proofs.Outer.{lone_own, made_stacks, main_saves, main_top}
-use Rattle.unit_numbers.proofs.Places.{IsPlaced, one_place}
+use Rattle.unit_numbers.proofs.Mains.{Alone, Main, block_for, first_alone, free, level_of, main_begun, main_layer}
+use Rattle.unit_numbers.proofs.Mains.{main_number, most_for, own_known, placed, surroundings_for}
+use Rattle.unit_numbers.proofs.Outer.{alone_own, made_stacks, main_saves, main_top}
+use Rattle.unit_numbers.proofs.Divides.{divide_returns}
+use Rattle.unit_numbers.proofs.Established.{IsUnitOf, Newest, error_system, none_system}
+use Rattle.unit_numbers.proofs.Past.{alone_parent, main_alone, main_past, past_lower}
+use Rattle.unit_numbers.proofs.Places.{one_place}
 use Rattle.unit_numbers.proofs.Takes.{unit_taken}
 use Rattle.unit_numbers.proofs.Units.{Unit', none_coded, unit_is}
 
@@ -68,19 +79,12 @@ abbrev pub unit_at : {program : Y.Program} → Main program → (more : ℕ) →
 unit_at {program} m more x index =
     standing_for (environment_for program m.head) x index (around_for program more) (λ q. q)
 
--- an ON of the main procedure
-abbrev pub IsUnitOf : {program : Y.Program} → Main program → (input : List ℕ) → (acts : ℕ) → OnUnit → (index : ℕ) →
-    Type 0
-IsUnitOf {program} m input acts x index =
-    IsPlaced program m.head (labels_in m.body) (block_for m input acts) (units_for m) (body_for program m.head m.body) x
-    index
-
 -- its temporaries fit registers
 pub taken_by :
-    {program : Y.Program} (m : Main program) (x : OnUnit) → Unit' program m.head (labels_in m.body) x →
+    {program : Y.Program} (m : Main program) (x : OnUnit) → Unit' program m.head m.body x →
     Takes (statements_need x.body) none_taken (unit_takes program x.head x.head.kind x.body)
 taken_by {program} m x u =
-    let s = unit_scope program m.head (labels_in m.body) in
+    let s = unit_scope program m.head m.body in
     let plain = block_plain program.variables x.head.number m.plain in
     unit_taken s program x.head x.head.kind (statements_need x.body) x.body plain.plain
     (statements_taken s false (labels_in x.body ++ []) x.body u.statements u.fits)
@@ -113,7 +117,7 @@ own_raise once {program} m input more few b x index h =
     let code = linked_code (code_for program) in
     let around = around_for program more in
     let y = unit_at m more x index in
-    let u = unit_is program m.head (labels_in m.body) x h.is in
+    let u = unit_is program m.head m.body x h.is in
     let words = (taken_by m x u).words in
     let level = u.level in
     let outer = level_of m in
@@ -121,7 +125,7 @@ own_raise once {program} m input more few b x index h =
     let fits = f.fits in
     let top = ap (λ ls. upper_top image_parts ls) f.newest in
     let lower = ap (λ ls. lower_end image_parts ls) f.newest in
-    let one = main_lone m input (suc more) in
+    let one = first_alone m input (suc more) in
     let stands = unit_placed links code index e x around (λ q. q) h.placed in
     let inside = stands.linked.inside in
     let behind = h.behind in
@@ -194,6 +198,7 @@ scene_inner m z r = unit_block (scene_setting m z) (scene_unit m z) r
 pub record IsScene {program : Y.Program} (m : Main program) (z : Scene) : Type 0 where
   pub few : z.acts + 1 < 2 ^ 64
   pub begun : IsBegun (block_for m z.input z.acts)
+  pub known : IsPast (block_for m z.input z.acts) m.body (body_for program m.head m.body) z.past
   pub includes : Includes (labels_in m.body) z.carried
   pub placed : IsUnitOf m z.input z.acts z.unit z.index
   pub raised : IsRaised (scene_setting m z) (scene_unit m z) z.more
@@ -208,6 +213,11 @@ pub record IsScene {program : Y.Program} (m : Main program) (z : Scene) : Type 0
       (r : Raise) → IsRaiseOf (scene_setting m z) (scene_unit m z) z.more raised r →
       AreMade (scene_setting m z) (scene_unit m z) r → IsBegun (scene_inner m z r) →
       height_of (ancestor_at (scene_inner m z r).first.state m.head.level) ≡ 1
+  -- where the main procedure has none for a condition, the unit's block has none
+  pub system :
+      (r : Raise) → IsRaiseOf (scene_setting m z) (scene_unit m z) z.more raised r → (c : Condition) →
+      IsSystem (force (scene_main m z).first.state.activations c) →
+      IsSystem (force (scene_inner m z r).first.state.activations c)
 
 -- ---- its statements
 
@@ -224,7 +234,7 @@ scene_far :
 scene_far once {program} m z s r is made b label among ls at index less l =
     let k0 = block_for m z.input z.acts in
     let e = environment_for program m.head in
-    let u = unit_is program m.head (labels_in m.body) z.unit s.placed.is in
+    let u = unit_is program m.head m.body z.unit s.placed.is in
     let outer = level_of m in
     let level = u.level in
     let like = past_like k0 z.past in
@@ -269,11 +279,44 @@ scene_far once {program} m z s r is made b label among ls at index less l =
     })
     l
 
+-- it raises only conditions for which the main procedure never has a unit
+scene_raises :
+    MarkedOnce → {program : Y.Program} (m : Main program) (z : Scene) (s : IsScene m z) (r : Raise) →
+    IsRaiseOf (scene_setting m z) (scene_unit m z) z.more s.raised r → (own : List Label) →
+    KnowsRaises (unit_scope program m.head m.body) (scene_inner m z r) own (most_for program)
+scene_raises once {program} m z s r is own =
+    let routines = raise_routines once program m.loadable in
+    let inside = routines.linked.inside in
+    let error = s.system r is C.Error (error_system once m z.input z.acts z.past s.known) in
+    record {
+      overflow = λ may labels line includes. overflow_ends
+          (setting_of (scene_inner m z r) labels line (most_for program))
+          (record {
+            routines = routines;
+            overflow = s.system r is C.FixedOverflow
+                (none_system once m z.input z.acts z.past s.known C.FixedOverflow may);
+            error = error;
+            acts = s.few;
+            most = omega (arith, inside);
+          });
+      divisor = λ may labels line includes. zero_divide_ends
+          (setting_of (scene_inner m z r) labels line (most_for program))
+          (record {
+            routines = routines;
+            divisor = s.system r is C.ZeroDivide
+                (none_system once m z.input z.acts z.past s.known C.ZeroDivide may);
+            error = error;
+            acts = s.few;
+            most = omega (arith, inside);
+          });
+      subscript = λ may labels line includes. absurd (cc may);
+    }
+
 scene_ready :
     MarkedOnce → {program : Y.Program} (m : Main program) (z : Scene) (s : IsScene m z) (r : Raise) →
     IsRaiseOf (scene_setting m z) (scene_unit m z) z.more s.raised r →
     AreMade (scene_setting m z) (scene_unit m z) r → IsBegun (scene_inner m z r) →
-    IsReady (unit_scope program m.head (labels_in m.body)) false (scene_inner m z r) (labels_in z.unit.body ++ [])
+    IsReady (unit_scope program m.head m.body) false (scene_inner m z r) (labels_in z.unit.body ++ [])
     (most_for program) left_over
 scene_ready once {program} m z s r is made b =
     let enough = s.raised.enough in
@@ -283,7 +326,7 @@ scene_ready once {program} m z s r is made b =
       acts = s.few;
       turns = omega (arith, enough, later);
       held = omega arith;
-      raises = λ may. absurd (cc may);
+      raises = scene_raises once m z s r is (labels_in z.unit.body ++ []);
       variables = λ v known. s.numbers r is made b v known;
       arrays = λ may v known. absurd (cc may);
       calls = record {
@@ -308,26 +351,31 @@ scene_does once {program} m z s r is =
     let e = environment_for program m.head in
     let y = scene_unit m z in
     let x = z.unit in
-    let u = unit_is program m.head (labels_in m.body) x s.placed.is in
+    let u = unit_is program m.head m.body x s.placed.is in
     let made = none_made k y r (record { kind = u.bare; code = none_coded program e x.head refl u.bare; made = refl })
     in
     let n = (taken_by m x u).registers in
     let fits = u.fits in (
       made,
       λ b.
-          body_does (unit_scope program m.head (labels_in m.body)) false (scene_inner m z r) x.body (list_index y)
+          body_does (unit_scope program m.head m.body) false (scene_inner m z r) x.body (list_index y)
           (most_for program) left_over (scene_ready once m z s r is made b) u.statements (omega (arith, n, fits))
           (unit_list_placed (links_for program) (linked_code (code_for program)) z.index e x
           (around_for program z.more) (λ q. q) s.placed.placed),
     )
 
--- so it comes to what it means
+-- so a raise comes to what it means
 pub overflow_at :
     MarkedOnce → {program : Y.Program} (m : Main program) (z : Scene) → IsScene m z →
-    OverflowComes (scene_setting m z)
-overflow_at once {program} m z s =
-    overflow_returns (scene_setting m z) (scene_unit m z) z.more s.raised (scene_does once m z s)
-    (unit_is program m.head (labels_in m.body) z.unit s.placed.is).condition
+    z.unit.condition ≡ C.FixedOverflow → OverflowComes (scene_setting m z)
+overflow_at once m z s condition =
+    overflow_returns (scene_setting m z) (scene_unit m z) z.more s.raised (scene_does once m z s) condition
+
+pub divide_at :
+    MarkedOnce → {program : Y.Program} (m : Main program) (z : Scene) → IsScene m z →
+    z.unit.condition ≡ C.ZeroDivide → ZeroDivideComes (scene_setting m z)
+divide_at once m z s condition =
+    divide_returns (scene_setting m z) (scene_unit m z) z.more s.raised (scene_does once m z s) condition
 
 -- ---- in the main procedure itself
 
@@ -335,7 +383,57 @@ overflow_at once {program} m z s =
 abbrev pub past_setting :
     {program : Y.Program} → Main program → (input : List ℕ) → (acts : ℕ) → Past → List Label → (line : ℕ) → Setting
 past_setting {program} m input acts past labels line =
-    setting_of (after (block_for m input acts) past) labels line (most_for program)
+    setting_of (main_past m input acts past) labels line (most_for program)
+
+main_raised :
+    MarkedOnce → {program : Y.Program} (m : Main program) (input : List ℕ) (more : ℕ) (past : Past)
+    (labels : List Label) (line : ℕ) {c : Condition} → suc more + 1 < 2 ^ 64 → IsBegun (block_for m input (suc more)) →
+    IsPast (block_for m input (suc more)) m.body (body_for program m.head m.body) past →
+    (n : Newest m input (suc more) past c) →
+    (h : IsRaised (past_setting m input (suc more) past labels line) (unit_at m more n.unit n.index) more)
+    × (h.by.height ≡ 1)
+main_raised once {program} m input more past labels line few b known n =
+    let k0 = block_for m input (suc more) in
+    let k = main_past m input (suc more) past in
+    let u = unit_is program m.head m.body n.unit n.placed.is in
+    let z = own_raise once m input more few b n.unit n.index n.placed in
+    let one = main_alone m input (suc more) past in
+    let b' = begun_after k0 m.body (body_for program m.head m.body) past b known in
+    let top = (past_like k0 past).top in
+    let lower = past_lower past k0.first in
+    let room = z.room in
+    let first = b'.acts in (
+      record {
+        begun = b';
+        routines = z.routines;
+        by = n.forced.by;
+        force = subst (λ d. force k.first.state.activations d ≡ Some (n.forced.by, BlockUnit (unit_of n.unit)))
+            (sym n.condition) n.forced.is;
+        parent =
+            subst (λ l. HasParent l n.forced.by.height k.first.state.activations) (sym u.level)
+            (subst (λ m'. HasParent 1 m' k.first.state.activations) (sym n.forced.own) (
+              omega arith,
+              ap (λ as'. height_of (ancestor as' 1 0)) one.is
+                  ∙ alone_parent m.head.level one.bindings one.units (level_of m),
+            ));
+        room = omega (arith, top, lower, room);
+        shallow = ap (λ (as' : List Activation). nat_lt (length as') most_activations) one.is;
+        only = z.only;
+        some = z.some;
+        stands = z.stands;
+        labels = z.labels;
+        kind = z.kind;
+        level = z.few;
+        line = z.line;
+        saved = z.saved;
+        acts = few;
+        enter = refl;
+        around = refl;
+        enough = omega (arith, first);
+        most = z.paid;
+      },
+      n.forced.own,
+    )
 
 abbrev own_scene :
     {program : Y.Program} → Main program → (input : List ℕ) → (more : ℕ) → Past → List Label → (line index : ℕ) →
@@ -347,7 +445,7 @@ own_scene m input more past labels line index x =
       more = more;
       past = past;
       carried = labels;
-      block = as_outer (after (block_for m input (suc more)) past) labels;
+      block = as_outer (main_past m input (suc more) past) labels;
       outers = [];
       labels = labels;
       line = line;
@@ -355,59 +453,76 @@ own_scene m input more past labels line index x =
       index = index;
     }
 
-pub overflow_with :
+own_is :
     MarkedOnce → {program : Y.Program} (m : Main program) (input : List ℕ) (more : ℕ) (past : Past)
-    (labels : List Label) (line index : ℕ) (x : OnUnit) → suc more + 1 < 2 ^ 64 →
-    IsBegun (block_for m input (suc more)) → Includes (labels_in m.body) labels → IsUnitOf m input (suc more) x index →
-    IsPast (block_for m input (suc more)) m.body (body_for program m.head m.body) ((x, index) ∷ past) →
-    OverflowComes (past_setting m input (suc more) ((x, index) ∷ past) labels line)
-overflow_with once {program} m input more past labels line index x few b includes placed known =
-    overflow_at once m (own_scene m input more all labels line index x)
-    (record {
+    (labels : List Label) (line : ℕ) {c : Condition} → suc more + 1 < 2 ^ 64 → IsBegun (block_for m input (suc more)) →
+    Includes (labels_in m.body) labels →
+    IsPast (block_for m input (suc more)) m.body (body_for program m.head m.body) past →
+    (n : Newest m input (suc more) past c) →
+    IsScene m (own_scene m input more past labels line n.index n.unit)
+own_is once {program} m input more past labels line few b includes known n =
+    record {
       few = few;
       begun = b;
+      known = known;
       includes = includes;
-      placed = placed;
+      placed = n.placed;
       raised = h.0;
       behind = 0;
       there = refl;
       numbers = λ r is made b' v named.
           let at = (own_known m input (suc more) v named).level in
           outer_number k y more h.0 r v own is made b' (omega (arith, level, outer, at))
-          (past_numbers k0 all v (main_number m input (suc more) v (own_known m input (suc more) v named) b));
+          (past_numbers k0 past v (main_number m input (suc more) v (own_known m input (suc more) v named) b));
       found = λ r is made b'.
           ap height_of (same_ancestor m.head.level (unit_over k y more h.0 r own is made b') h.0.begun is.among
           (omega (arith, outer, level)))
-          ∙ (past_like k0 all).ancestors m.head.level
           ∙ ap (λ as'. height_of (ancestor as' (newest_height as') m.head.level)) one.is
-          ∙ lone_own m.head.level one.bindings;
-    })
+          ∙ alone_own m.head.level one.bindings one.units;
+      system = λ r is c system.
+          subst IsSystem (sym (ap (λ as'. force as' c) is.among.later.activations)) system;
+    }
   where
-    all : Past
-    all = (x, index) ∷ past
-
     k0 : Block
     k0 = block_for m input (suc more)
 
     k : Setting
-    k = past_setting m input (suc more) all labels line
+    k = past_setting m input (suc more) past labels line
 
     y : Standing
-    y = unit_at m more x index
+    y = unit_at m more n.unit n.index
 
-    one : Lone m.head.level k0.first.state.activations
-    one = main_lone m input (suc more)
+    one : Alone m.head.level k.block.first.state.activations
+    one = main_alone m input (suc more) past
 
-    level : x.head.level ≡ 1
-    level = (unit_is program m.head (labels_in m.body) x placed.is).level
+    level : n.unit.head.level ≡ 1
+    level = (unit_is program m.head m.body n.unit n.placed.is).level
 
     outer : m.head.level ≡ 0
     outer = level_of m
 
-    h : (h' : IsRaised k y more) × (h'.by.height ≡ own_height k0)
-    h =
-        own_raised k0 m.body (body_for program m.head m.body) labels y index line (most_for program) more past b known
-        (own_raise once m input more few b x index placed)
+    h : (h' : IsRaised k y more) × (h'.by.height ≡ 1)
+    h = main_raised once m input more past labels line few b known n
 
     own : IsOwnUnit k y more h.0
     own = record { own = h.1; level = refl; inner = refl; program = refl; parts = refl }
+
+pub overflow_with :
+    MarkedOnce → {program : Y.Program} (m : Main program) (input : List ℕ) (more : ℕ) (past : Past)
+    (labels : List Label) (line : ℕ) → suc more + 1 < 2 ^ 64 → IsBegun (block_for m input (suc more)) →
+    Includes (labels_in m.body) labels →
+    IsPast (block_for m input (suc more)) m.body (body_for program m.head m.body) past →
+    Newest m input (suc more) past C.FixedOverflow → OverflowComes (past_setting m input (suc more) past labels line)
+overflow_with once m input more past labels line few b includes known n =
+    overflow_at once m (own_scene m input more past labels line n.index n.unit)
+    (own_is once m input more past labels line few b includes known n) n.condition
+
+pub divide_with :
+    MarkedOnce → {program : Y.Program} (m : Main program) (input : List ℕ) (more : ℕ) (past : Past)
+    (labels : List Label) (line : ℕ) → suc more + 1 < 2 ^ 64 → IsBegun (block_for m input (suc more)) →
+    Includes (labels_in m.body) labels →
+    IsPast (block_for m input (suc more)) m.body (body_for program m.head m.body) past →
+    Newest m input (suc more) past C.ZeroDivide → ZeroDivideComes (past_setting m input (suc more) past labels line)
+divide_with once m input more past labels line few b includes known n =
+    divide_at once m (own_scene m input more past labels line n.index n.unit)
+    (own_is once m input more past labels line few b includes known n) n.condition

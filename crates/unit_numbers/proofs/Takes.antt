@@ -3,7 +3,7 @@ use Rattle.std.proofs.Common.{◌≡◌, ℕ, ◌≤◌, List, [], Option, Some,
 use Rattle.std.proofs.Common.{refl, sym, ap, subst, arith}
 use Rattle.std.proofs.lemmas.Bool.{and_parts}
 use Rattle.pli_typing.specs.TypedTree as Y
-use Rattle.pli_meaning.specs.Control.{Label}
+use Rattle.pli_meaning.specs.Executing.{labels_in}
 use Rattle.pli_meaning.specs.DeclaredShapes.{variables_of_block}
 use Rattle.pli_coding.specs.Environments.{none_taken}
 use Rattle.pli_coding.specs.Registers.{held_registers}
@@ -53,28 +53,28 @@ unit_found (Y.Put skip pairs line) x e = absurd (cc e)
 -- ---- lists
 
 step_taken :
-    (program : Y.Program) (main : Y.BlockHead) (labels : List Label) (stmt : Y.Stmt) →
-    is_step program main labels stmt ≡ true → statement_needs stmt ≤ held_registers →
+    (program : Y.Program) (main : Y.BlockHead) (all : Y.Stmts) (stmt : Y.Stmt) →
+    is_step program main all stmt ≡ true → statement_needs stmt ≤ held_registers →
     Takes (statement_needs stmt) none_taken (stmt_takes none_taken stmt)
-step_taken program main labels stmt h fits = by (unit_in stmt) refl h
+step_taken program main all stmt h fits = by (unit_in stmt) refl h
   where
     by :
-        (o : Option OnUnit) → unit_in stmt ≡ o → is_step_with program main labels o stmt ≡ true →
+        (o : Option OnUnit) → unit_in stmt ≡ o → is_step_with program main all o stmt ≡ true →
         Takes (statement_needs stmt) none_taken (stmt_takes none_taken stmt)
-    by None e is = statement_taken (own_scope program main) false labels stmt is fits
+    by None e is = statement_taken (own_scope program main) false (labels_in all) stmt is fits
     by (Some x) e is =
         subst (λ f. Takes (statement_needs f) none_taken (stmt_takes none_taken f)) (sym (unit_found stmt x e))
         (record { registers = omega arith; words = refl })
 
 pub steps_taken :
-    (program : Y.Program) (main : Y.BlockHead) (labels : List Label) (body : Y.Stmts) →
-    are_steps program main labels body ≡ true → statements_need body ≤ held_registers →
+    (program : Y.Program) (main : Y.BlockHead) (all : Y.Stmts) (body : Y.Stmts) →
+    are_steps program main all body ≡ true → statements_need body ≤ held_registers →
     Takes (statements_need body) none_taken (stmts_take none_taken body)
-steps_taken program main labels (Y.EndOfList own) h fits = record { registers = omega arith; words = refl }
-steps_taken program main labels (Y.StmtThen own first rest) h fits =
-    let a = and_parts (is_step program main labels first) (are_steps program main labels rest) h in
-    let x = step_taken program main labels first a.0 (omega (arith, fits)) in
-    let y = steps_taken program main labels rest a.1 (omega (arith, fits)) in
+steps_taken program main all (Y.EndOfList own) h fits = record { registers = omega arith; words = refl }
+steps_taken program main all (Y.StmtThen own first rest) h fits =
+    let a = and_parts (is_step program main all first) (are_steps program main all rest) h in
+    let x = step_taken program main all first a.0 (omega (arith, fits)) in
+    let y = steps_taken program main all rest a.1 (omega (arith, fits)) in
     let p = x.registers in
     let q = y.registers in
     let u = x.words in

@@ -1,12 +1,11 @@
 -- A unit of the main procedure: what the class says of it, and what of its frame.
 use Rattle.std.proofs.Common.{◌≡◌, ◌⊎◌, inl, inr, ◌^◌, ◌<◌, ◌≤◌, List, [], ◌∷◌, ◌++◌, true, false, refl}
-use Rattle.std.proofs.Common.{ap, ◌∙◌}
+use Rattle.std.proofs.Common.{sym, ap, ◌∙◌}
 use Rattle.std.specs.Prelude.{◌&&◌, ◌==◌, nat_le}
 use Rattle.std.proofs.lemmas.Bool.{and_parts, eqb-true, leb-true, ltb-true}
 use Rattle.pli_language.specs.declared.condition.Condition.{Condition}
 use Rattle.pli_language.specs.declared.condition.Condition.TheVariants as C
 use Rattle.pli_typing.specs.TypedTree as Y
-use Rattle.pli_meaning.specs.Control.{Label}
 use Rattle.pli_meaning.specs.DeclaredShapes.{variables_of_block}
 use Rattle.pli_meaning.specs.Executing.{labels_in}
 use Rattle.pli_coding.specs.Entries.{variables_made}
@@ -17,29 +16,36 @@ use Rattle.unit_runs.specs.Establishing.{OnUnit}
 use Rattle.number_runs.specs.Numbers.{has_none}
 use Rattle.number_runs.specs.Statements.{are_statements, is_line, statements_need}
 use Rattle.number_headlines.specs.Programs.{is_body}
-use Rattle.unit_numbers.specs.Units.{is_bare, is_overflow, is_unit, unit_scope}
+use Rattle.unit_numbers.specs.Units.{is_bare, is_of_numbers, is_unit, unit_scope}
 
 abbrev pub IsBare : Y.Program → Y.BlockHead → Type 0
 IsBare program head =
     (head.kind ≡ Y.SimpleUnit)
     ⊎ ((head.kind ≡ Y.UnitBlock) × (variables_of_block program head.number ≡ []))
 
-pub record Unit' (program : Y.Program) (main : Y.BlockHead) (labels : List Label) (x : OnUnit) : Type 0 where
-  pub condition : x.condition ≡ C.FixedOverflow
+abbrev pub IsOfNumbers : Condition → Type 0
+IsOfNumbers c = (c ≡ C.FixedOverflow) ⊎ (c ≡ C.ZeroDivide)
+
+pub record Unit' (program : Y.Program) (main : Y.BlockHead) (all : Y.Stmts) (x : OnUnit) : Type 0 where
+  pub condition : IsOfNumbers x.condition
   pub line : x.line < 2 ^ 31
   pub begins : x.head.line < 2 ^ 31
   pub level : x.head.level ≡ 1
   pub later : main.number ≤ x.head.number
   pub bare : IsBare program x.head
-  pub statements : are_statements (unit_scope program main labels) false (labels_in x.body ++ []) x.body ≡ true
+  pub statements : are_statements (unit_scope program main all) false (labels_in x.body ++ []) x.body ≡ true
   pub fits : statements_need x.body ≤ held_registers
 
-overflow_is : (c : Condition) → is_overflow c ≡ true → c ≡ C.FixedOverflow
-overflow_is C.FixedOverflow h = refl
-overflow_is C.Area h = absurd (cc h)
-overflow_is C.ZeroDivide h = absurd (cc h)
-overflow_is C.Endfile h = absurd (cc h)
-overflow_is C.Error h = absurd (cc h)
+condition_is : (c : Condition) → is_of_numbers c ≡ true → IsOfNumbers c
+condition_is C.FixedOverflow h = inl refl
+condition_is C.ZeroDivide h = inr refl
+condition_is C.Area h = absurd (cc h)
+condition_is C.Endfile h = absurd (cc h)
+condition_is C.Error h = absurd (cc h)
+
+pub not_error : {c : Condition} → c ≡ C.Error → IsOfNumbers c → ⊥
+not_error e (inl is) = absurd (cc (sym e ∙ is))
+not_error e (inr is) = absurd (cc (sym e ∙ is))
 
 pub none_of : {A : Type 0} (xs : List A) → has_none xs ≡ true → xs ≡ []
 none_of [] h = refl
@@ -54,17 +60,17 @@ bare_is program head Y.BeginBlock e h = absurd (cc h)
 bare_is program head Y.ProcedureBlock e h = absurd (cc h)
 
 pub unit_is :
-    (program : Y.Program) (main : Y.BlockHead) (labels : List Label) (x : OnUnit) →
-    is_unit program main labels x ≡ true → Unit' program main labels x
-unit_is program main labels x h =
-    let s = unit_scope program main labels in
+    (program : Y.Program) (main : Y.BlockHead) (all : Y.Stmts) (x : OnUnit) →
+    is_unit program main all x ≡ true → Unit' program main all x
+unit_is program main all x h =
+    let s = unit_scope program main all in
     let fits = nat_le (statements_need x.body) held_registers in
     let bare = is_bare program x.head x.head.kind in
     let five = bare && is_body s false x.body in
     let four = nat_le main.number x.head.number && five in
     let three = (x.head.level == 1) && four in
     let two = is_line x.head.line && three in
-    let a = and_parts (is_overflow x.condition) (is_line x.line && two) h in
+    let a = and_parts (is_of_numbers x.condition) (is_line x.line && two) h in
     let b = and_parts (is_line x.line) two a.1 in
     let c = and_parts (is_line x.head.line) three b.1 in
     let d = and_parts (x.head.level == 1) four c.1 in
@@ -72,7 +78,7 @@ unit_is program main labels x h =
     let f = and_parts bare (is_body s false x.body) e.1 in
     let g = and_parts (are_statements s false (labels_in x.body ++ []) x.body) fits f.1 in
     record {
-      condition = overflow_is x.condition a.0;
+      condition = condition_is x.condition a.0;
       line = ltb-true x.line (2 ^ 31) b.0;
       begins = ltb-true x.head.line (2 ^ 31) c.0;
       level = eqb-true x.head.level 1 d.0;

@@ -5,6 +5,7 @@ use Rattle.std.proofs.Common.{Some, None, false, true, refl, sym, ap, ◌∙◌,
 use Rattle.std.specs.Prelude.{◌==◌, ◌%◌, Bool, cond, drop, nat_lt}
 use Rattle.std.proofs.lemmas.Bool.{eq-eqb}
 use Rattle.pli_language.specs.declared.condition.Condition.{Condition}
+use Rattle.pli_language.specs.declared.condition.Condition.TheVariants as C
 use Rattle.pli_typing.specs.Signatures.{Bounds}
 use Rattle.pli_typing.specs.TypedTree as Y
 use Rattle.pli_meaning.specs.Control.{Label}
@@ -38,6 +39,7 @@ use Rattle.program_runs.specs.Variables.{Declared, generation_for}
 use Rattle.expression_runs.specs.Assignments.{setting_of}
 use Rattle.expression_runs.specs.Values.{OverflowComes, Setting}
 use Rattle.expression_runs.specs.Variables.{IsNumber, Spot}
+use Rattle.operator_runs.specs.Divisors.{ZeroDivideComes}
 use Rattle.jump_runs.specs.Calls.{block_in}
 use Rattle.jump_runs.proofs.Numbers.{alone, called_number, number_leaving}
 use Rattle.variable_runs.specs.Lists.{all_made, behind_made, layer_behind}
@@ -47,21 +49,23 @@ use Rattle.number_runs.specs.Numbers.{bounds_known, is_array_known, is_known}
 use Rattle.number_runs.specs.Variables.{bytes_of, words_in}
 use Rattle.number_runs.proofs.Words.{AreLaid, own_array, own_word, words_laid}
 use Rattle.number_headlines.proofs.Tables.{block_plain}
-use Rattle.unit_runs.specs.Changing.{IsOwnRaise, IsPast, Past, after}
+use Rattle.unit_runs.specs.Changing.{Past}
 use Rattle.unit_runs.specs.Establishing as T
 use Rattle.unit_runs.specs.Raised.{AreMade, IsRaiseOf, IsRaised, Raise, Standing, unit_block, unit_entry}
 use Rattle.unit_runs.proofs.FurtherVariables.{further_number}
-use Rattle.unit_runs.proofs.OwnRaises.{own_raised, past_like, past_numbers}
+use Rattle.unit_runs.proofs.OwnRaises.{past_like, past_numbers}
 use Rattle.unit_numbers.specs.Calls.{called_scope}
 use Rattle.unit_numbers.proofs.Arrays.{array_leaving, past_array}
-use Rattle.unit_numbers.proofs.Called as C
-use Rattle.unit_numbers.proofs.Called.{Alone, Inner, IsVisit, Visit, main_alone, main_past, named_is, no_inner_words}
-use Rattle.unit_numbers.proofs.Called.{IsOfBoth, NamedArray, named_array}
+use Rattle.unit_numbers.proofs.Called.{Inner, IsOfBoth, IsVisit, NamedArray, Visit, named_array, named_is}
+use Rattle.unit_numbers.proofs.Called.{no_inner_words}
 use Rattle.unit_numbers.proofs.Called.{Named, inner_words, visit_all, visit_begun, visit_callee, visit_made}
+use Rattle.unit_numbers.proofs.Mains as N
 use Rattle.unit_numbers.proofs.Mains.{Main, block_for, free, level_of, main_number, most_for, own_known}
 use Rattle.unit_numbers.proofs.Mains.{own_main_array, surroundings_for}
-use Rattle.unit_numbers.proofs.Raises.{IsScene, IsUnitOf, Scene, overflow_at, own_raise, scene_setting, scene_unit}
+use Rattle.unit_numbers.proofs.Raises.{IsScene, Scene, divide_at, overflow_at, own_raise, scene_setting, scene_unit}
 use Rattle.unit_numbers.proofs.Raises.{taken_by, unit_at}
+use Rattle.unit_numbers.proofs.Established.{Newest}
+use Rattle.unit_numbers.proofs.Past.{main_alone, main_past, past_lower}
 use Rattle.unit_numbers.proofs.Units.{unit_is}
 
 -- ---- the block, whatever it returns
@@ -331,7 +335,7 @@ record Two (outer level : ℕ) (as' : List Activation) : Type 0 where
   inside : List Binding
   bindings : List Binding
   units : List (Condition × OnUnit)
-  is : as' ≡ visited level 2 inside ∷ C.alone outer bindings units
+  is : as' ≡ visited level 2 inside ∷ N.alone outer bindings units
 
 visit_two :
     {program : Y.Program} (m : Main program) {valued : Bool} {number : ℕ} (i : Inner m valued number) (v : Visit)
@@ -350,9 +354,9 @@ visit_two m i v more past entry function h =
 
 two_parent :
     (outer level : ℕ) (bs bs' : List Binding) (us : List (Condition × OnUnit)) → outer ≡ 0 →
-    height_of (ancestor (visited level 2 bs ∷ C.alone outer bs' us) 1 0) ≡ 1
+    height_of (ancestor (visited level 2 bs ∷ N.alone outer bs' us) 1 0) ≡ 1
 two_parent outer level bs bs' us e =
-    subst (λ l. height_of (ancestor (visited level 2 bs ∷ C.alone l bs' us) 1 0) ≡ 1) (sym e) refl
+    subst (λ l. height_of (ancestor (visited level 2 bs ∷ N.alone l bs' us) 1 0) ≡ 1) (sym e) refl
 
 ancestor_above :
     (a : Activation) (as' : List Activation) (level : ℕ) → (a.level == level) ≡ false →
@@ -427,7 +431,7 @@ visit_room {program} m i v more past entry function h words level none one =
     let top = ap (λ ls. upper_top image_parts ls) f.newest in
     let low = ap (λ ls. lower_end image_parts ls) f.newest in
     let top' = (past_like k0 past).top in
-    let low' = C.past_lower past k0.first in
+    let low' = past_lower past k0.first in
     let there = ap (λ ls. upper_top image_parts ls) h.among.later.layers in
     let under = ap (λ ls. lower_end image_parts ls) h.among.later.layers in
     let few = (block_plain program.variables i.head.number m.plain).room in
@@ -461,40 +465,35 @@ visit_scene {program} m i v more past entry function labels line index x =
 visit_raised :
     MarkedOnce → {program : Y.Program} (m : Main program) {valued : Bool} {number : ℕ} (i : Inner m valued number)
     (v : Visit) (more : ℕ) (past : Past) (entry : Entry) (function : Option Function) (labels : List Label)
-    (line index : ℕ) (x : T.OnUnit) → IsVisit m v (suc more) ((x, index) ∷ past) →
-    IsUnitOf m v.input (suc (suc more)) x index →
-    IsBegun (visit_block m i v (suc more) ((x, index) ∷ past) entry function) →
-    (h : IsRaised (scene_setting m (visit_scene m i v more ((x, index) ∷ past) entry function labels line index x))
-    (unit_at m more x index) more)
+    (line : ℕ) {c : Condition} → IsVisit m v (suc more) past → (n : Newest m v.input (suc (suc more)) past c) →
+    IsBegun (visit_block m i v (suc more) past entry function) →
+    (h : IsRaised (scene_setting m (visit_scene m i v more past entry function labels line n.index n.unit))
+    (unit_at m more n.unit n.index) more)
     × (h.by.height ≡ 1)
-visit_raised once {program} m i v more past entry function labels line index x h placed b =
-    let all : Past = (x, index) ∷ past in
-    let acts = suc (suc more) in
-    let k0 = block_for m v.input acts in
-    let u = unit_is program m.head (labels_in m.body) x placed.is in
-    let z = own_raise once m v.input (suc more) h.few h.begun x index placed in
-    let main = own_raised k0 m.body (body_for program m.head m.body) v.labels (unit_at m (suc more) x index) index line
-    (most_for program) (suc more) past h.begun h.known z in
-    let two = visit_two m i v (suc more) all entry function h in
-    let made = visit_made m i v (suc more) all h in
+visit_raised once {program} m i v more past entry function labels line {c} h n b =
+    let u = unit_is program m.head m.body n.unit n.placed.is in
+    let z = own_raise once m v.input (suc more) h.few h.begun n.unit n.index n.placed in
+    let two = visit_two m i v (suc more) past entry function h in
+    let made = visit_made m i v (suc more) past h in
     let world = ap (λ (w : World). w.acts) made.world in
     let later = h.among.later.acts in
-    let some = (visit_begun m v (suc more) all h).acts in
-    let inner = visit_block m i v (suc more) all entry function in (
+    let some = (visit_begun m v (suc more) past h).acts in
+    let inner = visit_block m i v (suc more) past entry function in (
       record {
         begun = b;
         routines = z.routines;
-        by = main.0.by;
-        force = visit_forced m i v (suc more) all entry function h x.condition ∙ main.0.force;
+        by = n.forced.by;
+        force = subst (λ d. force inner.first.state.activations d ≡ Some (n.forced.by, BlockUnit (T.unit_of n.unit)))
+            (sym n.condition) (visit_forced m i v (suc more) past entry function h c ∙ n.forced.is);
         parent =
-            subst (λ l. HasParent l main.0.by.height inner.first.state.activations) (sym u.level)
-            (subst (λ n. HasParent 1 n inner.first.state.activations) (sym main.1) (
+            subst (λ l. HasParent l n.forced.by.height inner.first.state.activations) (sym u.level)
+            (subst (λ m'. HasParent 1 m' inner.first.state.activations) (sym n.forced.own) (
               omega arith,
               ap (λ as'. height_of (ancestor as' 1 0)) two.is
                   ∙ two_parent m.head.level i.head.level two.inside two.bindings two.units (level_of m),
             ));
-        room = visit_room m i v (suc more) all entry function h (unit_at m more x index).words x.head.level
-            (taken_by m x u).words u.level;
+        room = visit_room m i v (suc more) past entry function h (unit_at m more n.unit n.index).words
+            n.unit.head.level (taken_by m n.unit u).words u.level;
         shallow = ap (λ (as' : List Activation). nat_lt (length as') most_activations) two.is;
         only = z.only;
         some = z.some;
@@ -510,22 +509,22 @@ visit_raised once {program} m i v more past entry function labels line index x h
         enough = omega (arith, world, later, some);
         most = z.paid;
       },
-      main.1,
+      n.forced.own,
     )
 
 visit_is :
     MarkedOnce → {program : Y.Program} (m : Main program) {valued : Bool} {number : ℕ} (i : Inner m valued number)
     (v : Visit) (more : ℕ) (past : Past) (entry : Entry) (function : Option Function) (labels : List Label)
-    (line index : ℕ) (x : T.OnUnit) → IsVisit m v (suc more) ((x, index) ∷ past) →
-    IsUnitOf m v.input (suc (suc more)) x index →
-    IsBegun (visit_block m i v (suc more) ((x, index) ∷ past) entry function) →
-    IsScene m (visit_scene m i v more ((x, index) ∷ past) entry function labels line index x)
-visit_is once {program} m i v more past entry function labels line index x h placed b =
+    (line : ℕ) {c : Condition} → IsVisit m v (suc more) past → (n : Newest m v.input (suc (suc more)) past c) →
+    IsBegun (visit_block m i v (suc more) past entry function) →
+    IsScene m (visit_scene m i v more past entry function labels line n.index n.unit)
+visit_is once {program} m i v more past entry function labels line h n b =
     record {
       few = h.few;
       begun = h.begun;
+      known = h.known;
       includes = h.includes;
-      placed = placed;
+      placed = n.placed;
       raised = raised.0;
       behind = 1;
       there = refl;
@@ -533,10 +532,10 @@ visit_is once {program} m i v more past entry function labels line index x h pla
           let at = (own_known m v.input acts s named).level in
           further_number (scene_setting m z) (scene_unit m z) more raised.0 r s main v.point v.numbers 1
           (record {
-            begun = visit_begun m v (suc more) all h;
+            begun = visit_begun m v (suc more) past h;
             among = h.among;
-            activations = ap (λ as'. drop 1 as') (visit_above m i v (suc more) all entry function).is;
-            layers = ap (λ ls. drop 1 ls) (visit_made m i v (suc more) all h).layers;
+            activations = ap (λ as'. drop 1 as') (visit_above m i v (suc more) past entry function).is;
+            layers = ap (λ ls. drop 1 ls) (visit_made m i v (suc more) past h).layers;
             remains = b.remains;
             own = raised.1;
             level = refl;
@@ -545,40 +544,40 @@ visit_is once {program} m i v more past entry function labels line index x h pla
             parts = refl;
           })
           is made b' (omega (arith, level, outer, at))
-          (past_numbers (block_for m v.input acts) all s
+          (past_numbers (block_for m v.input acts) past s
           (main_number m v.input acts s (own_known m v.input acts s named) h.begun));
       found = λ r is made b'.
-          two_found (E.activation_of x.head (unit_entry (scene_unit m z) r) (length r.point.state.activations + 1))
+          two_found (E.activation_of n.unit.head (unit_entry (scene_unit m z) r) (length r.point.state.activations + 1))
           r.point.state.activations m.head.level i.head.level (two_at r is) (is.height ∙ raised.1)
-          (eqb-other x.head.level m.head.level (λ e. omega (arith, e, level, outer)));
+          (eqb-other n.unit.head.level m.head.level (λ e. omega (arith, e, level, outer)));
+      system = λ r is c system.
+          subst IsSystem (sym (ap (λ as'. force as' c) is.among.later.activations))
+          (visit_system m i v (suc more) past entry function h c system);
     }
   where
-    all : Past
-    all = (x, index) ∷ past
-
     acts : ℕ
     acts = suc (suc more)
 
     z : Scene
-    z = visit_scene m i v more all entry function labels line index x
+    z = visit_scene m i v more past entry function labels line n.index n.unit
 
     main : Block
-    main = main_past m v.input acts all
+    main = main_past m v.input acts past
 
-    level : x.head.level ≡ 1
-    level = (unit_is program m.head (labels_in m.body) x placed.is).level
+    level : n.unit.head.level ≡ 1
+    level = (unit_is program m.head m.body n.unit n.placed.is).level
 
     outer : m.head.level ≡ 0
     outer = level_of m
 
     raised : (h' : IsRaised (scene_setting m z) (scene_unit m z) more) × (h'.by.height ≡ 1)
-    raised = visit_raised once m i v more past entry function labels line index x h placed b
+    raised = visit_raised once m i v more past entry function labels line h n b
 
     two_at :
         (r : Raise) → IsRaiseOf (scene_setting m z) (scene_unit m z) more raised.0 r →
         Two m.head.level i.head.level r.point.state.activations
     two_at r is =
-        let two = visit_two m i v (suc more) all entry function h in
+        let two = visit_two m i v (suc more) past entry function h in
         record {
           inside = two.inside;
           bindings = two.bindings;
@@ -590,11 +589,19 @@ visit_is once {program} m i v more past entry function labels line index x h pla
 pub visit_overflow :
     MarkedOnce → {program : Y.Program} (m : Main program) {valued : Bool} {number : ℕ} (i : Inner m valued number)
     (v : Visit) (more : ℕ) (past : Past) (entry : Entry) (function : Option Function) (labels : List Label)
-    (line index : ℕ) (x : T.OnUnit) → IsVisit m v (suc more) ((x, index) ∷ past) →
-    IsUnitOf m v.input (suc (suc more)) x index →
-    IsBegun (visit_block m i v (suc more) ((x, index) ∷ past) entry function) →
-    OverflowComes
-    (setting_of (visit_block m i v (suc more) ((x, index) ∷ past) entry function) labels line (most_for program))
-visit_overflow once m i v more past entry function labels line index x h placed b =
-    overflow_at once m (visit_scene m i v more ((x, index) ∷ past) entry function labels line index x)
-    (visit_is once m i v more past entry function labels line index x h placed b)
+    (line : ℕ) → IsVisit m v (suc more) past → Newest m v.input (suc (suc more)) past C.FixedOverflow →
+    IsBegun (visit_block m i v (suc more) past entry function) →
+    OverflowComes (setting_of (visit_block m i v (suc more) past entry function) labels line (most_for program))
+visit_overflow once m i v more past entry function labels line h n b =
+    overflow_at once m (visit_scene m i v more past entry function labels line n.index n.unit)
+    (visit_is once m i v more past entry function labels line h n b) n.condition
+
+pub visit_divides :
+    MarkedOnce → {program : Y.Program} (m : Main program) {valued : Bool} {number : ℕ} (i : Inner m valued number)
+    (v : Visit) (more : ℕ) (past : Past) (entry : Entry) (function : Option Function) (labels : List Label)
+    (line : ℕ) → IsVisit m v (suc more) past → Newest m v.input (suc (suc more)) past C.ZeroDivide →
+    IsBegun (visit_block m i v (suc more) past entry function) →
+    ZeroDivideComes (setting_of (visit_block m i v (suc more) past entry function) labels line (most_for program))
+visit_divides once m i v more past entry function labels line h n b =
+    divide_at once m (visit_scene m i v more past entry function labels line n.index n.unit)
+    (visit_is once m i v more past entry function labels line h n b) n.condition

@@ -16,7 +16,9 @@ called_scope program main head =
       blocks = place_of_head head ∷ place_of_head main ∷ [];
       is_function = λ n. false;
       is_procedure = λ n. false;
-      raises = true;
+      overflows = true;
+      divides = true;
+      elements = true;
       own = true;
       is_outer = λ level label. false;
     }

@@ -3,3 +3,4 @@ pub mod Units
 pub mod Programs
 pub mod Headlines
 pub mod Rows
+pub mod GuardRows

@@ -1,8 +1,7 @@
--- Programs of FIXED BINARY(31) numbers whose main procedure has ON FIXEDOVERFLOW, as a class that is computed from
--- typed trees.
+-- Programs of FIXED BINARY(31) numbers whose main procedure has ON FIXEDOVERFLOW or ON ZERODIVIDE, as a class that is
+-- computed from typed trees.
 use Rattle.std.specs.Prelude.{◌&&◌, ◌||◌, ◌==◌, Bool, true, false, List, [], ◌∷◌, nat_le, not, Option, None, Some}
 use Rattle.pli_typing.specs.TypedTree as Y
-use Rattle.pli_meaning.specs.Control.{Label}
 use Rattle.pli_meaning.specs.DeclaredShapes.{head_of}
 use Rattle.pli_meaning.specs.Executing.{labels_in}
 use Rattle.pli_coding.specs.Registers.{held_registers}
@@ -14,17 +13,18 @@ use Rattle.unit_numbers.specs.Units.{is_unit, own_scope, unit_in}
 
 -- ---- the list of the main procedure: ON stands anywhere in it, and in no list inside it
 
-abbrev pub is_step_with : Y.Program → (main : Y.BlockHead) → List Label → Option OnUnit → Y.Stmt → Bool
-is_step_with program main labels None stmt = is_statement (own_scope program main) false labels stmt
-is_step_with program main labels (Some x) stmt = is_unit program main labels x
+-- a statement of a list
+abbrev pub is_step_with : Y.Program → (main : Y.BlockHead) → (all : Y.Stmts) → Option OnUnit → Y.Stmt → Bool
+is_step_with program main all None stmt = is_statement (own_scope program main) false (labels_in all) stmt
+is_step_with program main all (Some x) stmt = is_unit program main all x
 
-abbrev pub is_step : Y.Program → (main : Y.BlockHead) → List Label → Y.Stmt → Bool
-is_step program main labels stmt = is_step_with program main labels (unit_in stmt) stmt
+abbrev pub is_step : Y.Program → (main : Y.BlockHead) → (all : Y.Stmts) → Y.Stmt → Bool
+is_step program main all stmt = is_step_with program main all (unit_in stmt) stmt
 
-abbrev pub are_steps : Y.Program → (main : Y.BlockHead) → List Label → Y.Stmts → Bool
-are_steps program main labels (Y.EndOfList own) = true
-are_steps program main labels (Y.StmtThen own first rest) =
-    is_step program main labels first && are_steps program main labels rest
+abbrev pub are_steps : Y.Program → (main : Y.BlockHead) → (all : Y.Stmts) → Y.Stmts → Bool
+are_steps program main all (Y.EndOfList own) = true
+are_steps program main all (Y.StmtThen own first rest) =
+    is_step program main all first && are_steps program main all rest
 
 -- ---- the code of a unit is found by its tree, so no two may be alike: they differ in number or line
 
@@ -48,13 +48,13 @@ are_apart (Y.StmtThen own first rest) = is_alone (unit_in first) rest && are_apa
 
 abbrev pub is_unit_body : Y.Program → (main : Y.BlockHead) → Y.Stmts → Bool
 is_unit_body program main body =
-    are_steps program main (labels_in body) body && (are_apart body && nat_le (statements_need body) held_registers)
+    are_steps program main body body && (are_apart body && nat_le (statements_need body) held_registers)
 
 abbrev pub is_unit_main : Y.Program → Y.Procedure → Bool
 is_unit_main program p =
     has_none p.parameters && (has_result false p.result && is_unit_body program (head_of p.block) (body_of p.block))
 
--- the first one is the main procedure; it calls none of the others
+-- the first one is the main procedure; what it doesn't call may be any
 abbrev pub has_unit_main : Y.Program → List Y.Procedure → Bool
 has_unit_main program [] = false
 has_unit_main program (p ∷ ps) = is_unit_main program p

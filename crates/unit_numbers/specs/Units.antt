@@ -1,10 +1,12 @@
--- On-units of FIXEDOVERFLOW over FIXED BINARY(31) numbers, as a class that is computed from typed trees.
-use Rattle.std.specs.Prelude.{◌&&◌, ◌==◌, Bool, true, false, List, [], ◌∷◌, nat_le, Option, None, Some}
+-- On-units of FIXEDOVERFLOW and ZERODIVIDE over FIXED BINARY(31) numbers, as a class that is computed from typed trees.
+use Rattle.std.specs.Prelude.{◌&&◌, ◌||◌, ◌==◌, Bool, true, false, [], ◌∷◌, nat_le, not, Option, None, Some}
 use Rattle.pli_language.specs.declared.condition.Condition.{Condition}
 use Rattle.pli_language.specs.declared.condition.Condition.TheVariants as C
 use Rattle.pli_typing.specs.TypedTree as Y
-use Rattle.pli_meaning.specs.Control.{Label, is_among}
+use Rattle.pli_meaning.specs.Control.{is_among}
 use Rattle.pli_meaning.specs.DeclaredShapes.{variables_of_block}
+use Rattle.pli_meaning.specs.Executing.{labels_in}
+use Rattle.pli_meaning.specs.StorageState.{same_condition}
 use Rattle.pli_coding.specs.Images.{place_of_head}
 use Rattle.unit_runs.specs.Establishing.{OnUnit}
 use Rattle.number_runs.specs.Numbers.{Scope, has_none}
@@ -21,24 +23,11 @@ own_scope program main =
       blocks = place_of_head main ∷ [];
       is_function = may_call program main true;
       is_procedure = may_call program main false;
-      raises = true;
+      overflows = true;
+      divides = true;
+      elements = true;
       own = true;
       is_outer = λ level label. false;
-    }
-
--- those of a unit in it may name them, too, and jump to these labels of the main procedure; they call nothing, raise
--- nothing, and don't return
-abbrev pub unit_scope : Y.Program → (main : Y.BlockHead) → List Label → Scope
-unit_scope program main labels =
-    record {
-      program = program;
-      level = main.level;
-      blocks = place_of_head main ∷ [];
-      is_function = λ n. false;
-      is_procedure = λ n. false;
-      raises = false;
-      own = false;
-      is_outer = λ level label. (level == main.level) && is_among label labels;
     }
 
 -- ---- units
@@ -49,9 +38,37 @@ unit_in (Y.OnUnit condition (Y.BlockOf head body) line) =
     Some (record { condition = condition; head = head; body = body; line = line })
 unit_in _ = None
 
-abbrev pub is_overflow : Condition → Bool
-is_overflow C.FixedOverflow = true
-is_overflow _ = false
+-- a list has one for a condition
+abbrev pub is_unit_for : Condition → Option OnUnit → Bool
+is_unit_for c None = false
+is_unit_for c (Some x) = same_condition x.condition c
+
+abbrev pub has_unit : Condition → Y.Stmts → Bool
+has_unit c (Y.EndOfList own) = false
+has_unit c (Y.StmtThen own first rest) = is_unit_for c (unit_in first) || has_unit c rest
+
+-- for a condition that numbers raise
+abbrev pub is_of_numbers : Condition → Bool
+is_of_numbers C.FixedOverflow = true
+is_of_numbers C.ZeroDivide = true
+is_of_numbers _ = false
+
+-- those of a unit in it may name them, too, and jump to the labels of the main procedure's list; they call nothing and
+-- don't return, and raise no condition for which that list has a unit
+abbrev pub unit_scope : Y.Program → (main : Y.BlockHead) → Y.Stmts → Scope
+unit_scope program main body =
+    record {
+      program = program;
+      level = main.level;
+      blocks = place_of_head main ∷ [];
+      is_function = λ n. false;
+      is_procedure = λ n. false;
+      overflows = not (has_unit C.FixedOverflow body);
+      divides = not (has_unit C.ZeroDivide body);
+      elements = false;
+      own = false;
+      is_outer = λ level label. (level == main.level) && is_among label (labels_in body);
+    }
 
 -- a single statement, or a BEGIN block that declares nothing
 abbrev pub is_bare : Y.Program → Y.BlockHead → Y.BlockKind → Bool
@@ -59,12 +76,12 @@ is_bare program head Y.SimpleUnit = true
 is_bare program head Y.UnitBlock = has_none (variables_of_block program head.number)
 is_bare program head _ = false
 
--- a unit of the main procedure, whose list has these labels
-abbrev pub is_unit : Y.Program → (main : Y.BlockHead) → List Label → OnUnit → Bool
-is_unit program main labels x =
-    is_overflow x.condition
+-- a unit of the main procedure, which has this list
+abbrev pub is_unit : Y.Program → (main : Y.BlockHead) → Y.Stmts → OnUnit → Bool
+is_unit program main body x =
+    is_of_numbers x.condition
     && (is_line x.line
     && (is_line x.head.line
     && ((x.head.level == 1)
     && (nat_le main.number x.head.number
-    && (is_bare program x.head x.head.kind && is_body (unit_scope program main labels) false x.body)))))
+    && (is_bare program x.head x.head.kind && is_body (unit_scope program main body) false x.body)))))

@@ -1,5 +1,6 @@
 // Laws of the definitions: each function's contract is one law, and calling it does nothing.
 
+ghost use Rattle.unit_numbers.specs.GuardRows.{GuardKept};
 ghost use Rattle.unit_numbers.specs.Headlines.{UnitNumberHeadlinesKept};
 ghost use Rattle.unit_numbers.specs.Rows.{HealKept};
 
@@ -19,6 +20,13 @@ pub fn unit_number_headlines_kept()
 /// A worked row: a unit sets the variable whose sum overflows, a program of the class.
 pub fn heal_kept()
     ensures { HealKept }
+{
+    unit_number_headlines_kept();
+}
+
+/// A worked row: units that are raised in a procedure and in a function, which one of them leaves by a jump.
+pub fn guard_kept()
+    ensures { GuardKept }
 {
     unit_number_headlines_kept();
 }
