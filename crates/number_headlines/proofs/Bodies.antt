@@ -1,6 +1,6 @@
 -- The statements of each block of a program of the class do what they mean, and so do the calls in them, as deep as
 -- they go.
-use Rattle.std.proofs.Common.{◌≡◌, ℕ, zero, suc, ◌+◌, ◌*◌, ◌^◌, ◌<◌, ◌≤◌, List, [], ◌∷◌, ◌++◌, length}
+use Rattle.std.proofs.Common.{◌≡◌, ℕ, zero, suc, ◌+◌, ◌^◌, ◌<◌, ◌≤◌, List, [], ◌∷◌, ◌++◌, length}
 use Rattle.std.proofs.Common.{Bool, true, false, refl, sym, ap, subst, arith}
 use Rattle.std.specs.Prelude.{cond, nat_le, nat_lt, ◌==◌}
 use Rattle.std.proofs.lemmas.Bool.{leb-true}
@@ -42,6 +42,7 @@ use Rattle.nested_calls.proofs.FullCalls.{full_call_ends, full_function_ends}
 use Rattle.nested_calls.proofs.NestedCalls.{call_coded, call_of, given_in, nested_call_does}
 use Rattle.nested_calls.proofs.NestedFunctions.{deep_function_ends, nested_function_does}
 use Rattle.number_runs.specs.Knowledge.{IsReady, IsUnraised, IsValued, KnowsCalls, call_number, call_statement}
+use Rattle.number_runs.specs.Variables.{bytes_of}
 use Rattle.number_runs.proofs.Statements.{body_does, none_raised}
 use Rattle.number_runs.proofs.Puts.{puts_known}
 use Rattle.number_runs.proofs.Takes.{registers_held}
@@ -112,6 +113,7 @@ ready once {program} m input acts valued more a blocks few inner h calls =
     let u : IsUnraised k (most_for program) =
     record {
       routines = routines;
+      place = error_routine once program m.loadable;
       overflow = h.unraised C.FixedOverflow;
       divisor = h.unraised C.ZeroDivide;
       error = h.unraised C.Error;
@@ -125,10 +127,11 @@ ready once {program} m input acts valued more a blocks few inner h calls =
       held = omega arith;
       raises = none_raised s k (labels_in a.body ++ []) (most_for program) u;
       variables = h.variables;
+      arrays = λ may. h.arrays;
       calls = calls;
       jumps = λ labels level label line index includes out. absurd (cc out);
       puts = λ may.
-          puts_known s k (most_for program) h.begun u (error_routine once program m.loadable) h.variables
+          puts_known s k (most_for program) h.begun u h.variables (λ may'. h.arrays)
           (lists_known program k m.memory h.told);
       room = omega arith;
       home = λ may. record {
@@ -153,7 +156,8 @@ body_each once {program} m input acts valued more a blocks few inner h calls =
     let plain = block_plain program.variables a.head.number m.plain in
     body_does s valued (block_of_run program input acts valued more a) a.body (body_for program a.head a.body)
     (most_for program) left_over (ready once m input acts valued more a blocks few inner h calls) h.statements
-    (registers_held s valued (environment_for program a.head) a.head.number a.body plain.0 h.statements h.fits)
+    (registers_held s valued (environment_for program a.head) a.head.number a.body plain.plain h.statements
+    h.fits)
     (body_placed once program a.head a.body (result_of valued) m.loadable h.is)
 
 -- ---- calls, if the statements of blocks that may be entered one level less deep do what they mean
@@ -198,7 +202,7 @@ call_by :
     Does (block_of_run program input acts valued (suc more) a) labels (call_statement level number line) index left_over
 call_by once {program} m input acts valued more b a few h each labels level number line index i less l =
     let k = block_of_run program input acts valued (suc more) a in
-    let used = automatic_in_use k.first.state.living + 32 * length (variables_of_block program i.head.number) in
+    let used = automatic_in_use k.first.state.living + bytes_of (variables_of_block program i.head.number) in
     let one = act_code line in
     let given' = given_in k level in
     let c0 = callee_of program false more (entered_at i k 0 k.first (λ n. 0)) in
@@ -274,7 +278,7 @@ value_by :
 value_by once {program} m input acts valued more b a few h each labels line level number i =
     let k = block_of_run program input acts valued (suc more) a in
     let z = setting_of k labels line (most_for program) in
-    let used = automatic_in_use k.first.state.living + 32 * length (variables_of_block program i.head.number) in
+    let used = automatic_in_use k.first.state.living + bytes_of (variables_of_block program i.head.number) in
     let c = callee_of program true more (entered_at i k 0 k.first (λ n. 0)) in
     let inside = i.inside in
     let stands = function_stands once program i.head i.body 31 (run_for input acts)

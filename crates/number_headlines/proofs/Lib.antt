@@ -13,3 +13,4 @@ pub mod Rows
 pub mod CallRows
 pub mod NestRows
 pub mod PutRows
+pub mod ArrayRows

@@ -4,3 +4,4 @@ pub mod Rows
 pub mod CallRows
 pub mod NestRows
 pub mod PutRows
+pub mod ArrayRows

@@ -1,3 +1,4 @@
+pub mod Arrays
 pub mod Numbers
 pub mod Puts
 pub mod Statements
