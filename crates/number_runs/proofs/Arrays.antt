@@ -1,16 +1,15 @@
 -- Arrays that the class admits: what is declared, references to elements, and their subscripts.
-use Rattle.std.proofs.Common.{◌≡◌, ◌⊎◌, inl, inr, ℕ, ◌+◌, ◌^◌, ◌≤◌, List, [], ◌∷◌, Option, None, Some, true}
-use Rattle.std.proofs.Common.{refl, sym, ap, ◌∙◌, subst}
+use Rattle.std.proofs.Common.{◌≡◌, inl, inr, ℕ, ◌+◌, ◌^◌, ◌≤◌, List, [], ◌∷◌, Option, None, Some, true}
+use Rattle.std.proofs.Common.{refl, ap, ◌∙◌}
 use Rattle.std.specs.Prelude.{◌&&◌, ◌==◌, int_le, max}
 use Rattle.std.proofs.lemmas.Bool.{and_parts, eqb-true, ltb-true}
 use Rattle.pli_language.specs.Tree as T
-use Rattle.pli_typing.specs.Signatures.{Bounds}
 use Rattle.pli_typing.specs.TypedTree as Y
 use Rattle.pli_meaning.specs.Numbers.{is_of_precision}
 use Rattle.pli_meaning.specs.DeclaredShapes.{amount_of}
 use Rattle.expression_runs.specs.Laws.{Does}
 use Rattle.expression_runs.specs.Values.{Setting}
-use Rattle.expression_runs.specs.Variables.{Spot, variable_of, whole_part}
+use Rattle.expression_runs.specs.Variables.{Spot, variable_of}
 use Rattle.element_runs.specs.Arrays.{IsBounds, array_declared, array_leaf, constant_bounds, element}
 use Rattle.element_runs.specs.Subscripts.{IsSubscript}
 use Rattle.number_runs.specs.Arrays.{are_bounds, array_bounds, bounds_in, first_bounds, is_array, is_array_of, is_row}

@@ -1,6 +1,6 @@
 -- What is so of each variable that the class lets a block declare, a scalar or an array: what it takes, and that it can
 -- be made.
-use Rattle.std.proofs.Common.{◌≡◌, ◌⊎◌, inl, inr, ℕ, zero, suc, ◌+◌, ◌*◌, ◌<◌, ◌≤◌, List, [], ◌∷◌, None, length, true}
+use Rattle.std.proofs.Common.{◌≡◌, ◌⊎◌, inl, inr, ℕ, zero, suc, ◌+◌, ◌*◌, ◌<◌, ◌≤◌, List, [], None, true}
 use Rattle.std.proofs.Common.{refl, sym, subst, arith}
 use Rattle.std.specs.Prelude.{◌%◌, ℤ, negsuc, pos, ◌-ℤ◌, ◌+ℤ◌, int_le}
 use Rattle.std.proofs.lemmas.Bool.{or_cases}

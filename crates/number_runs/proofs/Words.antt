@@ -1,10 +1,9 @@
 -- Variables of a block, scalars and arrays: each is made where the frame ends, behind the one before it.
-use Rattle.std.proofs.Common.{◌≡◌, ℕ, zero, suc, ◌+◌, ◌*◌, ◌^◌, ◌<◌, ◌≤◌, List, [], ◌∷◌, ◌++◌, Option, None, Some, inl}
+use Rattle.std.proofs.Common.{◌≡◌, ℕ, zero, suc, ◌+◌, ◌<◌, ◌≤◌, List, [], ◌∷◌, ◌++◌, Option, None, Some, inl}
 use Rattle.std.proofs.Common.{inr, length, true, false, refl, sym, ap, ◌∙◌, subst, arith}
 use Rattle.std.specs.Prelude.{◌==◌, ◌%◌, Bool, if◌then◌else◌, is_some, min, slice_get}
 use Rattle.std.proofs.lemmas.Bool.{and_parts, le-leb}
 use Rattle.rv_meaning.specs.declared.instr.Instr.{Instr}
-use Rattle.pli_types.specs.Templates.{Template}
 use Rattle.pli_typing.specs.TypedTree as Y
 use Rattle.pli_meaning.specs.Contents.{footprint_of}
 use Rattle.pli_meaning.specs.DeclaredShapes.{declared_variable, variables_of_block}
@@ -32,9 +31,9 @@ use Rattle.variable_runs.proofs.ListsAmong.{all_among}
 use Rattle.function_runs.specs.Functions.{function_block}
 use Rattle.variable_runs.proofs.Known.{known_number, known_own}
 use Rattle.variable_runs.proofs.Lists.{next_layers}
-use Rattle.element_runs.specs.Arrays.{IsArray, array_declared}
+use Rattle.element_runs.specs.Arrays.{IsArray}
 use Rattle.number_runs.specs.Arrays.{array_bounds, bounds_if, is_array, is_array_if}
-use Rattle.number_runs.specs.Numbers.{is_plain, is_plain_if}
+use Rattle.number_runs.specs.Numbers.{is_plain_if}
 use Rattle.number_runs.specs.Variables.{AreTabled, HasWords, HaveRoom, IsOwnArray, IsOwnWord, IsTabled, are_plain}
 use Rattle.number_runs.specs.Variables.{bytes_of, is_declared, own_bounds, variable_bytes, words_from, words_in}
 use Rattle.number_runs.proofs.Arrays.{array_is, bounds_are}

@@ -1,5 +1,5 @@
 -- Arrays of FIXED BINARY(31) with one dimension of constant bounds, which a block may declare beside its numbers.
-use Rattle.std.specs.Prelude.{◌==◌, ◌&&◌, ◌||◌, Bool, true, false, List, [], ◌∷◌, int_le, Option, None, Some, pos}
+use Rattle.std.specs.Prelude.{◌==◌, ◌&&◌, Bool, false, List, [], ◌∷◌, int_le, Option, None, Some, pos}
 use Rattle.pli_language.specs.Tree as T
 use Rattle.pli_typing.specs.Signatures.{Bounds}
 use Rattle.pli_typing.specs.TypedTree as Y
