@@ -140,7 +140,7 @@ has_words {program} m {input} {acts} {valued} {more} {b} {a} {p = p} {numbers = 
       made = refl;
       plain = plain.plain;
       few = plain.few;
-      tabled = table_later o.among.later.remains o.running.tabled i.head;
+      tabled = table_later program o.among.later.remains o.running.tabled i.head;
       room = room_fewer w (begun_at w c p numbers) (layer_for w p numbers c.procedure c.calling) p.control.layers
           (fixed_size i.head.level 0) n (n + 0) (omega arith) (begun_room m o i c refl pass);
     }
@@ -515,8 +515,8 @@ entered {program} m {input} {acts} {valued} {more} {b} {a} {p} {numbers} o {v} i
       arrays = λ x h. each_array m o i call pass b' x h;
       unraised = λ condition. unraised_there m o i call condition;
       idle = made_idle φ xs start;
-      told = called_of_program program k (block_of_run program input acts v more (entered_at i k call p numbers)) numbers
-          o.running.told o.among refl refl b';
+      told = called_of_program program k (block_of_run program input acts v more (entered_at i k call p numbers))
+          numbers o.running.told o.among refl refl b';
       free = record {
         layer = _;
         below = _;
@@ -526,7 +526,7 @@ entered {program} m {input} {acts} {valued} {more} {b} {a} {p} {numbers} o {v} i
         used = omega (arith, counts, limit);
         fits = omega (arith, words, level, fits, top, low, place, at, lower, counts);
       };
-      tabled = table_later b'.remains (table_later o.among.later.remains o.running.tabled);
+      tabled = table_later program b'.remains (table_later program o.among.later.remains o.running.tabled);
       depth = record {
         some = omega (arith, shallow, deep);
         all = omega (arith, deep, there, here);

@@ -1,5 +1,5 @@
 -- What is called where its variables pass the limit on what is AUTOMATIC: making them ends the run.
-use Rattle.std.proofs.Common.{◌≡◌, ℕ, suc, ◌+◌, ◌^◌, ◌<◌, List, [], length, Bool, refl, ap, ◌∙◌, subst, arith}
+use Rattle.std.proofs.Common.{◌≡◌, ℕ, suc, ◌+◌, ◌^◌, ◌<◌, List, length, Bool, refl, ap, ◌∙◌, subst, arith}
 use Rattle.pli_typing.specs.TypedTree as Y
 use Rattle.pli_meaning.specs.DeclaredShapes.{variables_of_block}
 use Rattle.pli_meaning.specs.Executing as M
@@ -77,7 +77,8 @@ are_full {program} m {input} {acts} {valued} {more} {b} {a} {p} {numbers} o {v} 
     ∙ at j less) in
     let size = ap (λ u. size_of u) coded in
     let over = words_over w code e around start numbers φ p.control.layers first 0 ds
-    (record { parts = refl; acts = few }) plain.plain (table_later o.among.later.remains o.running.tabled i.head)
+    (record { parts = refl; acts = few }) plain.plain
+    (table_later program o.among.later.remains o.running.tabled i.head)
     (record { activation = _; below = _; active = refl; some = omega arith })
     (record {
       newest = refl;

@@ -1,6 +1,6 @@
 -- Variables of a block of the class: what they count for in AUTOMATIC storage, and that those which pass the limit on
 -- that end the run.
-use Rattle.std.proofs.Common.{◌≡◌, ℕ, ◌+◌, ◌*◌, ◌%◌, ◌^◌, ◌<◌, ◌≤◌, List, [], ◌∷◌, Bool, true, false}
+use Rattle.std.proofs.Common.{◌≡◌, ℕ, ◌+◌, ◌%◌, ◌^◌, ◌<◌, ◌≤◌, List, [], ◌∷◌, Bool, true, false}
 use Rattle.std.proofs.Common.{refl, sym, ap, ◌∙◌, subst, arith}
 use Rattle.std.specs.Prelude.{cond, nat_le, nat_lt, pos, if◌then◌else◌}
 use Rattle.std.proofs.lemmas.Bool.{and_parts, leb-true}
@@ -126,10 +126,10 @@ pub record HasStack (w : Surroundings) (p : Point) (φ : Layer) (φs : List Laye
   pub used : automatic_in_use p.state.living ≤ most_automatic
 
 stack_room :
-    {w : Surroundings} {p : Point} {φ : Layer} {φs : List Layer} {place more : ℕ} (bytes : ℕ) →
+    {w : Surroundings} {p : Point} {φ : Layer} {φs : List Layer} {place : ℕ} (bytes more : ℕ) →
     HasStack w p φ φs place (bytes + more) → automatic_in_use p.state.living + bytes ≤ most_automatic →
     HaveRoom w p φ φs place (bytes + 0)
-stack_room bytes h less =
+stack_room bytes more h less =
     let counted = h.counted in
     let fits = h.fits in
     record {
@@ -246,7 +246,7 @@ first_over :
     (φ : Layer) (φs : List Layer) (place index : ℕ) (d : Y.DeclaredVariable) (ds : List Y.DeclaredVariable) →
     HasWord w e → is_declared d ≡ true → PassesLimit p (word_made e place index d) φ φs →
     AreOver w code e around p numbers place index (d ∷ ds)
-unfolding K.variable_made looked choose stored ◌>>=◌ ◌>>◌
+unfolding K.variable_made looked choose stored give ◌>>=◌ ◌>>◌
 first_over w code e around p numbers φ φs place index d ds has is past =
     let x = word_made e place index d in
     let first = constant_made e place d in
@@ -325,7 +325,7 @@ words_over w code e around p numbers φ φs place index (d ∷ ds) has plain tab
     (λ e'.
     let less = leb-true (automatic_in_use p.state.living + variable_bytes d) most_automatic e' in
     later_over w code e around p numbers φ φs place index d ds has a.0
-    (one_declared w p φ φs e place index 0 d a.0 tabled.0 (stack_room (variable_bytes d) h less))
+    (one_declared w p φ φs e place index 0 d a.0 tabled.0 (stack_room (variable_bytes d) (bytes_of ds) h less))
     (words_over w code e around (behind_made w.parts φ x p) numbers
     (layer_behind w.parts (p.state.serials + 1) φ x) φs (place + variable_bytes d) (index + 1) ds
     has a.1 tabled.1 (next_owner w.parts p φ x owner)

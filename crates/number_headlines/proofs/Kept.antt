@@ -16,6 +16,7 @@ use Rattle.pli_coding.specs.Environments.{block_around}
 use Rattle.pli_coding.specs.Frames.{fixed_size}
 use Rattle.pli_coding.specs.Images.{linked_code, picture_of}
 use Rattle.code_marks.specs.CodeMarks.{MarkedOnce}
+use Rattle.pli_coding.specs.SignatureTable.{table_of}
 use Rattle.storage_relation.specs.ServiceLaws.{TableDiffers}
 use Rattle.activation_relation.specs.Layers.{Layer, Point}
 use Rattle.program_places.specs.Constants.{constants_in}
@@ -203,7 +204,7 @@ main_running {program} m input acts b =
         used = omega (arith, counts, few);
         fits = omega (arith, words, level, place, at, lower, counts);
       };
-      tabled = table_later b.remains (λ head. has_table program head m.plain);
+      tabled = table_later program b.remains (λ head. has_table program head m.plain);
       depth = record { some = omega arith; all = omega (arith, long) };
     }
 

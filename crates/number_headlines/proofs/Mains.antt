@@ -173,8 +173,8 @@ level_of {program} m = (subst HasMain m.main m.loadable.well_formed.main).0
 pub no_words : {program : Y.Program} (m : Main program) → (procedure_for program m.head m.body).words ≡ 0
 no_words {program} m =
     let plain = block_plain program.variables m.head.number m.plain in
-    words_none (scope_of program m.called m.head) false (environment_for program m.head) m.head.number m.body plain.plain
-    m.statements m.fits
+    words_none (scope_of program m.called m.head) false (environment_for program m.head) m.head.number m.body
+    plain.plain m.statements m.fits
 
 parented : (level parent : ℕ) → level ≡ 0 → HasParent level parent []
 parented level parent e = subst (λ n. HasParent n parent []) (sym e) tt

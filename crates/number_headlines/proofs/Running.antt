@@ -193,6 +193,6 @@ tabled_later e (d ∷ ds) same h = (
   tabled_later e ds same h.1,
 )
 
-pub table_later : {program : Y.Program} {q r : Point} → Remains q r → HasTable program q → HasTable program r
-table_later {program} same h head =
+pub table_later : {q r : Point} (program : Y.Program) → Remains q r → HasTable program q → HasTable program r
+table_later program same h head =
     tabled_later (environment_for program head) (variables_of_block program head.number) same (h head)
