@@ -134,8 +134,9 @@ valued_array {program} m i input acts more call {p} {numbers} o b x h =
         IsArray (valued_block m i input acts more call p numbers) x
         (bounds_known (inner_scope program m.head i.head) x)
     by n (inl is) =
-        function_array (surroundings_for program input acts) (linked_code (code_for program)) (function_of m i more call) p
-        (block_for m input acts).first numbers x (record { high = omega arith; inside = omega arith }) (
+        function_array (surroundings_for program input acts) (linked_code (code_for program))
+        (function_of m i more call) p (block_for m input acts).first numbers x
+        (record { high = omega arith; inside = omega arith }) (
           inner_words m i input acts more call end numbers,
           inner_all m i input acts more call end p numbers o.begun o.among,
         )

@@ -186,8 +186,8 @@ no_inner_words :
     (procedure_for program i.head i.body).words ≡ 0
 no_inner_words {program} m {valued} i =
     let plain = block_plain program.variables i.head.number m.plain in
-    words_none (inner_scope program m.head i.head) valued (environment_for program i.head) i.head.number i.body plain.plain
-    i.statements i.fits
+    words_none (inner_scope program m.head i.head) valued (environment_for program i.head) i.head.number i.body
+    plain.plain i.statements i.fits
 
 pub inner_room :
     {program : Y.Program} (m : Main program) {valued : Bool} {number : ℕ} (i : Inner m valued number)
