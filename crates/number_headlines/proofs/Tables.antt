@@ -1,5 +1,5 @@
--- The table of a program whose variables are all FIXED BINARY(31), scalars and arrays: each signature is there once, and
--- its number leads to it.
+-- The table of a program whose variables are all FIXED BINARY(31), scalars and arrays: each signature is there once,
+-- and its number leads to it.
 use Rattle.std.proofs.Common.{◌≡◌, ℕ, zero, suc, ◌+◌, ◌*◌, ◌^◌, ◌<◌, ◌≤◌, List, [], ◌∷◌, ◌++◌, Some, true, length, map}
 use Rattle.std.proofs.Common.{refl, sym, ap, ◌∙◌, subst, arith, rules}
 use Rattle.std.specs.Prelude.{◌&&◌, nat_le, nat_lt, slice_get, unwrap_or}
@@ -62,7 +62,8 @@ by_blocks (ds ∷ vs) (suc n) h =
 
 blocks_of : (vs : List (List Y.DeclaredVariable)) → are_all_plain vs ≡ true → are_blocks_plain vs ≡ true
 blocks_of vs h =
-    (and_parts (nat_lt (length (with_signatures (flat_map (λ ds. ds) vs) [])) most_signatures) (are_blocks_plain vs) h).1
+    (and_parts (nat_lt (length (with_signatures (flat_map (λ ds. ds) vs) [])) most_signatures) (are_blocks_plain vs)
+    h).1
 
 pub block_plain :
     (vs : List (List Y.DeclaredVariable)) (n : ℕ) → are_all_plain vs ≡ true →

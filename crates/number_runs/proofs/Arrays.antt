@@ -1,5 +1,5 @@
 -- Arrays that the class admits: what is declared, references to elements, and their subscripts.
-use Rattle.std.proofs.Common.{◌≡◌, inl, inr, ℕ, ◌+◌, ◌^◌, ◌≤◌, List, [], ◌∷◌, Option, None, Some, true}
+use Rattle.std.proofs.Common.{◌≡◌, inl, inr, ℕ, ◌+◌, ◌^◌, ◌≤◌, List, [], ◌∷◌, Option, None, Some, false, true}
 use Rattle.std.proofs.Common.{refl, ap, ◌∙◌}
 use Rattle.std.specs.Prelude.{◌&&◌, ◌==◌, int_le, max}
 use Rattle.std.proofs.lemmas.Bool.{and_parts, eqb-true, ltb-true}
@@ -7,6 +7,7 @@ use Rattle.pli_language.specs.Tree as T
 use Rattle.pli_typing.specs.TypedTree as Y
 use Rattle.pli_meaning.specs.Numbers.{is_of_precision}
 use Rattle.pli_meaning.specs.DeclaredShapes.{amount_of}
+use Rattle.pli_coding.specs.Locating.{is_simple}
 use Rattle.expression_runs.specs.Laws.{Does}
 use Rattle.expression_runs.specs.Values.{Setting}
 use Rattle.expression_runs.specs.Variables.{Spot, variable_of}
@@ -126,6 +127,12 @@ element_is s v part subscript h =
 
 -- ---- subscripts
 
+waits :
+    (k : Setting) (taken need : ℕ) (x : Y.Number) → is_simple k.block.environment x ≡ false →
+    taken + max (number_needs x) 1 ≤ need → Does k (number_needs x) x → IsSubscript k taken need x
+waits k taken need x other enough does =
+    inl (record { waits = other; first = number_needs x; does = does; enough = enough })
+
 -- a constant, and a variable, come into their register by themselves; any other waits
 pub subscript_given :
     (s : Scope) (k : Setting) (taken need : ℕ) (x : Y.Number) → KnowsNumbers s k → is_number s x ≡ true →
@@ -135,43 +142,44 @@ subscript_given s k taken need (Y.NumberConstant n) h is enough does =
 subscript_given s k taken need (Y.NumberIn (Y.Referring v Y.NotLocated part Y.NoNumber)) h is enough does =
     let w = variable_is s (Y.Referring v Y.NotLocated part Y.NoNumber) is in
     inr (inr (record { spot = w.spot; is = ap (λ r. Y.NumberIn r) w.is; number = h.variables w.spot w.known }))
-subscript_given s k taken need (Y.NumberIn (Y.Referring v Y.NotLocated part (Y.NumberThen first rest))) h is enough does =
-    inl (record { waits = refl; first = number_needs (Y.NumberIn (Y.Referring v Y.NotLocated part (Y.NumberThen first rest))); does = does; enough = enough })
+subscript_given s k taken need (Y.NumberIn (Y.Referring v Y.NotLocated part (Y.NumberThen first rest))) h is enough
+    does =
+    waits k taken need (Y.NumberIn (Y.Referring v Y.NotLocated part (Y.NumberThen first rest))) refl enough does
 subscript_given s k taken need (Y.NumberIn (Y.Referring v (Y.LocatedBy p) part subscripts)) h is enough does =
-    inl (record { waits = refl; first = number_needs (Y.NumberIn (Y.Referring v (Y.LocatedBy p) part subscripts)); does = does; enough = enough })
+    waits k taken need (Y.NumberIn (Y.Referring v (Y.LocatedBy p) part subscripts)) refl enough does
 subscript_given s k taken need (Y.NumberFrom c) h is enough does =
-    inl (record { waits = refl; first = number_needs (Y.NumberFrom c); does = does; enough = enough })
+    waits k taken need (Y.NumberFrom c) refl enough does
 subscript_given s k taken need (Y.NumberOfText y) h is enough does =
-    inl (record { waits = refl; first = number_needs (Y.NumberOfText y); does = does; enough = enough })
+    waits k taken need (Y.NumberOfText y) refl enough does
 subscript_given s k taken need (Y.NumberOfBit y) h is enough does =
-    inl (record { waits = refl; first = number_needs (Y.NumberOfBit y); does = does; enough = enough })
+    waits k taken need (Y.NumberOfBit y) refl enough does
 subscript_given s k taken need (Y.Signed sign y) h is enough does =
-    inl (record { waits = refl; first = number_needs (Y.Signed sign y); does = does; enough = enough })
+    waits k taken need (Y.Signed sign y) refl enough does
 subscript_given s k taken need (Y.Calculated operator left right) h is enough does =
-    inl (record { waits = refl; first = number_needs (Y.Calculated operator left right); does = does; enough = enough })
+    waits k taken need (Y.Calculated operator left right) refl enough does
 subscript_given s k taken need (Y.Absolute y) h is enough does =
-    inl (record { waits = refl; first = number_needs (Y.Absolute y); does = does; enough = enough })
+    waits k taken need (Y.Absolute y) refl enough does
 subscript_given s k taken need (Y.SignOf y) h is enough does =
-    inl (record { waits = refl; first = number_needs (Y.SignOf y); does = does; enough = enough })
+    waits k taken need (Y.SignOf y) refl enough does
 subscript_given s k taken need (Y.Extreme extremum first more) h is enough does =
-    inl (record { waits = refl; first = number_needs (Y.Extreme extremum first more); does = does; enough = enough })
+    waits k taken need (Y.Extreme extremum first more) refl enough does
 subscript_given s k taken need (Y.Modulo left right) h is enough does =
-    inl (record { waits = refl; first = number_needs (Y.Modulo left right); does = does; enough = enough })
+    waits k taken need (Y.Modulo left right) refl enough does
 subscript_given s k taken need (Y.Divided precision left right) h is enough does =
-    inl (record { waits = refl; first = number_needs (Y.Divided precision left right); does = does; enough = enough })
+    waits k taken need (Y.Divided precision left right) refl enough does
 subscript_given s k taken need (Y.LengthOf y) h is enough does =
-    inl (record { waits = refl; first = number_needs (Y.LengthOf y); does = does; enough = enough })
+    waits k taken need (Y.LengthOf y) refl enough does
 subscript_given s k taken need (Y.IndexOf y z) h is enough does =
-    inl (record { waits = refl; first = number_needs (Y.IndexOf y z); does = does; enough = enough })
+    waits k taken need (Y.IndexOf y z) refl enough does
 subscript_given s k taken need (Y.VerifyOf y z) h is enough does =
-    inl (record { waits = refl; first = number_needs (Y.VerifyOf y z); does = does; enough = enough })
+    waits k taken need (Y.VerifyOf y z) refl enough does
 subscript_given s k taken need (Y.LowerBound r n) h is enough does =
-    inl (record { waits = refl; first = number_needs (Y.LowerBound r n); does = does; enough = enough })
+    waits k taken need (Y.LowerBound r n) refl enough does
 subscript_given s k taken need (Y.UpperBound r n) h is enough does =
-    inl (record { waits = refl; first = number_needs (Y.UpperBound r n); does = does; enough = enough })
+    waits k taken need (Y.UpperBound r n) refl enough does
 subscript_given s k taken need (Y.ElementsOf r n) h is enough does =
-    inl (record { waits = refl; first = number_needs (Y.ElementsOf r n); does = does; enough = enough })
+    waits k taken need (Y.ElementsOf r n) refl enough does
 subscript_given s k taken need (Y.AllocationsOf v) h is enough does =
-    inl (record { waits = refl; first = number_needs (Y.AllocationsOf v); does = does; enough = enough })
+    waits k taken need (Y.AllocationsOf v) refl enough does
 subscript_given s k taken need Y.OnCode h is enough does =
-    inl (record { waits = refl; first = number_needs Y.OnCode; does = does; enough = enough })
+    waits k taken need Y.OnCode refl enough does
