@@ -363,8 +363,11 @@ stands_at {program} {caller = caller} {v} {level} i x h =
         let within = i.around_it in
         let same = alike_at (environment_for program caller) (environment_for program i.head) level x.level i.alike
         low in
-        inl (low, is_around (environment_for program caller) caller.level x
-        (omega (arith, low, within), there.1 ∙ sym same))
+        inl (
+          low,
+          is_around (environment_for program caller) caller.level x
+              (omega (arith, low, within), there.1 ∙ sym same),
+        )
     by false e =
         let less = there.0 in
         let inside = i.inside in

@@ -474,12 +474,12 @@ main_calls once {program} m input more past few b known =
       functions = λ labels line level n includes h.
           let a = and_parts (level == m.head.level) (may_call program m.head true n) h in
           subst (λ at. L.Does (setting_of k labels line (most_for program)) 0 (call_number at n))
-              (sym (eqb-true level m.head.level a.0))
-              (function_called once m input more past few b known labels includes line n a.1);
+          (sym (eqb-true level m.head.level a.0))
+          (function_called once m input more past few b known labels includes line n a.1);
       procedures = λ labels level n line index includes h less.
           let a = and_parts (level == m.head.level) (may_call program m.head false n) h in
           subst (λ at. Linked (links_for program) (linked_code (code_for program)) index
-              (stmt_code (environment_for program m.head) none_taken (call_statement at n line)) →
-              Does k labels (call_statement at n line) index left_over) (sym (eqb-true level m.head.level a.0))
-              (λ l. procedure_called once m input more past few b known labels includes n line index a.1 less l);
+          (stmt_code (environment_for program m.head) none_taken (call_statement at n line)) →
+          Does k labels (call_statement at n line) index left_over) (sym (eqb-true level m.head.level a.0))
+          (λ l. procedure_called once m input more past few b known labels includes n line index a.1 less l);
     }
