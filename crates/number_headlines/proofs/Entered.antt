@@ -29,7 +29,7 @@ use Rattle.program_runs.specs.Variables.{Declared}
 use Rattle.expression_runs.specs.Variables.{IsNumber, Spot, variable_of}
 use Rattle.element_runs.specs.Arrays.{IsArray}
 use Rattle.element_runs.proofs.Outer.{outer_array}
-use Rattle.variable_runs.specs.Lists.{AreAll, all_made, behind_made, layer_behind}
+use Rattle.variable_runs.specs.Lists.{AreAll, all_made, behind_made, layer_after, layer_behind}
 use Rattle.variable_runs.proofs.Lists.{all_procedure}
 use Rattle.block_headlines.proofs.Constants.{called_of_program}
 use Rattle.nested_calls.specs.Nested.{IsNested, parent_at}
@@ -38,16 +38,19 @@ use Rattle.nested_calls.proofs.NestedVariables.{function_known, function_nested,
 use Rattle.nested_calls.proofs.NestedVariables.{procedure_nested, procedure_number}
 use Rattle.number_runs.specs.Arrays.{bounds_if, is_array_if}
 use Rattle.number_runs.specs.Numbers.{is_array_known, is_known, is_place, is_plain_if}
+use Rattle.number_runs.specs.Statements.{statements_set}
 use Rattle.number_runs.specs.Variables.{HasWords, HaveRoom, bytes_of, words_in}
-use Rattle.number_runs.proofs.Takes.{words_none}
+use Rattle.number_runs.proofs.Takes.{words_set}
 use Rattle.number_runs.proofs.Words.{all_words, function_array, function_word, own_array, own_word, room_behind}
 use Rattle.number_runs.proofs.Words.{room_fewer}
 use Rattle.number_headlines.specs.Programs.{places_to, scope_of}
 use Rattle.number_headlines.proofs.FullWords.{words_at, words_count, words_lower}
 use Rattle.number_headlines.proofs.Inner.{Inner}
+use Rattle.number_headlines.proofs.Loops.{after_waits, after_words}
 use Rattle.number_headlines.proofs.Mains.{Main, made_system, result_of, surroundings_for}
 use Rattle.number_headlines.proofs.Places.{alike_at, around_is, is_around}
-use Rattle.number_headlines.proofs.Running.{IsRunning, Running, block_of_run, callee_of, free_among, table_later}
+use Rattle.number_headlines.proofs.Running.{IsEntered, IsRunning, Running, block_of_run, callee_of, free_among}
+use Rattle.number_headlines.proofs.Running.{table_later}
 use Rattle.number_headlines.proofs.Tables.{block_plain}
 
 -- ---- what is called at a point of a block
@@ -62,16 +65,24 @@ abbrev pub entered_at :
     {program : Y.Program} → {m : Main program} → {caller : Y.BlockHead} → {valued : Bool} → {level number : ℕ} →
     Inner m caller valued level number → Block → (call : ℕ) → Point → (numbers : ℕ → ℕ) → Running
 entered_at {level = level} i k call p numbers =
-    record { head = i.head; body = i.body; parent = parent_at k level; call = call; point = p; numbers = numbers }
+    record {
+      head = i.head;
+      body = i.body;
+      parent = parent_at k level;
+      call = call;
+      point = p;
+      numbers = numbers;
+      layers = λ ls. ls;
+    }
 
 -- ---- its words
 
-pub none_waits :
+pub inner_set :
     {program : Y.Program} (m : Main program) {caller : Y.BlockHead} {valued : Bool} {level number : ℕ}
-    (i : Inner m caller valued level number) → (procedure_for program i.head i.body).words ≡ 0
-none_waits {program} m {valued = valued} i =
+    (i : Inner m caller valued level number) → (procedure_for program i.head i.body).words ≡ statements_set i.body
+inner_set {program} m {valued = valued} i =
     let plain = block_plain program.variables i.head.number m.plain in
-    words_none (scope_of program m.called i.head) valued (environment_for program i.head) i.head.number i.body
+    words_set (scope_of program m.called i.head) valued (environment_for program i.head) i.head.number i.body
     plain.plain i.statements i.fits
 
 -- they don't pass the limit on what is AUTOMATIC
@@ -96,7 +107,8 @@ begun_room {program} m {input} {acts} {valued} {more} {b} {a} {p} {numbers} o {v
     let f = free_among (suc b) k.begun o.among k.free in
     let same = in_use_later (surroundings_for program input acts) block.first p k.begun.resumes.stands o.among.stands
     o.among.later in
-    let words = ap (λ (x : Procedure). x.words) is ∙ none_waits m i in
+    let words = ap (λ (x : Procedure). x.words) is ∙ inner_set m i in
+    let waiting = i.waiting in
     let inside = ap (λ (x : Procedure). x.head.level) is in
     let level = (known program i.head i.body (result_of v) m.loadable.well_formed i.is).level in
     let few = (block_plain program.variables i.head.number m.plain).room in
@@ -108,9 +120,9 @@ begun_room {program} m {input} {acts} {valued} {more} {b} {a} {p} {numbers} o {v
       newest = refl;
       here = ap (λ n. upper_top image_parts p.control.layers + temporary_bytes c.procedure.words + fixed_size n 0)
           (sym inside);
-      even = omega (arith, words, level, inside, even, top);
+      even = omega (arith, words, waiting, level, inside, even, top);
       counted = omega (arith, level, few);
-      fits = omega (arith, words, level, inside, fits, pass, same, top, low);
+      fits = omega (arith, words, waiting, level, inside, fits, pass, same, top, low);
       low = f.low;
       limit = omega (arith, pass, same);
     }
@@ -472,7 +484,7 @@ pub entered :
     ≡ true →
     IsBegun (block_of_run program input acts v more
     (entered_at i (block_of_run program input acts valued (suc more) a) call p numbers)) →
-    IsRunning m input acts v more (entered_at i (block_of_run program input acts valued (suc more) a) call p numbers) b
+    IsEntered m input acts v more (entered_at i (block_of_run program input acts valued (suc more) a) call p numbers) b
 entered {program} m {input} {acts} {valued} {more} {b} {a} {p} {numbers} o {v} i call pass few b' =
     let w = surroundings_for program input acts in
     let k = block_of_run program input acts valued (suc more) a in
@@ -482,6 +494,7 @@ entered {program} m {input} {acts} {valued} {more} {b} {a} {p} {numbers} o {v} i
     let ds = variables_of_block program i.head.number in
     let first = fixed_size i.head.level 0 in
     let xs = words_in (environment_for program i.head) in
+    let serial = start.state.serials + 1 in
     let made = are_made m o i call pass in
     let later = o.among.later.acts in
     let enough = o.running.enough in
@@ -495,7 +508,8 @@ entered {program} m {input} {acts} {valued} {more} {b} {a} {p} {numbers} o {v} i
     let plain = (block_plain program.variables i.head.number m.plain).plain in
     let room = room_behind w start φ p.control.layers e first 0 0 ds plain begun' in
     let f = free_among (suc b) o.running.begun o.among o.running.free in
-    let words = none_waits m i in
+    let words = inner_set m i in
+    let waiting = i.waiting in
     let level = (known program i.head i.body (result_of v) m.loadable.well_formed i.is).level in
     let used = f.used in
     let fits = f.fits in
@@ -508,30 +522,35 @@ entered {program} m {input} {acts} {valued} {more} {b} {a} {p} {numbers} o {v} i
     let counts = words_count image_parts start φ e first 0 ds plain
     (record { activation = _; below = _; active = refl; some = omega arith }) in
     record {
-      is = i.is;
-      statements = i.statements;
-      fits = i.fits;
-      begun = b';
-      enough = omega (arith, later, enough, world);
-      nested = nested_by v m o i call pass b';
-      variables = λ x h. each_number m o i call pass b' x h;
-      arrays = λ x h. each_array m o i call pass b' x h;
-      unraised = λ condition. unraised_there m o i call condition;
-      idle = made_idle φ xs start;
-      told = called_of_program program k (block_of_run program input acts v more (entered_at i k call p numbers))
-          numbers o.running.told o.among refl refl b';
-      free = record {
-        layer = _;
-        below = _;
-        newest = room.newest;
-        even = room.even;
-        low = room.low;
-        used = omega (arith, counts, limit);
-        fits = omega (arith, words, level, fits, top, low, place, at, lower, counts);
+      running = record {
+        is = i.is;
+        statements = i.statements;
+        fits = i.fits;
+        waiting = i.waiting;
+        begun = b';
+        enough = omega (arith, later, enough, world);
+        nested = nested_by v m o i call pass b';
+        variables = λ x h. each_number m o i call pass b' x h;
+        arrays = λ x h. each_array m o i call pass b' x h;
+        unraised = λ condition. unraised_there m o i call condition;
+        idle = made_idle φ xs start;
+        told = called_of_program program k (block_of_run program input acts v more (entered_at i k call p numbers))
+            numbers o.running.told o.among refl refl b';
+        free = record {
+          layer = layer_after image_parts serial φ xs;
+          below = _;
+          newest = room.newest;
+          even = room.even;
+          low = room.low;
+          used = omega (arith, counts, limit);
+          fits = omega (arith, words, waiting, level, fits, top, low, place, at, lower, counts);
+        };
+        tabled = table_later program b'.remains (table_later program o.among.later.remains o.running.tabled);
+        depth = record {
+          some = omega (arith, shallow, deep);
+          all = omega (arith, deep, there, here);
+        };
       };
-      tabled = table_later program b'.remains (table_later program o.among.later.remains o.running.tabled);
-      depth = record {
-        some = omega (arith, shallow, deep);
-        all = omega (arith, deep, there, here);
-      };
+      words = after_words serial φ xs ∙ inner_set m i;
+      clear = λ n. ap (λ waits. waits n) (after_waits serial φ xs);
     }

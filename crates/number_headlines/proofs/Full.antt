@@ -21,7 +21,7 @@ use Rattle.program_runs.specs.Starts.{image_parts}
 use Rattle.nested_calls.specs.FullVariables.{AreFull}
 use Rattle.number_runs.specs.Variables.{bytes_of}
 use Rattle.number_runs.proofs.Words.{places_are, words_code}
-use Rattle.number_headlines.proofs.Entered.{Moment, entered_at, none_waits}
+use Rattle.number_headlines.proofs.Entered.{Moment, entered_at, inner_set}
 use Rattle.number_headlines.proofs.FullWords.{words_over}
 use Rattle.number_headlines.proofs.Inner.{Inner}
 use Rattle.number_headlines.proofs.Mains.{Main, result_of, surroundings_for}
@@ -55,7 +55,8 @@ are_full {program} m {input} {acts} {valued} {more} {b} {a} {p} {numbers} o {v} 
     let is = known program i.head i.body (result_of v) m.loadable.well_formed i.is in
     let kind = is.kind in
     let level = is.level in
-    let words = none_waits m i in
+    let words = inner_set m i in
+    let waiting = i.waiting in
     let f = free_among (suc b) o.running.begun o.among o.running.free in
     let same = in_use_later w k.first p o.running.begun.resumes.stands o.among.stands o.among.later in
     let laid = bounds image_parts p.control.layers o.among.stands.laid in
@@ -83,11 +84,11 @@ are_full {program} m {input} {acts} {valued} {more} {b} {a} {p} {numbers} o {v} 
     (record {
       newest = refl;
       here = refl;
-      even = omega (arith, words, level, even, top);
+      even = omega (arith, words, waiting, level, even, top);
       counted = omega (arith, level, count);
-      inside = omega (arith, words, level, count, free', high);
+      inside = omega (arith, words, waiting, level, count, free', high);
       low = f.low;
-      fits = omega (arith, words, level, fits, top, low);
+      fits = omega (arith, words, waiting, level, fits, top, low);
       used = used;
     }) (omega (arith, past, same)) in
     record {

@@ -31,7 +31,7 @@ use Rattle.program_runs.specs.Statements.{EachDoes, IsBegun}
 use Rattle.program_runs.specs.Variables.{Declared, generation_for}
 use Rattle.expression_runs.specs.Variables.{IsNumber, Spot, variable_of}
 use Rattle.element_runs.specs.Arrays.{IsArray}
-use Rattle.variable_runs.specs.Lists.{all_made, behind_made, layer_behind}
+use Rattle.variable_runs.specs.Lists.{all_made, behind_made, layer_after, layer_behind}
 use Rattle.variable_runs.proofs.Lists.{all_procedure}
 use Rattle.pli_headline.specs.Headline.{FitsMemory, Headline, parts}
 use Rattle.block_headlines.proofs.Constants.{constants_stand}
@@ -47,12 +47,13 @@ use Rattle.number_headlines.proofs.Bodies.{each_body}
 use Rattle.number_headlines.proofs.Entered.{made_idle}
 use Rattle.number_headlines.proofs.FullWords.{words_at, words_count, words_lower}
 use Rattle.number_headlines.proofs.Mains.{Main, block_for, level_of, made_for, made_system, main_all, main_begun}
+use Rattle.number_headlines.proofs.Loops.{after_waits, after_words}
 use Rattle.number_headlines.proofs.Mains.{main_array, main_for}
-use Rattle.number_headlines.proofs.Mains.{main_is, main_layer, main_number, main_room, main_spare, main_told, no_words}
+use Rattle.number_headlines.proofs.Mains.{main_is, main_layer, main_number, main_room, main_spare, main_told, own_words}
 use Rattle.number_headlines.proofs.Mains.{placed, run_for}
 use Rattle.number_headlines.proofs.Mains.{spare, start_for, surroundings_for}
 use Rattle.number_headlines.proofs.Places.{around_is}
-use Rattle.number_headlines.proofs.Running.{IsRunning, Running, table_later}
+use Rattle.number_headlines.proofs.Running.{IsEntered, Running, table_later}
 use Rattle.number_headlines.proofs.Tables.{block_plain, has_start, has_table}
 
 -- ---- the main procedure as the first block that runs
@@ -66,6 +67,7 @@ main_run {program} m input acts =
       call = call_index;
       point = start_for program input acts;
       numbers = no_numbers;
+      layers = λ ls. ls;
     }
 
 -- the one activation, with the variables that it has by then
@@ -160,12 +162,13 @@ main_element {program} m input acts b x h =
 
 main_running :
     {program : Y.Program} (m : Main program) (input : List ℕ) (acts : ℕ) → IsBegun (block_for m input acts) →
-    IsRunning m input acts false acts (main_run m input acts) most_activations
+    IsEntered m input acts false acts (main_run m input acts) most_activations
 main_running {program} m input acts b =
     let w = surroundings_for program input acts in
     let start = main_begun m input acts in
     let φ = main_layer m input acts in
     let xs = words_in (environment_for program m.head) in
+    let serial = start.state.serials + 1 in
     let first = b.acts in
     let one = main_lone m input acts in
     let long = ap (λ (as' : List Activation). length as') one.is in
@@ -182,30 +185,36 @@ main_running {program} m input acts b =
     let at = words_at image_parts (start.state.serials + 1) φ xs in
     let few = plain.room in
     let level = level_of m in
-    let words = no_words m in
+    let words = own_words m in
+    let waiting = m.waiting in
     record {
-      is = main_found program (placed m) m.main;
-      statements = m.statements;
-      fits = m.fits;
-      begun = b;
-      enough = omega (arith, first);
-      nested = main_nested m input acts;
-      variables = λ x h. main_variable m input acts b x h;
-      arrays = λ x h. main_element m input acts b x h;
-      unraised = λ c. made_system image_parts _ xs _ c tt;
-      idle = made_idle φ xs start;
-      told = main_told m input acts b;
-      free = record {
-        layer = _;
-        below = _;
-        newest = room.newest;
-        even = room.even;
-        low = room.low;
-        used = omega (arith, counts, few);
-        fits = omega (arith, words, level, place, at, lower, counts);
+      running = record {
+        is = main_found program (placed m) m.main;
+        statements = m.statements;
+        fits = m.fits;
+        waiting = m.waiting;
+        begun = b;
+        enough = omega (arith, first);
+        nested = main_nested m input acts;
+        variables = λ x h. main_variable m input acts b x h;
+        arrays = λ x h. main_element m input acts b x h;
+        unraised = λ c. made_system image_parts _ xs _ c tt;
+        idle = made_idle φ xs start;
+        told = main_told m input acts b;
+        free = record {
+          layer = layer_after image_parts serial φ xs;
+          below = _;
+          newest = room.newest;
+          even = room.even;
+          low = room.low;
+          used = omega (arith, counts, few);
+          fits = omega (arith, words, waiting, level, place, at, lower, counts);
+        };
+        tabled = table_later program b.remains (λ head. has_table program head m.plain);
+        depth = record { some = omega arith; all = omega (arith, long) };
       };
-      tabled = table_later program b.remains (λ head. has_table program head m.plain);
-      depth = record { some = omega arith; all = omega (arith, long) };
+      words = after_words serial φ xs ∙ own_words m;
+      clear = λ n. ap (λ waits. waits n) (after_waits serial φ xs);
     }
 
 main_each :

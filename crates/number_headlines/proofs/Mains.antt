@@ -37,13 +37,13 @@ use Rattle.block_headlines.specs.Constants.{IsOf}
 use Rattle.block_headlines.proofs.Constants.{main_of_program}
 use Rattle.element_runs.specs.Arrays.{IsArray}
 use Rattle.number_runs.specs.Numbers.{has_none}
-use Rattle.number_runs.specs.Statements.{are_statements, statements_need}
+use Rattle.number_runs.specs.Statements.{are_statements, statements_need, statements_set}
 use Rattle.number_runs.specs.Variables.{HasWords, HaveRoom, IsOwnArray, IsOwnWord, bytes_of, own_bounds, words_in}
-use Rattle.number_runs.proofs.Takes.{words_none}
+use Rattle.number_runs.proofs.Takes.{words_set}
 use Rattle.number_runs.proofs.Words.{all_words, own_array, own_word, room_fewer}
 use Rattle.number_runs.proofs.Variables.{fixed_is}
 use Rattle.number_headlines.specs.Programs.{are_all_plain, are_inner, body_of, callable_ones, has_main, has_result}
-use Rattle.number_headlines.specs.Programs.{is_body, most_bytes, most_words, scope_of}
+use Rattle.number_headlines.specs.Programs.{is_body, most_bytes, most_waiting, most_words, scope_of}
 use Rattle.number_headlines.proofs.Tables.{block_plain, has_table}
 
 -- ---- no unit comes with variables
@@ -113,6 +113,7 @@ pub record Main (program : Y.Program) : Type 0 where
   pub called : List ℕ
   pub statements : are_statements (scope_of program called head) false (labels_in body ++ []) body ≡ true
   pub fits : statements_need body ≤ held_registers
+  pub waiting : statements_set body ≤ most_waiting
   pub inners : are_inner program called called ≡ true
 
 -- as it is placed
@@ -134,7 +135,8 @@ main_is program (p ∷ ps) e plain load fits h =
     let b = and_parts (has_result false p.result) (is_body s false body && all) a.1 in
     let c = and_parts (is_body s false body) all b.1 in
     let f = and_parts (are_statements s false (labels_in body ++ []) body)
-    (nat_le (statements_need body) held_registers) c.0 in
+    (nat_le (statements_need body) held_registers && nat_le (statements_set body) most_waiting) c.0 in
+    let g = and_parts (nat_le (statements_need body) held_registers) (nat_le (statements_set body) most_waiting) f.1 in
     record {
       head = head;
       body = body;
@@ -145,7 +147,8 @@ main_is program (p ∷ ps) e plain load fits h =
       memory = fits;
       called = called;
       statements = f.0;
-      fits = leb-true (statements_need body) held_registers f.1;
+      fits = leb-true (statements_need body) held_registers g.0;
+      waiting = leb-true (statements_set body) most_waiting g.1;
       inners = c.1;
     }
 
@@ -170,10 +173,11 @@ main_for {program} m input acts =
 pub level_of : {program : Y.Program} (m : Main program) → m.head.level ≡ 0
 level_of {program} m = (subst HasMain m.main m.loadable.well_formed.main).0
 
-pub no_words : {program : Y.Program} (m : Main program) → (procedure_for program m.head m.body).words ≡ 0
-no_words {program} m =
+pub own_words :
+    {program : Y.Program} (m : Main program) → (procedure_for program m.head m.body).words ≡ statements_set m.body
+own_words {program} m =
     let plain = block_plain program.variables m.head.number m.plain in
-    words_none (scope_of program m.called m.head) false (environment_for program m.head) m.head.number m.body
+    words_set (scope_of program m.called m.head) false (environment_for program m.head) m.head.number m.body
     plain.plain m.statements m.fits
 
 parented : (level parent : ℕ) → level ≡ 0 → HasParent level parent []
@@ -185,10 +189,11 @@ pub main_room :
     (start_for program input acts) (procedure_for program m.head m.body)
     (main_for m input acts).calling
 main_room {program} m input acts =
-    let words = no_words m in
+    let words = own_words m in
+    let waiting = m.waiting in
     let level = level_of m in
     record {
-      room = omega (arith, words, level);
+      room = omega (arith, words, waiting, level);
       shallow = refl;
       parent = parented m.head.level 0 level;
       idle = refl;
@@ -216,16 +221,17 @@ pub main_spare :
     (main_layer m input acts) [] (fixed_size m.head.level 0)
     (bytes_of (variables_of_block program m.head.number) + spare)
 main_spare {program} m input acts =
-    let words = no_words m in
+    let words = own_words m in
+    let waiting = m.waiting in
     let level = level_of m in
     let few = (block_plain program.variables m.head.number m.plain).room in
     let code = m.loadable.fits in
     record {
       newest = refl;
       here = refl;
-      even = omega (arith, words, level);
+      even = omega (arith, words, waiting, level);
       counted = omega (arith, level, few);
-      fits = omega (arith, words, level, few);
+      fits = omega (arith, words, waiting, level, few);
       low = omega (arith, code);
       limit = omega (arith, few);
     }

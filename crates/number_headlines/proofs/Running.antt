@@ -1,6 +1,6 @@
 -- A block of a program of the class where it runs: what is known at its first statement.
 use Rattle.std.proofs.Common.{◌≡◌, ℕ, suc, ◌+◌, ◌*◌, ◌%◌, ◌<◌, ◌≤◌, List, [], ◌∷◌, ◌++◌, length, Option, None}
-use Rattle.std.proofs.Common.{Some, Bool, true, false, sym, ◌∙◌, subst, arith}
+use Rattle.std.proofs.Common.{Some, Bool, true, false, refl, sym, ◌∙◌, subst, arith}
 use Rattle.rv_meaning.specs.declared.instr.Instr.{Instr}
 use Rattle.pli_language.specs.declared.condition.Condition.{Condition}
 use Rattle.pli_typing.specs.Signatures.{Fixed}
@@ -16,6 +16,7 @@ use Rattle.pli_coding.specs.Images.{linked_code}
 use Rattle.pli_coding.specs.Locating.{table_number}
 use Rattle.pli_coding.specs.Procedures.{no_value}
 use Rattle.pli_coding.specs.Registers.{held_registers}
+use Rattle.activation_relation.specs.FrameLaws.{with_waits}
 use Rattle.activation_relation.specs.Layers.{Layer, Point}
 use Rattle.activation_relation.specs.Points.{Surroundings}
 use Rattle.activation_relation.specs.Remaining.{Remains}
@@ -30,12 +31,14 @@ use Rattle.program_runs.specs.Statements.{Block, IsAmong, IsBegun}
 use Rattle.expression_runs.specs.Variables.{IsNumber, Spot}
 use Rattle.element_runs.specs.Arrays.{IsArray}
 use Rattle.function_runs.specs.Functions.{function_entry}
+use Rattle.counter_runs.proofs.Known.{array_told, number_told}
+use Rattle.counter_runs.proofs.Words.{begun_telling}
 use Rattle.block_headlines.specs.Constants.{IsOf}
 use Rattle.nested_calls.specs.Nested.{IsNested}
 use Rattle.number_runs.specs.Numbers.{bounds_known, is_array_known, is_known}
-use Rattle.number_runs.specs.Statements.{are_statements, statements_need}
+use Rattle.number_runs.specs.Statements.{are_statements, statements_need, statements_set}
 use Rattle.number_runs.specs.Variables.{AreTabled}
-use Rattle.number_headlines.specs.Programs.{scope_of}
+use Rattle.number_headlines.specs.Programs.{most_waiting, scope_of}
 use Rattle.number_headlines.proofs.Mains.{Main, made_for, result_of, surroundings_for}
 
 -- ---- the block of a procedure or of a function
@@ -74,6 +77,11 @@ called_block valued w code c p numbers =
       outers = [];
     }
 
+-- the block, with other layers told at its first statement
+abbrev pub with_layers : (List Layer → List Layer) → Block → Block
+with_layers layers k =
+    record k { first = record k.first { control = record k.first.control { layers = layers k.first.control.layers } } }
+
 -- where it ends: behind a function's statements stands what raises ERROR
 abbrev pub end_by : (valued : Bool) → Y.Program → Y.BlockHead → Y.Stmts → ℕ
 end_by false program head body = behind_body program head body
@@ -81,7 +89,8 @@ end_by true program head body = behind_body program head body + size_of (no_valu
 
 -- ---- as it is called
 
--- the height of its static parent, the index of its call, and the point there, with what waits in registers
+-- the height of its static parent, the index of its call, and the point there, with what waits in registers; and what
+-- is known of the layers at its first statement: as they are, or the newest with what waits in words of its frame
 pub record Running : Type 0 where
   pub head : Y.BlockHead
   pub body : Y.Stmts
@@ -89,6 +98,7 @@ pub record Running : Type 0 where
   pub call : ℕ
   pub point : Point
   pub numbers : ℕ → ℕ
+  pub layers : List Layer → List Layer
 
 -- blocks may be entered so many deep inside it
 abbrev pub site_of : Y.Program → (more : ℕ) → Running → Site
@@ -107,14 +117,15 @@ callee_of program valued more a =
 abbrev pub block_of_run :
     Y.Program → (input : List ℕ) → (acts : ℕ) → (valued : Bool) → (more : ℕ) → Running → Block
 block_of_run program input acts valued more a =
-    called_block valued (surroundings_for program input acts) (linked_code (code_for program))
-    (callee_of program valued more a) a.point a.numbers
+    with_layers a.layers
+    (called_block valued (surroundings_for program input acts) (linked_code (code_for program))
+    (callee_of program valued more a) a.point a.numbers)
 
 -- ---- what is known there
 
 -- what a frame takes at most beside variables
 abbrev pub frame_bytes : ℕ
-frame_bytes = 512
+frame_bytes = 1024
 
 -- above it there is room for the frames of so many blocks, and for all that may be AUTOMATIC yet
 pub record Free (w : Surroundings) (q : Point) (blocks : ℕ) : Type 0 where
@@ -144,6 +155,7 @@ pub record IsRunning {program : Y.Program} (m : Main program) (input : List ℕ)
     pub is : IsProcedure program a.head a.body (result_of valued)
     pub statements : are_statements (scope_of program m.called a.head) valued (labels_in a.body ++ []) a.body ≡ true
     pub fits : statements_need a.body ≤ held_registers
+    pub waiting : statements_set a.body ≤ most_waiting
     pub begun : IsBegun (block_of_run program input acts valued more a)
     pub enough : acts < more + (block_of_run program input acts valued more a).first.state.world.acts
     pub nested : IsNested (block_of_run program input acts valued more a)
@@ -163,6 +175,14 @@ pub record IsRunning {program : Y.Program} (m : Main program) (input : List ℕ)
         Free (surroundings_for program input acts) (block_of_run program input acts valued more a).first blocks
     pub tabled : HasTable program (block_of_run program input acts valued more a).first
     pub depth : HasDepth (block_of_run program input acts valued more a).first blocks
+
+-- where it was entered just now: its frame has the words that its loops set aside, and nothing waits in them
+pub record IsEntered {program : Y.Program} (m : Main program) (input : List ℕ) (acts : ℕ) (valued : Bool) (more : ℕ)
+    (a : Running) (blocks : ℕ) : Type 0
+  where
+    pub running : IsRunning m input acts valued more a blocks
+    pub words : running.free.layer.words ≡ statements_set a.body
+    pub clear : (n : ℕ) → running.free.layer.waits n ≡ None
 
 -- at each of its points there is as much room
 pub free_among :
@@ -196,3 +216,45 @@ tabled_later e (d ∷ ds) same h = (
 pub table_later : {q r : Point} (program : Y.Program) → Remains q r → HasTable program q → HasTable program r
 table_later program same h head =
     tabled_later (environment_for program head) (variables_of_block program head.number) same (h head)
+
+-- ---- while limits of loops wait in words of its frame
+
+abbrev pub told_run : Running → (waits : ℕ → Option ℕ) → Layer → List Layer → Running
+told_run a waits φ φs = record a { layers = λ ls. with_waits waits φ ∷ φs }
+
+-- as much is known of it
+pub told_running :
+    {program : Y.Program} {m : Main program} {input : List ℕ} {acts : ℕ} {valued : Bool} {more : ℕ} {a : Running}
+    {blocks : ℕ} (h : IsRunning m input acts valued more a blocks) (waits : ℕ → Option ℕ) →
+    IsRunning m input acts valued more (told_run a waits h.free.layer h.free.below) blocks
+told_running {program} {m} {input} {acts} {valued} {more} {a} {blocks} h waits =
+    let φ = h.free.layer in
+    let φs = h.free.below in
+    let k = block_of_run program input acts valued more a in
+    let free = h.free in
+    record {
+      is = h.is;
+      statements = h.statements;
+      fits = h.fits;
+      waiting = h.waiting;
+      begun = begun_telling k φ φs waits free.newest h.begun;
+      enough = h.enough;
+      nested = record { own = h.nested.own; few = h.nested.few; some = h.nested.some; same = h.nested.same };
+      variables = λ x is. number_told k φ φs waits free.newest x (h.variables x is);
+      arrays = λ x is.
+          array_told k φ φs waits free.newest x (bounds_known (scope_of program m.called a.head) x) (h.arrays x is);
+      unraised = h.unraised;
+      idle = h.idle;
+      told = record { code = h.told.code; links = h.told.links; constants = h.told.constants };
+      free = record {
+        layer = with_waits waits φ;
+        below = φs;
+        newest = refl;
+        even = free.even;
+        low = free.low;
+        used = free.used;
+        fits = free.fits;
+      };
+      tabled = h.tabled;
+      depth = record { some = h.depth.some; all = h.depth.all };
+    }

@@ -10,7 +10,7 @@ use Rattle.pli_coding.specs.Registers.{held_registers}
 use Rattle.pli_coding.specs.SignatureTable.{with_signatures}
 use Rattle.program_places.specs.Programs.{environment_for}
 use Rattle.number_runs.specs.Numbers.{Scope, has_none, is_fixed}
-use Rattle.number_runs.specs.Statements.{are_statements, statements_need}
+use Rattle.number_runs.specs.Statements.{are_statements, statements_need, statements_set}
 use Rattle.number_runs.specs.Variables.{are_plain, bytes_of}
 
 -- ---- variables
@@ -51,10 +51,15 @@ stand_alike e f (suc n) = (block_around e (suc n) == block_around f (suc n)) && 
 
 -- ---- procedures
 
--- the statements of a block, whose temporaries fit registers
+-- so many words of its frame a block's loops may set aside: those of sixty-four, one in the turns of another
+abbrev pub most_waiting : ℕ
+most_waiting = 128
+
+-- the statements of a block, whose temporaries fit registers, and whose loops the words of its frame
 abbrev pub is_body : Scope → (valued : Bool) → Y.Stmts → Bool
 is_body s valued body =
-    are_statements s valued (labels_in body ++ []) body && nat_le (statements_need body) held_registers
+    are_statements s valued (labels_in body ++ []) body
+    && (nat_le (statements_need body) held_registers && nat_le (statements_set body) most_waiting)
 
 abbrev pub body_of : Y.Block → Y.Stmts
 body_of (Y.BlockOf head body) = body
@@ -99,6 +104,7 @@ scope_of program ns head =
       blocks = places_to (environment_for program head) head.level;
       is_function = is_callable program ns head true;
       is_procedure = is_callable program ns head false;
+      counts = true;
       puts = true;
       overflows = true;
       divides = true;

@@ -2,6 +2,7 @@
 
 ghost use Rattle.number_headlines.specs.ArrayRows.{SieveKept};
 ghost use Rattle.number_headlines.specs.CallRows.{CallingKept};
+ghost use Rattle.number_headlines.specs.CountRows.{CountingKept};
 ghost use Rattle.number_headlines.specs.Headlines.{NumberHeadlinesKept};
 ghost use Rattle.number_headlines.specs.NestRows.{NestKept};
 ghost use Rattle.number_headlines.specs.PutRows.{SquaresKept};
@@ -51,6 +52,13 @@ pub fn squares_kept()
 /// A worked row with an array: flags are struck at places that a function returns, and its last subscript is too great.
 pub fn sieve_kept()
     ensures { SieveKept }
+{
+    number_headlines_kept();
+}
+
+/// A worked row with loops that count: one stands in the turns of the other, where a function is called.
+pub fn counting_kept()
+    ensures { CountingKept }
 {
     number_headlines_kept();
 }

@@ -7,4 +7,7 @@ pub mod Expressions
 pub mod Formats
 pub mod Puts
 pub mod Labels
+pub mod Counters
+pub mod Turns
 pub mod Statements
+pub mod Uncounted

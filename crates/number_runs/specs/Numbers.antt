@@ -21,6 +21,8 @@ pub record Scope : Type 0 where
   pub blocks : List BlockPlace
   pub is_function : (level number : ℕ) → Bool
   pub is_procedure : (level number : ℕ) → Bool
+  -- whether its loops may count
+  pub counts : Bool
   -- whether statements may write numbers by format lists
   pub puts : Bool
   -- whether expressions may raise FIXEDOVERFLOW, and ZERODIVIDE

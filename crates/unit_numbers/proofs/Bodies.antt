@@ -25,6 +25,7 @@ use Rattle.program_places.proofs.Starts.{main_found}
 use Rattle.program_runs.specs.Calls.{left_over}
 use Rattle.program_runs.specs.Statements.{Does, IsBegun}
 use Rattle.program_runs.proofs.Statements.{none_does}
+use Rattle.expression_runs.specs.Assignments.{setting_around}
 use Rattle.expression_runs.specs.Values.{OverflowComes}
 use Rattle.expression_runs.proofs.Raises.{overflow_ends}
 use Rattle.operator_runs.specs.Divisors.{ZeroDivideComes}
@@ -50,7 +51,7 @@ use Rattle.unit_numbers.proofs.Established.{unit_stands}
 use Rattle.unit_numbers.proofs.Mains.{Main, block_for, list_of, main_array, main_held, main_number, most_for}
 use Rattle.unit_numbers.proofs.Mains.{own_known, placed}
 use Rattle.unit_numbers.proofs.Raises.{divide_with, overflow_with, past_setting}
-use Rattle.unit_numbers.proofs.Spread.{list_means, spread_code}
+use Rattle.unit_numbers.proofs.Spread.{all_means, all_code}
 use Rattle.unit_numbers.proofs.Takes.{unit_found}
 use Rattle.unit_numbers.proofs.Units.{unit_is}
 
@@ -130,19 +131,26 @@ main_ready once {program} m input more past few b known =
       turns = omega (arith, first);
       held = omega arith;
       raises = record {
-        overflow = λ may labels line includes.
-            overflow_known once m input more past labels line few b includes known
-            (in_force once m input (suc more) past known C.FixedOverflow);
-        divisor = λ may labels line includes.
-            divisor_known once m input more past labels line few b includes known
-            (in_force once m input (suc more) past known C.ZeroDivide);
-        subscript = λ may labels line includes. subscript_known once m input more past labels line few known;
+        overflow = λ may words set labels line includes.
+            subst (λ w. OverflowComes (setting_around w (after k past) labels line (most_for program)))
+            (sym (set.1 refl))
+            (overflow_known once m input more past labels line few b includes known
+            (in_force once m input (suc more) past known C.FixedOverflow));
+        divisor = λ may words set labels line includes.
+            subst (λ w. ZeroDivideComes (setting_around w (after k past) labels line (most_for program)))
+            (sym (set.1 refl))
+            (divisor_known once m input more past labels line few b includes known
+            (in_force once m input (suc more) past known C.ZeroDivide));
+        subscript = λ may words set labels line includes.
+            subst (λ w. SubscriptComes (setting_around w (after k past) labels line (most_for program)))
+            (sym (set.1 refl)) (subscript_known once m input more past labels line few known);
       };
       variables = λ x h. past_numbers k past x (main_number m input (suc more) x (own_known m input (suc more) x h) b);
       arrays = λ may x h. past_array k past x (bounds_known (own_scope program m.head) x)
           (main_array m input (suc more) x h b);
       calls = main_calls once m input more past few b known;
       puts = λ e. absurd (cc e);
+      loops = λ e. absurd (cc e);
       jumps = λ labels level label line index includes h. absurd (cc h);
       room = omega arith;
       home = λ may. record {
@@ -184,7 +192,7 @@ main_does once {program} m input (suc more) few b stmt index is fits at past kno
           none_taken (list_of m) (list_placed once m input (suc more)) label among;
       includes = λ label among. among;
     })
-    is (omega (arith, fits, held)) at
+    is (omega (arith, fits, held)) (λ e. absurd (cc e)) at
 
 -- ---- the list
 
@@ -249,12 +257,12 @@ main_ends once {program} m input acts few b p numbers f o there =
     let at = list_placed once m input acts in
     let first = b.acts in
     subst (λ flow. Comes k.call.code 0 f (services_of p) (body_aims k.call left_over) flow)
-    (list_means k.around acts m.body acts p.state refl)
+    (all_means k.around acts m.body acts p.state refl)
     (changing_ends k (list_of m) (start_of m) left_over
     (record {
       begun = b;
       linked = at.linked;
-      end = ap (λ c. start_of m + size_of c) (sym (spread_code e m.body));
+      end = ap (λ c. start_of m + size_of c) (sym (all_code e m.body));
       function = refl;
       kind = refl;
       registers = omega arith;

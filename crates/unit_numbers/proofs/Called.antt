@@ -28,11 +28,11 @@ use Rattle.variable_runs.proofs.Lists.{all_procedure}
 use Rattle.number_runs.specs.Knowledge.{Includes}
 use Rattle.number_runs.specs.Arrays.{is_array_if}
 use Rattle.number_runs.specs.Numbers.{has_none, is_array_known, is_known, is_place, is_plain_if}
-use Rattle.number_runs.specs.Statements.{are_statements, statements_need}
+use Rattle.number_runs.specs.Statements.{are_statements, statements_need, statements_set}
 use Rattle.number_runs.specs.Variables.{AreTabled, HasWords, words_in}
-use Rattle.number_runs.proofs.Takes.{words_none}
+use Rattle.number_runs.proofs.Uncounted.{words_none}
 use Rattle.number_runs.proofs.Words.{words_anywhere}
-use Rattle.number_headlines.specs.Programs.{body_of, has_result, is_body}
+use Rattle.number_headlines.specs.Programs.{body_of, has_result, is_body, most_waiting}
 use Rattle.number_headlines.proofs.Mains.{made_for, procedure_is, result_of}
 use Rattle.number_headlines.proofs.Tables.{block_plain, has_table}
 use Rattle.unit_runs.specs.Changing.{IsPast, Past}
@@ -87,7 +87,9 @@ inner_is {program} m valued number h = by (procedure_numbered number program.pro
         let b = and_parts (has_result valued p.result) ((head.level == 1) && last) a.1 in
         let c = and_parts (head.level == 1) last b.1 in
         let d = and_parts (are_statements s valued (labels_in body ++ []) body)
-        (nat_le (statements_need body) held_registers) c.1 in
+        (nat_le (statements_need body) held_registers && nat_le (statements_set body) most_waiting) c.1 in
+        let f = and_parts (nat_le (statements_need body) held_registers) (nat_le (statements_set body) most_waiting) d.1
+        in
         let n = number_found number p program.procedures e in
         record {
           head = head;
@@ -98,7 +100,7 @@ inner_is {program} m valued number h = by (procedure_numbered number program.pro
           numbered = n;
           level = eqb-true head.level 1 c.0;
           statements = d.0;
-          fits = leb-true (statements_need body) held_registers d.1;
+          fits = leb-true (statements_need body) held_registers f.0;
         }
 
 -- ---- what is called
@@ -122,7 +124,7 @@ pub no_inner_words :
     (procedure_for program i.head i.body).words ≡ 0
 no_inner_words {program} m {valued} i =
     let plain = block_plain program.variables i.head.number m.plain in
-    words_none (called_scope program m.head i.head) valued (environment_for program i.head) i.head.number i.body
+    words_none (called_scope program m.head i.head) valued (environment_for program i.head) i.head.number i.body refl
     plain.plain i.statements i.fits
 
 pub inner_room :

@@ -35,9 +35,9 @@ use Rattle.program_places.proofs.Procedures.{body_placed, raise_routines}
 use Rattle.program_runs.specs.Calls.{left_over}
 use Rattle.program_runs.specs.Procedures.{block_of}
 use Rattle.program_runs.specs.Starts.{no_numbers}
-use Rattle.program_runs.specs.Statements.{AreMarked, Block, Does, EachDoes, IsAmong, IsBegun}
+use Rattle.program_runs.specs.Statements.{AreMarked, Block, Does, DoesWith, EachDoes, IsAmong, IsBegun, set_aside}
 use Rattle.program_runs.proofs.CallStatements.{statement_at}
-use Rattle.expression_runs.specs.Assignments.{setting_of}
+use Rattle.expression_runs.specs.Assignments.{setting_around, setting_of}
 use Rattle.expression_runs.specs.Laws as L
 use Rattle.expression_runs.specs.Values.{OverflowComes, Setting}
 use Rattle.expression_runs.proofs.Raises.{overflow_ends}
@@ -162,16 +162,22 @@ called_raises :
     IsVisit m v more past → IsBegun (visit_block m i v more past entry function) →
     KnowsRaises (called_scope program m.head i.head) (visit_block m i v more past entry function) own
     (most_for program)
-called_raises once m i v more past entry function own h b =
+called_raises once {program} m i v more past entry function own h b =
     record {
-      overflow = λ may labels line includes.
-          called_overflow once m i v more past entry function labels line h b
-          (in_force once m v.input (suc more) past h.known C.FixedOverflow);
-      divisor = λ may labels line includes.
-          called_divides once m i v more past entry function labels line h b
-          (in_force once m v.input (suc more) past h.known C.ZeroDivide);
-      subscript = λ may labels line includes.
-          called_subscript once m i v more past entry function labels line h;
+      overflow = λ may words set labels line includes.
+          subst (λ w. OverflowComes (setting_around w (visit_block m i v more past entry function) labels line
+          (most_for program))) (sym (set.1 refl))
+          (called_overflow once m i v more past entry function labels line h b
+          (in_force once m v.input (suc more) past h.known C.FixedOverflow));
+      divisor = λ may words set labels line includes.
+          subst (λ w. ZeroDivideComes (setting_around w (visit_block m i v more past entry function) labels line
+          (most_for program))) (sym (set.1 refl))
+          (called_divides once m i v more past entry function labels line h b
+          (in_force once m v.input (suc more) past h.known C.ZeroDivide));
+      subscript = λ may words set labels line includes.
+          subst (λ w. SubscriptComes (setting_around w (visit_block m i v more past entry function) labels line
+          (most_for program))) (sym (set.1 refl))
+          (called_subscript once m i v more past entry function labels line h);
     }
 
 -- ---- its statements
@@ -194,10 +200,11 @@ called_ready once m i v more past entry function h b home =
       variables = λ x known. visit_number m i v more past entry function h b x known;
       arrays = λ may x known. visit_array m i v more past entry function h b x known;
       calls = record {
-        functions = λ labels line level n includes call. absurd (cc call);
-        procedures = λ labels level n line index includes call. absurd (cc call);
+        functions = λ words set labels line level n includes call. absurd (cc call);
+        procedures = λ words set labels level n line index includes call. absurd (cc call);
       };
       puts = λ e. absurd (cc e);
+      loops = λ e. absurd (cc e);
       jumps = λ labels level label line index includes out. absurd (cc out);
       room = omega arith;
       home = λ may. home;
@@ -216,7 +223,7 @@ called_each once {program} m {valued} i v more past entry function h b home =
     body_does s valued (visit_block m i v more past entry function) i.body (body_for program i.head i.body)
     (most_for program) left_over (called_ready once m i v more past entry function h b home) i.statements
     (registers_held s valued (environment_for program i.head) i.head.number i.body plain.plain i.statements i.fits)
-    (body_placed once program i.head i.body (result_of valued) m.loadable i.is)
+    (λ e. absurd (cc e)) (body_placed once program i.head i.body (result_of valued) m.loadable i.is)
 
 called_marked :
     MarkedOnce → {program : Y.Program} (m : Main program) {valued : Bool} {number : ℕ} (i : Inner m valued number) →
@@ -471,15 +478,20 @@ pub main_calls :
 main_calls once {program} m input more past few b known =
     let k = main_past m input (suc more) past in
     record {
-      functions = λ labels line level n includes h.
+      functions = λ words set labels line level n includes h.
           let a = and_parts (level == m.head.level) (may_call program m.head true n) h in
-          subst (λ at. L.Does (setting_of k labels line (most_for program)) 0 (call_number at n))
+          subst (λ w. L.Does (setting_around w k labels line (most_for program)) 0 (call_number level n))
+          (sym (set.1 refl))
+          (subst (λ at. L.Does (setting_of k labels line (most_for program)) 0 (call_number at n))
           (sym (eqb-true level m.head.level a.0))
-          (function_called once m input more past few b known labels includes line n a.1);
-      procedures = λ labels level n line index includes h less.
+          (function_called once m input more past few b known labels includes line n a.1));
+      procedures = λ words set labels level n line index includes h less.
           let a = and_parts (level == m.head.level) (may_call program m.head false n) h in
-          subst (λ at. Linked (links_for program) (linked_code (code_for program)) index
+          subst (λ w. Linked (links_for program) (linked_code (code_for program)) index
+          (stmt_code (environment_for program m.head) (set_aside w) (call_statement level n line)) →
+          DoesWith w k labels (call_statement level n line) index left_over) (sym (set.1 refl))
+          (subst (λ at. Linked (links_for program) (linked_code (code_for program)) index
           (stmt_code (environment_for program m.head) none_taken (call_statement at n line)) →
           Does k labels (call_statement at n line) index left_over) (sym (eqb-true level m.head.level a.0))
-          (λ l. procedure_called once m input more past few b known labels includes n line index a.1 less l);
+          (λ l. procedure_called once m input more past few b known labels includes n line index a.1 less l));
     }

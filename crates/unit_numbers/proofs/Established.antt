@@ -26,7 +26,7 @@ use Rattle.unit_runs.proofs.Establishing.{unit_forced}
 use Rattle.unit_numbers.specs.Units.{has_unit}
 use Rattle.unit_numbers.proofs.Forces.{Forced, forced_still, same_is, system_still}
 use Rattle.unit_numbers.proofs.Mains.{Main, block_for, list_of, placed, units_for}
-use Rattle.unit_numbers.proofs.Spread.{spread_code}
+use Rattle.unit_numbers.proofs.Spread.{all_code}
 use Rattle.unit_numbers.proofs.Past.{main_past}
 use Rattle.unit_numbers.proofs.Places.{IsPlaced, on_placed, unit_listed}
 use Rattle.unit_numbers.proofs.Units.{not_error, unit_is}
@@ -46,7 +46,7 @@ pub list_placed :
     AreStanding (block_for m input acts) (list_of m) (start_of m)
 list_placed once {program} m input acts =
     subst (λ c. Placed (links_for program) (linked_code (code_for program)) (start_of m) c)
-    (sym (spread_code (environment_for program m.head) m.body))
+    (sym (all_code (environment_for program m.head) m.body))
     (body_placed once program m.head m.body None m.loadable (main_found program (placed m) m.main))
 
 pub unit_stands :

@@ -16,4 +16,5 @@ pub mod Bodies
 pub mod Kept
 pub mod Rows
 pub mod GuardRows
+pub mod GroupRows
 pub mod Spread

@@ -46,8 +46,8 @@ use Rattle.number_headlines.proofs.Tables.{block_plain, has_table}
 use Rattle.unit_numbers.specs.Programs.{are_apart, are_steps, has_unit_main, is_unit_body}
 use Rattle.unit_numbers.specs.Units.{own_scope}
 use Rattle.unit_numbers.proofs.Places.{units_of}
-use Rattle.unit_numbers.specs.Groups.{spread}
-use Rattle.unit_numbers.proofs.Spread.{spread_takes}
+use Rattle.unit_numbers.specs.Groups.{spread_all}
+use Rattle.unit_numbers.proofs.Spread.{all_takes}
 use Rattle.unit_numbers.proofs.Takes.{behind_variables, steps_taken}
 
 -- its program, with what the class says of it
@@ -58,13 +58,13 @@ pub record Main (program : Y.Program) : Type 0 where
   pub main : IsMain program (record { head = head; body = body; others = others })
   pub plain : are_all_plain program.variables ≡ true
   pub loadable : IsLoadable program
-  pub steps : are_steps program head (spread body) (spread body) ≡ true
-  pub apart : are_apart (spread body) ≡ true
-  pub fits : statements_need (spread body) ≤ held_registers
+  pub steps : are_steps program head (spread_all body) (spread_all body) ≡ true
+  pub apart : are_apart (spread_all body) ≡ true
+  pub fits : statements_need (spread_all body) ≤ held_registers
 
 -- its list, in which groups with ON stand for their statements
 abbrev pub list_of : {program : Y.Program} → Main program → Y.Stmts
-list_of m = spread m.body
+list_of m = spread_all m.body
 
 -- as it is placed
 abbrev pub placed : {program : Y.Program} → Main program → Placed.Main
@@ -77,7 +77,7 @@ main_is program [] e plain load h = absurd (cc h)
 main_is program (p ∷ ps) e plain load h =
     let head = head_of p.block in
     let body = body_of p.block in
-    let list' = spread body in
+    let list' = spread_all body in
     let inner = is_unit_body program head list' in
     let fits = nat_le (statements_need list') held_registers in
     let a = and_parts (has_none p.parameters) (has_result false p.result && inner) h in
@@ -124,7 +124,7 @@ list_takes :
     Takes (statements_need (list_of m)) none_taken (stmts_take none_taken m.body)
 list_takes {program} m =
     let x = steps_taken program m.head (list_of m) (list_of m) m.steps m.fits in
-    let y = spread_takes m.body in
+    let y = all_takes m.body in
     let p = x.registers in
     let q = y.registers in
     let u = x.words in

@@ -19,7 +19,8 @@ use Rattle.pli_coding.specs.Allocating.{act_code}
 use Rattle.pli_coding.specs.Environments.{Environment, most_taken, none_taken}
 use Rattle.pli_coding.specs.Statements.{marked, stmt_code, stmt_takes, stmts_code, stmts_take}
 use Rattle.number_runs.specs.Numbers.{has_none}
-use Rattle.unit_numbers.specs.Groups.{before, group_in, have_on, spread, spread_with}
+use Rattle.unit_numbers.specs.Groups.{before, group_in, groups_deep, have_on, spread, spread_all, spread_times}
+use Rattle.unit_numbers.specs.Groups.{spread_with}
 
 -- ---- a group that is spread
 
@@ -91,7 +92,7 @@ before_labels (Y.EndOfList own) b h = refl
 before_labels (Y.StmtThen own first more) b h =
     ap (λ ls. ls ++ labels_in (before more b)) h.0 ∙ before_labels more b h.1
 
-pub spread_labels : (body : Y.Stmts) → labels_in (spread body) ≡ labels_in body
+spread_labels : (body : Y.Stmts) → labels_in (spread body) ≡ labels_in body
 spread_labels (Y.EndOfList own) = refl
 spread_labels (Y.StmtThen own first rest) = by (group_in first) refl (spread_labels rest)
   where
@@ -116,7 +117,7 @@ before_code e (Y.StmtThen own first more) b h =
     ap (λ c. marks ++ (one ++ c)) (before_code e more b h.1)
     ∙ ap (λ c. marks ++ c) (sym (append_assoc one part last)) ∙ sym (append_assoc marks (one ++ part) last)
 
-pub spread_code :
+spread_code :
     (e : Environment) (body : Y.Stmts) → stmts_code e none_taken (spread body) ≡ stmts_code e none_taken body
 spread_code e (Y.EndOfList own) = refl
 spread_code e (Y.StmtThen own first rest) = by (group_in first) refl (spread_code e rest)
@@ -160,7 +161,7 @@ before_takes (Y.StmtThen own first more) b =
     let q = x.words in
     record { registers = omega (arith, p); words = omega (arith, q) }
 
-pub spread_takes : (body : Y.Stmts) → TakesAs (spread body) body
+spread_takes : (body : Y.Stmts) → TakesAs (spread body) body
 spread_takes (Y.EndOfList own) = record { registers = refl; words = refl }
 spread_takes (Y.StmtThen own first rest) = by (group_in first) refl (spread_takes rest)
   where
@@ -343,7 +344,7 @@ from_same (suc turns) height labels f g from k s h =
     (λ label. list_from turns height labels g (Some label))
     (λ label s'. from_same turns height labels f g (Some label) k s' h)
 
-pub list_means :
+list_means :
     (around : Around) (n : ℕ) (body : Y.Stmts) (k : ℕ) (s : State) → around.turns ≡ suc n →
     M.list around (spread body) k s ≡ M.list around body k s
 unfolding M.list M.list_with looked ◌>>=◌
@@ -352,3 +353,44 @@ list_means around n body k s turns =
     ap (λ ls. list_from around.turns height ls (M.statements around (spread body)) None k s) (spread_labels body)
     ∙ from_same around.turns height (labels_in body) (M.statements around (spread body)) (M.statements around body) None
     k s (λ from' s'. spread_means around n body from' k s' turns)
+
+-- ---- so often
+
+times_labels : (n : ℕ) (body : Y.Stmts) → labels_in (spread_times n body) ≡ labels_in body
+times_labels zero body = refl
+times_labels (suc n) body = times_labels n (spread body) ∙ spread_labels body
+
+pub all_labels : (body : Y.Stmts) → labels_in (spread_all body) ≡ labels_in body
+all_labels body = times_labels (groups_deep body) body
+
+times_code :
+    (e : Environment) (n : ℕ) (body : Y.Stmts) →
+    stmts_code e none_taken (spread_times n body) ≡ stmts_code e none_taken body
+times_code e zero body = refl
+times_code e (suc n) body = times_code e n (spread body) ∙ spread_code e body
+
+pub all_code :
+    (e : Environment) (body : Y.Stmts) → stmts_code e none_taken (spread_all body) ≡ stmts_code e none_taken body
+all_code e body = times_code e (groups_deep body) body
+
+times_take : (n : ℕ) (body : Y.Stmts) → TakesAs (spread_times n body) body
+times_take zero body = record { registers = refl; words = refl }
+times_take (suc n) body =
+    let x = times_take n (spread body) in
+    let y = spread_takes body in
+    record { registers = x.registers ∙ y.registers; words = x.words ∙ y.words }
+
+pub all_takes : (body : Y.Stmts) → TakesAs (spread_all body) body
+all_takes body = times_take (groups_deep body) body
+
+times_mean :
+    (around : Around) (turns n : ℕ) (body : Y.Stmts) (k : ℕ) (s : State) → around.turns ≡ suc turns →
+    M.list around (spread_times n body) k s ≡ M.list around body k s
+times_mean around turns zero body k s e = refl
+times_mean around turns (suc n) body k s e =
+    times_mean around turns n (spread body) k s e ∙ list_means around turns body k s e
+
+pub all_means :
+    (around : Around) (turns : ℕ) (body : Y.Stmts) (k : ℕ) (s : State) → around.turns ≡ suc turns →
+    M.list around (spread_all body) k s ≡ M.list around body k s
+all_means around turns body k s e = times_mean around turns (groups_deep body) body k s e

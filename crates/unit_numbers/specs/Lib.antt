@@ -4,4 +4,5 @@ pub mod Programs
 pub mod Headlines
 pub mod Rows
 pub mod GuardRows
+pub mod GroupRows
 pub mod Groups

@@ -9,11 +9,11 @@ use Rattle.unit_runs.specs.Establishing.{OnUnit}
 use Rattle.number_runs.specs.Numbers.{has_none}
 use Rattle.number_runs.specs.Statements.{is_statement, statements_need}
 use Rattle.number_headlines.specs.Programs.{are_all_plain, body_of, has_result}
-use Rattle.unit_numbers.specs.Groups.{spread}
+use Rattle.unit_numbers.specs.Groups.{spread_all}
 use Rattle.unit_numbers.specs.Units.{is_unit, own_scope, unit_in}
 
--- ---- the list of the main procedure: ON stands anywhere in it, and in no list inside it but those of groups that stand
--- for their statements
+-- ---- the list of the main procedure: ON stands anywhere in it, and in no list inside it but those of groups that
+-- stand for their statements
 
 -- a statement of a list
 abbrev pub is_step_with : Y.Program → (main : Y.BlockHead) → (all : Y.Stmts) → Option OnUnit → Y.Stmt → Bool
@@ -55,7 +55,7 @@ is_unit_body program main body =
 abbrev pub is_unit_main : Y.Program → Y.Procedure → Bool
 is_unit_main program p =
     has_none p.parameters
-    && (has_result false p.result && is_unit_body program (head_of p.block) (spread (body_of p.block)))
+    && (has_result false p.result && is_unit_body program (head_of p.block) (spread_all (body_of p.block)))
 
 -- the first one is the main procedure; what it doesn't call may be any
 abbrev pub has_unit_main : Y.Program → List Y.Procedure → Bool

@@ -23,6 +23,7 @@ own_scope program main =
       blocks = place_of_head main ∷ [];
       is_function = λ level n. (level == main.level) && may_call program main true n;
       is_procedure = λ level n. (level == main.level) && may_call program main false n;
+      counts = false;
       puts = false;
       overflows = true;
       divides = true;
@@ -64,6 +65,7 @@ unit_scope program main body =
       blocks = place_of_head main ∷ [];
       is_function = λ level n. false;
       is_procedure = λ level n. false;
+      counts = false;
       puts = false;
       overflows = not (has_unit C.FixedOverflow body);
       divides = not (has_unit C.ZeroDivide body);

@@ -1,5 +1,6 @@
 // Laws of the definitions: each function's contract is one law, and calling it does nothing.
 
+ghost use Rattle.unit_numbers.specs.GroupRows.{GroupKept};
 ghost use Rattle.unit_numbers.specs.GuardRows.{GuardKept};
 ghost use Rattle.unit_numbers.specs.Headlines.{UnitNumberHeadlinesKept};
 ghost use Rattle.unit_numbers.specs.Rows.{HealKept};
@@ -27,6 +28,13 @@ pub fn heal_kept()
 /// A worked row: units that are raised in a procedure and in a function, which one of them leaves by a jump.
 pub fn guard_kept()
     ensures { GuardKept }
+{
+    unit_number_headlines_kept();
+}
+
+/// A worked row: ON in a group in a group, whose unit is raised behind it.
+pub fn group_kept()
+    ensures { GroupKept }
 {
     unit_number_headlines_kept();
 }
