@@ -1,6 +1,6 @@
 -- The statements of each block of a program of the class do what they mean, and so do the calls in them, as deep as
 -- they go.
-use Rattle.std.proofs.Common.{◌≡◌, ℕ, zero, suc, ◌+◌, ◌*◌, ◌^◌, ◌<◌, ◌≤◌, List, [], ◌∷◌, ◌++◌, length}
+use Rattle.std.proofs.Common.{◌≡◌, ℕ, zero, suc, ◌+◌, ◌^◌, ◌<◌, ◌≤◌, List, [], ◌∷◌, ◌++◌, length}
 use Rattle.std.proofs.Common.{Bool, true, false, refl, sym, ap, subst, arith}
 use Rattle.std.specs.Prelude.{cond, nat_le, nat_lt, ◌==◌}
 use Rattle.std.proofs.lemmas.Bool.{leb-true}
@@ -46,6 +46,7 @@ use Rattle.number_runs.specs.Knowledge as Left
 use Rattle.number_runs.specs.Knowledge.{IsReady, IsUnraised, IsValued, KnowsCalls, KnowsPuts, KnowsRaises}
 use Rattle.number_runs.specs.Knowledge.{call_number, call_statement, most_set}
 use Rattle.number_runs.specs.Statements.{statements_set}
+use Rattle.number_runs.specs.Variables.{bytes_of}
 use Rattle.number_runs.proofs.Statements.{body_does, none_raised}
 use Rattle.number_runs.proofs.Puts.{puts_known}
 use Rattle.number_runs.proofs.Takes.{registers_held}
@@ -109,6 +110,7 @@ unraised_of once {program} m input acts valued more a blocks few h =
     let inside = routines.linked.inside in
     record {
       routines = routines;
+      place = error_routine once program m.loadable;
       overflow = h.unraised C.FixedOverflow;
       divisor = h.unraised C.ZeroDivide;
       error = h.unraised C.Error;
@@ -135,7 +137,7 @@ unfolding unraised_of
 puts_of once {program} m input acts valued more a blocks few h =
     let k = block_of_run program input acts valued more a in
     puts_known (scope_of program m.called a.head) k (most_for program) h.begun
-    (unraised_of once m input acts valued more a blocks few h) (error_routine once program m.loadable) h.variables
+    (unraised_of once m input acts valued more a blocks few h) h.variables (λ may. h.arrays)
     (lists_known program k m.memory h.told)
 
 -- wherever limits wait in words of its frame, calls do what they mean
@@ -168,6 +170,7 @@ ready once {program} m input acts valued more a blocks few inner e calls =
       held = omega arith;
       raises = raises_of once m input acts valued more a blocks few h;
       variables = h.variables;
+      arrays = λ may. h.arrays;
       calls = calls a.layers h;
       jumps = λ labels level label line index includes out. absurd (cc out);
       puts = λ may. puts_of once m input acts valued more a blocks few h;
@@ -218,7 +221,7 @@ body_each once {program} m input acts valued more a blocks few inner e calls =
     let plain = block_plain program.variables a.head.number m.plain in
     body_does s valued (block_of_run program input acts valued more a) a.body (body_for program a.head a.body)
     (most_for program) left_over (ready once m input acts valued more a blocks few inner e calls) h.statements
-    (registers_held s valued (environment_for program a.head) a.head.number a.body plain.0 h.statements h.fits)
+    (registers_held s valued (environment_for program a.head) a.head.number a.body plain.plain h.statements h.fits)
     (frame_left once m input acts valued more a blocks few inner e calls)
     (body_placed once program a.head a.body (result_of valued) m.loadable h.is)
 
@@ -266,7 +269,7 @@ call_by :
     left_over
 call_by once {program} m input acts valued more b a few h each words set labels level number line index i less l =
     let k = block_of_run program input acts valued (suc more) a in
-    let used = automatic_in_use k.first.state.living + 32 * length (variables_of_block program i.head.number) in
+    let used = automatic_in_use k.first.state.living + bytes_of (variables_of_block program i.head.number) in
     let one = act_code line in
     let given' = given_in words k level in
     let c0 = callee_of program false more (entered_at i k 0 k.first (λ n. 0)) in
@@ -343,7 +346,7 @@ value_by :
 value_by once {program} m input acts valued more b a few h each words set labels line level number i =
     let k = block_of_run program input acts valued (suc more) a in
     let z = setting_around words k labels line (most_for program) in
-    let used = automatic_in_use k.first.state.living + 32 * length (variables_of_block program i.head.number) in
+    let used = automatic_in_use k.first.state.living + bytes_of (variables_of_block program i.head.number) in
     let c = callee_of program true more (entered_at i k 0 k.first (λ n. 0)) in
     let inside = i.inside in
     let stands = function_stands once program i.head i.body 31 (run_for input acts)

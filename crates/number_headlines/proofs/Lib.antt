@@ -15,3 +15,4 @@ pub mod CallRows
 pub mod CountRows
 pub mod NestRows
 pub mod PutRows
+pub mod ArrayRows

@@ -5,39 +5,41 @@ use Rattle.rv_meaning.specs.declared.instr.Instr.{Instr}
 use Rattle.pli_language.specs.declared.condition.Condition.{Condition}
 use Rattle.pli_typing.specs.Signatures.{Fixed}
 use Rattle.pli_typing.specs.TypedTree as Y
-use Rattle.pli_meaning.specs.DeclaredShapes.{variables_of_block}
+use Rattle.pli_meaning.specs.DeclaredShapes.{shape_of, variables_of_block}
 use Rattle.pli_meaning.specs.Executing.{begun, entered, labels_in}
 use Rattle.pli_meaning.specs.Raising.{Entry, at_line}
 use Rattle.pli_meaning.specs.StorageState.{automatic_in_use, force, most_activations, most_automatic}
-use Rattle.pli_serving.specs.Templates.{shape_at}
 use Rattle.pli_coding.specs.Assembly.{size_of}
+use Rattle.pli_coding.specs.Environments.{Environment}
 use Rattle.pli_coding.specs.Frames.{result}
 use Rattle.pli_coding.specs.Images.{linked_code}
+use Rattle.pli_coding.specs.Locating.{table_number}
 use Rattle.pli_coding.specs.Procedures.{no_value}
 use Rattle.pli_coding.specs.Registers.{held_registers}
-use Rattle.pli_coding.specs.SignatureTable.{number_in_table, table_of}
 use Rattle.activation_relation.specs.FrameLaws.{with_waits}
 use Rattle.activation_relation.specs.Layers.{Layer, Point}
 use Rattle.activation_relation.specs.Points.{Surroundings}
+use Rattle.activation_relation.specs.Remaining.{Remains}
 use Rattle.activation_relation.specs.ServiceLaws.{IsSystem}
 use Rattle.activation_relation.proofs.Returning.{in_use_later}
 use Rattle.block_runs.specs.Bodies.{Function}
 use Rattle.block_runs.specs.Machines.{acted}
-use Rattle.program_places.specs.Programs.{IsProcedure, Site, behind_body, callee_at, code_for}
+use Rattle.program_places.specs.Programs.{IsProcedure, Site, behind_body, callee_at, code_for, environment_for}
 use Rattle.program_runs.specs.Calls.{Callee, begun_at}
 use Rattle.program_runs.specs.Procedures.{Procedure, block_of, layer_for}
 use Rattle.program_runs.specs.Statements.{Block, IsAmong, IsBegun}
-use Rattle.expression_runs.specs.Variables.{IsNumber, Spot, number_shape}
+use Rattle.expression_runs.specs.Variables.{IsNumber, Spot}
+use Rattle.element_runs.specs.Arrays.{IsArray}
 use Rattle.function_runs.specs.Functions.{function_entry}
-use Rattle.counter_runs.proofs.Known.{number_told}
+use Rattle.counter_runs.proofs.Known.{array_told, number_told}
 use Rattle.counter_runs.proofs.Words.{begun_telling}
 use Rattle.block_headlines.specs.Constants.{IsOf}
 use Rattle.nested_calls.specs.Nested.{IsNested}
-use Rattle.number_runs.specs.Numbers.{is_known}
+use Rattle.number_runs.specs.Numbers.{bounds_known, is_array_known, is_known}
 use Rattle.number_runs.specs.Statements.{are_statements, statements_need, statements_set}
+use Rattle.number_runs.specs.Variables.{AreTabled}
 use Rattle.number_headlines.specs.Programs.{most_waiting, scope_of}
 use Rattle.number_headlines.proofs.Mains.{Main, made_for, result_of, surroundings_for}
-use Rattle.number_headlines.proofs.Tables.{word_signature}
 
 -- ---- the block of a procedure or of a function
 
@@ -136,11 +138,11 @@ pub record Free (w : Surroundings) (q : Point) (blocks : ℕ) : Type 0 where
   pub fits :
       layer.top + frame_bytes * blocks + most_automatic ≤ layer.lower + automatic_in_use q.state.living
 
--- the table has the signature of variables, if there are any
-abbrev pub HasShape : Y.Program → Point → Type 0
-HasShape program q =
-    (block : ℕ) → 0 < length (variables_of_block program block) →
-    shape_at q.places.signatures (number_in_table word_signature (table_of program)) ≡ Some number_shape
+-- the table has the signatures of the variables of each block
+abbrev pub HasTable : Y.Program → Point → Type 0
+HasTable program q =
+    (head : Y.BlockHead) →
+    AreTabled (environment_for program head) q.places.signatures (variables_of_block program head.number)
 
 -- as many blocks have room as may be active, and one more, which is one too many
 pub record HasDepth (q : Point) (blocks : ℕ) : Type 0 where
@@ -160,6 +162,10 @@ pub record IsRunning {program : Y.Program} (m : Main program) (input : List ℕ)
     pub variables :
         (x : Spot) → is_known (scope_of program m.called a.head) x ≡ true →
         IsNumber (block_of_run program input acts valued more a) x
+    pub arrays :
+        (x : Spot) → is_array_known (scope_of program m.called a.head) x ≡ true →
+        IsArray (block_of_run program input acts valued more a) x
+        (bounds_known (scope_of program m.called a.head) x)
     pub unraised :
         (c : Condition) → IsSystem (force (block_of_run program input acts valued more a).first.state.activations c)
     pub idle : (block_of_run program input acts valued more a).first.control.waiting ≡ None
@@ -167,7 +173,7 @@ pub record IsRunning {program : Y.Program} (m : Main program) (input : List ℕ)
     pub told : IsOf program (block_of_run program input acts valued more a)
     pub free :
         Free (surroundings_for program input acts) (block_of_run program input acts valued more a).first blocks
-    pub shape : HasShape program (block_of_run program input acts valued more a).first
+    pub tabled : HasTable program (block_of_run program input acts valued more a).first
     pub depth : HasDepth (block_of_run program input acts valued more a).first blocks
 
 -- where it was entered just now: its frame has the words that its loops set aside, and nothing waits in them
@@ -197,6 +203,20 @@ free_among {k} {p = p} blocks b o f =
       fits = omega (arith, fits, same);
     }
 
+-- and the same table
+tabled_later :
+    {q r : Point} (e : Environment) (ds : List Y.DeclaredVariable) → Remains q r →
+    AreTabled e q.places.signatures ds → AreTabled e r.places.signatures ds
+tabled_later e [] same h = tt
+tabled_later e (d ∷ ds) same h = (
+  record { small = h.0.small; shape = same.signatures (table_number e d) (shape_of [] d) h.0.shape },
+  tabled_later e ds same h.1,
+)
+
+pub table_later : {q r : Point} (program : Y.Program) → Remains q r → HasTable program q → HasTable program r
+table_later program same h head =
+    tabled_later (environment_for program head) (variables_of_block program head.number) same (h head)
+
 -- ---- while limits of loops wait in words of its frame
 
 abbrev pub told_run : Running → (waits : ℕ → Option ℕ) → Layer → List Layer → Running
@@ -221,6 +241,8 @@ told_running {program} {m} {input} {acts} {valued} {more} {a} {blocks} h waits =
       enough = h.enough;
       nested = record { own = h.nested.own; few = h.nested.few; some = h.nested.some; same = h.nested.same };
       variables = λ x is. number_told k φ φs waits free.newest x (h.variables x is);
+      arrays = λ x is.
+          array_told k φ φs waits free.newest x (bounds_known (scope_of program m.called a.head) x) (h.arrays x is);
       unraised = h.unraised;
       idle = h.idle;
       told = record { code = h.told.code; links = h.told.links; constants = h.told.constants };
@@ -233,6 +255,6 @@ told_running {program} {m} {input} {acts} {valued} {more} {a} {blocks} h waits =
         used = free.used;
         fits = free.fits;
       };
-      shape = h.shape;
+      tabled = h.tabled;
       depth = record { some = h.depth.some; all = h.depth.all };
     }

@@ -5,3 +5,4 @@ pub mod CallRows
 pub mod CountRows
 pub mod NestRows
 pub mod PutRows
+pub mod ArrayRows

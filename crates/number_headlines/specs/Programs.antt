@@ -1,27 +1,41 @@
 -- Programs of FIXED BINARY(31) numbers, as a class that is computed from typed trees.
-use Rattle.std.specs.Prelude.{ℕ, zero, suc, ◌^◌, ◌&&◌, ◌++◌, ◌==◌, Bool, true, false, List, [], ◌∷◌, length}
-use Rattle.std.specs.Prelude.{nat_le, Option, None, Some, if◌then◌else◌}
-use Rattle.std.specs.List.{list_any}
+use Rattle.std.specs.Prelude.{ℕ, zero, suc, ◌*◌, ◌^◌, ◌&&◌, ◌++◌, ◌==◌, Bool, true, false, List, [], ◌∷◌, length}
+use Rattle.std.specs.Prelude.{nat_le, nat_lt, Option, None, Some, if◌then◌else◌}
+use Rattle.std.specs.List.{flat_map, list_any}
 use Rattle.pli_typing.specs.TypedTree as Y
 use Rattle.pli_meaning.specs.DeclaredShapes.{head_of, procedure_numbered}
 use Rattle.pli_meaning.specs.Executing.{labels_in}
 use Rattle.pli_coding.specs.Environments.{BlockPlace, Environment, block_around}
 use Rattle.pli_coding.specs.Registers.{held_registers}
+use Rattle.pli_coding.specs.SignatureTable.{with_signatures}
 use Rattle.program_places.specs.Programs.{environment_for}
 use Rattle.number_runs.specs.Numbers.{Scope, has_none, is_fixed}
 use Rattle.number_runs.specs.Statements.{are_statements, statements_need, statements_set}
-use Rattle.number_runs.specs.Variables.{are_plain}
+use Rattle.number_runs.specs.Variables.{are_plain, bytes_of}
 
 -- ---- variables
 
--- so many fit the frame of a block
+-- so many scalars fit the frame of a block
 abbrev pub most_words : ℕ
 most_words = 2 ^ 13
 
+-- and so many bytes
+abbrev pub most_bytes : ℕ
+most_bytes = 32 * most_words
+
 -- the variables of each block
+abbrev pub are_blocks_plain : List (List Y.DeclaredVariable) → Bool
+are_blocks_plain [] = true
+are_blocks_plain (ds ∷ rest) = (nat_le (bytes_of ds) most_bytes && are_plain ds) && are_blocks_plain rest
+
+-- so many signatures differ, each of which has a number
+abbrev pub most_signatures : ℕ
+most_signatures = 2 ^ 24
+
+-- those of all blocks
 abbrev pub are_all_plain : List (List Y.DeclaredVariable) → Bool
-are_all_plain [] = true
-are_all_plain (ds ∷ rest) = (nat_le (length ds) most_words && are_plain ds) && are_all_plain rest
+are_all_plain all =
+    nat_lt (length (with_signatures (flat_map (λ ds. ds) all) [])) most_signatures && are_blocks_plain all
 
 -- ---- blocks around
 
@@ -94,6 +108,7 @@ scope_of program ns head =
       puts = true;
       overflows = true;
       divides = true;
+      elements = true;
       own = true;
       is_outer = λ level label. false;
     }

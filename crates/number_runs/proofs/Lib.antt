@@ -1,4 +1,6 @@
 pub mod Variables
+pub mod Arrays
+pub mod Declared
 pub mod Words
 pub mod Takes
 pub mod Expressions

@@ -4,12 +4,12 @@ use Rattle.std.proofs.Common.{◌∙◌, subst, arith, inl, None, Some}
 use Rattle.std.specs.Prelude.{◌&&◌, map, max, nat_le, Option}
 use Rattle.std.proofs.lemmas.Bool.{and_parts, leb-true}
 use Rattle.pli_language.specs.Formats.{is_times}
+use Rattle.pli_typing.specs.Signatures.{Bounds}
 use Rattle.pli_typing.specs.TypedTree as Y
 use Rattle.pli_meaning.specs.Control.{Label}
 use Rattle.pli_serving.specs.ServiceState.{EditPlace}
 use Rattle.pli_coding.specs.Allocating.{act_code}
-use Rattle.pli_coding.specs.Assembly.{RaiseError, size_of}
-use Rattle.pli_coding.specs.Linking.{place_of}
+use Rattle.pli_coding.specs.Assembly.{size_of}
 use Rattle.pli_coding.specs.Registers.{held_registers}
 use Rattle.pli_coding.specs.Statements.{stmt_code}
 use Rattle.pli_coding.specs.StaticForms.{formats_datum}
@@ -22,15 +22,17 @@ use Rattle.expression_runs.specs.Assignments.{setting_around}
 use Rattle.expression_runs.specs.Values.{Setting}
 use Rattle.expression_runs.specs.Variables.{IsNumber, Spot}
 use Rattle.expression_runs.proofs.Raises.{overflow_ends}
+use Rattle.element_runs.specs.Arrays.{IsArray}
+use Rattle.element_runs.proofs.Outside.{subscripts_end}
 use Rattle.operator_runs.proofs.Divisors.{zero_divide_ends}
 use Rattle.text_runs.proofs.Errors.{error_ends}
 use Rattle.edit_runs.specs.Edits.{AreListed, IsSkipped, Item, ItemsDo, Pair, PairsDo, Put}
-use Rattle.edit_runs.specs.Edits.{put_items, put_pairs, within}
+use Rattle.edit_runs.specs.Edits.{placing, put_items, put_pairs, within}
 use Rattle.edit_runs.proofs.Places.{begun_placed, number_placed}
 use Rattle.edit_runs.proofs.Puts.{put_does}
 use Rattle.edit_runs.proofs.Skips.{skip_does}
 use Rattle.number_runs.specs.Knowledge.{IsUnraised, KnowsLists, KnowsNumbers, KnowsPuts, MayBeSet}
-use Rattle.number_runs.specs.Numbers.{Scope, is_known, is_number, number_needs}
+use Rattle.number_runs.specs.Numbers.{Scope, bounds_known, is_array_known, is_known, is_number, number_needs}
 use Rattle.number_runs.specs.Puts.{are_pairs, are_put_items, is_fixed_list, is_put, is_put_item}
 use Rattle.number_runs.specs.Puts.{is_put_list, is_skip, put_items_need, put_needs, without_calls}
 use Rattle.number_runs.proofs.Expressions.{more_registers, number_does}
@@ -234,11 +236,35 @@ put_statement_does words s k labels skip (p ∷ ps) line index left' most h has 
 
 -- ---- what is known where no unit is in force
 
+-- an array of a block is one within a place in a format list
+array_placed :
+    (k : Block) (place : EditPlace) (x : Spot) (b : Bounds) → IsArray k x b → IsArray (placing place k) x b
+array_placed k place x b is =
+    let h = is.known in
+    record {
+      initial = is.initial;
+      known = record {
+        declared = h.declared;
+        serial = h.serial;
+        binding = h.binding;
+        living = h.living;
+        lives = h.lives;
+        shape = h.shape;
+        base = h.base;
+        frame = h.frame;
+        at = h.at;
+        low = h.low;
+        inside = h.inside;
+      };
+      bounds = is.bounds;
+    }
+
 pub puts_known :
-    (s : Scope) (k : Block) (most : ℕ) → IsBegun k → (u : IsUnraised k most) →
-    place_of k.call.surroundings.links RaiseError ≡ 4 * (u.routines.at + 8) →
-    ((x : Spot) → is_known s x ≡ true → IsNumber k x) → KnowsLists k → KnowsPuts s k most
-puts_known s k most b u raises variables lists =
+    (s : Scope) (k : Block) (most : ℕ) → IsBegun k → IsUnraised k most →
+    ((x : Spot) → is_known s x ≡ true → IsNumber k x) →
+    (s.elements ≡ true → (x : Spot) → is_array_known s x ≡ true → IsArray k x (bounds_known s x)) → KnowsLists k →
+    KnowsPuts s k most
+puts_known s k most b u variables arrays lists =
     let few = u.few in
     record {
       numbers = λ words may place labels line.
@@ -259,13 +285,21 @@ puts_known s k most b u raises variables lists =
               acts = u.acts;
               most = u.few;
             });
+            subscript = λ may. subscripts_end h (record {
+              routines = u.routines;
+              place = u.place;
+              error = u.error;
+              acts = u.acts;
+              most = u.few;
+            });
             variables = λ x is. number_placed k place x (variables x is);
+            arrays = λ may x is. array_placed k place x (bounds_known s x) (arrays may x is);
             functions = λ level n is. absurd (cc is);
           };
       error = λ words may place labels line.
           error_ends (List ℕ) (within place (setting_around words k labels line most)) (record {
             routines = u.routines;
-            raises = raises;
+            raises = u.place;
             error = u.error;
             acts = u.acts;
             most = omega (arith, few);

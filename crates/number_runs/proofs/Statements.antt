@@ -1,7 +1,7 @@
 -- Statements of the class: each does what it means, by the law of its form.
 use Rattle.std.proofs.Common.{◌≡◌, ℕ, ◌+◌, ◌^◌, ◌≤◌, List, [], ◌∷◌, ◌++◌, true, false, refl, sym, ap}
 use Rattle.std.proofs.Common.{◌∙◌, ◌⊎◌, inl, inr, None, subst, arith}
-use Rattle.std.specs.Prelude.{◌&&◌, ◌||◌, ◌==◌, Bool, ℤ, max, not, Option}
+use Rattle.std.specs.Prelude.{◌&&◌, ◌||◌, ◌==◌, Bool, ℤ, max, not, suc, Option}
 use Rattle.rv_meaning.specs.Words.{word}
 use Rattle.std.proofs.lemmas.Bool.{and_parts, eqb-true, ltb-true, or_cases}
 use Rattle.pli_typing.specs.TypedTree as Y
@@ -30,6 +30,9 @@ use Rattle.group_runs.specs.Groups.{list_index}
 use Rattle.group_runs.proofs.Groups.{group_with}
 use Rattle.function_runs.specs.Returns.{return_of}
 use Rattle.function_runs.proofs.ReturnValues as W
+use Rattle.element_runs.specs.Arrays.{element}
+use Rattle.element_runs.proofs.Assignments as A
+use Rattle.element_runs.proofs.Outside.{subscripts_end}
 use Rattle.test_runs.specs.Choices.{HasTestWith, behind_act, behind_choice_with, behind_test_with, body_index_with}
 use Rattle.test_runs.proofs.Chosen.{met_size, past}
 use Rattle.test_runs.proofs.Ifs.{met_with, one_of_with}
@@ -43,11 +46,12 @@ use Rattle.counter_runs.proofs.Scalars.{number_counts}
 use Rattle.number_runs.specs.Counting.{count_needs, is_count, limit_needs, start_needs}
 use Rattle.number_runs.specs.Knowledge.{AreAround, AreStanding, AreStandingWith, HasFrame, Includes, IsReady}
 use Rattle.number_runs.specs.Knowledge.{IsUnraised, KnowsNumbers, KnowsRaises, MayBeSet, Standing, StandingWith}
-use Rattle.number_runs.specs.Numbers.{Scope, is_fixed, is_number, is_test, is_variable, number_needs}
-use Rattle.number_runs.specs.Numbers.{test_needs}
+use Rattle.number_runs.specs.Numbers.{Scope, bounds_known, is_element, is_fixed, is_number, is_reference, is_test}
+use Rattle.number_runs.specs.Numbers.{is_variable, number_needs, reference_needs, test_needs}
 use Rattle.number_runs.specs.Puts.{is_put}
 use Rattle.number_runs.specs.Statements.{are_statements, is_line, is_statement, is_stored, statement_needs}
 use Rattle.number_runs.specs.Statements.{statement_sets, statements_need, statements_set, stored_needs}
+use Rattle.number_runs.proofs.Arrays.{element_is, subscript_given}
 use Rattle.number_runs.proofs.Counters.{IsCounting, counting_is, counting_of, statement_is}
 use Rattle.number_runs.proofs.Expressions.{number_does, test_does}
 use Rattle.number_runs.proofs.Labels.{placed_in, placed_with}
@@ -88,6 +92,14 @@ none_raised s k own most u =
             acts = u.acts;
             most = u.few;
           });
+      subscript = λ may words set labels line includes.
+          subscripts_end (setting_around words k labels line most) (record {
+            routines = u.routines;
+            place = u.place;
+            error = u.error;
+            acts = u.acts;
+            most = u.few;
+          });
     }
 
 -- ---- what the laws of single forms ask for
@@ -110,7 +122,9 @@ knows_in r words set labels line includes =
       begun = r.begun;
       overflow = λ may. r.raises.overflow may words set labels line includes;
       divisor = λ may. r.raises.divisor may words set labels line includes;
+      subscript = λ may. r.raises.subscript may words set labels line includes;
       variables = r.variables;
+      arrays = r.arrays;
       functions = λ level n is. r.calls.functions words set labels line level n includes is;
     }
 
@@ -180,6 +194,61 @@ assigned_does h labels target source line index includes is one two fits =
     })
     (number_does h.scope (setting_around h.words h.block labels line h.most) x.number
     (knows h labels line includes) x.known)))
+
+-- into an element: the value waits while the subscript is computed
+element_given :
+    (h : Home) (labels : List Label) (v : Y.Variable) (part : Y.Part) (subscript : Y.Number) (source : Y.Stored)
+    (line index : ℕ) → Includes h.own labels → is_line line ≡ true → is_element h.scope v part ≡ true →
+    is_number h.scope subscript ≡ true → is_stored h.scope source ≡ true → stored_needs source ≤ h.block.registers →
+    suc (max (number_needs subscript) 1) ≤ h.block.registers →
+    Coded h labels (Y.Assign (Y.Referring v Y.NotLocated part (Y.NumberThen subscript Y.NoNumber)) source line) index
+element_given h labels v part subscript source line index includes is one number two fits more =
+    let s = h.scope in
+    let t = element_is s v part subscript one in
+    let x = storing s source two in
+    let first = number_needs x.number in
+    let second = suc (max (number_needs subscript) 1) in
+    let needs = x.needs in
+    let k = setting_around h.words h.block labels line h.most in
+    let knows' = knows h labels line includes in
+    subst (λ r. Coded h labels (Y.Assign r source line) index) (sym t.is)
+    (subst (λ q. Coded h labels (Y.Assign (element t.spot subscript) q line) index) (sym x.is)
+    (λ l. A.assign_with h.words h.block labels t.spot (bounds_known s t.spot) subscript x.number line index h.left'
+    first second h.most
+    (record {
+      act = act_of h line is;
+      begun = h.ready.begun;
+      array = h.ready.arrays t.may t.spot t.known;
+      registers = omega (arith, fits, needs, more);
+      held = h.ready.held;
+      statement = l;
+      paid = paid_for h (Y.Assign (element t.spot subscript) (Y.StoredNumber 31 x.number) line) index l;
+    })
+    (knows'.subscript t.may) (number_does s k x.number knows' x.known)
+    (subscript_given s k 1 second subscript knows' number (omega arith) (number_does s k subscript knows' number))))
+
+given_does :
+    (h : Home) (labels : List Label) (target : Y.Reference) (source : Y.Stored) (line index : ℕ) →
+    Includes h.own labels → is_line line ≡ true → is_reference h.scope target ≡ true →
+    is_stored h.scope source ≡ true →
+    max (stored_needs source) (suc (reference_needs target)) ≤ h.block.registers →
+    Coded h labels (Y.Assign target source line) index
+given_does h labels (Y.Referring v Y.NotLocated part Y.NoNumber) source line index includes is one two fits =
+    assigned_does h labels (Y.Referring v Y.NotLocated part Y.NoNumber) source line index includes is one two
+    (omega (arith, fits))
+given_does h labels (Y.Referring v Y.NotLocated part (Y.NumberThen subscript Y.NoNumber)) source line index includes is
+    one two fits =
+    let a = and_parts (is_element h.scope v part) (is_number h.scope subscript) one in
+    element_given h labels v part subscript source line index includes is a.0 a.1 two (omega (arith, fits))
+    (omega (arith, fits))
+given_does h labels (Y.Referring v Y.NotLocated part (Y.NumberThen first (Y.NumberThen second rest))) source line index
+    includes is one two fits =
+    absurd (cc one)
+given_does h labels (Y.Referring v (Y.LocatedBy p) part Y.NoNumber) source line index includes is one two fits =
+    absurd (cc one)
+given_does h labels (Y.Referring v (Y.LocatedBy p) part (Y.NumberThen first rest)) source line index includes is one two
+    fits =
+    absurd (cc one)
 
 returned_does :
     (h : Home) (labels : List Label) (type : Y.LeafType) (source : Y.Stored) (line index : ℕ) →
@@ -478,9 +547,9 @@ mutual
   statement_does h labels (Y.Null line) index placed is fits sets at =
       null_does h.block line index h.left' (act_of h line is) at.linked labels
   statement_does h labels (Y.Assign target source line) index placed is fits sets at =
-      let a = and_parts (is_line line) (is_variable h.scope target && is_stored h.scope source) is in
-      let b = and_parts (is_variable h.scope target) (is_stored h.scope source) a.1 in
-      assigned_does h labels target source line index placed.includes a.0 b.0 b.1 fits at.linked
+      let a = and_parts (is_line line) (is_reference h.scope target && is_stored h.scope source) is in
+      let b = and_parts (is_reference h.scope target) (is_stored h.scope source) a.1 in
+      given_does h labels target source line index placed.includes a.0 b.0 b.1 fits at.linked
   statement_does h labels (Y.If condition unit line) index placed is fits sets at =
       let inner = is_statement h.scope h.valued labels unit in
       let a = and_parts (is_line line) (is_test h.scope condition && inner) is in

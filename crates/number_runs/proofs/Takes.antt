@@ -19,15 +19,18 @@ use Rattle.program_runs.specs.Statements.{set_aside}
 use Rattle.expression_runs.specs.Variables.{Spot, whole}
 use Rattle.counter_runs.specs.Counts.{count_of}
 use Rattle.number_runs.specs.Counting.{count_needs, is_count, limit_needs, start_needs}
-use Rattle.number_runs.specs.Numbers.{Scope, are_numbers, is_number, is_test, is_variable, number_needs, numbers_need}
-use Rattle.number_runs.specs.Numbers.{is_fixed, is_plain, may_calculate, test_needs}
+use Rattle.number_runs.specs.Numbers.{Scope, are_numbers, is_element, is_fixed, is_number, is_reference, is_test}
+use Rattle.number_runs.specs.Numbers.{is_variable, may_calculate, number_needs, numbers_need, reference_needs}
+use Rattle.number_runs.specs.Numbers.{test_needs}
 use Rattle.number_runs.specs.Puts.{are_pairs, are_put_items, is_fixed_list, is_put, is_put_item, is_put_list, is_skip}
 use Rattle.number_runs.specs.Puts.{put_item_needs, put_items_need, put_needs, without_calls}
 use Rattle.number_runs.specs.Statements.{are_statements, is_line, is_statement, is_stored, statement_needs}
 use Rattle.number_runs.specs.Statements.{statement_sets, statements_need, statements_set, stored_needs}
-use Rattle.number_runs.specs.Variables.{are_plain}
+use Rattle.number_runs.specs.Variables.{are_plain, is_declared}
+use Rattle.number_runs.proofs.Arrays.{element_is}
 use Rattle.number_runs.proofs.Counters.{IsCounting, counting_is, counting_of, statement_is}
-use Rattle.number_runs.proofs.Variables.{plain_is, variable_is}
+use Rattle.number_runs.proofs.Declared.{of_declared}
+use Rattle.number_runs.proofs.Variables.{variable_is}
 
 -- as many registers more as are needed, at least, and no words
 pub record Takes (need : ℕ) (t taken : Taken) : Type 0 where
@@ -80,6 +83,15 @@ variable_takes_none s r t h =
     let v = variable_is s r h in
     subst (λ q. Takes 0 t (reference_takes t q)) (sym v.is) (whole_takes t v.spot)
 
+-- a subscript is computed, and waits
+subscript_takes : (n : ℕ) (t a : Taken) → t.registers < held_registers → Takes n t a →
+    Takes (max n 1) t (most_taken t (most_taken a (with_number t)))
+subscript_takes n t a less x =
+    let p = x.registers in
+    let u = x.words in
+    subst (λ t'. Takes (max n 1) t (most_taken t (most_taken a t'))) (sym (next_number t less))
+    (record { registers = omega (arith, p); words = omega (arith, u) })
+
 called_takes :
     (s : Scope) (c : Y.Call) (t : Taken) → is_number s (Y.NumberFrom c) ≡ true →
     Takes 0 t (number_takes t (Y.NumberFrom c))
@@ -102,7 +114,7 @@ mutual
       (s : Scope) (x : Y.Number) (t : Taken) → is_number s x ≡ true → Fits t (number_needs x) →
       Takes (number_needs x) t (number_takes t x)
   number_taken s (Y.NumberConstant n) t h fits = takes_none t
-  number_taken s (Y.NumberIn r) t h fits = variable_takes_none s r t h
+  number_taken s (Y.NumberIn r) t h fits = reference_taken s r t h fits
   number_taken s (Y.NumberFrom c) t h fits = called_takes s c t h
   number_taken s (Y.Signed sign x) t h fits =
       takes_signed (number_needs x) t (number_takes t x) (omega (arith, fits))
@@ -142,6 +154,23 @@ mutual
   number_taken s (Y.ElementsOf r n) t h fits = absurd (cc h)
   number_taken s (Y.AllocationsOf v) t h fits = absurd (cc h)
   number_taken s Y.OnCode t h fits = absurd (cc h)
+
+  pub reference_taken :
+      (s : Scope) (r : Y.Reference) (t : Taken) → is_reference s r ≡ true → Fits t (reference_needs r) →
+      Takes (reference_needs r) t (reference_takes t r)
+  reference_taken s (Y.Referring v Y.NotLocated part Y.NoNumber) t h fits =
+      variable_takes_none s (Y.Referring v Y.NotLocated part Y.NoNumber) t h
+  reference_taken s (Y.Referring v Y.NotLocated part (Y.NumberThen subscript Y.NoNumber)) t h fits =
+      let a = and_parts (is_element s v part) (is_number s subscript) h in
+      let w = element_is s v part subscript a.0 in
+      let need = max (number_needs subscript) 1 in
+      subst (λ r. Takes need t (reference_takes t r)) (sym w.is)
+      (subscript_takes (number_needs subscript) t (number_takes t subscript) (omega (arith, fits))
+      (number_taken s subscript t a.1 (omega (arith, fits))))
+  reference_taken s (Y.Referring v Y.NotLocated part (Y.NumberThen first (Y.NumberThen second rest))) t h fits =
+      absurd (cc h)
+  reference_taken s (Y.Referring v (Y.LocatedBy p) part Y.NoNumber) t h fits = absurd (cc h)
+  reference_taken s (Y.Referring v (Y.LocatedBy p) part (Y.NumberThen first rest)) t h fits = absurd (cc h)
 
   numbers_taken :
       (s : Scope) (xs : Y.Numbers) (t : Taken) → are_numbers s xs ≡ true → Fits t (numbers_need xs) →
@@ -228,16 +257,18 @@ stored_taken words s (Y.StoredPointer x) h fits = absurd (cc h)
 stored_taken words s (Y.StoredOffset x) h fits = absurd (cc h)
 
 assigned_taken :
-    (words : ℕ) (s : Scope) (target : Y.Reference) (source : Y.Stored) → is_variable s target ≡ true →
-    is_stored s source ≡ true → stored_needs source ≤ held_registers →
-    Takes (stored_needs source) (set_aside words) (assigned_takes (set_aside words) target source)
+    (words : ℕ) (s : Scope) (target : Y.Reference) (source : Y.Stored) → is_reference s target ≡ true →
+    is_stored s source ≡ true → max (stored_needs source) (suc (reference_needs target)) ≤ held_registers →
+    Takes (max (stored_needs source) (suc (reference_needs target))) (set_aside words)
+    (assigned_takes (set_aside words) target source)
 assigned_taken words s target (Y.StoredNumber precision x) h g fits =
-    let a = variable_takes_none s target (with_number (set_aside words)) h in
-    let b = stored_taken words s (Y.StoredNumber precision x) g fits in
+    let a = reference_taken s target (with_number (set_aside words)) h (omega (arith, fits)) in
+    let b = stored_taken words s (Y.StoredNumber precision x) g (omega (arith, fits)) in
     let p = b.registers in
+    let q = a.registers in
     let u = a.words in
     let v = b.words in
-    record { registers = omega (arith, p); words = omega (arith, u, v) }
+    record { registers = omega (arith, p, q); words = omega (arith, u, v) }
 assigned_taken words s target (Y.StoredText x) h g fits = absurd (cc g)
 assigned_taken words s target (Y.StoredBit x) h g fits = absurd (cc g)
 assigned_taken words s target (Y.StoredPointer x) h g fits = absurd (cc g)
@@ -340,16 +371,15 @@ put_taken words s skip (p ∷ ps) h fits =
 
 mutual
   pub statement_taken :
-      (words : ℕ) (s : Scope) (valued : Bool) (labels : List Label) (x : Y.Stmt) → is_statement s valued labels x
-      ≡ true →
-      statement_needs x ≤ held_registers → Sets (statement_needs x) (statement_sets x) (set_aside words) (stmt_takes
-      (set_aside words) x)
+      (words : ℕ) (s : Scope) (valued : Bool) (labels : List Label) (x : Y.Stmt) →
+      is_statement s valued labels x ≡ true → statement_needs x ≤ held_registers →
+      Sets (statement_needs x) (statement_sets x) (set_aside words) (stmt_takes (set_aside words) x)
   statement_taken words s valued labels (Y.Null line) h fits = sets_none (set_aside words)
   statement_taken words s valued labels (Y.Assign target source line) h fits =
-      let a = and_parts (is_line line) (is_variable s target && is_stored s source) h in
-      let b = and_parts (is_variable s target) (is_stored s source) a.1 in
-      sets_no_words (stored_needs source) (set_aside words) (assigned_takes (set_aside words) target source)
-      (assigned_taken words s target source b.0 b.1 fits)
+      let a = and_parts (is_line line) (is_reference s target && is_stored s source) h in
+      let b = and_parts (is_reference s target) (is_stored s source) a.1 in
+      sets_no_words (max (stored_needs source) (suc (reference_needs target))) (set_aside words)
+      (assigned_takes (set_aside words) target source) (assigned_taken words s target source b.0 b.1 fits)
   statement_taken words s valued labels (Y.If condition unit line) h fits =
       let inner = is_statement s valued labels unit in
       let a = and_parts (is_line line) (is_test s condition && inner) h in
@@ -442,8 +472,9 @@ mutual
 pub plain_takes : (ds : List Y.DeclaredVariable) → are_plain ds ≡ true → variables_take ds ≡ none_taken
 plain_takes [] h = refl
 plain_takes (d ∷ ds) h =
-    let a = and_parts (is_plain d) (are_plain ds) h in
-    ap (λ d'. most_taken (variable_takes d') (variables_take ds)) (plain_is d a.0)
+    let a = and_parts (is_declared d) (are_plain ds) h in
+    ap (λ t. most_taken t (variables_take ds))
+    (of_declared (λ d'. variable_takes d' ≡ none_taken) refl (λ b is. refl) d a.0)
     ∙ ap (λ t. most_taken none_taken t) (plain_takes ds a.1)
 
 pub block_sets :

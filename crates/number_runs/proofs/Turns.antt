@@ -18,12 +18,12 @@ use Rattle.program_runs.specs.Statements.{Block, IsBegun, set_aside}
 use Rattle.expression_runs.specs.Values.{in_registers}
 use Rattle.counter_runs.specs.Counts.{Counting, IsStep, body_index, count_of, turn_in}
 use Rattle.counter_runs.specs.Words.{telling, with_word}
-use Rattle.counter_runs.proofs.Known.{number_told}
+use Rattle.counter_runs.proofs.Known.{array_told, number_told}
 use Rattle.counter_runs.proofs.Limits.{limit_size}
 use Rattle.counter_runs.proofs.Turns.{coded, starts_code}
 use Rattle.counter_runs.proofs.Words.{begun_telling}
 use Rattle.number_runs.specs.Knowledge.{AreStandingWith, HasFrame, IsHome, IsReady, StandingWith}
-use Rattle.number_runs.specs.Numbers.{Scope}
+use Rattle.number_runs.specs.Numbers.{Scope, bounds_known}
 
 -- ---- words in which nothing waits
 
@@ -76,7 +76,7 @@ pub ready_told :
     (r : IsReady s valued k labels most left') (c : s.counts ≡ true) (waits : ℕ → Option ℕ) (behind : ℕ) →
     ((n : ℕ) → behind ≤ n → waits n ≡ None) →
     IsReady s valued (telling waits (r.loops c).layer (r.loops c).others k) labels most left'
-ready_told {k = k} r c waits behind free =
+ready_told {s} {k = k} r c waits behind free =
     let l = r.loops c in
     let b = begun_telling k l.layer l.others waits l.newest r.begun in
     record {
@@ -86,6 +86,7 @@ ready_told {k = k} r c waits behind free =
       held = r.held;
       raises = l.raises waits;
       variables = λ x is. number_told k l.layer l.others waits l.newest x (r.variables x is);
+      arrays = λ may x is. array_told k l.layer l.others waits l.newest x (bounds_known s x) (r.arrays may x is);
       calls = l.calls waits;
       jumps = l.jumps waits;
       puts = l.puts waits;

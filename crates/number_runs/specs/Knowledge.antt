@@ -8,7 +8,7 @@ use Rattle.pli_typing.specs.TypedTree as Y
 use Rattle.pli_meaning.specs.Control.{Label, is_among}
 use Rattle.pli_meaning.specs.StorageState.{force}
 use Rattle.pli_serving.specs.ServiceState.{EditPlace}
-use Rattle.pli_coding.specs.Assembly.{ReturnPlace}
+use Rattle.pli_coding.specs.Assembly.{RaiseError, ReturnPlace}
 use Rattle.pli_coding.specs.Environments.{BlockOwner, block_around, none_taken}
 use Rattle.pli_coding.specs.Frames.{result}
 use Rattle.pli_coding.specs.Linking.{Links, place_of}
@@ -33,7 +33,9 @@ use Rattle.edit_runs.specs.Edits.{KnowsFormats, within}
 use Rattle.program_places.specs.Laws.{IsLabel}
 use Rattle.program_places.specs.Placed.{Placed}
 use Rattle.counter_runs.specs.Words.{telling}
-use Rattle.number_runs.specs.Numbers.{Scope, is_known}
+use Rattle.element_runs.specs.Arrays.{IsArray}
+use Rattle.element_runs.specs.Subscripts.{SubscriptComes}
+use Rattle.number_runs.specs.Numbers.{Scope, bounds_known, is_array_known, is_known}
 use Rattle.number_runs.specs.Puts.{is_fixed_list, without_calls}
 
 -- ---- around expressions
@@ -41,13 +43,15 @@ use Rattle.number_runs.specs.Puts.{is_fixed_list, without_calls}
 abbrev pub call_number : (level number : ℕ) → Y.Number
 call_number level n = Y.NumberFrom (Y.Calling n level Y.NoArgument)
 
--- raises come to what they mean where there may be any, each variable that may be named is a number of the block, and
--- calls of functions that may be called leave what they mean
+-- raises come to what they mean where there may be any, each variable that may be named is a number of the block, or an
+-- array of it, and calls of functions that may be called leave what they mean
 pub record KnowsNumbers (s : Scope) (k : Setting) : Type 0 where
   pub begun : IsBegun k.block
   pub overflow : s.overflows ≡ true → OverflowComes k
   pub divisor : s.divides ≡ true → ZeroDivideComes k
+  pub subscript : s.elements ≡ true → SubscriptComes k
   pub variables : (x : Spot) → is_known s x ≡ true → IsNumber k.block x
+  pub arrays : s.elements ≡ true → (x : Spot) → is_array_known s x ≡ true → IsArray k.block x (bounds_known s x)
   pub functions : (level n : ℕ) → s.is_function level n ≡ true → L.Does k 0 (call_number level n)
 
 -- each list of F items that static data have is known
@@ -93,6 +97,7 @@ pub record IsValued (k : Block) (left' : ℕ) : Type 0 where
 -- no unit is in force for the conditions that numbers raise
 pub record IsUnraised (k : Block) (most : ℕ) : Type 0 where
   pub routines : Routines k.call.surroundings.links k.call.code
+  pub place : place_of k.call.surroundings.links RaiseError ≡ 4 * (routines.at + 8)
   pub overflow : IsSystem (force k.first.state.activations C.FixedOverflow)
   pub divisor : IsSystem (force k.first.state.activations C.ZeroDivide)
   pub error : IsSystem (force k.first.state.activations C.Error)
@@ -139,6 +144,9 @@ pub record KnowsRaises (s : Scope) (k : Block) (own : List Label) (most : ℕ) :
   pub divisor :
       s.divides ≡ true → (words : ℕ) → MayBeSet s words → (labels : List Label) (line : ℕ) → Includes own labels →
       ZeroDivideComes (setting_around words k labels line most)
+  pub subscript :
+      s.elements ≡ true → (words : ℕ) → MayBeSet s words → (labels : List Label) (line : ℕ) → Includes own labels →
+      SubscriptComes (setting_around words k labels line most)
 
 -- the calls that its statements may hold do what they mean, whatever words are set aside; so many instructions come at
 -- most between a call in an expression and the first act of what is called
@@ -192,6 +200,7 @@ pub record IsReady (s : Scope) (valued : Bool) (k : Block) (labels : List Label)
   pub held : k.registers ≤ held_registers
   pub raises : KnowsRaises s k labels most
   pub variables : (x : Spot) → is_known s x ≡ true → IsNumber k x
+  pub arrays : s.elements ≡ true → (x : Spot) → is_array_known s x ≡ true → IsArray k x (bounds_known s x)
   pub calls : KnowsCalls s k labels most left'
   pub jumps : KnowsJumps s k labels left'
   pub puts : s.puts ≡ true → KnowsPuts s k most

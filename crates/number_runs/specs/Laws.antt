@@ -1,22 +1,22 @@
 -- The laws of such blocks: each expression leaves what it means, and each statement does what it means.
-use Rattle.std.specs.Prelude.{ℕ, ◌+◌, ◌*◌, ◌≤◌, ◌≡◌, ◌++◌, Bool, true, List, []}
+use Rattle.std.specs.Prelude.{ℕ, ◌≤◌, ◌≡◌, ◌++◌, Bool, true, List, []}
 use Rattle.pli_typing.specs.TypedTree as Y
 use Rattle.pli_meaning.specs.Control.{Label}
 use Rattle.pli_meaning.specs.DeclaredShapes.{variables_of_block}
 use Rattle.pli_meaning.specs.Executing.{labels_in}
-use Rattle.pli_coding.specs.Assembly.{RaiseError}
 use Rattle.pli_coding.specs.Environments.{Environment}
-use Rattle.pli_coding.specs.Linking.{place_of}
 use Rattle.pli_coding.specs.Registers.{held_registers}
 use Rattle.pli_coding.specs.Statements.{block_held, block_words}
 use Rattle.program_runs.specs.Statements.{AreMarked, Block, Does, EachDoes, IsBegun}
 use Rattle.expression_runs.specs.Laws as L
 use Rattle.expression_runs.specs.Values.{Setting}
 use Rattle.expression_runs.specs.Variables.{IsNumber, Spot}
+use Rattle.element_runs.specs.Arrays.{IsArray}
 use Rattle.test_runs.specs.Tests.{Tests}
 use Rattle.number_runs.specs.Knowledge.{AreAround, AreStanding, HasFrame, IsReady, IsUnraised, KnowsLists}
 use Rattle.number_runs.specs.Knowledge.{KnowsNumbers, KnowsPuts, KnowsRaises, Standing}
-use Rattle.number_runs.specs.Numbers.{Scope, is_known, is_number, is_test, number_needs, test_needs}
+use Rattle.number_runs.specs.Numbers.{Scope, bounds_known, is_array_known, is_known, is_number, is_test}
+use Rattle.number_runs.specs.Numbers.{number_needs, test_needs}
 use Rattle.number_runs.specs.Statements.{are_statements, is_statement, statement_needs, statement_sets}
 use Rattle.number_runs.specs.Statements.{statements_need, statements_set}
 use Rattle.number_runs.specs.Variables.{are_plain}
@@ -51,9 +51,10 @@ pub record BodiesDo : Type 0 where
       (s : Scope) (k : Block) (own : List Label) (most : ℕ) → IsUnraised k most → KnowsRaises s k own most
   -- there numbers may be written by the lists that are known
   pub written :
-      (s : Scope) (k : Block) (most : ℕ) → IsBegun k → (u : IsUnraised k most) →
-      place_of k.call.surroundings.links RaiseError ≡ 4 * (u.routines.at + 8) →
-      ((x : Spot) → is_known s x ≡ true → IsNumber k x) → KnowsLists k → KnowsPuts s k most
+      (s : Scope) (k : Block) (most : ℕ) → IsBegun k → IsUnraised k most →
+      ((x : Spot) → is_known s x ≡ true → IsNumber k x) →
+      (s.elements ≡ true → (x : Spot) → is_array_known s x ≡ true → IsArray k x (bounds_known s x)) →
+      KnowsLists k → KnowsPuts s k most
 
 -- a block whose variables and statements are these, and whose temporaries fit registers: its frame has the words that
 -- loops set aside and no others, and they take no register that it doesn't save

@@ -1,18 +1,18 @@
 -- Statements over such numbers, as a class that is computed from typed trees.
-use Rattle.std.specs.Prelude.{ℕ, ◌+◌, ◌^◌, ◌==◌, ◌&&◌, ◌||◌, ◌++◌, Bool, true, false, List, max, nat_lt, not}
+use Rattle.std.specs.Prelude.{ℕ, suc, ◌+◌, ◌^◌, ◌==◌, ◌&&◌, ◌||◌, ◌++◌, Bool, true, false, List, max, nat_lt, not}
 use Rattle.pli_typing.specs.TypedTree as Y
 use Rattle.pli_meaning.specs.Control.{Label, is_among}
 use Rattle.pli_meaning.specs.Executing.{labels_in}
 use Rattle.number_runs.specs.Counting.{count_needs, is_count}
-use Rattle.number_runs.specs.Numbers.{Scope, is_fixed, is_number, is_test, is_variable, number_needs}
-use Rattle.number_runs.specs.Numbers.{test_needs}
+use Rattle.number_runs.specs.Numbers.{Scope, is_fixed, is_number, is_reference, is_test, number_needs}
+use Rattle.number_runs.specs.Numbers.{reference_needs, test_needs}
 use Rattle.number_runs.specs.Puts.{is_put, put_needs}
 
 -- a line fits a register
 abbrev pub is_line : ℕ → Bool
 is_line line = nat_lt line (2 ^ 31)
 
--- a number on its way into a variable
+-- a number on its way into a variable, or into an element
 abbrev pub is_stored : Scope → Y.Stored → Bool
 is_stored s (Y.StoredNumber precision x) = (precision == 31) && is_number s x
 is_stored s _ = false
@@ -27,7 +27,7 @@ abbrev mutual
   pub is_statement : Scope → (valued : Bool) → List Label → Y.Stmt → Bool
   is_statement s valued labels (Y.Null line) = is_line line
   is_statement s valued labels (Y.Assign target source line) =
-      is_line line && (is_variable s target && is_stored s source)
+      is_line line && (is_reference s target && is_stored s source)
   is_statement s valued labels (Y.If condition unit line) =
       is_line line && (is_test s condition && is_statement s valued labels unit)
   is_statement s valued labels (Y.IfElse condition unit otherwise line) =
@@ -60,7 +60,8 @@ abbrev mutual
 -- how many registers their temporaries need
 abbrev mutual
   pub statement_needs : Y.Stmt → ℕ
-  statement_needs (Y.Assign target source line) = stored_needs source
+  -- the value waits while a subscript is computed
+  statement_needs (Y.Assign target source line) = max (stored_needs source) (suc (reference_needs target))
   statement_needs (Y.If condition unit line) = max (test_needs condition) (statement_needs unit)
   statement_needs (Y.IfElse condition unit otherwise line) =
       max (test_needs condition) (max (statement_needs unit) (statement_needs otherwise))

@@ -49,9 +49,12 @@ use Rattle.jump_runs.proofs.FunctionLists.{each_ends, system_ends}
 use Rattle.jump_runs.proofs.Functions.{jump_function_does}
 use Rattle.text_runs.proofs.Points.{alone_does}
 use Rattle.number_runs.specs.Knowledge.{Includes, IsHome, IsReady, KnowsCalls, KnowsRaises, call_number, call_statement}
+use Rattle.element_runs.specs.Subscripts.{SubscriptComes}
+use Rattle.element_runs.proofs.Outside.{subscripts_end}
 use Rattle.number_runs.proofs.Statements.{body_does}
 use Rattle.number_runs.proofs.Takes.{registers_held}
 use Rattle.number_headlines.proofs.Mains.{result_of}
+use Rattle.number_headlines.proofs.Puts.{error_routine}
 use Rattle.number_headlines.proofs.Tables.{block_plain}
 use Rattle.unit_runs.specs.Changing.{IsPast, Past}
 use Rattle.unit_runs.proofs.Changing.{begun_after}
@@ -64,7 +67,8 @@ use Rattle.unit_numbers.proofs.Established.{InForce, error_system, in_force}
 use Rattle.unit_numbers.proofs.Past.{main_past}
 use Rattle.unit_numbers.proofs.Mains.{Main, block_for, list_of, most_for, run_for, start_for, surroundings_for}
 use Rattle.unit_numbers.proofs.Raises.{entry_low}
-use Rattle.unit_numbers.proofs.Visits.{visit_block, visit_divides, visit_number, visit_overflow, visit_system}
+use Rattle.unit_numbers.proofs.Visits.{visit_array, visit_block, visit_divides, visit_number, visit_overflow}
+use Rattle.unit_numbers.proofs.Visits.{visit_system}
 
 -- ---- raises in what is called
 
@@ -135,6 +139,23 @@ called_divides once m i v zero past entry function labels line h b (inr n) =
 called_divides once m i v (suc more) past entry function labels line h b (inr n) =
     visit_divides once m i v more past entry function labels line h n b
 
+called_subscript :
+    MarkedOnce → {program : Y.Program} (m : Main program) {valued : Bool} {number : ℕ} (i : Inner m valued number)
+    (v : Visit) (more : ℕ) (past : Past) (entry : Entry) (function : Option Function) (labels : List Label)
+    (line : ℕ) → IsVisit m v more past → SubscriptComes (visit_setting m i v more past entry function labels line)
+called_subscript once {program} m i v more past entry function labels line h =
+    let routines = raise_routines once program m.loadable in
+    let inside = routines.linked.inside in
+    subscripts_end (visit_setting m i v more past entry function labels line)
+    (record {
+      routines = routines;
+      place = error_routine once program m.loadable;
+      error = visit_system m i v more past entry function h C.Error
+          (error_system once m v.input (suc more) past h.known);
+      acts = h.few;
+      most = omega (arith, inside);
+    })
+
 called_raises :
     MarkedOnce → {program : Y.Program} (m : Main program) {valued : Bool} {number : ℕ} (i : Inner m valued number)
     (v : Visit) (more : ℕ) (past : Past) (entry : Entry) (function : Option Function) (own : List Label) →
@@ -153,6 +174,10 @@ called_raises once {program} m i v more past entry function own h b =
           (most_for program))) (sym (set.1 refl))
           (called_divides once m i v more past entry function labels line h b
           (in_force once m v.input (suc more) past h.known C.ZeroDivide));
+      subscript = λ may words set labels line includes.
+          subst (λ w. SubscriptComes (setting_around w (visit_block m i v more past entry function) labels line
+          (most_for program))) (sym (set.1 refl))
+          (called_subscript once m i v more past entry function labels line h);
     }
 
 -- ---- its statements
@@ -173,6 +198,7 @@ called_ready once m i v more past entry function h b home =
       held = omega arith;
       raises = called_raises once m i v more past entry function (labels_in i.body ++ []) h b;
       variables = λ x known. visit_number m i v more past entry function h b x known;
+      arrays = λ may x known. visit_array m i v more past entry function h b x known;
       calls = record {
         functions = λ words set labels line level n includes call. absurd (cc call);
         procedures = λ words set labels level n line index includes call. absurd (cc call);
@@ -196,7 +222,7 @@ called_each once {program} m {valued} i v more past entry function h b home =
     let s = called_scope program m.head i.head in
     body_does s valued (visit_block m i v more past entry function) i.body (body_for program i.head i.body)
     (most_for program) left_over (called_ready once m i v more past entry function h b home) i.statements
-    (registers_held s valued (environment_for program i.head) i.head.number i.body plain.0 i.statements i.fits)
+    (registers_held s valued (environment_for program i.head) i.head.number i.body plain.plain i.statements i.fits)
     (λ e. absurd (cc e)) (body_placed once program i.head i.body (result_of valued) m.loadable i.is)
 
 called_marked :

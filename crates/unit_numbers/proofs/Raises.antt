@@ -86,7 +86,7 @@ pub taken_by :
 taken_by {program} m x u =
     let s = unit_scope program m.head (list_of m) in
     let plain = block_plain program.variables x.head.number m.plain in
-    unit_taken s program x.head x.head.kind (statements_need x.body) x.body plain.0
+    unit_taken s program x.head x.head.kind (statements_need x.body) x.body plain.plain
     (statements_take s false (labels_in x.body ++ []) x.body refl u.statements u.fits)
 
 -- procedures stand behind the start and the routines of raises
@@ -308,6 +308,7 @@ scene_raises once {program} m z s r is own =
             acts = s.few;
             most = omega (arith, inside);
           });
+      subscript = λ may words set labels line includes. absurd (cc may);
     }
 
 scene_ready :
@@ -326,6 +327,7 @@ scene_ready once {program} m z s r is made b =
       held = omega arith;
       raises = scene_raises once m z s r is (labels_in z.unit.body ++ []);
       variables = λ v known. s.numbers r is made b v known;
+      arrays = λ may v known. absurd (cc may);
       calls = record {
         functions = λ words set ls at level n inside call. absurd (cc call);
         procedures = λ words set ls level n at index inside call. absurd (cc call);

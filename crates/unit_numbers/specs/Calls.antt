@@ -20,6 +20,7 @@ called_scope program main head =
       puts = false;
       overflows = true;
       divides = true;
+      elements = true;
       own = true;
       is_outer = λ level label. false;
     }

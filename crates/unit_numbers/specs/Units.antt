@@ -27,6 +27,7 @@ own_scope program main =
       puts = false;
       overflows = true;
       divides = true;
+      elements = true;
       own = true;
       is_outer = λ level label. false;
     }
@@ -68,6 +69,7 @@ unit_scope program main body =
       puts = false;
       overflows = not (has_unit C.FixedOverflow body);
       divides = not (has_unit C.ZeroDivide body);
+      elements = false;
       own = false;
       is_outer = λ level label. (level == main.level) && is_among label (labels_in body);
     }
