@@ -22,6 +22,7 @@ use Rattle.activation_relation.specs.Points.{Surroundings}
 use Rattle.activation_relation.specs.Remaining.{Remains}
 use Rattle.activation_relation.specs.ServiceLaws.{IsSystem}
 use Rattle.activation_relation.proofs.Returning.{in_use_later}
+use Rattle.activation_relation.proofs.Remaining.{shapes_remain}
 use Rattle.block_runs.specs.Bodies.{Function}
 use Rattle.block_runs.specs.Machines.{acted}
 use Rattle.program_places.specs.Programs.{IsProcedure, Site, behind_body, callee_at, code_for, environment_for}
@@ -209,7 +210,7 @@ tabled_later :
     AreTabled e q.places.signatures ds → AreTabled e r.places.signatures ds
 tabled_later e [] same h = tt
 tabled_later e (d ∷ ds) same h = (
-  record { small = h.0.small; shape = same.signatures (table_number e d) (shape_of [] d) h.0.shape },
+  record { small = h.0.small; shape = shapes_remain same (table_number e d) (shape_of [] d) h.0.shape },
   tabled_later e ds same h.1,
 )
 
