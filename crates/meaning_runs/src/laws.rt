@@ -9,8 +9,8 @@ pub fn never_stuck()
     ensures { NeverStuck }
 {}
 
-/// A plain well-formed program, in which no GOTO of another block names a label of a function's own list, has a
-/// meaning at every number of acts.
+/// A plain well-formed program, in which no GOTO of another block names a label of the own list of a function that
+/// establishes on-units, has a meaning at every number of acts.
 pub fn meaning_there()
     ensures { MeaningThere }
 {}
