@@ -32,7 +32,7 @@ use Rattle.meaning_runs.proofs.Ways.{Whole, Declares, FineProcedure, SoundEntry,
 use Rattle.meaning_runs.proofs.Expressions.{error_unit_there}
 use Rattle.meaning_runs.proofs.Stored.{evaluations_there, variable_made_there, parameters_bound_there}
 use Rattle.meaning_runs.proofs.Statements.{Level, FootAt, standing_at, demand_at, around_at, place_at, lower, apart}
-use Rattle.meaning_runs.proofs.Statements.{listed_frame, labels_same, newest_there, statements_there}
+use Rattle.meaning_runs.proofs.Statements.{Lasts, listed_frame, labels_same, newest_there, statements_there}
 
 -- ---- blocks
 
@@ -181,15 +181,15 @@ outside r = record { program = r.program; setting = r.setting; bearing = r.outer
 
 -- ---- what stands around a block's list
 
-lasting_has : (p : Y.Program) (is_function : Bool) (body : Y.Stmts) → IsKnown p is_function (T.labels_in body)
-    → Has p (lasting_labels is_function body) (T.labels_in body)
-lasting_has p false body known label x y = subst (λ ls. is_among label ls ≡ true) (labels_same body) x
-lasting_has p true body known label x y = absurd (cc (known refl label x, y))
+lasting_has : (p : Y.Program) (is_function : Bool) (body : Y.Stmts) → IsKnown p is_function body
+    → P.any_establishes body ≡ true → Has p (lasting_labels is_function body) (T.labels_in body)
+lasting_has p false body known e label x y = subst (λ ls. is_among label ls ≡ true) (labels_same body) x
+lasting_has p true body known e label x y = absurd (cc (known refl e label x, y))
 
 list_foot : (r : Run) (entry : Entry) (head : Y.BlockHead) (body : Y.Stmts) (blocks : List W.Around)
     → Chain r.setting.table (block_around head body ∷ blocks) → Stands r.program r.outer.frames entry.parent blocks
-    → IsKnown r.program entry.is_function (T.labels_in body) → FootAt (list_level r head body entry)
-list_foot r entry head body blocks chain stands known =
+    → FootAt (list_level r head body entry)
+list_foot r entry head body blocks chain stands =
     record {
       own = block_around head body;
       outer = blocks;
@@ -198,7 +198,6 @@ list_foot r entry head body blocks chain stands known =
           λ label h.
           among_first label (M.labels_in body) []
           (subst (λ ls. is_among label ls ≡ true) (labels_same body) h);
-      lasting = lasting_has r.program entry.is_function body known;
       below = stands;
       chain = chain;
     }
@@ -230,15 +229,16 @@ units_wider p g f e fs (a ∷ as') l u o h = (of_units a.units h.0, h.1)
 -- ---- a block that is run
 
 list_run_there : (r : Run) (head : Y.BlockHead) (body : Y.Stmts) (entry : Entry)
-    (t : FootAt (list_level r head body entry)) → T.SoundStmts (place_at (list_level r head body entry) t) body
+    (t : FootAt (list_level r head body entry)) → Lasts (list_level r head body entry) t (P.any_establishes body)
+    → T.SoundStmts (place_at (list_level r head body entry) t) body
     → P.PlainStmts (standing_at (list_level r head body entry)) body
     → There (entering (Some r.returning) (run_frame head body entry) (outside r)) 0 1 r.left Anything
     (M.list (around_at (fresh_level r head entry)) body)
 unfolding M.list M.list_with
-list_run_there r head body entry t h p =
+list_run_there r head body entry t z h p =
     bind_there looked_there (λ s k. list_there r.turns r.left _ (M.labels_in body) None r.few
     (newest_there s.activations (run_frame head body entry) r.outer.frames k.1)
-    (λ x c q. statements_there body x (lower (list_level r head body entry) c q) t h p))
+    (λ x c q. statements_there body x (lower (list_level r head body entry) c q) t z h p))
 
 end_there : (r : Run) (head : Y.BlockHead) (body : Y.Stmts) (entry : Entry) (is_function : Bool)
     → entry.is_function ≡ is_function
@@ -256,14 +256,15 @@ end_there r head body entry true e =
     (sym (ap (λ t. lasting_labels t body) e)) (end_reached_there true (fresh_level r head entry))
 
 block_body_there : (r : Run) (head : Y.BlockHead) (body : Y.Stmts) (entry : Entry)
-    (t : FootAt (list_level r head body entry)) → T.SoundStmts (place_at (list_level r head body entry) t) body
+    (t : FootAt (list_level r head body entry)) → Lasts (list_level r head body entry) t (P.any_establishes body)
+    → T.SoundStmts (place_at (list_level r head body entry) t) body
     → P.PlainStmts (standing_at (list_level r head body entry)) body
     → length entry.arguments ≡ length entry.parameters
     → Leads (entering (Some r.returning) (fresh_frame head entry) (outside r))
     (entering (Some r.returning) (run_frame head body entry) (outside r)) r.left (EndsSo entry.is_function)
     (M.block_body (around_at (fresh_level r head entry)) head body entry)
 unfolding M.block_body
-block_body_there r head body entry t h p e =
+block_body_there r head body entry t z h p e =
     let f : Frame = fresh_frame head entry in
     let g : Frame = run_frame head body entry in
     let widens : (s : State) → Kept (entering (Some r.returning) f (outside r)) s
@@ -280,7 +281,7 @@ block_body_there r head body entry t h p e =
     (block_variables_begun head head.kind u)
     (leads_then (outside r) (Some r.returning) f g (EndsSo entry.is_function) widens refl (entry_act_there head.kind)
     (leads_there (outside r) (Some r.returning) f g (EndsSo entry.is_function) widens
-    (then_there (list_run_there r head body entry t h p) (end_there r head body entry entry.is_function refl)))))
+    (then_there (list_run_there r head body entry t z h p) (end_there r head body entry entry.is_function refl)))))
 
 -- the new activation is one higher than those further down, and has no on-units
 entered_kept : (r : Run) (head : Y.BlockHead) (entry : Entry) (s : State) → Kept (outside r) s
@@ -318,19 +319,19 @@ abbrev around_in : Run → G.Around
 around_in r = record { program = r.program; enter = r.enter; turns = r.turns; line = r.line }
 
 block_run_there : (r : Run) (head : Y.BlockHead) (body : Y.Stmts) (entry : Entry)
-    (t : FootAt (list_level r head body entry))
+    (t : FootAt (list_level r head body entry)) → Lasts (list_level r head body entry) t (P.any_establishes body)
     → T.SoundStmts (place_at (list_level (run_on_line r head.line) head body entry) t) body
     → P.PlainStmts (standing_at (list_level r head body entry)) body
     → length entry.arguments ≡ length entry.parameters
     → Passes (M.is_own_return head.kind) (Expected entry.is_function) (Some r.returning) r.outer.answers
     → There (outside r) 0 1 r.left (Expected entry.is_function) (M.block_run (around_in r) (Y.BlockOf head body) entry)
 unfolding M.block_run
-block_run_there r head body entry t h p e passes =
+block_run_there r head body entry t z h p e passes =
     bind_there looked_there (λ s k. choose_there _
     (block_there (M.is_own_return head.kind) (Expected entry.is_function) (Some r.returning)
     (fresh_frame head entry) (run_frame head body entry) (EndsSo entry.is_function) (M.with_activation head entry)
     (entered_kept r head entry) refl
-    (block_body_there (run_on_line r head.line) head body entry t h p e) (none_expected entry.is_function) passes)
+    (block_body_there (run_on_line r head.line) head body entry t z h p e) (none_expected entry.is_function) passes)
     (finish_there (E.Limit L.Depth) tt))
 
 -- ---- the whole
@@ -360,8 +361,8 @@ entered_there p g whole (suc n) left few outer entry s =
     subst (λ b. There (outside r) 0 1 left (Expected entry.is_function) (M.block_run (around_in r) b entry))
     (sym s.block.is)
     (block_run_there r s.block.head s.block.body entry
-    (list_foot r entry s.block.head s.block.body s.block.outer s.chain s.stands s.known) s.block.statements
-    s.block.plain s.counts s.passes)
+    (list_foot r entry s.block.head s.block.body s.block.outer s.chain s.stands)
+    (lasting_has p entry.is_function s.block.body s.known) s.block.statements s.block.plain s.counts s.passes)
 
 -- the main procedure stands in no block
 main_outer : (table : Table) (level : ℕ) (blocks : List W.Around) → IsHeld table level blocks → level ≡ 0 → blocks ≡ []

@@ -1,43 +1,163 @@
--- A jump that is lost: a function's on-unit for ERROR names a label of the function's own list, and the function ends
--- without a value.
-use Rattle.std.proofs.Common.{◌≡◌, ℕ, [], ◌∷◌, Some, None, refl}
-use Rattle.pli_language.specs.declared.condition.Condition.TheVariants as C
+-- The program whose jump is lost is well formed, and its run is computed.
+use Rattle.std.proofs.Common.{◌≡◌, ℕ, zero, suc, ◌<◌, ◌≤◌, [], ◌∷◌, None, refl, subst, arith, inl, inr}
+use Rattle.std.proofs.lemmas.Bool.Decides.{nat_tests}
 use Rattle.pli_typing.specs.TypedTree as Y
 use Rattle.pli_meaning.specs.Control as F
 use Rattle.pli_meaning.specs.Raising as R
 use Rattle.pli_meaning.specs.Evaluating as V
 use Rattle.pli_meaning.specs.Making as K
 use Rattle.pli_meaning.specs.Executing as M
+use Rattle.well_formed_trees.specs.Surroundings.{Around, Table}
+use Rattle.well_formed_trees.specs.Blocks.{times}
+use Rattle.well_formed_trees.specs.WellFormed as T
+use Rattle.meaning_runs.specs.Plain.{AnyGoto, IsPlain}
+use Rattle.meaning_runs.specs.Lost.{head, main_body, function_body, main, function, function_left, JumpLost}
 
-abbrev pub head : Y.BlockKind → (number level : ℕ) → Y.BlockHead
-head kind number level = record { kind = kind; number = number; level = level; line = 1 }
-
--- T: PROC OPTIONS(MAIN); IF F() THEN; F: PROC RETURNS(BIT(1)); ON ERROR GOTO L; L: END F; END T;
-abbrev pub function_left : Y.Program
-function_left =
-    record {
-      variables = [] ∷ [] ∷ [] ∷ [];
-      procedures =
-          record {
-            block = Y.BlockOf (head Y.ProcedureBlock 1 0)
-                (Y.StmtThen [] (Y.If (Y.BitFrom (Y.Calling 2 0 Y.NoArgument)) (Y.Null 1) 1) (Y.EndOfList []));
-            parameters = [];
-            result = None;
-          }
-          ∷ record {
-            block = Y.BlockOf (head Y.ProcedureBlock 2 1)
-                (Y.StmtThen [] (Y.OnUnit C.Error
-                (Y.BlockOf (head Y.SimpleUnit 2 2) (Y.StmtThen [] (Y.Goto 1 (76 ∷ []) 1) (Y.EndOfList []))) 1)
-                (Y.EndOfList ((76 ∷ []) ∷ [])));
-            parameters = [];
-            result = Some Y.BitLeaf;
-          }
-          ∷ [];
-    }
-
-pub function_left_lost : M.meaning function_left [] 20 ≡ None
+lost : M.meaning function_left [] 20 ≡ None
 unfolding F.give F.stuck F.◌>>=◌ F.◌>>◌ F.looked F.stored F.act F.finish F.returns F.jumps F.choose F.given F.list_from
     F.repeated_while F.leaving R.error_unit_run R.error V.all_passed_last V.procedure_entered V.returned V.bit V.called
     V.arguments V.argument V.stored_value K.variables_made K.parameters_bound M.list_with M.established_by M.statement
-    M.statements M.list M.block_variables_made M.entry_act M.end_reached M.block_body M.block_run M.entered M.run M.meaning
-function_left_lost = refl
+    M.statements M.list M.block_variables_made M.entry_act M.end_reached M.block_body M.block_run M.entered M.run
+    M.meaning
+lost = refl
+
+-- ---- the blocks
+
+abbrev main_around : Around
+main_around = record { number = 1; level = 0; outermost = []; inner = [] }
+
+abbrev function_around : Around
+function_around = record { number = 2; level = 1; outermost = (76 ∷ []) ∷ []; inner = [] }
+
+abbrev table : Table
+table = [] ∷ (main_around ∷ []) ∷ (function_around ∷ main_around ∷ []) ∷ []
+
+once : (n : ℕ) → 1 ≤ n → n < 3 → times n (1 ∷ 2 ∷ []) ≡ 1
+once zero h k = absurd (omega (arith, h))
+once (suc zero) h k = refl
+once (suc (suc zero)) h k = refl
+once (suc (suc (suc n))) h k = absurd (omega (arith, k))
+
+none : (n : ℕ) → 3 ≤ n → times n (1 ∷ 2 ∷ []) ≡ 0
+none n h = grind (arith, nat_tests, h)
+
+entries : (number : ℕ) → 1 ≤ number → number < 3 → T.IsEntry table number
+entries zero h k = absurd (omega (arith, h))
+entries (suc zero) h k =
+    record { own = main_around; outer = []; entry = refl; number_is = refl; shallow = omega arith }
+entries (suc (suc zero)) h k =
+    record { own = function_around; outer = main_around ∷ []; entry = refl; number_is = refl; shallow = omega arith }
+entries (suc (suc (suc n))) h k = absurd (omega (arith, k))
+
+between : T.Between table 1 2 0
+between zero a more h k e = absurd (omega (arith, h))
+between (suc zero) a more h k e = absurd (omega (arith, h))
+between (suc (suc zero)) a more h k e =
+    let same : function_around ≡ a = cc e in subst (λ x. 0 < x.level) same (omega arith)
+between (suc (suc (suc n))) a more h k e = absurd (omega (arith, k))
+
+nested : T.AreNested table
+nested zero own outer e = absurd (cc e)
+nested (suc zero) own outer e = let none : [] ≡ outer = cc e in subst (T.IsBehind table 1) none tt
+nested (suc (suc zero)) own outer e =
+    let same : main_around ∷ [] ≡ outer = cc e in subst (T.IsBehind table 2) same (omega arith, between)
+nested (suc (suc (suc n))) own outer e = absurd (cc e)
+
+variables : (number : ℕ) → T.DeclaresSound table function_left number
+variables zero around e = tt
+variables (suc zero) around e = tt
+variables (suc (suc zero)) around e = tt
+variables (suc (suc (suc n))) around e = absurd (cc e)
+
+-- ---- the procedures
+
+main_sound : T.SoundProcedure table function_left main
+main_sound =
+    record {
+      head = head Y.ProcedureBlock 1 0;
+      body = main_body;
+      is = refl;
+      kind = refl;
+      line = omega arith;
+      outer = [];
+      held = refl;
+      listed = refl;
+      statements = (
+        (
+          (
+            (function, refl, refl),
+            (
+              record {
+                procedure = function;
+                is = record {
+                  found = refl;
+                  level_is = refl;
+                  kind = refl;
+                  own = function_around;
+                  holder = main_around;
+                  outer = [];
+                  entry = refl;
+                  holder_around = inl (refl, refl);
+                };
+                passed = tt;
+              },
+              tt,
+            ),
+          ),
+          (omega arith, omega arith),
+        ),
+        tt,
+      );
+      labels = (tt, (tt, tt));
+      parameters = tt;
+      apart = tt;
+      result = tt;
+    }
+
+function_sound : T.SoundProcedure table function_left function
+function_sound =
+    record {
+      head = head Y.ProcedureBlock 2 1;
+      body = function_body;
+      is = refl;
+      kind = refl;
+      line = omega arith;
+      outer = main_around ∷ [];
+      held = (refl, refl);
+      listed = refl;
+      statements = (
+        (
+          (refl, (record { line = omega arith; level = refl }, tt)),
+          (((inr (inl (refl, refl)), omega arith), tt), omega arith),
+        ),
+        tt,
+      );
+      labels = ((refl, tt), ((tt, (tt, tt)), tt));
+      parameters = tt;
+      apart = tt;
+      result = tt;
+    }
+
+well_formed : T.IsWellFormed function_left
+well_formed =
+    record {
+      table = table;
+      main = (refl, (refl, (omega arith, tt)));
+      numbers = record { once = once; none = none; not_outermost = refl };
+      entries = entries;
+      nested = nested;
+      procedures = (main_sound, (function_sound, tt));
+      lists = refl;
+      outermost = refl;
+      variables = variables;
+    }
+
+plain : IsPlain AnyGoto function_left
+plain =
+    record {
+      procedures = ((((tt, tt), tt), tt), (((tt, tt), tt), tt));
+      variables = (tt, (tt, (tt, tt)));
+    }
+
+pub jump_lost : JumpLost
+jump_lost = record { well_formed = well_formed; plain = plain; lost = lost }

@@ -1,8 +1,8 @@
 -- A plain well-formed program has what the walk over its runs asks for, and so its meaning is there.
-use Rattle.std.proofs.Common.{◌≡◌, ℕ, zero, suc, ◌≤◌, List, [], ◌∷◌, Option, Some, None, refl, ap, sym}
+use Rattle.std.proofs.Common.{◌≡◌, ℕ, zero, suc, ◌≤◌, List, [], ◌∷◌, Option, Some, None, refl, ap, sym, ◌∙◌}
 use Rattle.std.proofs.Common.{subst}
 use Rattle.std.proofs.Common.{arith}
-use Rattle.std.specs.Prelude.{◌++◌, Bool, true, false, cond, is_some, length, slice_get, unwrap_or}
+use Rattle.std.specs.Prelude.{◌++◌, ◌&&◌, Bool, true, false, cond, is_some, length, slice_get, unwrap_or}
 use Rattle.pli_meaning.specs.declared.outcome.End.TheVariants as E
 use Rattle.pli_typing.specs.Resolving.{typed_tree}
 use Rattle.pli_typing.specs.TypedTree as Y
@@ -27,19 +27,21 @@ use Rattle.meaning_runs.proofs.Blocks.{at_start, run_there}
 
 -- ---- procedures
 
--- the labels of a function's own list are known as such
+-- the labels of the own list of a function that establishes on-units are known as such
 known_each : (all : List Label) (ps : List Y.Procedure) → AreAmong (P.function_labels ps) all
-    → Every (λ q. is_some q.result ≡ true → AreAmong (P.own_labels q.block) all) ps
+    → Every (λ q. is_some q.result ≡ true → P.establishes_in q.block ≡ true → AreAmong (P.own_labels q.block) all) ps
 known_each all [] h = tt
 known_each all (q ∷ qs) h = (
-  λ e label x. h label (first (is_some q.result) e label x),
-  known_each all qs (λ label x. h label (others (is_some q.result) label x)),
+  λ e d label x. h label (first (is_some q.result) (P.establishes_in q.block) e d label x),
+  known_each all qs (λ label x. h label (others (is_some q.result && P.establishes_in q.block) label x)),
 )
   where
-    first : (t : Bool) → t ≡ true
-        → AreAmong (P.own_labels q.block) (cond t (P.own_labels q.block ++ P.function_labels qs) (P.function_labels qs))
-    first true e label x = among_first label (P.own_labels q.block) (P.function_labels qs) x
-    first false e label x = absurd (cc e)
+    first : (t u : Bool) → t ≡ true → u ≡ true
+        → AreAmong (P.own_labels q.block)
+        (cond (t && u) (P.own_labels q.block ++ P.function_labels qs) (P.function_labels qs))
+    first true true e d label x = among_first label (P.own_labels q.block) (P.function_labels qs) x
+    first true false e d label x = absurd (cc d)
+    first false u e d label x = absurd (cc e)
 
     others : (t : Bool)
         → AreAmong (P.function_labels qs) (cond t (P.own_labels q.block ++ P.function_labels qs) (P.function_labels qs))
@@ -48,7 +50,8 @@ known_each all (q ∷ qs) h = (
 
 procedure_is_fine : (p : Y.Program) (g : Setting) (q : Y.Procedure) → SoundProcedure g.table p q
     → P.PlainBlock (P.outermost g.gotos p) q.block
-    → (is_some q.result ≡ true → AreAmong (P.own_labels q.block) (P.function_labels p.procedures))
+    → (is_some q.result ≡ true → P.establishes_in q.block ≡ true
+    → AreAmong (P.own_labels q.block) (P.function_labels p.procedures))
     → FineProcedure p g q
 procedure_is_fine p g q s h known =
     record {
@@ -66,8 +69,9 @@ procedure_is_fine p g q s h known =
       held = s.held;
       listed = s.listed;
       known =
-          λ e label x.
-          subst (λ b. AreAmong (P.own_labels b) (P.function_labels p.procedures)) s.is (known e) label
+          λ e d label x.
+          subst (λ b. AreAmong (P.own_labels b) (P.function_labels p.procedures)) s.is
+          (known e (ap P.establishes_in s.is ∙ d)) label
           (subst (λ ls. is_among label ls ≡ true) (labels_same s.body) x);
     }
 

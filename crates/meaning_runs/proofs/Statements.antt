@@ -1,7 +1,7 @@
 -- The statements of a plain well-formed program are there; they enter other blocks only behind an act.
 use Rattle.std.proofs.Common.{◌≡◌, ℕ, suc, ◌<◌, ◌≤◌, ℤ, List, [], ◌∷◌, ◌++◌, Option, Some, None, Bool, true, false}
 use Rattle.std.proofs.Common.{refl, ap, sym, ◌∙◌, subst, arith, inl, inr}
-use Rattle.std.specs.Prelude.{◌==◌, ◌+◌, ◌⊎◌, cond, length, slice_get}
+use Rattle.std.specs.Prelude.{◌==◌, ◌||◌, ◌+◌, ◌⊎◌, cond, length, slice_get}
 use Rattle.pli_language.specs.declared.condition.Condition.{Condition}
 use Rattle.pli_language.specs.declared.condition.Condition.TheVariants as C
 use Rattle.pli_meaning.specs.declared.outcome.End.TheVariants as E
@@ -181,12 +181,15 @@ pub record Foot (p : Y.Program) (g : Setting) (frame : Frame) (further : List Fr
   pub outer : List W.Around
   pub level_is : frame.level ≡ own.level
   pub has : AreAmong (W.labels_of own) frame.labels
-  pub lasting : Has p frame.lasting own.outermost
   pub below : Stands p further frame.parent outer
   pub chain : Chain g.table (own ∷ outer)
 
 abbrev pub FootAt : Level → Type 0
 FootAt l = Foot l.program l.setting l.frame l.further
+
+-- where a unit is established the labels last that it may name
+abbrev pub Lasts : (l : Level) → FootAt l → (establishes : Bool) → Type 0
+Lasts l t establishes = establishes ≡ true → Has l.program l.frame.lasting t.own.outermost
 
 abbrev pub bearing_at : Level → Bearing
 bearing_at l = record { answers = Some l.returning; frames = l.frame ∷ l.further }
@@ -285,7 +288,6 @@ in_group p g f fs body t =
       outer = t.outer;
       level_is = t.level_is;
       has = group_has t.own body f.labels t.has;
-      lasting = t.lasting;
       below = t.below;
       chain = t.chain;
     }
@@ -414,10 +416,11 @@ unit_enters l t head body Y.ProcedureBlock h deep i = absurd h
 unit_enters l t head body Y.BeginBlock h deep i = absurd h
 
 unit_sound : (l : Level) (t : FootAt l) (c : Condition) (head : Y.BlockHead) (body : Y.Stmts) (line : ℕ)
+    → Has l.program l.frame.lasting t.own.outermost
     → T.SoundStmt (place_at l t) (Y.OnUnit c (Y.BlockOf head body) line)
     → P.PlainStmts (P.in_block (standing_at l) head) body
     → SoundUnit l.program l.setting (closed l.frame ∷ l.further) (suc (length l.further)) (Y.BlockOf head body)
-unit_sound l t c head body line h p =
+unit_sound l t c head body line z h p =
     record {
       block = record {
         head = head;
@@ -433,7 +436,7 @@ unit_sound l t c head body line h p =
         unit_enters l t head body head.kind h.0.0 h.0.1.0.level h.0.1.1,
         (omega (arith, h.0.1.0.level), t.chain),
       );
-      stands = inl (refl, (t.level_is, (t.lasting, t.below)));
+      stands = inl (refl, (t.level_is, (z, t.below)));
     }
 
 answered_some : (r : Returning) (v : BasicValue) → Answered r (Some v)
@@ -487,54 +490,64 @@ goto_there l t P.CaughtGotos s level label e h (inr m) =
 
 -- ---- statements
 
+or_first : (t u : Bool) → t ≡ true → (t || u) ≡ true
+or_first t u e = ap (λ x. x || u) e
+
+or_second : (t u : Bool) → u ≡ true → (t || u) ≡ true
+or_second true u e = refl
+or_second false u e = e
+
 mutual
   unfolding M.statement M.statements
 
-  statement_there : (x : Y.Stmt) (l : Level) (t : FootAt l) → T.SoundStmt (place_at l t) x
+  statement_there : (x : Y.Stmt) (l : Level) (t : FootAt l) → Lasts l t (P.establishes x)
+      → T.SoundStmt (place_at l t) x
       → P.PlainStmt (standing_at l) x
       → There (demand_at l) 1 1 l.left Anything (M.statement (around_at l) x)
-  statement_there (Y.Null line) l t h p = act_made counted (λ v. refl)
-  statement_there (Y.Assign target source line) l t h p =
+  statement_there (Y.Null line) l t z h p = act_made counted (λ v. refl)
+  statement_there (Y.Assign target source line) l t z h p =
       act_then counted (λ v. refl) (λ c e. loose (let w = on_line line (within l t c e) in
       bind_there (stored_value_there source w h.1.1.0 p.1) (λ v k. assigned_there target v w h.1.0 p.0)))
-  statement_there (Y.AssignElements target source line) l t h p =
+  statement_there (Y.AssignElements target source line) l t z h p =
       act_then counted (λ v. refl) (λ c e. loose (let w = on_line line (within l t c e) in
       bind_there (stored_value_there source w h.1.1.0 p.1) (λ v k. elements_assigned_there target v w h.1.0 p.0)))
-  statement_there (Y.AssignAggregate target source line) l t h p =
+  statement_there (Y.AssignAggregate target source line) l t z h p =
       act_then counted (λ v. refl) (λ c e. loose (aggregate_assigned_there target source
       (on_line line (within l t c e)) h.1.0 h.1.1.0 p.0 p.1))
-  statement_there (Y.AssignArea target source line) l t h p =
+  statement_there (Y.AssignArea target source line) l t z h p =
       act_then counted (λ v. refl) (λ c e. loose (area_assigned_there target source (on_line line (within l t c e))))
-  statement_there (Y.EmptyArea target line) l t h p =
+  statement_there (Y.EmptyArea target line) l t z h p =
       act_then counted (λ v. refl) (λ c e. loose (area_emptied_there target (on_line line (within l t c e))))
-  statement_there (Y.If condition unit line) l t h p =
+  statement_there (Y.If condition unit line) l t z h p =
       act_then counted (λ v. refl) (λ c e. loose (bind_there
       (bit_there condition (on_line line (within l t c e)) h.0 p.0)
-      (λ met k. choose_there met (slow (statement_there unit (below l c e) t h.1.0 p.1)) (give_there tt tt))))
-  statement_there (Y.IfElse condition unit otherwise line) l t h p =
+      (λ met k. choose_there met (slow (statement_there unit (below l c e) t z h.1.0 p.1)) (give_there tt tt))))
+  statement_there (Y.IfElse condition unit otherwise line) l t z h p =
       act_then counted (λ v. refl) (λ c e. loose (bind_there
       (bit_there condition (on_line line (within l t c e)) h.0 p.0)
-      (λ met k. choose_there met (slow (statement_there unit (below l c e) t h.1.0 p.1.0))
-      (slow (statement_there otherwise (below l c e) t h.1.1.0 p.1.1)))))
-  statement_there (Y.Do body line) l t h p =
+      (λ met k. choose_there met (slow (statement_there unit (below l c e) t
+      (λ a. z (or_first (P.establishes unit) (P.establishes otherwise) a)) h.1.0 p.1.0))
+      (slow (statement_there otherwise (below l c e) t
+      (λ a. z (or_second (P.establishes unit) (P.establishes otherwise) a)) h.1.1.0 p.1.1)))))
+  statement_there (Y.Do body line) l t z h p =
       act_then counted (λ v. refl) (λ c e. loose (let u = below l c e in
       list_with_there _ u (λ x d r. statements_there body x (listed body (lower u d r))
-      (group body (lower u d r) t) h.0 p)))
-  statement_there (Y.DoWhile condition body line) l t h p =
+      (group body (lower u d r) t) z h.0 p)))
+  statement_there (Y.DoWhile condition body line) l t z h p =
       act_then counted (λ v. refl) (λ c e. loose (let u = below l c e in
       while_there u.turns c u.few
       (λ d r. met_after_act_there condition (on_line line (smaller (within l t c e) d r)) h.0 p.0)
       (λ d r. list_with_there _ (lower u d r)
       (λ x f q. statements_there body x (listed body (lower (lower u d r) f q))
-      (group body (lower (lower u d r) f q) t) h.1.0 p.1))))
-  statement_there (Y.DoOnce variable start condition body line) l t h p =
+      (group body (lower (lower u d r) f q) t) z h.1.0 p.1))))
+  statement_there (Y.DoOnce variable start condition body line) l t z h p =
       act_then counted (λ v. refl) (λ c e. loose (let u = below l c e in let w = on_line line (within l t c e) in
       bind_there (stored_value_there start w h.0.1.1 p.0.1)
       (λ v k. then_there (assigned_there variable v w h.0.1.0 p.0.0)
       (once_there condition w h.1.0 p.1.0
       (list_with_there _ u (λ x d r. statements_there body x (listed body (lower u d r))
-      (group body (lower u d r) t) h.1.1.0 p.1.1))))))
-  statement_there (Y.DoCount counter start limit step condition body line) l t h p =
+      (group body (lower u d r) t) z h.1.1.0 p.1.1))))))
+  statement_there (Y.DoCount counter start limit step condition body line) l t z h p =
       act_then counted (λ v. refl) (λ c e. loose (let u = below l c e in let w = on_line line (within l t c e) in
       let counting : SoundCounting P.AnyCall (place_at l t) counter = record { sound = h.0.0; plain = p.0.0 } in
       bind_there (computational_there start w h.0.1.0 p.0.1.0) (λ v k.
@@ -545,49 +558,51 @@ mutual
       (λ d r. turn_due_there counter most by condition (smaller w d r) counting h.1.0 p.1.0)
       (λ d r. then_there (list_with_there _ (lower u d r)
       (λ x f q. statements_there body x (listed body (lower (lower u d r) f q))
-      (group body (lower (lower u d r) f q) t) h.1.1.0 p.1.1))
+      (group body (lower (lower u d r) f q) t) z h.1.1.0 p.1.1))
       (stepped_there counter by (smaller w d r) counting)))))))))
-  statement_there (Y.Begin (Y.BlockOf head body)) l t h p =
+  statement_there (Y.Begin (Y.BlockOf head body)) l t z h p =
       act_then counted (λ v. refl) (λ c e. loose (bind_there looked_there
       (λ s k. then_there ((within l t c e).keeps (bearing_at l) _ (begun_sound l t head body s k.1 h p))
       (give_there tt tt))))
-  statement_there (Y.OnSystem c line) l t h p =
+  statement_there (Y.OnSystem c line) l t z h p =
       established_by_there c (established c SystemUnit)
       (λ s k. established_kept (demand_at l) c SystemUnit s tt k)
-  statement_there (Y.OnUnit c (Y.BlockOf head body) line) l t h p =
+  statement_there (Y.OnUnit c (Y.BlockOf head body) line) l t z h p =
       established_by_there c (established c (BlockUnit (Y.BlockOf head body)))
       (λ s k. established_kept (demand_at l) c (BlockUnit (Y.BlockOf head body)) s
-      (unit_sound l t c head body line h p) k)
-  statement_there (Y.CallProcedure call line) l t h p =
+      (unit_sound l t c head body line (z refl) h p) k)
+  statement_there (Y.CallProcedure call line) l t z h p =
       act_then counted (λ v. refl) (λ c e. loose (then_there (called_there call (on_line line (within l t c e)) h.1.0 p)
       (give_there tt tt)))
-  statement_there (Y.Return line) l t h p =
+  statement_there (Y.Return line) l t z h p =
       act_then counted (λ v. refl) (λ c e. returns_there None (subst (λ r. Answered r None) (sym h.0) tt))
-  statement_there (Y.ReturnValue type source line) l t h p =
+  statement_there (Y.ReturnValue type source line) l t z h p =
       act_then counted (λ v. refl) (λ c e. loose (bind_there
       (stored_value_there source (on_line line (within l t c e)) h.1.1.0 p)
       (λ v k. returns_there _ (answered_some l.returning _))))
-  statement_there (Y.Goto level label line) l t h p =
+  statement_there (Y.Goto level label line) l t z h p =
       act_then counted (λ v. refl) (λ c e. bind_there looked_there (λ s k. jumps_there _ label
       (goto_there l t l.setting.gotos s level label k.1 h.0 p)))
-  statement_there (Y.Stop line) l t h p = act_then counted (λ v. refl) (λ c e. finish_there E.Stopped tt)
-  statement_there (Y.Signal condition line) l t h p =
+  statement_there (Y.Stop line) l t z h p = act_then counted (λ v. refl) (λ c e. finish_there E.Stopped tt)
+  statement_there (Y.Signal condition line) l t z h p =
       act_then counted (λ v. refl) (λ c e. loose (signalled_there condition (on_line line (within l t c e))))
-  statement_there (Y.Revert c line) l t h p =
+  statement_there (Y.Revert c line) l t z h p =
       established_by_there c (reverted c) (λ s k. reverted_kept (demand_at l) c s k)
-  statement_there (Y.Allocate all line) l t h p =
+  statement_there (Y.Allocate all line) l t z h p =
       act_then counted (λ v. refl) (λ c e. loose (allocations_there all (on_line line (within l t c e)) h.0 p))
-  statement_there (Y.Free all line) l t h p =
+  statement_there (Y.Free all line) l t z h p =
       act_then counted (λ v. refl) (λ c e. loose (freeings_there all (on_line line (within l t c e)) h.0 p))
-  statement_there (Y.Get skip pairs line) l t h p =
+  statement_there (Y.Get skip pairs line) l t z h p =
       act_then counted (λ v. refl) (λ c e. loose (get_there skip pairs (on_line line (within l t c e)) h.1.0 p))
-  statement_there (Y.Put skip pairs line) l t h p =
+  statement_there (Y.Put skip pairs line) l t z h p =
       act_then counted (λ v. refl) (λ c e. loose (put_there skip pairs (on_line line (within l t c e)) h.1.0 p))
 
   pub statements_there : (xs : Y.Stmts) (from : Option Label) (l : Level) (t : FootAt l)
-      → T.SoundStmts (place_at l t) xs
+      → Lasts l t (P.any_establishes xs) → T.SoundStmts (place_at l t) xs
       → P.PlainStmts (standing_at l) xs → There (demand_at l) 0 1 l.left Anything (M.statements (around_at l) xs from)
-  statements_there (Y.EndOfList labels) from l t h p = give_there tt tt
-  statements_there (Y.StmtThen labels first rest) from l t h p =
-      choose_there _ (then_there (slow (statement_there first l t h.0 p.0)) (statements_there rest None l t h.1 p.1))
-      (statements_there rest from l t h.1 p.1)
+  statements_there (Y.EndOfList labels) from l t z h p = give_there tt tt
+  statements_there (Y.StmtThen labels first rest) from l t z h p =
+      choose_there _ (then_there (slow (statement_there first l t
+      (λ a. z (or_first (P.establishes first) (P.any_establishes rest) a)) h.0 p.0)) (statements_there rest None l t
+      (λ a. z (or_second (P.establishes first) (P.any_establishes rest) a)) h.1 p.1))
+      (statements_there rest from l t (λ a. z (or_second (P.establishes first) (P.any_establishes rest) a)) h.1 p.1)

@@ -23,7 +23,7 @@ use Rattle.well_formed_trees.specs.WellFormed.{IsHeld}
 use Rattle.well_formed_trees.specs.Surroundings.{Where, Returning, Returns, NoReturn}
 use Rattle.well_formed_trees.specs.Surroundings as W
 use Rattle.well_formed_trees.specs.Expressions.{SoundNumber}
-use Rattle.meaning_runs.specs.Plain.{Calls, AnyCall, NoCall, PlainVariable, function_labels}
+use Rattle.meaning_runs.specs.Plain.{Calls, AnyCall, NoCall, PlainVariable, function_labels, any_establishes}
 use Rattle.meaning_runs.proofs.Frames.{Frame, skeleton, Stands, Chain, IsOpen}
 use Rattle.meaning_runs.proofs.Demands.{Setting, Bearing, block_around, placed, SoundBlock, SoundUnit, HasUnits}
 use Rattle.meaning_runs.proofs.Demands.{Demand, Kept}
@@ -39,10 +39,10 @@ pub record Declares (p : Y.Program) (g : Setting) (d : Y.DeclaredVariable) : Typ
   pub sound : Every (λ x. SoundNumber (placed p g.table blocks NoReturn) x.value) d.evaluations
   pub plain : PlainVariable NoCall d
 
--- the labels of a function's own list are known as such
-abbrev pub IsKnown : Y.Program → (is_function : Bool) → List Label → Type 0
-IsKnown p is_function labels =
-    is_function ≡ true → (label : Label) → is_among label labels ≡ true
+-- the labels of the own list of a function that establishes on-units are known as such
+abbrev pub IsKnown : Y.Program → (is_function : Bool) → Y.Stmts → Type 0
+IsKnown p is_function body =
+    is_function ≡ true → any_establishes body ≡ true → (label : Label) → is_among label (T.labels_in body) ≡ true
     → is_among label (function_labels p.procedures) ≡ true
 
 pub record FineProcedure (p : Y.Program) (g : Setting) (q : Y.Procedure) : Type 0 where
@@ -52,7 +52,7 @@ pub record FineProcedure (p : Y.Program) (g : Setting) (q : Y.Procedure) : Type 
   pub held : IsHeld g.table block.head.level block.outer
   pub listed :
       slice_get g.table block.head.number ≡ Some (block_around block.head block.body ∷ block.outer)
-  pub known : IsKnown p (is_some q.result) (T.labels_in block.body)
+  pub known : IsKnown p (is_some q.result) block.body
 
 pub record Whole (p : Y.Program) (g : Setting) : Type 0 where
   pub declares : (block : ℕ) → Every (Declares p g) (D.variables_of_block p block)
@@ -71,7 +71,7 @@ pub record SoundEntry (p : Y.Program) (g : Setting) (outer : Bearing) (e : Entry
   pub chain : Chain g.table (block_around block.head block.body ∷ block.outer)
   pub stands : Stands p outer.frames e.parent block.outer
   pub opens : Every IsOpen outer.frames
-  pub known : IsKnown p e.is_function (T.labels_in block.body)
+  pub known : IsKnown p e.is_function block.body
   pub passes :
       Passes (is_own_return block.head.kind) (Expected e.is_function) (Some block.returning) outer.answers
   pub counts : length e.arguments ≡ length e.parameters

@@ -1,7 +1,8 @@
 -- Plain programs: without LBOUND, HBOUND and DIM, and with no aggregate in GET and PUT. What these come to stands on
 -- the signatures of generations, of which nothing is said here. And those in which no GOTO of another block names a
--- label of a function's own list.
-use Rattle.std.specs.Prelude.{◌≡◌, ℕ, false, List, [], ◌∷◌, ◌++◌, Option, Some, None, is_some, cond, ⊤, ◌⊎◌}
+-- label of the own list of a function that establishes on-units.
+use Rattle.std.specs.Prelude.{◌≡◌, ◌||◌, ◌&&◌, ℕ, Bool, true, false, List, [], ◌∷◌, ◌++◌, Option, Some, None}
+use Rattle.std.specs.Prelude.{is_some, cond, ⊤, ◌⊎◌}
 use Rattle.pli_meaning.specs.Control.{Label, is_among}
 use Rattle.pli_meaning.specs.Executing.{labels_in}
 use Rattle.well_formed_trees.specs.Every.{Every}
@@ -156,21 +157,43 @@ PlainPutPair k p = Every (PlainPutItem k) p.items
 
 -- ---- GOTO
 
--- The end of a function raises ERROR once its own list is left, so a unit may run then whose GOTO names a label there,
--- and no list has it any more. So these are the labels of functions' own lists.
+-- The end of a function raises ERROR once its own list is left, so a unit that the function established may run then,
+-- whose GOTO names a label there, and no list has it any more. So these are the labels of the own lists of functions
+-- that establish on-units.
+
+-- whether a statement establishes a unit for its own block
+abbrev mutual
+  pub establishes : Y.Stmt → Bool
+  establishes (Y.If condition unit line) = establishes unit
+  establishes (Y.IfElse condition unit otherwise line) = establishes unit || establishes otherwise
+  establishes (Y.Do body line) = any_establishes body
+  establishes (Y.DoWhile condition body line) = any_establishes body
+  establishes (Y.DoOnce target start condition body line) = any_establishes body
+  establishes (Y.DoCount counter start limit step condition body line) = any_establishes body
+  establishes (Y.OnUnit condition block line) = true
+  establishes _ = false
+
+  pub any_establishes : Y.Stmts → Bool
+  any_establishes (Y.EndOfList labels) = false
+  any_establishes (Y.StmtThen labels first rest) = establishes first || any_establishes rest
+
+abbrev pub establishes_in : Y.Block → Bool
+establishes_in (Y.BlockOf head body) = any_establishes body
 
 abbrev pub own_labels : Y.Block → List Label
 own_labels (Y.BlockOf head body) = labels_in body
 
 abbrev pub function_labels : List Y.Procedure → List Label
 function_labels [] = []
-function_labels (p ∷ ps) = cond (is_some p.result) (own_labels p.block ++ function_labels ps) (function_labels ps)
+function_labels (p ∷ ps) =
+    cond (is_some p.result && establishes_in p.block) (own_labels p.block ++ function_labels ps)
+    (function_labels ps)
 
 -- any GOTO, or those alone that find their list carried out
 pub data Gotos : Type 0 where
   AnyGoto CaughtGotos : Gotos
 
--- where a statement stands: which GOTO may be there, the labels of functions' own lists, and the level of its block
+-- where a statement stands: which GOTO may be there, those labels of functions, and the level of its block
 pub record Standing : Type 0 where
   pub gotos : Gotos
   pub functions : List Label
@@ -180,7 +203,7 @@ pub record Standing : Type 0 where
 abbrev pub in_block : Standing → Y.BlockHead → Standing
 in_block g head = record { gotos = g.gotos; functions = g.functions; level = head.level }
 
--- in its own block; or to a label that is none of a function's own list
+-- in its own block; or to a label that is none of those
 abbrev pub MayGo : Gotos → (functions : List Label) → (own level : ℕ) → Label → Type 0
 MayGo AnyGoto functions own level label = ⊤
 MayGo CaughtGotos functions own level label = (level ≡ own) ⊎ (is_among label functions ≡ false)

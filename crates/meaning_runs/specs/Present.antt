@@ -49,7 +49,8 @@ pub record IsMeant (program : Y.Program) (input : List ℕ) (k : ℕ) : Type 0 w
   pub few : world.acts ≤ k
   pub going_on : world.end ≡ E.Running → world.acts ≡ k
 
--- where no GOTO of another block names a label of a function's own list the meaning is there at every number of acts
+-- where no GOTO of another block names a label of the own list of a function that establishes on-units, the meaning is
+-- there at every number of acts
 abbrev pub MeaningThere : Type 0
 MeaningThere = (program : Y.Program) (input : List ℕ) (k : ℕ) → IsWellFormed program → IsPlain CaughtGotos program
     → IsMeant program input k
