@@ -40,7 +40,7 @@ use Rattle.extent_runs.proofs.MakingProcedures.{unpaid_runs}
 -- behind the call its block goes on
 behind_goes :
     {k : Block} {c : Callee} {acts level line index more wanted credits : ℕ} {numbers : ℕ → ℕ} {p : Point} {f : Family}
-    {r : Option BasicValue} {s : State} {v : _} (h : IsNestedCall k c level line index more) (o : IsAmong k numbers p) →
+    {r : Option BasicValue} {s : State} {v : _} (h : IsNestedCall 0 k c level line index more) (o : IsAmong k numbers p) →
     acts ≤ p.state.world.acts →
     IsBehind (called_at k.call.surroundings k.call.code c p numbers) wanted credits f v r s →
     GoesOn k acts (index + size_in k (call_at c level line)) wanted credits f v s
@@ -72,12 +72,12 @@ EachGoes k c p numbers =
 
 call_goes :
     (k : Block) (c : Callee) (labels : List Label) (acts level line index left' more : ℕ)
-    (h : IsNestedCall k c level line index more) (p : Point) (numbers : ℕ → ℕ) (wanted : ℕ) (f : Family)
+    (h : IsNestedCall 0 k c level line index more) (p : Point) (numbers : ℕ → ℕ) (wanted : ℕ) (f : Family)
     (o : IsAmong k numbers p) → nat_lt (length k.first.state.activations) most_activations ≡ true → IsBegun k →
     acts ≤ p.state.world.acts →
     MakesUnpaid (site_at k.call.surroundings k.call.code c p numbers) left_over (made_at c) × EachGoes k c p numbers →
-    Linked k.call.surroundings.links k.call.code (index + size_of (act_code line)) (given_in k level ++ call_of c) →
-    size_in k (call_at c level line) ≡ size_of (act_code line) + size_of (given_in k level ++ call_of c) →
+    Linked k.call.surroundings.links k.call.code (index + size_of (act_code line)) (given_in 0 k level ++ call_of c) →
+    size_in k (call_at c level line) ≡ size_of (act_code line) + size_of (given_in 0 k level ++ call_of c) →
     AreIn k.call.surroundings p numbers (index + size_of (act_code line)) f →
     Comes k.call.code 0 f (services_of p)
     (before k.call.code (statement_aims k labels acts (index + size_in k (call_at c level line)) wanted left')
@@ -87,7 +87,7 @@ call_goes :
 unfolding give
 call_goes k c labels acts level line index left' more h p numbers wanted f o few b since goes l size there =
     let w = k.call.surroundings in
-    let given' = given_in k level in
+    let given' = given_in 0 k level in
     let call = call_of c in
     let n = size_append given' call in
     let inside = l.inside in
@@ -123,7 +123,7 @@ call_goes k c labels acts level line index left' more h p numbers wanted f o few
     (λ b. (at b).1)))
 
 pub unpaid_call_does :
-    (k : Block) (c : Callee) (level line index left' more : ℕ) → IsNestedCall k c level line index more →
+    (k : Block) (c : Callee) (level line index left' more : ℕ) → IsNestedCall 0 k c level line index more →
     nat_lt (length k.first.state.activations) most_activations ≡ true →
     ((p : Point) (numbers : ℕ → ℕ) → IsAmong k numbers p →
     MakesUnpaid (site_at k.call.surroundings k.call.code c p numbers) left_over (made_at c)) →
@@ -136,9 +136,9 @@ unpaid_call_does k c level line index left' more h few makes each b labels p num
     let w = k.call.surroundings in
     let p' = acted line p in
     let one = act_code line in
-    let given' = given_in k level in
+    let given' = given_in 0 k level in
     let call = call_of c in
-    let eq = call_coded k c level line in
+    let eq = call_coded 0 k c level line in
     let l = subst (Linked w.links k.call.code index) eq h.statement in
     let n0 = size_append one (given' ++ call) in
     let size = ap (λ u. size_of u) eq in

@@ -9,11 +9,11 @@ use Rattle.nested_calls.specs.NestedCalls.{IsNestedCall, call_at}
 use Rattle.extent_runs.specs.Making.{block_from, made_at, site_at}
 use Rattle.extent_runs.specs.Unpaid.{MakesUnpaid}
 
--- it does what it means if the making of the procedure's variables does, wherever it is called, and then each of its
--- statements, from whatever point they go on
+-- it does what it means, with no words set aside around it, if the making of the procedure's variables does, wherever
+-- it is called, and then each of its statements, from whatever point they go on
 abbrev pub UnpaidCallsDo : Type 0
 UnpaidCallsDo =
-    (k : Block) (c : Callee) (level line index left' more : ℕ) → IsNestedCall k c level line index more →
+    (k : Block) (c : Callee) (level line index left' more : ℕ) → IsNestedCall 0 k c level line index more →
     nat_lt (length k.first.state.activations) most_activations ≡ true →
     ((p : Point) (numbers : ℕ → ℕ) → IsAmong k numbers p →
     MakesUnpaid (site_at k.call.surroundings k.call.code c p numbers) left_over (made_at c)) →
