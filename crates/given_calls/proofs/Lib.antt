@@ -1,0 +1,3 @@
+pub mod GivenBlocks
+pub mod GivenCode
+pub mod GivenCalls
