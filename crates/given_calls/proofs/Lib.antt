@@ -1,3 +1,4 @@
 pub mod GivenBlocks
 pub mod GivenCode
 pub mod GivenCalls
+pub mod GivenFunctions
