@@ -40,7 +40,7 @@ ancestor_above a as' n other =
     ∙ ap (λ q. cond q (Some a) (ancestor as' a.parent n)) other
 
 -- its own level has itself
-ancestor_itself :
+pub ancestor_itself :
     (a : Activation) (as' : List Activation) (n : ℕ) → a.level ≡ n → ancestor (a ∷ as') a.height n ≡ Some a
 ancestor_itself a as' n e =
     ap (λ q. cond q (cond (a.level == n) (Some a) (ancestor as' a.parent n)) (ancestor as' a.height n))
@@ -56,18 +56,22 @@ ancestor_under a as' height n other =
 
 -- ---- a block over one from which it is called, declared by an ancestor of that
 
-record Over (k inner : Block) (level : ℕ) (p : Point) : Type 0 where
-  activation : Activation
-  layer : Layer
-  active : inner.first.state.activations ≡ activation ∷ p.state.activations
-  layers : inner.first.control.layers ≡ layer ∷ p.control.layers
-  height : activation.height ≡ suc (length p.state.activations)
-  inside : activation.level ≡ suc level
-  parent : activation.parent ≡ parent_at k level
-  remains : Remains p inner.first
-  code : inner.environment.level ≡ suc level
-  layer_level : inner.call.beginning.layer.level ≡ suc level
-  few : suc level < most_levels
+-- below its own layer stand the frames that stood there
+pub record Over (k inner : Block) (level : ℕ) (p : Point) : Type 0 where
+  pub activation : Activation
+  pub layer : Layer
+  pub below : List Layer
+  pub active : inner.first.state.activations ≡ activation ∷ p.state.activations
+  pub layers : inner.first.control.layers ≡ layer ∷ below
+  pub frames : (n : ℕ) → frame_at below n ≡ frame_at p.control.layers n
+  pub many : length below ≡ length p.control.layers
+  pub height : activation.height ≡ suc (length p.state.activations)
+  pub inside : activation.level ≡ suc level
+  pub parent : activation.parent ≡ parent_at k level
+  pub remains : Remains p inner.first
+  pub code : inner.environment.level ≡ suc level
+  pub layer_level : inner.call.beginning.layer.level ≡ suc level
+  pub few : suc level < most_levels
 
 same_ancestor :
     {k inner : Block} {level : ℕ} {numbers : ℕ → ℕ} {p : Point} (n : ℕ) → Over k inner level p → IsNested k →
@@ -88,7 +92,7 @@ own_one {p = p} n i e =
     ap (λ xs. ancestor xs (newest_height xs) n) i.active
     ∙ ancestor_itself i.activation p.state.activations n (i.inside ∙ sym e)
 
-over_nested :
+pub over_nested :
     {k inner : Block} {level : ℕ} {numbers : ℕ → ℕ} {p : Point} → Over k inner level p → IsNested k →
     IsAmong k numbers p → level ≤ k.environment.level → IsNested inner
 over_nested {k} {inner} {level} {p = p} i nest o within =
@@ -171,7 +175,7 @@ below_frame {k} {p = p} level base nest b o (inl own) =
     )
 below_frame level base nest b o (inr outer) = (outer.2, outer.4)
 
-over_number :
+pub over_number :
     {k inner : Block} {level : ℕ} {numbers : ℕ → ℕ} {p : Point} (x : Spot) → Over k inner level p → IsNested k →
     IsBegun k → IsAmong k numbers p → level ≤ k.environment.level → x.level ≤ level →
     inner.environment.program ≡ k.environment.program → inner.environment.parts ≡ k.environment.parts → IsNumber k x →
@@ -240,7 +244,8 @@ over_number {k} {inner} {level} {p = p} x i nest b o within less program parts i
     frame =
         below.1
         ∙ ap (λ ls. frame_at ls (parent_at k x.level)) (sym o.later.layers)
-        ∙ sym (frame_below i.layer φs (parent_at k x.level) (omega (arith, high)))
+        ∙ sym (i.frames (parent_at k x.level))
+        ∙ sym (frame_below i.layer i.below (parent_at k x.level) (let many = i.many in omega (arith, high, many)))
         ∙ ap (λ ls. frame_at ls (parent_at k x.level)) (sym i.layers)
         ∙ ap (λ a. frame_at inner.first.control.layers (height_of a)) (sym same)
 
@@ -262,8 +267,11 @@ procedure_over k c level h p numbers o made b =
     record {
       activation = a;
       layer = φ;
+      below = p.control.layers;
       active = made.activations;
       layers = made.layers;
+      frames = λ n. refl;
+      many = refl;
       height = active.0.height;
       inside = active.0.level ∙ h.inner;
       parent = made.parent ∙ h.parent;
@@ -289,8 +297,11 @@ function_over k c level h p numbers o made b =
     record {
       activation = a;
       layer = φ;
+      below = p.control.layers;
       active = made.activations;
       layers = made.layers;
+      frames = λ n. refl;
+      many = refl;
       height = active.0.height;
       inside = active.0.level ∙ h.inner;
       parent = made.parent ∙ h.parent;
