@@ -52,8 +52,7 @@ use Rattle.argument_runs.proofs.Copies.{copies_come}
 use Rattle.argument_runs.proofs.CopyBlocks.{Here, behind_list, copied_known, entered_known, is_copy, is_giving, run_means}
 use Rattle.argument_runs.proofs.CopyPoints.{copied_means}
 use Rattle.argument_runs.proofs.ListCalls.{list_calls_return}
-use Rattle.given_calls.specs.Given.{AreBeside, IsGiven, act_index, body_index, given_block, given_code, procedure_tail}
-use Rattle.given_calls.specs.Given.{variables_index}
+use Rattle.given_calls.specs.Given.{AreBeside, IsGiven, body_index, given_block, given_code, procedure_tail}
 
 -- ---- where its variables have been made
 

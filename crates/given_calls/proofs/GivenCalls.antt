@@ -32,7 +32,7 @@ use Rattle.pli_coding.specs.Registers.{a1, a2, frame_register}
 use Rattle.pli_coding.specs.Statements.{stmt_code, stmts_code}
 use Rattle.activation_relation.specs.FrameLaws.{with_waits}
 use Rattle.activation_relation.specs.Frames.{lower_end}
-use Rattle.activation_relation.specs.Layers.{Layer, Point, services_of}
+use Rattle.activation_relation.specs.Layers.{Point, services_of}
 use Rattle.activation_relation.specs.Remaining.{Remains}
 use Rattle.activation_relation.proofs.Remaining.{remains_then}
 use Rattle.activation_relation.proofs.Returning.{in_use_later}
@@ -55,17 +55,15 @@ use Rattle.expression_runs.specs.Laws as L
 use Rattle.expression_runs.specs.Values.{HasWord, Stretch, behind, in_registers, number_aims}
 use Rattle.expression_runs.proofs.Assignments.{fit_is}
 use Rattle.argument_runs.specs.Copies.{copy_generation}
-use Rattle.argument_runs.specs.CopyCalls.{Copying, HasRoomFor, beginning_of, called_of, copy_for, entry_of, given_point}
+use Rattle.argument_runs.specs.CopyCalls.{HasRoomFor, beginning_of, called_of, copy_for, entry_of, given_point}
 use Rattle.argument_runs.specs.CopyCalls.{is_value, listing_of, setting_for}
-use Rattle.argument_runs.specs.Lists.{layered, list_under, named_waits, value_given}
-use Rattle.argument_runs.proofs.CopyBlocks.{Here}
+use Rattle.argument_runs.specs.Lists.{layered, named_waits, value_given}
 use Rattle.argument_runs.proofs.CopyCalls.{forgotten, in_forgotten}
 use Rattle.argument_runs.proofs.GivenLists.{with_list_stands}
-use Rattle.nested_calls.specs.Nested.{given_code, parent_code}
+use Rattle.nested_calls.specs.Nested.{parent_code}
 use Rattle.nested_calls.proofs.NestedCalls.{is_parent}
-use Rattle.given_calls.specs.Given as G
-use Rattle.given_calls.specs.Given.{AreBeside, IsGiven, body_index, given_block, procedure_tail}
-use Rattle.given_calls.specs.GivenCalls.{GivenCall, HasSpace, IsDeclared, IsGivenCall, PassesNone, called_with, calling_of}
+use Rattle.given_calls.specs.Given.{AreBeside, body_index, given_block, procedure_tail}
+use Rattle.given_calls.specs.GivenCalls.{GivenCall, IsDeclared, IsGivenCall, PassesNone, called_with, calling_of}
 use Rattle.given_calls.specs.GivenCalls.{given_call}
 use Rattle.given_calls.proofs.GivenBlocks.{BodyComes, Entering, given_runs, procedure_goes}
 use Rattle.given_calls.proofs.GivenCode.{giving_code, giving_comes}
@@ -198,7 +196,7 @@ coded k u line =
     let one = act_code line in
     let list = plus a1 frame_register (negsuc 23) in
     let rest : Code = list
-        ++ (number a2 0 ++ (parent_code (u.level == k.environment.level) u.level ++ last_of u)) in
+    ++ (number a2 0 ++ (parent_code (u.level == k.environment.level) u.level ++ last_of u)) in
     ap (λ w. one ++ (w ++ rest)) (append-nil ((v ++ []) ++ value_given))
     ∙ ap (λ w. one ++ ((w ++ value_given) ++ rest)) (append-nil v)
     ∙ ap (λ w. one ++ w) (append_assoc v value_given rest)

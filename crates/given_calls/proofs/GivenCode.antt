@@ -1,11 +1,11 @@
 -- What stands before the instruction that calls: the value goes into the list, and the frame of the static parent comes
 -- into a0.
 use Rattle.std.proofs.Common.{◌≡◌, ℕ, ◌+◌, ◌-◌, ◌*◌, ◌^◌, ◌<◌, ◌≤◌, List, [], ◌∷◌, ◌++◌, Bool, true, false, Option}
-use Rattle.std.proofs.Common.{None, Some, refl, sym, ap, ◌∙◌, subst, arith}
+use Rattle.std.proofs.Common.{None, sym, ap, ◌∙◌, subst, arith}
 use Rattle.std.proofs.lemmas.Int.{ints}
 use Rattle.std.specs.Prelude.{negsuc, ◌==◌}
 use Rattle.rv_meaning.specs.declared.instr.Instr.{Instr}
-use Rattle.rv_meaning.specs.Machine.{memory_size, value}
+use Rattle.rv_meaning.specs.Machine.{value}
 use Rattle.rv_meaning.specs.Memory.{load, store}
 use Rattle.rv_meaning.specs.Words.{sum, word}
 use Rattle.rv_meaning.proofs.MemoryLaws.{length-store}

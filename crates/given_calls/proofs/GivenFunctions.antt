@@ -1,8 +1,7 @@
 -- Calls in expressions with an argument that is copied, of a function that the running block declares, or a block around
 -- it.
-use Rattle.std.proofs.Common.{◌≡◌, ℕ, ℤ, suc, ◌+◌, ◌%◌, ◌<◌, ◌≤◌, List, [], ◌∷◌, ◌++◌, length, Option, Some}
+use Rattle.std.proofs.Common.{◌≡◌, ℕ, ℤ, ◌+◌, ◌<◌, ◌≤◌, List, [], ◌∷◌, ◌++◌, Option, Some}
 use Rattle.std.proofs.Common.{None, true, refl, sym, ap, ◌∙◌, subst, arith}
-use Rattle.std.proofs.lemmas.Bool.{eq-eqb}
 use Rattle.std.proofs.lemmas.List.{append-nil, append_assoc}
 use Rattle.std.specs.Prelude.{negsuc, ◌==◌}
 use Rattle.rv_meaning.specs.Machine.{value}
@@ -11,19 +10,16 @@ use Rattle.pli_language.specs.declared.condition.Condition.TheVariants as C
 use Rattle.pli_typing.specs.Signatures.{Fixed}
 use Rattle.pli_typing.specs.TypedTree as Y
 use Rattle.pli_meaning.specs.BasicValues.{BasicBit, BasicNumber, BasicOffset, BasicPointer, BasicText, BasicValue}
-use Rattle.pli_meaning.specs.Contents.{footprint_of}
-use Rattle.pli_meaning.specs.Control.{Meaning, act, flow_on, give, looked, ◌>>=◌, ◌>>◌}
+use Rattle.pli_meaning.specs.Control.{Meaning, give, ◌>>=◌, ◌>>◌}
 use Rattle.pli_meaning.specs.DeclaredShapes.{procedure_numbered}
 use Rattle.pli_meaning.specs.Evaluating as V
 use Rattle.pli_meaning.specs.Contents.{number_in}
 use Rattle.pli_meaning.specs.Executing as M
 use Rattle.pli_meaning.specs.Executing.{begun, labels_in}
-use Rattle.pli_meaning.specs.Making.{plain}
 use Rattle.pli_meaning.specs.Numbers.{checked, is_of_precision}
 use Rattle.pli_meaning.specs.Raising as R
-use Rattle.pli_meaning.specs.Raising.{Around, Entry, PassedValue, at_line}
-use Rattle.pli_meaning.specs.StorageState.{State, ancestor, ancestor_at, force, height_of, most_activations}
-use Rattle.pli_meaning.specs.StorageState.{most_automatic, newest_height}
+use Rattle.pli_meaning.specs.Raising.{Around, PassedValue}
+use Rattle.pli_meaning.specs.StorageState.{State, force}
 use Rattle.pli_meaning.specs.World.{World}
 use Rattle.pli_serving.specs.ServiceState.{Services}
 use Rattle.pli_coding.specs.Allocating.{act_code}
@@ -31,57 +27,46 @@ use Rattle.pli_coding.specs.Assembly.{Code, Mark, ReturnPlace, size_of}
 use Rattle.pli_coding.specs.Entries.{arguments_copied}
 use Rattle.pli_coding.specs.Environments.{none_taken}
 use Rattle.pli_coding.specs.Expressions.{number_code}
-use Rattle.pli_coding.specs.Frames.{display, fixed_size}
-use Rattle.pli_coding.specs.Instructions.{load_word, move, number, plus}
+use Rattle.pli_coding.specs.Instructions.{number, plus}
 use Rattle.pli_coding.specs.Procedures.{no_value}
 use Rattle.pli_coding.specs.Registers.{a0, a1, a2, frame_register}
 use Rattle.pli_coding.specs.Statements.{stmts_code}
-use Rattle.activation_relation.specs.Chains.{HasParent}
 use Rattle.activation_relation.specs.FrameLaws.{with_waits}
-use Rattle.activation_relation.specs.Frames.{lower_end}
-use Rattle.activation_relation.specs.Layers.{Layer, Point, services_of}
+use Rattle.activation_relation.specs.Layers.{Point, services_of}
 use Rattle.activation_relation.specs.Remaining.{Remains}
 use Rattle.activation_relation.specs.ServiceLaws.{IsSystem}
 use Rattle.activation_relation.proofs.Remaining.{remains_then}
-use Rattle.activation_relation.proofs.Returning.{in_use_later}
-use Rattle.run_steps.specs.Engine.{Base}
 use Rattle.run_steps.specs.Items.{Linked}
 use Rattle.run_steps.proofs.Jumps.{back_of, front_of, linked_at, rest_of}
 use Rattle.run_steps.proofs.Linking.{size_append}
 use Rattle.run_steps.proofs.Numbers.{word_small}
 use Rattle.run_steps.specs.Reach.{Comes, Family, Reach, before, cost}
 use Rattle.run_steps.proofs.Reach.{before_closed, comes_on, onward, reach_map}
-use Rattle.image_runs.specs.Runs.{Whole}
 use Rattle.block_runs.specs.Bodies.{IsBehind, behind_aims, body_aims}
-use Rattle.block_runs.specs.Machines.{AreIn, IsIn}
+use Rattle.block_runs.specs.Machines.{IsIn}
 use Rattle.block_runs.proofs.CallStatements.{comes_map}
-use Rattle.block_runs.proofs.EmptyMeaning.{entry_acts}
-use Rattle.block_runs.proofs.PointActs.{act_comes}
 use Rattle.block_runs.proofs.PointGrounds.{point_frame}
 use Rattle.program_runs.specs.Calls.{left_over}
-use Rattle.program_runs.specs.Procedures.{block_of, frame_for}
+use Rattle.program_runs.specs.Procedures.{block_of}
 use Rattle.program_runs.specs.Statements.{Block, EachDoes, IsAmong, IsBegun, statement_aims}
 use Rattle.program_runs.proofs.Calls.{body_closed}
-use Rattle.program_runs.proofs.CallStatements.{newest_frame_at}
 use Rattle.program_runs.proofs.JumpsOut.{no_jump}
 use Rattle.program_runs.proofs.Lists.{list_does}
-use Rattle.program_runs.proofs.NewestBlocks.{newest_ancestor, newest_at}
 use Rattle.expression_runs.specs.Laws as L
 use Rattle.expression_runs.specs.Values.{HasWord, Setting, Stretch, behind, in_registers, number_aims}
 use Rattle.expression_runs.proofs.Assignments.{fit_is}
 use Rattle.expression_runs.proofs.Words.{number_closed}
 use Rattle.function_runs.specs.Functions.{function_end, function_tail}
 use Rattle.function_runs.proofs.NoValues.{value_lacks}
-use Rattle.argument_runs.specs.CopyCalls.{CopyCall, beginning_of, called_of, entry_of, given_point, is_value}
+use Rattle.argument_runs.specs.CopyCalls.{CopyCall, beginning_of, called_of, entry_of, given_point}
 use Rattle.argument_runs.specs.CopyCalls.{listing_of}
-use Rattle.argument_runs.specs.CopyFunctions.{called_by, number_function, setting_in}
-use Rattle.argument_runs.specs.Lists.{layered, list_under, named_waits, value_given}
-use Rattle.argument_runs.proofs.CopyBlocks.{behind_list}
+use Rattle.argument_runs.specs.CopyFunctions.{number_function, setting_in}
+use Rattle.argument_runs.specs.Lists.{layered, named_waits, value_given}
 use Rattle.argument_runs.proofs.CopyCalls.{forgotten, in_forgotten}
 use Rattle.argument_runs.proofs.GivenLists.{with_list_stands}
 use Rattle.nested_calls.specs.Nested.{parent_code}
-use Rattle.given_calls.specs.Given.{AreBeside, body_index, given_block, given_code}
-use Rattle.given_calls.specs.GivenCalls.{GivenCall, IsDeclared, PassesNone, called_with, calling_of}
+use Rattle.given_calls.specs.Given.{AreBeside, body_index, given_block}
+use Rattle.given_calls.specs.GivenCalls.{GivenCall, IsDeclared, PassesNone, calling_of}
 use Rattle.given_calls.specs.GivenFunctions.{IsGivenFunction, IsGivenValue, called_there, given_value, value_block}
 use Rattle.given_calls.specs.GivenFunctions.{value_with}
 use Rattle.given_calls.proofs.GivenBlocks.{BodyComes, Entering, given_runs}
@@ -259,7 +244,7 @@ coded k u taken none =
     let v = value_of k taken u.source in
     let list = plus a1 frame_register (negsuc 23) in
     let rest : Code = list
-        ++ (number a2 0 ++ (parent_code (u.level == k.block.environment.level) u.level ++ last_of u)) in
+    ++ (number a2 0 ++ (parent_code (u.level == k.block.environment.level) u.level ++ last_of u)) in
     ap (λ n. number_code k.block.environment (in_registers n taken) (given_value u)) none
     ∙ ap (λ w. w ++ rest) (append-nil ((v ++ []) ++ value_given))
     ∙ ap (λ w. (w ++ value_given) ++ rest) (append-nil v)

@@ -1,16 +1,15 @@
 -- What the statements of a procedure or a function with a copied argument know, and that one which declares nothing
 -- beside its parameter makes nothing.
-use Rattle.std.proofs.Common.{◌≡◌, ℕ, ℤ, suc, ◌+◌, ◌-◌, ◌*◌, ◌^◌, ◌<◌, ◌≤◌, List, [], ◌∷◌, length, Option, Some}
+use Rattle.std.proofs.Common.{◌≡◌, ℕ, ℤ, ◌+◌, ◌-◌, ◌*◌, ◌^◌, ◌≤◌, List, [], ◌∷◌, length, Option, Some}
 use Rattle.std.proofs.Common.{refl, sym, ap, ◌∙◌, subst, arith}
 use Rattle.std.proofs.lemmas.Bool.{eq-eqb}
 use Rattle.std.specs.Prelude.{cond}
-use Rattle.pli_typing.specs.TypedTree as Y
 use Rattle.pli_meaning.specs.BasicValues.{VariableName}
 use Rattle.pli_meaning.specs.Control.{Normal}
 use Rattle.pli_meaning.specs.Executing as M
 use Rattle.pli_meaning.specs.Making.{living_at}
 use Rattle.pli_meaning.specs.Raising.{at_line}
-use Rattle.pli_meaning.specs.StorageState.{Activation, Binding, Living, ancestor, binding_in, living_of, newest_height}
+use Rattle.pli_meaning.specs.StorageState.{Living, ancestor, binding_in, living_of, newest_height}
 use Rattle.pli_meaning.specs.World.{counted}
 use Rattle.pli_coding.specs.Assembly.{size_of}
 use Rattle.activation_relation.specs.Chains.{AreActive, frame_at}
@@ -22,12 +21,11 @@ use Rattle.activation_relation.specs.Points.{Stands}
 use Rattle.activation_relation.specs.Remaining.{LivesOn, Remains}
 use Rattle.activation_relation.proofs.Remaining.{remains_acted, remains_same, remains_then}
 use Rattle.activation_relation.proofs.Serials.{few_small}
-use Rattle.run_steps.specs.Reach.{Reach}
 use Rattle.run_steps.proofs.Reach.{reach_with, stay}
 use Rattle.block_runs.specs.Bodies.{Function}
 use Rattle.block_runs.specs.Machines.{AreIn, IsIn}
 use Rattle.block_runs.proofs.Places.{bounds}
-use Rattle.program_runs.specs.Statements.{Block, IsAmong, IsBegun}
+use Rattle.program_runs.specs.Statements.{Block, IsBegun}
 use Rattle.expression_runs.specs.Variables.{IsNumber, Spot}
 use Rattle.argument_runs.specs.Copies.{copy_generation}
 use Rattle.argument_runs.specs.CopyCalls.{CopyCall, IsOwnParameter, beginning_of, called_of, copied_point, copy_in}
@@ -37,9 +35,9 @@ use Rattle.argument_runs.specs.Parameters.{IsParameter, parameter_binding}
 use Rattle.argument_runs.proofs.CopyBlocks.{room_here}
 use Rattle.nested_calls.specs.Nested.{IsNested}
 use Rattle.nested_calls.proofs.NestedVariables.{Over, ancestor_itself, over_nested, over_number}
-use Rattle.given_calls.specs.Given.{AreBeside, act_index, given_block, variables_index}
-use Rattle.given_calls.specs.GivenCalls.{GivenCall, IsDeclared, PassesNone, called_with}
-use Rattle.given_calls.specs.GivenKnown.{Begins, IsInner}
+use Rattle.given_calls.specs.Given.{AreBeside, act_index, given_block}
+use Rattle.given_calls.specs.GivenCalls.{GivenCall, PassesNone, called_with}
+use Rattle.given_calls.specs.GivenKnown.{Begins}
 use Rattle.given_calls.proofs.GivenCalls.{room_among}
 
 -- ---- its activation and its layer

@@ -5,7 +5,6 @@ use Rattle.activation_relation.specs.CodeStores.{most_levels}
 use Rattle.activation_relation.specs.Layers.{Point}
 use Rattle.activation_relation.specs.Points.{Stands}
 use Rattle.block_runs.specs.Bodies.{Function}
-use Rattle.block_runs.specs.Machines.{IsImage}
 use Rattle.program_runs.specs.Statements.{Block, IsAmong, IsBegun}
 use Rattle.expression_runs.specs.Variables.{IsNumber, Spot}
 use Rattle.argument_runs.specs.CopyCalls.{IsOwnParameter, copied_point}
