@@ -49,7 +49,8 @@ use Rattle.argument_runs.specs.ListBeginnings.{IsListing}
 use Rattle.argument_runs.specs.ListCalls.{entered_point}
 use Rattle.argument_runs.specs.Lists.{list_under}
 use Rattle.argument_runs.proofs.Copies.{copies_come}
-use Rattle.argument_runs.proofs.CopyBlocks.{Here, behind_list, copied_known, entered_known, is_copy, is_giving, run_means}
+use Rattle.argument_runs.proofs.CopyBlocks.{Here, behind_list, copied_known, entered_known, is_copy, is_giving}
+use Rattle.argument_runs.proofs.CopyBlocks.{run_means}
 use Rattle.argument_runs.proofs.CopyPoints.{copied_means}
 use Rattle.argument_runs.proofs.ListCalls.{list_calls_return}
 use Rattle.given_calls.specs.Given.{AreBeside, IsGiven, body_index, given_block, given_code, procedure_tail}
@@ -204,7 +205,8 @@ given_runs {g} {y} {made} {tail} credits wanted f h body_comes paid there gives 
     let then' = made (copied_point g y) in
     let there' = h.beside.stands (copied_known h.here) in
     let closed = body_closed k left_over in
-    let c0 = credits + (left_over + size_of (ending_code k.beginning.layer (place_in g))) + 2 + size_of (listing_of x) in
+    let ends = size_of (ending_code k.beginning.layer (place_in g)) in
+    let c0 = credits + (left_over + ends) + 2 + size_of (listing_of x) in
     subst (λ flow. Comes y.code credits f (services_of (given_point y)) (behind_aims k wanted) flow)
     (sym (run_means c.around x.head x.body (entry_of g y) w.acts y.point.state h.kind h.here.room.shallow))
     (list_calls_return k (giving_of g y) (M.block_body around' x.head x.body (entry_of g y)) credits left_over

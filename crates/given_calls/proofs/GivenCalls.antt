@@ -1,6 +1,6 @@
 -- CALL with an argument that is copied, of a procedure that the running block declares, or a block around it.
-use Rattle.std.proofs.Common.{◌≡◌, ℕ, ℤ, suc, ◌+◌, ◌%◌, ◌≤◌, List, [], ◌∷◌, ◌++◌, length, Option, None, Some, Bool, true, refl}
-use Rattle.std.proofs.Common.{sym, ap, ◌∙◌, subst, arith}
+use Rattle.std.proofs.Common.{◌≡◌, ℕ, ℤ, suc, ◌+◌, ◌%◌, ◌≤◌, List, [], ◌∷◌, ◌++◌, length, Option, None, Some, Bool, true}
+use Rattle.std.proofs.Common.{refl, sym, ap, ◌∙◌, subst, arith}
 use Rattle.std.proofs.lemmas.List.{append-nil, append_assoc}
 use Rattle.std.specs.Prelude.{is_some, nat_le, nat_lt, negsuc, pos, ◌==◌}
 use Rattle.rv_meaning.specs.Words.{word}
@@ -36,14 +36,15 @@ use Rattle.activation_relation.specs.Layers.{Point, services_of}
 use Rattle.activation_relation.specs.Remaining.{Remains}
 use Rattle.activation_relation.proofs.Remaining.{remains_then}
 use Rattle.activation_relation.proofs.Returning.{in_use_later}
+use Rattle.run_steps.specs.Engine.{Base}
 use Rattle.run_steps.specs.Items.{Linked}
 use Rattle.run_steps.proofs.Jumps.{back_of, front_of, linked_at, rest_of}
 use Rattle.run_steps.proofs.Linking.{size_append}
 use Rattle.run_steps.proofs.Numbers.{word_small}
-use Rattle.run_steps.specs.Reach.{Comes, Family, Reach, before}
+use Rattle.run_steps.specs.Reach.{Comes, Family, Reach, before, cost}
 use Rattle.run_steps.proofs.Reach.{before_closed, comes_on, onward, reach_map}
 use Rattle.block_runs.specs.Bodies.{Function, IsBehind, behind_aims}
-use Rattle.block_runs.specs.Machines.{IsIn, acted}
+use Rattle.block_runs.specs.Machines.{AreIn, IsIn, acted}
 use Rattle.block_runs.proofs.CallStatements.{comes_map}
 use Rattle.block_runs.proofs.PointActs.{act_comes}
 use Rattle.program_runs.specs.Calls.{left_over}
@@ -57,15 +58,16 @@ use Rattle.expression_runs.proofs.Assignments.{fit_is}
 use Rattle.argument_runs.specs.Copies.{copy_generation}
 use Rattle.argument_runs.specs.CopyCalls.{HasRoomFor, beginning_of, called_of, copy_for, entry_of, given_point}
 use Rattle.argument_runs.specs.CopyCalls.{is_value, listing_of, setting_for}
-use Rattle.argument_runs.specs.Lists.{layered, named_waits, value_given}
+use Rattle.argument_runs.specs.ListBeginnings.{IsListing}
+use Rattle.argument_runs.specs.Lists.{layered, list_under, named_waits, value_given}
 use Rattle.argument_runs.proofs.CopyCalls.{forgotten, in_forgotten}
 use Rattle.argument_runs.proofs.GivenLists.{with_list_stands}
 use Rattle.nested_calls.specs.Nested.{parent_code}
 use Rattle.nested_calls.proofs.NestedCalls.{is_parent}
-use Rattle.given_calls.specs.Given.{AreBeside, body_index, given_block, procedure_tail}
+use Rattle.given_calls.specs.Given.{AreBeside, body_index, given_block, given_code, procedure_tail}
 use Rattle.given_calls.specs.GivenCalls.{GivenCall, IsDeclared, IsGivenCall, PassesNone, called_with, calling_of}
 use Rattle.given_calls.specs.GivenCalls.{given_call}
-use Rattle.given_calls.proofs.GivenBlocks.{BodyComes, Entering, given_runs, procedure_goes}
+use Rattle.given_calls.proofs.GivenBlocks.{Entering, given_runs, procedure_goes}
 use Rattle.given_calls.proofs.GivenCode.{giving_code, giving_comes}
 
 -- ---- at each of the block's points
@@ -277,15 +279,29 @@ behind_goes {k} {u} {line} {index} {numbers = numbers} {p = p} {wanted = wanted}
 
 -- ---- from the value in a0 on
 
-abbrev behind_call : Option BasicValue → Meaning (Unit {0})
+abbrev pub behind_call : Option BasicValue → Meaning (Unit {0})
 behind_call r = give tt
+
+-- what comes of the call where the list has been given, with a value
+abbrev pub Enters : Block → GivenCall → List Label → (line index acts wanted left' : ℕ) → ℤ → Type 0
+Enters k u labels line index acts wanted left' z =
+    (p : Point) (numbers : ℕ → ℕ) → IsAmong k numbers p → acts ≤ p.state.world.acts → (credits : ℕ) (g : Family) →
+    credits + 4 + size_of (given_code u.callee.environment u.callee.procedure (procedure_tail u.callee.procedure))
+    ≤ cost k.call.code →
+    AreIn k.call.surroundings (given_point (called_with k u p numbers z)) numbers u.callee.calling.call g →
+    ((b : Base) →
+    IsListing (given_point (called_with k u p numbers z)) (beginning_of None (called_with k u p numbers z))
+    (list_under u.layer.at) b (g b)) →
+    Comes k.call.code credits g (services_of (given_point (called_with k u p numbers z)))
+    (before k.call.code (statement_aims k labels acts (index + size_in k (given_call u line)) wanted left')
+    k.call.surroundings.acts behind_call)
+    (M.block_run u.callee.around (block_of u.callee.procedure) (entry_of None (called_with k u p numbers z))
+    k.call.surroundings.acts p.state)
 
 given_goes :
     {k : Block} {u : GivenCall} {line index need most more : ℕ} (labels : List Label) (left' acts wanted c' : ℕ)
     (f' : Family) (v' : Services) (z : ℤ) (s : State) (y : Stretch) → IsGivenCall k u line index need most more →
-    PassesNone k.first u.callee →
-    ((p : Point) (numbers : ℕ → ℕ) → IsAmong k numbers p → AreBeside None (called_with k u p numbers z) u.made) →
-    ((p : Point) (numbers : ℕ → ℕ) → IsAmong k numbers p → BodyComes None (called_with k u p numbers z) u.made) →
+    Enters k u labels line index acts wanted left' z →
     acts ≤ y.acts → is_of_precision 31 z ≡ true → HasWord k y (word z) c' f' v' s →
     Linked k.call.surroundings.links k.call.code y.index (giving_in k u ++ last_of u) →
     u.callee.calling.call ≡ y.index + size_of (giving_in k u) → y.wanted ≤ y.index →
@@ -296,7 +312,7 @@ given_goes :
     (procedure_numbered u.callee.procedure.head.number k.around.program.procedures) u.level
     (PassedValue (Fixed 31) (BasicNumber z) ∷ []) k.call.surroundings.acts s)
 unfolding give
-given_goes {k} {u} {line} {index} labels left' acts wanted c' f' v' z s y h none made' each since wide q l at few =
+given_goes {k} {u} {line} {index} labels left' acts wanted c' f' v' z s y h enters since wide q l at few =
     let w = k.call.surroundings in
     let code = k.call.code in
     let p = q.point in
@@ -308,7 +324,6 @@ given_goes {k} {u} {line} {index} labels left' acts wanted c' f' v' z s y h none
     let aims' = before code aims w.acts behind_call in
     let closed = before_closed w.acts behind_call
     (statement_closed k labels acts (index + size_in k (given_call u line)) wanted left') in
-    let flow = M.block_run u.callee.around (block_of u.callee.procedure) (entry_of None x) w.acts p.state in
     let more = q.since in
     let inside = l.inside in
     let proc = h.callee.stands.inside in
@@ -326,29 +341,20 @@ given_goes {k} {u} {line} {index} labels left' acts wanted c' f' v' z s y h none
     d.around_it (o.later.layers ∙ d.space.newest) d.space.waits (d.space.words, word_small z wide) (refl, d.parent)
     (front_of given' (last_of u) l) there)
     (λ g' there'.
-    comes_map (behind_aims (called_of None x) wanted) aims' flow
-    (λ c1 f1 v1 r t e. record { to = behind_goes z h o (omega (arith, since, more)) e })
-    (λ c1 f1 v1 height label t e. absurd e)
-    (λ c1 f1 v1 r t e. absurd e)
-    (given_runs (y.wanted + size_of given') wanted g' (here_among z wide h none o (made' p q.numbers o))
-    (each p q.numbers o) (omega (arith, few, n, inside, proc))
+    enters p q.numbers o (omega (arith, since, more)) (y.wanted + size_of given') g'
+    (omega (arith, few, n, inside, proc))
     (λ b. subst (λ j. IsIn w (given_point x) q.numbers j b (g' b)) (sym at) (there' b).0)
-    (λ b. (there' b).1))))))
+    (λ b. (there' b).1)))))
 
 -- ---- the statement
 
-given_call_comes :
+pub given_call_comes :
     (k : Block) (u : GivenCall) (labels : List Label) (line index left' need most more : ℕ) →
-    IsGivenCall k u line index need most more → PassesNone k.first u.callee →
-    L.Does (setting_for k labels line most) need u.source →
-    ((p : Point) (numbers : ℕ → ℕ) (z : ℤ) → IsAmong k numbers p → is_of_precision 31 z ≡ true →
-    AreBeside None (called_with k u p numbers z) u.made) →
-    ((p : Point) (numbers : ℕ → ℕ) (z : ℤ) → IsAmong k numbers p → is_of_precision 31 z ≡ true →
-    BodyComes None (called_with k u p numbers z) u.made) →
+    IsGivenCall k u line index need most more → L.Does (setting_for k labels line most) need u.source →
+    ((acts wanted : ℕ) (z : ℤ) → is_of_precision 31 z ≡ true → Enters k u labels line index acts wanted left' z) →
     Does k labels (given_call u line) index left'
 unfolding M.statement V.called V.arguments V.argument V.stored_value V.all_passed_last V.passed_last give ◌>>=◌ ◌>>◌
-given_call_comes k u labels line index left' need most more h none ev made' each p numbers credits wanted f o paid
-    there =
+given_call_comes k u labels line index left' need most more h ev enters p numbers credits wanted f o paid there =
     let w = k.call.surroundings in
     let code = k.call.code in
     let around' = at_line k.around line in
@@ -404,9 +410,7 @@ given_call_comes k u labels line index left' need most more h none ev made' each
       to = record {
         to = record {
           to =
-              given_goes labels left' acts wanted c' f' v' z s y h none
-              (λ p1 numbers1 o1. made' p1 numbers1 z o1 q.0)
-              (λ p1 numbers1 o1. each p1 numbers1 z o1 q.0) (omega arith) q.0 q.1
+              given_goes labels left' acts wanted c' f' v' z s y h (enters acts wanted z q.0) (omega arith) q.0 q.1
               (back_of v (given' ++ last) l1) (omega (arith, at_call, size, n0, n1, n2)) (omega arith);
         };
       };
@@ -427,12 +431,24 @@ pub given_call_does :
     EachDoes (given_block None (called_with k u p numbers z) u.made) (labels_in u.callee.procedure.body ++ [])
     u.callee.procedure.body (body_index u.callee) left_over) →
     Does k labels (given_call u line) index left'
+unfolding give
 given_call_does k u labels line index left' need most more h none ev made' each =
+    given_call_comes k u labels line index left' need most more h ev
+    (λ acts wanted z wide p numbers o since credits g paid there gives.
+    let x = called_with k u p numbers z in
+    let w = k.call.surroundings in
+    let made = made' p numbers z o wide in
     let enough = h.declared.enough in
     let turns = ap (λ (a : Around). a.turns) h.around in
-    given_call_comes k u labels line index left' need most more h none ev made'
-    (λ p numbers z o wide.
     let later = o.later.acts in
-    let same = ap (λ (t : World). t.acts) (made' p numbers z o wide).world in
-    procedure_goes (called_with k u p numbers z) u.made h.callee (each p numbers z o wide)
-    (omega (arith, enough, turns, later, same)))
+    let same = ap (λ (t : World). t.acts) made.world in
+    comes_map (behind_aims (called_of None x) wanted)
+    (before k.call.code (statement_aims k labels acts (index + size_in k (given_call u line)) wanted left') w.acts
+    behind_call)
+    (M.block_run u.callee.around (block_of u.callee.procedure) (entry_of None x) w.acts p.state)
+    (λ c1 f1 v1 r t e. record { to = behind_goes z h o since e })
+    (λ c1 f1 v1 height label t e. absurd e)
+    (λ c1 f1 v1 r t e. absurd e)
+    (given_runs credits wanted g (here_among z wide h none o made)
+    (procedure_goes x u.made h.callee (each p numbers z o wide) (omega (arith, enough, turns, later, same))) paid there
+    gives))

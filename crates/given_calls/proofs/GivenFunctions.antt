@@ -1,5 +1,4 @@
--- Calls in expressions with an argument that is copied, of a function that the running block declares, or a block around
--- it.
+-- Calls in expressions with an argument that is copied, of a function that the running block or one around it declares.
 use Rattle.std.proofs.Common.{◌≡◌, ℕ, ℤ, ◌+◌, ◌<◌, ◌≤◌, List, [], ◌∷◌, ◌++◌, Option, Some}
 use Rattle.std.proofs.Common.{None, true, refl, sym, ap, ◌∙◌, subst, arith}
 use Rattle.std.proofs.lemmas.List.{append-nil, append_assoc}
@@ -36,6 +35,7 @@ use Rattle.activation_relation.specs.Layers.{Point, services_of}
 use Rattle.activation_relation.specs.Remaining.{Remains}
 use Rattle.activation_relation.specs.ServiceLaws.{IsSystem}
 use Rattle.activation_relation.proofs.Remaining.{remains_then}
+use Rattle.run_steps.specs.Engine.{Base}
 use Rattle.run_steps.specs.Items.{Linked}
 use Rattle.run_steps.proofs.Jumps.{back_of, front_of, linked_at, rest_of}
 use Rattle.run_steps.proofs.Linking.{size_append}
@@ -43,7 +43,7 @@ use Rattle.run_steps.proofs.Numbers.{word_small}
 use Rattle.run_steps.specs.Reach.{Comes, Family, Reach, before, cost}
 use Rattle.run_steps.proofs.Reach.{before_closed, comes_on, onward, reach_map}
 use Rattle.block_runs.specs.Bodies.{IsBehind, behind_aims, body_aims}
-use Rattle.block_runs.specs.Machines.{IsIn}
+use Rattle.block_runs.specs.Machines.{AreIn, IsIn}
 use Rattle.block_runs.proofs.CallStatements.{comes_map}
 use Rattle.block_runs.proofs.PointGrounds.{point_frame}
 use Rattle.program_runs.specs.Calls.{left_over}
@@ -61,7 +61,8 @@ use Rattle.function_runs.proofs.NoValues.{value_lacks}
 use Rattle.argument_runs.specs.CopyCalls.{CopyCall, beginning_of, called_of, entry_of, given_point}
 use Rattle.argument_runs.specs.CopyCalls.{listing_of}
 use Rattle.argument_runs.specs.CopyFunctions.{number_function, setting_in}
-use Rattle.argument_runs.specs.Lists.{layered, named_waits, value_given}
+use Rattle.argument_runs.specs.ListBeginnings.{IsListing}
+use Rattle.argument_runs.specs.Lists.{layered, list_under, named_waits, value_given}
 use Rattle.argument_runs.proofs.CopyCalls.{forgotten, in_forgotten}
 use Rattle.argument_runs.proofs.GivenLists.{with_list_stands}
 use Rattle.nested_calls.specs.Nested.{parent_code}
@@ -126,7 +127,7 @@ function_goes y made h each only few b o f there =
 -- ---- where it is called
 
 -- it doesn't depend on where the call stands
-declared_there :
+pub declared_there :
     {k : Block} {u : GivenCall} {more : ℕ} (call : ℕ) → IsDeclared k u more → IsDeclared k (called_there u call) more
 declared_there call h =
     record {
@@ -155,7 +156,7 @@ passes_there :
     (p : Point) (u : GivenCall) (call : ℕ) → PassesNone p u.callee → PassesNone p (called_there u call).callee
 passes_there p u call h = record { shallow = h.shallow; limit = h.limit }
 
-function_there :
+pub function_there :
     (k : Setting) (u : GivenCall) (call : ℕ) →
     IsGivenFunction k.block.call.surroundings k.block.call.code u.callee →
     IsGivenFunction k.block.call.surroundings k.block.call.code (called_there u call).callee
@@ -181,7 +182,8 @@ function_there k u call h =
 
 here_with :
     {k : Setting} {u : GivenCall} {more : ℕ} {numbers : ℕ → ℕ} {p : Point} (call : ℕ) (z : ℤ) →
-    is_of_precision 31 z ≡ true → IsGivenValue k u more → PassesNone k.block.first u.callee → IsAmong k.block numbers p →
+    is_of_precision 31 z ≡ true → IsGivenValue k u more → PassesNone k.block.first u.callee →
+    IsAmong k.block numbers p →
     Linked k.block.call.surroundings.links k.block.call.code call (last_of u) →
     AreBeside (Some number_function) (value_with k u call p numbers z) u.made →
     Entering (Some number_function) (value_with k u call p numbers z) u.made (function_tail u.callee.procedure)
@@ -252,7 +254,7 @@ coded k u taken none =
 
 -- ---- behind the call
 
-abbrev as_number : Option BasicValue → Meaning ℤ
+abbrev pub as_number : Option BasicValue → Meaning ℤ
 as_number r = V.returned r >>= (λ v. give (number_in v))
 
 behind_goes :
@@ -345,13 +347,25 @@ behind_goes call z h o since line stays at c' f v (Some (BasicPointer b)) s q = 
 
 -- ---- from the value in a0 on
 
+-- what comes of the call where the list has been given, with a value
+abbrev pub Enters : Setting → GivenCall → (call : ℕ) → Stretch → ℤ → Type 0
+Enters k u call x z =
+    (p : Point) (numbers : ℕ → ℕ) → IsAmong k.block numbers p → x.acts ≤ p.state.world.acts →
+    p.control.line ≡ x.line → ((n : ℕ) → n < x.taken → numbers n ≡ x.numbers n) →
+    Linked k.block.call.surroundings.links k.block.call.code call (last_of u) → call + 2 ≡ x.index →
+    (credits : ℕ) (g : Family) → credits + k.most ≤ cost k.block.call.code →
+    AreIn k.block.call.surroundings (given_point (value_with k u call p numbers z)) numbers call g →
+    ((b : Base) →
+    IsListing (given_point (value_with k u call p numbers z))
+    (beginning_of (Some number_function) (value_with k u call p numbers z)) (list_under u.layer.at) b (g b)) →
+    Comes k.block.call.code credits g (services_of (given_point (value_with k u call p numbers z)))
+    (before k.block.call.code (number_aims k.block k.labels x) k.block.call.surroundings.acts as_number)
+    (M.block_run u.callee.around (block_of u.callee.procedure)
+    (entry_of (Some number_function) (value_with k u call p numbers z)) k.block.call.surroundings.acts p.state)
+
 given_goes :
     {k : Setting} {u : GivenCall} {more : ℕ} (call c' : ℕ) (f' : Family) (v' : Services) (z : ℤ) (s : State)
-    (x y : Stretch) → IsGivenValue k u more → PassesNone k.block.first u.callee →
-    ((p : Point) (numbers : ℕ → ℕ) → IsAmong k.block numbers p →
-    AreBeside (Some number_function) (value_with k u call p numbers z) u.made) →
-    ((p : Point) (numbers : ℕ → ℕ) → IsAmong k.block numbers p →
-    BodyComes (Some number_function) (value_with k u call p numbers z) u.made) →
+    (x y : Stretch) → IsGivenValue k u more → Enters k u call x z →
     is_of_precision 31 z ≡ true → HasWord k.block y (word z) c' f' v' s →
     (x.acts ≤ y.acts) × (y.line ≡ x.line) × ((n : ℕ) → n < x.taken → n < y.taken)
     × ((n : ℕ) → n < x.taken → y.numbers n ≡ x.numbers n) →
@@ -362,7 +376,7 @@ given_goes :
     (before k.block.call.code (number_aims k.block k.labels x) k.block.call.surroundings.acts as_number)
     (V.procedure_entered k.around (procedure_numbered u.callee.procedure.head.number k.around.program.procedures)
     u.level (PassedValue (Fixed 31) (BasicNumber z) ∷ []) k.block.call.surroundings.acts s)
-given_goes {k} {u} call c' f' v' z s x y h none made' each wide q same l at paid =
+given_goes {k} {u} call c' f' v' z s x y h enters wide q same l at paid =
     let w = k.block.call.surroundings in
     let code = k.block.call.code in
     let p = q.point in
@@ -371,14 +385,10 @@ given_goes {k} {u} call c' f' v' z s x y h none made' each wide q same l at paid
     let d' = declared_there call d in
     let t = value_with k u call p q.numbers z in
     let given' = giving_in k.block u in
-    let aims = number_aims k.block k.labels x in
-    let aims' = before code aims w.acts as_number in
+    let aims' = before code (number_aims k.block k.labels x) w.acts as_number in
     let closed = before_closed w.acts as_number (number_closed k.block k.labels x) in
-    let flow = M.block_run u.callee.around (block_of u.callee.procedure) (entry_of (Some number_function) t) w.acts
-    p.state in
     let since = same.0 in
     let more = q.since in
-    let most = h.most in
     let calls = back_of given' (last_of u) l in
     let calls' = subst (λ j. Linked w.links code j (last_of u)) (sym at.0) calls in
     subst (λ e. Comes code c' f' v' aims' (V.procedure_entered k.around
@@ -394,28 +404,18 @@ given_goes {k} {u} call c' f' v' z s x y h none made' each wide q same l at paid
     d.nested d.begun o d.around_it (o.later.layers ∙ d.space.newest) d.space.waits
     (d.space.words, word_small z wide) (refl, d.parent) (front_of given' (last_of u) l) there)
     (λ g' there'.
-    comes_map (behind_aims (called_of (Some number_function) t) x.wanted) aims' flow
-    (λ c1 f1 v1 r t e. behind_goes {x = x} call z h o (omega (arith, since, more)) (q.line ∙ same.1)
-    (λ n less. q.stays n (same.2 n less) ∙ same.3 n less) at.1 c1 f1 v1 r t e)
-    (λ c1 f1 v1 height label t e. absurd e)
-    (λ c1 f1 v1 r t e. absurd e)
-    (given_runs (y.wanted + size_of given') x.wanted g' (here_with call z wide h none o calls' (made' p q.numbers o))
-    (each p q.numbers o) (omega (arith, paid, most))
+    enters p q.numbers o (omega (arith, since, more)) (q.line ∙ same.1)
+    (λ n less. q.stays n (same.2 n less) ∙ same.3 n less) calls' at.1 (y.wanted + size_of given') g' paid
     (λ b. subst (λ j. IsIn w (given_point t) q.numbers j b (g' b)) (sym at.0) (there' b).0)
-    (λ b. (there' b).1))))))
+    (λ b. (there' b).1)))))
 
 -- ---- the call
 
-given_function_comes :
-    (k : Setting) (u : GivenCall) (need more : ℕ) → IsGivenValue k u more → PassesNone k.block.first u.callee →
-    L.Does (setting_in k) need u.source →
-    ((call : ℕ) (p : Point) (numbers : ℕ → ℕ) (z : ℤ) → IsAmong k.block numbers p → is_of_precision 31 z ≡ true →
-    AreBeside (Some number_function) (value_with k u call p numbers z) u.made) →
-    ((call : ℕ) (p : Point) (numbers : ℕ → ℕ) (z : ℤ) → IsAmong k.block numbers p → is_of_precision 31 z ≡ true →
-    BodyComes (Some number_function) (value_with k u call p numbers z) u.made) →
-    L.Does k need (given_value u)
+pub given_function_comes :
+    (k : Setting) (u : GivenCall) (need more : ℕ) → IsGivenValue k u more → L.Does (setting_in k) need u.source →
+    ((call : ℕ) (x : Stretch) (z : ℤ) → is_of_precision 31 z ≡ true → Enters k u call x z) → L.Does k need (given_value u)
 unfolding V.number V.called V.arguments V.argument V.stored_value V.all_passed_last V.passed_last give ◌>>=◌
-given_function_comes k u need more h none ev made' each p numbers taken credits index f o line registers l paid there =
+given_function_comes k u need more h ev enters p numbers taken credits index f o line registers l paid there =
     let w = k.block.call.surroundings in
     let code = k.block.call.code in
     let v = value_of k taken u.source in
@@ -459,8 +459,7 @@ given_function_comes k u need more h none ev made' each p numbers taken credits 
       to = record {
         to = record {
           to =
-              given_goes call c' f' v' z s x y h none (λ p1 numbers1 o1. made' call p1 numbers1 z o1 q.0)
-              (λ p1 numbers1 o1. each call p1 numbers1 z o1 q.0) q.0 q.1
+              given_goes call c' f' v' z s x y h (enters call x z q.0) q.0 q.1
               (omega arith, refl, (λ n less. less), (λ n less. refl)) (back_of v (given' ++ last) l')
               (refl, omega (arith, size, n1, n2)) (omega (arith, paid, size, n1, n2));
         };
@@ -483,11 +482,22 @@ pub given_function_does :
     (body_index u.callee) left_over) →
     L.Does k need (given_value u)
 given_function_does k u need more h none ev made' each =
+    given_function_comes k u need more h ev
+    (λ call x z wide p numbers o since line stays calls at credits g paid there gives.
+    let t = value_with k u call p numbers z in
+    let w = k.block.call.surroundings in
+    let made = made' call p numbers z o wide in
     let enough = h.declared.enough in
     let turns = ap (λ (a : Around). a.turns) h.around in
-    given_function_comes k u need more h none ev (λ call p numbers z o wide. (made' call p numbers z o wide).0)
-    (λ call p numbers z o wide.
     let later = o.later.acts in
-    let same = ap (λ (t : World). t.acts) (made' call p numbers z o wide).0.world in
-    function_goes (value_with k u call p numbers z) u.made (function_there k u call h.function)
-    (each call p numbers z o wide) (made' call p numbers z o wide).1 (omega (arith, enough, turns, later, same)))
+    let most = h.most in
+    let same = ap (λ (e : World). e.acts) made.0.world in
+    comes_map (behind_aims (called_of (Some number_function) t) x.wanted)
+    (before k.block.call.code (number_aims k.block k.labels x) w.acts as_number)
+    (M.block_run u.callee.around (block_of u.callee.procedure) (entry_of (Some number_function) t) w.acts p.state)
+    (λ c1 f1 v1 r s e. behind_goes {x = x} call z h o since line stays at c1 f1 v1 r s e)
+    (λ c1 f1 v1 height label s e. absurd e)
+    (λ c1 f1 v1 r s e. absurd e)
+    (given_runs credits x.wanted g (here_with call z wide h none o calls made.0)
+    (function_goes t u.made (function_there k u call h.function) (each call p numbers z o wide) made.1
+    (omega (arith, enough, turns, later, same))) (omega (arith, paid, most)) there gives))

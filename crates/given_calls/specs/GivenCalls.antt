@@ -1,6 +1,6 @@
 -- CALL with an argument that is copied, of a procedure that the running block declares, or a block around it.
 use Rattle.std.specs.Prelude.{ℕ, ℤ, suc, ◌+◌, ◌*◌, ◌%◌, ◌^◌, ◌<◌, ◌≤◌, ◌≡◌, List, [], ◌∷◌, ◌++◌, length, None, Some}
-use Rattle.std.specs.Prelude.{nat_le, nat_lt, pos, true}
+use Rattle.std.specs.Prelude.{nat_le, nat_lt, pos, true, false}
 use Rattle.pli_typing.specs.Signatures.{Fixed}
 use Rattle.pli_typing.specs.TypedTree as Y
 use Rattle.pli_meaning.specs.Contents.{footprint_of}
@@ -109,16 +109,22 @@ pub record IsGivenCall (k : Block) (u : GivenCall) (line index need most more : 
   pub call : u.callee.calling.call + 2 ≡ index + size_in k (given_call u line)
   pub paid : size_in k (given_call u line) + most ≤ cost k.call.code
 
--- it does what it means if its expression and the procedure's statements do, wherever it is called
-abbrev pub GivenCallsDo : Type 0
-GivenCallsDo =
-    (k : Block) (u : GivenCall) (labels : List Label) (line index left' need most more : ℕ) →
-    IsGivenCall k u line index need most more → PassesNone k.first u.callee →
-    L.Does (setting_for k labels line most) need u.source →
-    ((p : Point) (numbers : ℕ → ℕ) (z : ℤ) → IsAmong k numbers p → is_of_precision 31 z ≡ true →
-    AreBeside None (called_with k u p numbers z) u.made) →
-    ((p : Point) (numbers : ℕ → ℕ) (z : ℤ) → IsAmong k numbers p → is_of_precision 31 z ≡ true →
-    IsBegun (given_block None (called_with k u p numbers z) u.made) →
-    EachDoes (given_block None (called_with k u p numbers z) u.made) (labels_in u.callee.procedure.body ++ [])
-    u.callee.procedure.body (body_index u.callee) left_over) →
-    Does k labels (given_call u line) index left'
+pub record GivenCallsDo : Type 0 where
+  -- it does what it means if its expression and the procedure's statements do, wherever it is called
+  pub does :
+      (k : Block) (u : GivenCall) (labels : List Label) (line index left' need most more : ℕ) →
+      IsGivenCall k u line index need most more → PassesNone k.first u.callee →
+      L.Does (setting_for k labels line most) need u.source →
+      ((p : Point) (numbers : ℕ → ℕ) (z : ℤ) → IsAmong k numbers p → is_of_precision 31 z ≡ true →
+      AreBeside None (called_with k u p numbers z) u.made) →
+      ((p : Point) (numbers : ℕ → ℕ) (z : ℤ) → IsAmong k numbers p → is_of_precision 31 z ≡ true →
+      IsBegun (given_block None (called_with k u p numbers z) u.made) →
+      EachDoes (given_block None (called_with k u p numbers z) u.made) (labels_in u.callee.procedure.body ++ [])
+      u.callee.procedure.body (body_index u.callee) left_over) →
+      Does k labels (given_call u line) index left'
+  -- where as many blocks are active as may be the run ends, once its expression has a value
+  pub ends :
+      (k : Block) (u : GivenCall) (labels : List Label) (line index left' need most more : ℕ) →
+      IsGivenCall k u line index need most more →
+      nat_lt (length k.first.state.activations) most_activations ≡ false →
+      L.Does (setting_for k labels line most) need u.source → Does k labels (given_call u line) index left'

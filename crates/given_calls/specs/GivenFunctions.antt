@@ -1,13 +1,13 @@
--- Calls in expressions with an argument that is copied, of a function that the running block declares, or a block around
--- it.
+-- Calls in expressions with an argument that is copied, of a function that the running block or one around it declares.
 use Rattle.std.specs.Prelude.{ℕ, ℤ, suc, ◌+◌, ◌*◌, ◌^◌, ◌<◌, ◌≤◌, ◌≡◌, List, [], ◌∷◌, ◌++◌, Some, true}
+use Rattle.std.specs.Prelude.{false, length, nat_lt}
 use Rattle.rv_meaning.specs.declared.instr.Instr.{Instr}
 use Rattle.pli_language.specs.declared.condition.Condition.TheVariants as C
 use Rattle.pli_typing.specs.TypedTree as Y
 use Rattle.pli_meaning.specs.DeclaredShapes.{procedure_numbered}
 use Rattle.pli_meaning.specs.Executing.{entered, labels_in}
 use Rattle.pli_meaning.specs.Numbers.{is_of_precision}
-use Rattle.pli_meaning.specs.StorageState.{force}
+use Rattle.pli_meaning.specs.StorageState.{force, most_activations}
 use Rattle.pli_coding.specs.Assembly.{ProcedureEntry, RaiseError, size_of}
 use Rattle.pli_coding.specs.Environments.{none_taken}
 use Rattle.pli_coding.specs.Linking.{place_of}
@@ -88,17 +88,21 @@ pub record IsGivenValue (k : Setting) (u : GivenCall) (more : ℕ) : Type 0 wher
   pub most :
       4 + size_of (given_code u.callee.environment u.callee.procedure (function_tail u.callee.procedure)) ≤ k.most
 
--- it leaves the function's value if its argument and its statements do what they mean, wherever it is called; no unit is
--- in force for ERROR
-abbrev pub GivenFunctionsDo : Type 0
-GivenFunctionsDo =
-    (k : Setting) (u : GivenCall) (need more : ℕ) → IsGivenValue k u more → PassesNone k.block.first u.callee →
-    L.Does (setting_in k) need u.source →
-    ((call : ℕ) (p : Point) (numbers : ℕ → ℕ) (z : ℤ) → IsAmong k.block numbers p → is_of_precision 31 z ≡ true →
-    AreBeside (Some number_function) (value_with k u call p numbers z) u.made
-    × IsSystem (force (value_block k u call p numbers z).first.state.activations C.Error)) →
-    ((call : ℕ) (p : Point) (numbers : ℕ → ℕ) (z : ℤ) → IsAmong k.block numbers p → is_of_precision 31 z ≡ true →
-    IsBegun (value_block k u call p numbers z) →
-    EachDoes (value_block k u call p numbers z) (labels_in u.callee.procedure.body ++ []) u.callee.procedure.body
-    (body_index u.callee) left_over) →
-    L.Does k need (given_value u)
+pub record GivenFunctionsDo : Type 0 where
+  -- it leaves the function's value if its argument and its statements do what they mean, wherever it is called; no unit
+  -- is in force for ERROR
+  pub does :
+      (k : Setting) (u : GivenCall) (need more : ℕ) → IsGivenValue k u more → PassesNone k.block.first u.callee →
+      L.Does (setting_in k) need u.source →
+      ((call : ℕ) (p : Point) (numbers : ℕ → ℕ) (z : ℤ) → IsAmong k.block numbers p → is_of_precision 31 z ≡ true →
+      AreBeside (Some number_function) (value_with k u call p numbers z) u.made
+      × IsSystem (force (value_block k u call p numbers z).first.state.activations C.Error)) →
+      ((call : ℕ) (p : Point) (numbers : ℕ → ℕ) (z : ℤ) → IsAmong k.block numbers p → is_of_precision 31 z ≡ true →
+      IsBegun (value_block k u call p numbers z) →
+      EachDoes (value_block k u call p numbers z) (labels_in u.callee.procedure.body ++ []) u.callee.procedure.body
+      (body_index u.callee) left_over) →
+      L.Does k need (given_value u)
+  pub ends :
+      (k : Setting) (u : GivenCall) (need more : ℕ) → IsGivenValue k u more →
+      nat_lt (length k.block.first.state.activations) most_activations ≡ false →
+      L.Does (setting_in k) need u.source → L.Does k need (given_value u)
