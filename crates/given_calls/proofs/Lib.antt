@@ -5,3 +5,5 @@ pub mod GivenCalls
 pub mod GivenFunctions
 pub mod DeepCalls
 pub mod GivenKnown
+pub mod FullCopies
+pub mod FullCalls

@@ -77,6 +77,13 @@ pub record PassesNone (p : Point) (c : Copying) : Type 0 where
       nat_le (automatic_in_use p.state.living + footprint_of (copy_generation (copy_for c (pos 0)))) most_automatic
       ≡ true
 
+-- one more may be active, but the copy passes the limit on what is AUTOMATIC
+pub record PassesLimit (p : Point) (c : Copying) : Type 0 where
+  pub shallow : nat_lt (length p.state.activations) most_activations ≡ true
+  pub limit :
+      nat_le (automatic_in_use p.state.living + footprint_of (copy_generation (copy_for c (pos 0)))) most_automatic
+      ≡ false
+
 -- its static parent is the block's ancestor at the level, one around that of the procedure; there are turns enough for
 -- the acts that are left, which pay for the copies' serial numbers
 pub record IsDeclared (k : Block) (u : GivenCall) (more : ℕ) : Type 0 where
@@ -127,4 +134,9 @@ pub record GivenCallsDo : Type 0 where
       (k : Block) (u : GivenCall) (labels : List Label) (line index left' need most more : ℕ) →
       IsGivenCall k u line index need most more →
       nat_lt (length k.first.state.activations) most_activations ≡ false →
+      L.Does (setting_for k labels line most) need u.source → Does k labels (given_call u line) index left'
+  -- and so it does where its copy passes the limit on what is AUTOMATIC
+  pub full :
+      (k : Block) (u : GivenCall) (labels : List Label) (line index left' need most more : ℕ) →
+      IsGivenCall k u line index need most more → PassesLimit k.first u.callee →
       L.Does (setting_for k labels line most) need u.source → Does k labels (given_call u line) index left'

@@ -30,7 +30,8 @@ use Rattle.argument_runs.specs.Copies.{IsCopied}
 use Rattle.argument_runs.specs.CopyCalls.{CopyCall, Copying, copy_for}
 use Rattle.argument_runs.specs.CopyFunctions.{called_by, number_function, setting_in}
 use Rattle.given_calls.specs.Given.{AreBeside, body_index, given_block, given_code}
-use Rattle.given_calls.specs.GivenCalls.{GivenCall, IsDeclared, PassesNone, called_with, calling_of}
+use Rattle.given_calls.specs.GivenCalls.{GivenCall, IsDeclared, PassesLimit, PassesNone, called_with}
+use Rattle.given_calls.specs.GivenCalls.{calling_of}
 
 abbrev pub given_value : GivenCall → Y.Number
 given_value u = Y.NumberFrom (calling_of u)
@@ -105,4 +106,7 @@ pub record GivenFunctionsDo : Type 0 where
   pub ends :
       (k : Setting) (u : GivenCall) (need more : ℕ) → IsGivenValue k u more →
       nat_lt (length k.block.first.state.activations) most_activations ≡ false →
+      L.Does (setting_in k) need u.source → L.Does k need (given_value u)
+  pub full :
+      (k : Setting) (u : GivenCall) (need more : ℕ) → IsGivenValue k u more → PassesLimit k.block.first u.callee →
       L.Does (setting_in k) need u.source → L.Does k need (given_value u)
