@@ -1,5 +1,5 @@
 -- A call whose copy passes the limit on what is AUTOMATIC ends the run where it would be made.
-use Rattle.std.proofs.Common.{◌≡◌, ℕ, ℤ, ◌+◌, ◌%◌, ◌^◌, ◌<◌, ◌≤◌, List, [], ◌∷◌, ◌++◌, length, Option, None, Some, Bool}
+use Rattle.std.proofs.Common.{◌≡◌, ℕ, ℤ, ◌+◌, ◌%◌, ◌≤◌, List, [], ◌∷◌, ◌++◌, length, Option, None, Some, Bool}
 use Rattle.std.proofs.Common.{true, false, refl, sym, ap, ◌∙◌, subst, arith}
 use Rattle.std.specs.Prelude.{cond, nat_le, nat_lt, pos}
 use Rattle.rv_meaning.specs.Words.{word}
@@ -36,9 +36,7 @@ use Rattle.run_steps.proofs.Jumps.{back_of, front_of}
 use Rattle.run_steps.proofs.Linking.{size_append}
 use Rattle.run_steps.specs.Reach.{Comes, before}
 use Rattle.run_steps.proofs.Reach.{before_closed, onward}
-use Rattle.block_runs.specs.Beginnings.{IsBeginning}
 use Rattle.block_runs.specs.Bodies.{Function}
-use Rattle.block_runs.proofs.EmptyMeaning.{own_return}
 use Rattle.block_runs.proofs.Places.{bounds}
 use Rattle.program_runs.specs.Procedures.{IsCoded, block_of, frame_for}
 use Rattle.program_runs.specs.Statements.{Block, Does, IsAmong, size_in, statement_aims}
@@ -79,7 +77,7 @@ room_there {k} {u} z h o =
     subst (λ ls. frame_for w.parts ls x + fixed_size x.head.level 1 + 16 ≤ lower_end w.parts ls) h.space.newest
     h.space.room
 
-listing_among :
+pub listing_among :
     (g : Option Function) {k : Block} {u : GivenCall} {more : ℕ} {numbers : ℕ → ℕ} {p : Point} (z : ℤ) →
     IsDeclared k u more → IsAmong k numbers p → IsCoded u.callee.procedure u.callee.calling →
     nat_lt (length k.first.state.activations) most_activations ≡ true →
@@ -191,7 +189,7 @@ over_flow :
 over_flow true end k s next = refl
 over_flow false end k s next = refl
 
-finish_on :
+pub finish_on :
     (end : End) (k : ℕ) (s : State) (next : Unit {0} → Meaning (Unit {0})) →
     flow_on k (finish {R = Unit {0}} end k s) next ≡ finish end k s
 unfolding finish
@@ -232,7 +230,7 @@ left_finish :
 left_finish true end k s close = refl
 left_finish false end k s close = refl
 
-finish_left :
+pub finish_left :
     (end : End) (k : ℕ) (s : State) (close : State → State) →
     left true close (finish {R = Unit {0}} end k s) ≡ finish {R = Option BasicValue} end k s
 unfolding finish

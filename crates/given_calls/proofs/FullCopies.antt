@@ -1,33 +1,21 @@
 -- A copy that passes the limit on what is AUTOMATIC ends the run where it would be made, and so does a call with it.
-use Rattle.std.proofs.Common.{◌≡◌, ℕ, ℤ, suc, ◌+◌, ◌-◌, ◌*◌, ◌^◌, ◌<◌, ◌≤◌, List, [], ◌∷◌, ◌++◌, length, map, Option}
-use Rattle.std.proofs.Common.{None, Some, Bool, true, false, refl, sym, ap, ◌∙◌, subst, arith}
-use Rattle.std.specs.Prelude.{cond, nat_le, nat_lt, pos, ◌==◌}
+use Rattle.std.proofs.Common.{◌≡◌, ℕ, ◌+◌, ◌-◌, ◌^◌, ◌<◌, ◌≤◌, List, ◌∷◌, ◌++◌, length, map}
+use Rattle.std.proofs.Common.{true, false, refl, sym, ap, ◌∙◌, subst, arith}
+use Rattle.std.specs.Prelude.{cond, nat_le, pos, ◌==◌}
 use Rattle.rv_meaning.specs.declared.instr.BranchTest.TheVariants as Test
 use Rattle.rv_meaning.specs.declared.instr.Instr.{Instr}
 use Rattle.rv_meaning.specs.declared.instr.Instr.TheVariants as I
-use Rattle.rv_meaning.specs.Words.{word}
-use Rattle.pli_typing.specs.Signatures.{Fixed}
 use Rattle.pli_typing.specs.TypedTree as Y
 use Rattle.pli_meaning.specs.Contents.{footprint_of, fresh}
-use Rattle.pli_meaning.specs.Control as F
-use Rattle.pli_meaning.specs.Control.{Label, Meaning, Normal, choose, finish, flow_on, give, left, looked, stored, ◌>>=◌}
-use Rattle.pli_meaning.specs.Control.{◌>>◌}
-use Rattle.pli_meaning.specs.Executing as M
-use Rattle.pli_meaning.specs.Making as K
-use Rattle.pli_meaning.specs.Making.{plain, with_variable}
-use Rattle.pli_meaning.specs.Numbers.{is_of_precision}
-use Rattle.pli_meaning.specs.Raising.{at_line}
-use Rattle.pli_meaning.specs.StorageState.{State, automatic_in_use, most_activations, most_automatic, newest_ended}
-use Rattle.pli_meaning.specs.StorageState.{with_world}
+use Rattle.pli_meaning.specs.Control.{stored}
+use Rattle.pli_meaning.specs.StorageState.{automatic_in_use, most_automatic}
 use Rattle.pli_meaning.specs.World.{ending}
-use Rattle.pli_meaning.specs.declared.outcome.End.{End}
 use Rattle.pli_meaning.specs.declared.outcome.End.TheVariants as E
 use Rattle.pli_meaning.specs.declared.outcome.Limit.TheVariants as W
 use Rattle.pli_serving.specs.ActsAndEnds.{run_ended}
 use Rattle.pli_serving.specs.Answers as N
 use Rattle.pli_serving.specs.Answers.{Ends}
 use Rattle.pli_serving.specs.Arguments.{shape_of_number}
-use Rattle.pli_serving.specs.Blocks as B
 use Rattle.pli_serving.specs.InitialValues.{initial_values}
 use Rattle.pli_serving.specs.Making as G
 use Rattle.pli_serving.specs.Outcomes.{or_bad}
@@ -35,13 +23,11 @@ use Rattle.pli_serving.specs.ServiceState as S
 use Rattle.pli_coding.specs.Assembly.{Plain, size_of}
 use Rattle.pli_coding.specs.Entries.{arguments_copied}
 use Rattle.pli_coding.specs.Environments.{Environment}
-use Rattle.pli_coding.specs.Frames.{fixed_size}
 use Rattle.pli_coding.specs.Instructions.{number, skip_where}
 use Rattle.pli_coding.specs.Registers.{a1, u4, zero_register}
 use Rattle.storage_relation.specs.Served.{Holds}
 use Rattle.storage_relation.proofs.Changes.{limit_same}
 use Rattle.storage_relation.proofs.Holders.{eqb-other}
-use Rattle.activation_relation.specs.Frames.{lower_end}
 use Rattle.activation_relation.specs.Layers.{Layer, Point, activation_of, now, services_of}
 use Rattle.activation_relation.specs.Points.{Surroundings}
 use Rattle.run_steps.proofs.Bodies.{constant_piece, zero_is}
@@ -52,7 +38,7 @@ use Rattle.run_steps.specs.Items.{Linked}
 use Rattle.run_steps.proofs.Jumps.{back_of, first_of, front_of, rest_of, skip_passed}
 use Rattle.run_steps.proofs.Linking.{size_append}
 use Rattle.run_steps.specs.Reach.{Family, cost, reached}
-use Rattle.run_steps.proofs.Reach.{reach_then, reached_holds}
+use Rattle.run_steps.proofs.Reach.{reached_holds}
 use Rattle.run_steps.specs.Unlimited as U
 use Rattle.block_runs.specs.Machines.{IsIn}
 use Rattle.block_runs.proofs.BlockEntries.{word_fits, word_is}

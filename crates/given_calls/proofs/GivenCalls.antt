@@ -60,6 +60,7 @@ use Rattle.argument_runs.specs.CopyCalls.{HasRoomFor, beginning_of, called_of, c
 use Rattle.argument_runs.specs.CopyCalls.{is_value, listing_of, setting_for}
 use Rattle.argument_runs.specs.ListBeginnings.{IsListing}
 use Rattle.argument_runs.specs.Lists.{layered, list_under, named_waits, value_given}
+use Rattle.argument_runs.proofs.CopyBlocks.{Here}
 use Rattle.argument_runs.proofs.CopyCalls.{forgotten, in_forgotten}
 use Rattle.argument_runs.proofs.GivenLists.{with_list_stands}
 use Rattle.nested_calls.specs.Nested.{parent_code}
@@ -98,12 +99,11 @@ room_among {k} {u} {p = p} h none o =
           (sym (in_use_later w k.first p h.begun.resumes.stands o.stands o.later)) none.limit;
     }
 
-here_among :
+pub here_of :
     {k : Block} {u : GivenCall} {line index need most more : ℕ} {numbers : ℕ → ℕ} {p : Point} (z : ℤ) →
     is_of_precision 31 z ≡ true → IsGivenCall k u line index need most more → PassesNone k.first u.callee →
-    IsAmong k numbers p → AreBeside None (called_with k u p numbers z) u.made →
-    Entering None (called_with k u p numbers z) u.made (procedure_tail u.callee.procedure)
-here_among {k} {u} {numbers = numbers} {p = p} z wide h none o beside =
+    IsAmong k numbers p → Here None (called_with k u p numbers z)
+here_of {k} {u} {numbers = numbers} {p = p} z wide h none o =
     let c = u.callee in
     let x = c.procedure in
     let one = act_code x.head.line in
@@ -116,24 +116,32 @@ here_among {k} {u} {numbers = numbers} {p = p} z wide h none o beside =
     let l2 = rest_of (Mark (ReturnPlace x.head.number)) (end_of x) (back_of body tail l1) in
     let e = h.callee.end in
     record {
-      here = record {
-        stands = o.stands;
-        image = o.image;
-        few = o.few;
-        room = room_among h.declared none o;
-        wide = wide;
-        words = o.words;
-        each = h.declared.few;
-        small' = h.declared.small;
-        coded = h.callee.coded;
-        calls = h.callee.calls;
-        place = h.callee.place;
-        copied = h.callee.copied z;
-        behind = x.variables ++ (one ++ (body ++ tail));
-        begins = h.callee.stands;
-        ending = linked_at c.calling.end (end_of x) (omega (arith, e)) l2;
-        word = tt;
-      };
+      stands = o.stands;
+      image = o.image;
+      few = o.few;
+      room = room_among h.declared none o;
+      wide = wide;
+      words = o.words;
+      each = h.declared.few;
+      small' = h.declared.small;
+      coded = h.callee.coded;
+      calls = h.callee.calls;
+      place = h.callee.place;
+      copied = h.callee.copied z;
+      behind = x.variables ++ (one ++ (body ++ tail));
+      begins = h.callee.stands;
+      ending = linked_at c.calling.end (end_of x) (omega (arith, e)) l2;
+      word = tt;
+    }
+
+here_among :
+    {k : Block} {u : GivenCall} {line index need most more : ℕ} {numbers : ℕ → ℕ} {p : Point} (z : ℤ) →
+    is_of_precision 31 z ≡ true → IsGivenCall k u line index need most more → PassesNone k.first u.callee →
+    IsAmong k numbers p → AreBeside None (called_with k u p numbers z) u.made →
+    Entering None (called_with k u p numbers z) u.made (procedure_tail u.callee.procedure)
+here_among z wide h none o beside =
+    record {
+      here = here_of z wide h none o;
       beside = beside;
       kind = h.callee.kind;
       acts = h.callee.acts;

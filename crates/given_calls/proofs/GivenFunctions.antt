@@ -63,6 +63,7 @@ use Rattle.argument_runs.specs.CopyCalls.{listing_of}
 use Rattle.argument_runs.specs.CopyFunctions.{number_function, setting_in}
 use Rattle.argument_runs.specs.ListBeginnings.{IsListing}
 use Rattle.argument_runs.specs.Lists.{layered, list_under, named_waits, value_given}
+use Rattle.argument_runs.proofs.CopyBlocks.{Here}
 use Rattle.argument_runs.proofs.CopyCalls.{forgotten, in_forgotten}
 use Rattle.argument_runs.proofs.GivenLists.{with_list_stands}
 use Rattle.nested_calls.specs.Nested.{parent_code}
@@ -180,14 +181,12 @@ function_there k u call h =
       };
     }
 
-here_with :
+pub here_there :
     {k : Setting} {u : GivenCall} {more : ℕ} {numbers : ℕ → ℕ} {p : Point} (call : ℕ) (z : ℤ) →
     is_of_precision 31 z ≡ true → IsGivenValue k u more → PassesNone k.block.first u.callee →
-    IsAmong k.block numbers p →
-    Linked k.block.call.surroundings.links k.block.call.code call (last_of u) →
-    AreBeside (Some number_function) (value_with k u call p numbers z) u.made →
-    Entering (Some number_function) (value_with k u call p numbers z) u.made (function_tail u.callee.procedure)
-here_with {k} {u} {numbers = numbers} {p = p} call z wide h none o calls beside =
+    IsAmong k.block numbers p → Linked k.block.call.surroundings.links k.block.call.code call (last_of u) →
+    Here (Some number_function) (value_with k u call p numbers z)
+here_there {k} {u} {numbers = numbers} {p = p} call z wide h none o calls =
     let f = function_there k u call h.function in
     let c = u.callee in
     let x = c.procedure in
@@ -201,29 +200,41 @@ here_with {k} {u} {numbers = numbers} {p = p} call z wide h none o calls beside 
     let l2 = back_of body tail (back_of one (body ++ tail) l1) in
     let l3 = back_of lacks (Mark (ReturnPlace x.head.number) ∷ function_end x) l2 in
     let e = f.end in
-    let n = size_append lacks (Mark (ReturnPlace x.head.number) ∷ function_end x) in
     let inside = calls.inside in
     let small' = calls.small' in
     record {
-      here = record {
-        stands = o.stands;
-        image = o.image;
-        few = o.few;
-        room = room_among (declared_there call h.declared) (passes_there k.block.first u call none) o;
-        wide = wide;
-        words = o.words;
-        each = h.declared.few;
-        small' = h.declared.small;
-        coded = record { level = f.level; line = f.line; saved = f.saved; back = omega (arith, inside, small') };
-        calls = calls;
-        place = f.place;
-        copied = f.copied z;
-        behind = x.variables ++ (one ++ (body ++ tail));
-        begins = f.stands;
-        ending = linked_at c.calling.end (function_end x) (omega (arith, e))
-            (rest_of (Mark (ReturnPlace x.head.number)) (function_end x) l3);
-        word = (refl, omega arith);
-      };
+      stands = o.stands;
+      image = o.image;
+      few = o.few;
+      room = room_among (declared_there call h.declared) (passes_there k.block.first u call none) o;
+      wide = wide;
+      words = o.words;
+      each = h.declared.few;
+      small' = h.declared.small;
+      coded = record { level = f.level; line = f.line; saved = f.saved; back = omega (arith, inside, small') };
+      calls = calls;
+      place = f.place;
+      copied = f.copied z;
+      behind = x.variables ++ (one ++ (body ++ tail));
+      begins = f.stands;
+      ending = linked_at c.calling.end (function_end x) (omega (arith, e))
+          (rest_of (Mark (ReturnPlace x.head.number)) (function_end x) l3);
+      word = (refl, omega arith);
+    }
+
+here_with :
+    {k : Setting} {u : GivenCall} {more : ℕ} {numbers : ℕ → ℕ} {p : Point} (call : ℕ) (z : ℤ) →
+    is_of_precision 31 z ≡ true → IsGivenValue k u more → PassesNone k.block.first u.callee →
+    IsAmong k.block numbers p →
+    Linked k.block.call.surroundings.links k.block.call.code call (last_of u) →
+    AreBeside (Some number_function) (value_with k u call p numbers z) u.made →
+    Entering (Some number_function) (value_with k u call p numbers z) u.made (function_tail u.callee.procedure)
+here_with {k} {u} call z wide h none o calls beside =
+    let f = function_there k u call h.function in
+    let x = u.callee.procedure in
+    let n = size_append (no_value x.head.line) (Mark (ReturnPlace x.head.number) ∷ function_end x) in
+    record {
+      here = here_there call z wide h none o calls;
       beside = beside;
       kind = f.kind;
       acts = f.acts;

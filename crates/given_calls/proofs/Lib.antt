@@ -7,3 +7,4 @@ pub mod DeepCalls
 pub mod GivenKnown
 pub mod FullCopies
 pub mod FullCalls
+pub mod FullBeside

@@ -4,10 +4,12 @@ use Rattle.std.specs.Prelude.{ℕ, ℤ, ◌+◌, ◌*◌, ◌^◌, ◌<◌, ◌�
 use Rattle.rv_meaning.specs.declared.instr.Instr.{Instr}
 use Rattle.pli_language.specs.declared.condition.Condition.{Condition}
 use Rattle.pli_typing.specs.TypedTree as Y
-use Rattle.pli_meaning.specs.Control.{Normal}
+use Rattle.pli_meaning.specs.Control.{Normal, finish}
 use Rattle.pli_meaning.specs.Executing.{block_variables_made}
 use Rattle.pli_meaning.specs.Raising.{at_line}
-use Rattle.pli_meaning.specs.StorageState.{Activation, OnUnit, binding_in}
+use Rattle.pli_meaning.specs.StorageState.{Activation, OnUnit, State, binding_in}
+use Rattle.pli_meaning.specs.declared.outcome.End.TheVariants as E
+use Rattle.pli_meaning.specs.declared.outcome.Limit.TheVariants as L
 use Rattle.pli_coding.specs.Allocating.{act_code}
 use Rattle.pli_coding.specs.Assembly.{CallTo, Code, Mark, ProcedureEntry, ReturnPlace, size_of}
 use Rattle.pli_coding.specs.Entries.{arguments_copied}
@@ -19,7 +21,7 @@ use Rattle.activation_relation.specs.Layers.{Point, services_of}
 use Rattle.activation_relation.specs.Points.{Stands, Surroundings}
 use Rattle.activation_relation.specs.Remaining.{Remains}
 use Rattle.run_steps.specs.Items.{Linked}
-use Rattle.run_steps.specs.Reach.{Family, Reach}
+use Rattle.run_steps.specs.Reach.{Family, Reach, cost}
 use Rattle.block_runs.specs.Bodies.{Function}
 use Rattle.block_runs.specs.Machines.{AreIn, IsImage, IsIn, acted}
 use Rattle.program_runs.specs.Procedures.{IsCoded, Procedure, end_of}
@@ -29,6 +31,7 @@ use Rattle.argument_runs.specs.Copies.{IsCopied}
 use Rattle.argument_runs.specs.CopyCalls.{CopyCall, Copying, called_of, copied_point, copies_index, copy_for}
 use Rattle.argument_runs.specs.CopyCalls.{listing_of, named_point}
 use Rattle.argument_runs.specs.Parameters.{parameter_binding}
+use Rattle.nested_calls.specs.FullVariables.{Over}
 
 -- ---- its code
 
@@ -114,6 +117,21 @@ pub record AreBeside (g : Option Function) (y : CopyCall) (made : Point → Poin
   -- what lived where the copy has been made lives on, and an act pays for the serials, the copy's too
   pub remains : Stands y.surroundings (copied_point g y) → Remains (copied_point g y) (made (copied_point g y))
   pub few : (made (copied_point g y)).state.serials ≤ y.point.state.serials + y.surroundings.serials
+
+-- or they pass the limit on what is AUTOMATIC: the run ends where the first of them that does would be made
+pub record AreFullBeside (g : Option Function) (y : CopyCall) : Type 0 where
+  pub state : State
+  pub means :
+      block_variables_made (at_line y.callee.around y.callee.procedure.head.line) y.callee.procedure.head
+      y.callee.procedure.head.kind y.surroundings.acts (copied_point g y).state
+      ≡ finish (E.Limit L.Automatic) y.surroundings.acts state
+  pub ends :
+      (credits : ℕ) (f : Family) →
+      Stands y.surroundings (copied_point g y) × IsImage y.surroundings y.code (copied_point g y) →
+      credits + size_of y.callee.procedure.variables ≤ cost y.code →
+      Linked y.surroundings.links y.code (variables_index y.callee) y.callee.procedure.variables →
+      AreIn y.surroundings (copied_point g y) y.numbers (variables_index y.callee) f →
+      Over y.code credits f (services_of (copied_point g y)) (E.Limit L.Automatic) state
 
 -- one that declares nothing beside its parameter makes nothing
 abbrev pub NoneBeside : Type 0

@@ -28,7 +28,7 @@ use Rattle.expression_runs.specs.Laws as L
 use Rattle.argument_runs.specs.Copies.{copy_generation}
 use Rattle.argument_runs.specs.CopyCalls.{CopyCall, Copying, call_at, copy_for, setting_for}
 use Rattle.nested_calls.specs.Nested.{IsNested, parent_at}
-use Rattle.given_calls.specs.Given.{AreBeside, IsGiven, body_index, given_block}
+use Rattle.given_calls.specs.Given.{AreBeside, AreFullBeside, IsGiven, body_index, given_block}
 
 -- ---- what is called
 
@@ -140,3 +140,10 @@ pub record GivenCallsDo : Type 0 where
       (k : Block) (u : GivenCall) (labels : List Label) (line index left' need most more : ℕ) →
       IsGivenCall k u line index need most more → PassesLimit k.first u.callee →
       L.Does (setting_for k labels line most) need u.source → Does k labels (given_call u line) index left'
+  -- or the variables beside it do
+  pub beside :
+      (k : Block) (u : GivenCall) (labels : List Label) (line index left' need most more : ℕ) →
+      IsGivenCall k u line index need most more → PassesNone k.first u.callee →
+      L.Does (setting_for k labels line most) need u.source →
+      ((p : Point) (numbers : ℕ → ℕ) (z : ℤ) → IsAmong k numbers p → is_of_precision 31 z ≡ true →
+      AreFullBeside None (called_with k u p numbers z)) → Does k labels (given_call u line) index left'

@@ -29,7 +29,7 @@ use Rattle.function_runs.specs.Functions.{function_tail}
 use Rattle.argument_runs.specs.Copies.{IsCopied}
 use Rattle.argument_runs.specs.CopyCalls.{CopyCall, Copying, copy_for}
 use Rattle.argument_runs.specs.CopyFunctions.{called_by, number_function, setting_in}
-use Rattle.given_calls.specs.Given.{AreBeside, body_index, given_block, given_code}
+use Rattle.given_calls.specs.Given.{AreBeside, AreFullBeside, body_index, given_block, given_code}
 use Rattle.given_calls.specs.GivenCalls.{GivenCall, IsDeclared, PassesLimit, PassesNone, called_with}
 use Rattle.given_calls.specs.GivenCalls.{calling_of}
 
@@ -110,3 +110,8 @@ pub record GivenFunctionsDo : Type 0 where
   pub full :
       (k : Setting) (u : GivenCall) (need more : ℕ) → IsGivenValue k u more → PassesLimit k.block.first u.callee →
       L.Does (setting_in k) need u.source → L.Does k need (given_value u)
+  pub beside :
+      (k : Setting) (u : GivenCall) (need more : ℕ) → IsGivenValue k u more → PassesNone k.block.first u.callee →
+      L.Does (setting_in k) need u.source →
+      ((call : ℕ) (p : Point) (numbers : ℕ → ℕ) (z : ℤ) → IsAmong k.block numbers p → is_of_precision 31 z ≡ true →
+      AreFullBeside (Some number_function) (value_with k u call p numbers z)) → L.Does k need (given_value u)
