@@ -130,7 +130,8 @@ deep_call_ends k u labels line index left' need most more h many ev =
     (statement_aims k labels acts (index + size_in k (given_call u line)) wanted left') w.acts behind_call))
     (sym (deep_means u.callee.around x.head x.body (entry_of None y) w.acts p.state
     (subst (λ xs. nat_lt (length xs) most_activations ≡ false) (sym o.later.activations) many)))
-    (deep_list_comes {list = list_under u.layer.at} {n = 0} closed credits u.callee.calling.call u.callee.calling.entry g
+    (deep_list_comes {list = list_under u.layer.at} {n = 0} closed credits u.callee.calling.call
+    u.callee.calling.entry g
     (deep_among None z h.declared o h.callee.coded many)
     (record {
       calls = h.callee.calls;

@@ -7,8 +7,8 @@ use Rattle.pli_typing.specs.Signatures.{Fixed}
 use Rattle.pli_meaning.specs.BasicValues.{BasicValue}
 use Rattle.pli_meaning.specs.Contents.{footprint_of}
 use Rattle.pli_meaning.specs.Control as F
-use Rattle.pli_meaning.specs.Control.{Label, Meaning, Normal, choose, finish, flow_on, give, left, looked, stored, ◌>>=◌}
-use Rattle.pli_meaning.specs.Control.{◌>>◌}
+use Rattle.pli_meaning.specs.Control.{Label, Meaning, Normal, choose, finish, flow_on, give, left, looked, stored}
+use Rattle.pli_meaning.specs.Control.{◌>>=◌, ◌>>◌}
 use Rattle.pli_meaning.specs.Executing as M
 use Rattle.pli_meaning.specs.Making as K
 use Rattle.pli_meaning.specs.Making.{plain, with_variable}
@@ -46,8 +46,8 @@ use Rattle.expression_runs.specs.Values.{Setting, number_aims}
 use Rattle.expression_runs.proofs.Words.{number_closed}
 use Rattle.function_runs.specs.Functions.{function_tail}
 use Rattle.argument_runs.specs.Copies.{copy_generation}
-use Rattle.argument_runs.specs.CopyCalls.{CopyCall, beginning_of, copies_index, copy_for, copy_in, entry_of, given_point}
-use Rattle.argument_runs.specs.CopyCalls.{giving_of, layer_of, listed_layer, listing_of, setting_for}
+use Rattle.argument_runs.specs.CopyCalls.{CopyCall, beginning_of, copies_index, copy_for, copy_in, entry_of}
+use Rattle.argument_runs.specs.CopyCalls.{given_point, giving_of, layer_of, listed_layer, listing_of, setting_for}
 use Rattle.argument_runs.specs.CopyFunctions.{number_function, setting_in}
 use Rattle.argument_runs.specs.ListBeginnings.{Listing}
 use Rattle.argument_runs.specs.ListCalls.{entered_point}
@@ -261,7 +261,7 @@ full_call_ends k u labels line index left' need most more h full ev =
     let c = u.callee in
     let x = c.procedure in
     let rest = x.variables
-        ++ (act_code x.head.line ++ (stmts_code c.environment none_taken x.body ++ procedure_tail x)) in
+    ++ (act_code x.head.line ++ (stmts_code c.environment none_taken x.body ++ procedure_tail x)) in
     let copies = arguments_copied c.environment (0 ∷ []) in
     let n = size_append (listing_of x) (copies ++ rest) in
     let n1 = size_append copies rest in
@@ -304,7 +304,7 @@ full_function_ends k u need more h full ev =
     let c = u.callee in
     let s = c.procedure in
     let rest = s.variables
-        ++ (act_code s.head.line ++ (stmts_code c.environment none_taken s.body ++ function_tail s)) in
+    ++ (act_code s.head.line ++ (stmts_code c.environment none_taken s.body ++ function_tail s)) in
     let copies = arguments_copied c.environment (0 ∷ []) in
     let n = size_append (listing_of s) (copies ++ rest) in
     let n1 = size_append copies rest in
@@ -331,5 +331,6 @@ full_function_ends k u need more h full ev =
     (λ g' at'.
     over_comes (E.Limit W.Automatic) w.acts (entered_point (giving_of (Some number_function) y)).state
     (copy_ends (credits + 2 + size_of (listing_of s)) (copies_index c) g'
-    (around_among (Some number_function) {u = v} z wide d o l) many (f.copied z) (omega (arith, paid, most, n, n1), f.acts)
+    (around_among (Some number_function) {u = v} z wide d o l) many (f.copied z)
+    (omega (arith, paid, most, n, n1), f.acts)
     (front_of copies rest (back_of (listing_of s) (copies ++ rest) f.stands)) at'))))

@@ -424,7 +424,8 @@ given_goes {k} {u} call c' f' v' z s x y h enters wide q same l at paid =
 
 pub given_function_comes :
     (k : Setting) (u : GivenCall) (need more : ℕ) → IsGivenValue k u more → L.Does (setting_in k) need u.source →
-    ((call : ℕ) (x : Stretch) (z : ℤ) → is_of_precision 31 z ≡ true → Enters k u call x z) → L.Does k need (given_value u)
+    ((call : ℕ) (x : Stretch) (z : ℤ) → is_of_precision 31 z ≡ true → Enters k u call x z) →
+    L.Does k need (given_value u)
 unfolding V.number V.called V.arguments V.argument V.stored_value V.all_passed_last V.passed_last give ◌>>=◌
 given_function_comes k u need more h ev enters p numbers taken credits index f o line registers l paid there =
     let w = k.block.call.surroundings in

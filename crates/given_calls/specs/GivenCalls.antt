@@ -70,16 +70,20 @@ pub record HasSpace (w : Surroundings) (p : Point) (c : Copying) (φ : Layer) (�
   pub shape : shape_at p.places.signatures c.number ≡ Some (plain (Fixed 31))
   pub number : c.number < 2 ^ 31
 
--- one more block may be active, and the copy passes no limit on what is AUTOMATIC
+-- one more block may be active
+abbrev pub IsShallow : Point → Type 0
+IsShallow p = nat_lt (length p.state.activations) most_activations ≡ true
+
+-- it may, and the copy passes no limit on what is AUTOMATIC
 pub record PassesNone (p : Point) (c : Copying) : Type 0 where
-  pub shallow : nat_lt (length p.state.activations) most_activations ≡ true
+  pub shallow : IsShallow p
   pub limit :
       nat_le (automatic_in_use p.state.living + footprint_of (copy_generation (copy_for c (pos 0)))) most_automatic
       ≡ true
 
--- one more may be active, but the copy passes the limit on what is AUTOMATIC
+-- one more block may be active, but the copy passes the limit on what is AUTOMATIC
 pub record PassesLimit (p : Point) (c : Copying) : Type 0 where
-  pub shallow : nat_lt (length p.state.activations) most_activations ≡ true
+  pub shallow : IsShallow p
   pub limit :
       nat_le (automatic_in_use p.state.living + footprint_of (copy_generation (copy_for c (pos 0)))) most_automatic
       ≡ false

@@ -5,4 +5,10 @@ use Rattle.given_calls.proofs.GivenCalls.{given_call_does}
 use Rattle.given_calls.proofs.laws.given_calls_do.Goals as goal
 
 pub returns : goal.returns
-returns c = record { does = given_call_does; ends = deep_call_ends; full = full_call_ends; beside = beside_call_ends }
+returns c =
+    record {
+      does = given_call_does;
+      ends = deep_call_ends;
+      full = full_call_ends;
+      beside = beside_call_ends;
+    }
