@@ -337,14 +337,14 @@ double_is waits input acts few b =
 
 turn_each :
     (waits : ℕ → Option ℕ) (input : List ℕ) (acts : ℕ) → acts + 1 < 2 ^ 64 → IsBegun (count_block input acts) →
-    TurnDoes (told waits input acts) [] count_turn turn_index left_over
+    TurnDoes 0 (told waits input acts) [] count_turn turn_index left_over
 turn_each waits input acts few b =
     let k = told waits input acts in
     let five = setting_of k [] 5 100 in
     let number = number_told (count_block input acts) (main_layer input acts) [] waits refl count_spot
     (count_number input acts b) in
     let operand = variable_does five count_spot (told_begun waits input acts b) number in
-    turn_does k [] count_turn turn_index left_over refl
+    turn_does 0 k [] count_turn turn_index left_over
     (record {
       begun = told_begun waits input acts b;
       turns = omega arith;
@@ -358,7 +358,7 @@ turn_each waits input acts few b =
 
 loop_is :
     (input : List ℕ) (acts : ℕ) → acts + 1 < 2 ^ 64 → IsBegun (count_block input acts) →
-    IsCount (count_block input acts) counting (main_layer input acts) [] loop_index 1 100
+    IsCount 0 (count_block input acts) counting (main_layer input acts) [] loop_index 1 100
 loop_is input acts few b =
     let n = linked_length (links_of count_code) 0 count_code in
     record {
@@ -366,7 +366,8 @@ loop_is input acts few b =
       begun = b;
       turns = omega arith;
       newest = refl;
-      words = omega arith;
+      inside = omega arith;
+      low = omega arith;
       free = (refl, refl);
       step = up_step 1 (omega arith);
       some = omega arith;
@@ -385,11 +386,11 @@ count_each input acts few b =
       assign_does k [] count_spot (Y.NumberConstant 268435456) 3 count_start left_over 0 100
           (first_is input acts few b) (constant_does (setting_of k [] 3 100) 268435456 (omega arith)),
       (
-        count_does k counting φ [] [] loop_index left_over 1 100 (loop_is input acts few b)
+        count_does 0 k counting φ [] [] loop_index left_over 1 100 (loop_is input acts few b)
             (does_more (setting_with k [] 4 100 3) 0 1 (Y.NumberConstant 1) (omega arith)
             (constant_does (setting_with k [] 4 100 3) 1 (omega arith)))
-            (λ z wide. does_more (setting_with (starting φ [] k z) [] 4 100 3) 0 1 (Y.NumberConstant 3) (omega arith)
-            (constant_does (setting_with (starting φ [] k z) [] 4 100 3) 3 (omega arith)))
+            (λ z wide. does_more (setting_with (starting 0 φ [] k z) [] 4 100 3) 0 1 (Y.NumberConstant 3) (omega arith)
+            (constant_does (setting_with (starting 0 φ [] k z) [] 4 100 3) 3 (omega arith)))
             (λ y wide. let waits = with_word 0 (word y) φ.waits in
             number_counts (setting_with (told waits input acts) [] 4 100 2) counter_spot 1
             (told_begun waits input acts b)

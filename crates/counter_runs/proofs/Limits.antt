@@ -1,5 +1,5 @@
 -- The test of a limit that waits in a word of the frame: the value in a0 has passed it, or not.
-use Rattle.std.proofs.Common.{◌≡◌, ℕ, ◌+◌, ◌<◌, ◌≤◌, List, [], ◌∷◌, length, Some, Bool, true, false}
+use Rattle.std.proofs.Common.{◌≡◌, ℕ, ◌+◌, ◌^◌, ◌<◌, ◌≤◌, List, [], ◌∷◌, length, Some, Bool, true, false}
 use Rattle.std.proofs.Common.{refl, sym, ap, ◌∙◌, subst, arith}
 use Rattle.std.proofs.lemmas.Bool.Decides.{nat_tests}
 use Rattle.std.proofs.lemmas.Int.{ints}
@@ -12,8 +12,8 @@ use Rattle.pli_meaning.specs.Control.{Meaning, choose}
 use Rattle.pli_meaning.specs.Executing.{has_not_passed}
 use Rattle.pli_meaning.specs.StorageState.{State}
 use Rattle.pli_coding.specs.Assembly.{JumpAhead, size_of}
-use Rattle.pli_coding.specs.Environments.{none_taken}
-use Rattle.pli_coding.specs.Instructions.{load_word, skip_where}
+use Rattle.pli_coding.specs.Frames.{words_place}
+use Rattle.pli_coding.specs.Instructions.{load_word, skip_where, store_word}
 use Rattle.pli_coding.specs.Linking.{Links}
 use Rattle.pli_coding.specs.Registers.{a0, frame_register, u1}
 use Rattle.pli_coding.specs.Statements.{limit_place, limit_tested, passed, start_place}
@@ -31,37 +31,42 @@ use Rattle.run_steps.specs.Temporaries.{nothing}
 use Rattle.pli_headline.proofs.WordProducts.{signed_word}
 use Rattle.block_runs.proofs.Places.{IsFrame}
 use Rattle.block_runs.proofs.PointGrounds.{point_ground}
+use Rattle.run_steps.proofs.Linking.{size_append}
+use Rattle.program_runs.specs.Statements.{set_aside}
 use Rattle.expression_runs.proofs.Words.{valued}
 use Rattle.argument_runs.specs.Lists.{layered}
 use Rattle.counter_runs.proofs.Words.{WordAt, word_back}
 
 -- ---- where limit and start stand
 
-pub limit_at : (φ : Layer) → IsFrame φ.at → WordAt (limit_place none_taken) 0 φ
-limit_at φ h =
+pub word_at : (φ : Layer) (n : ℕ) → IsFrame φ.at → n < 2 ^ 16 → WordAt (words_place n 1) n φ
+word_at φ n h low =
     let whole = h.whole in
     let high = h.high in
     let room = h.room in
     record {
-      small' = omega (arith, ints);
-      sums = λ b. let v = b.valid.1 in omega (arith, ints, high, room, v);
-      aligned = omega (arith, whole, high);
+      small' = omega (arith, ints, low);
+      sums = λ b. let v = b.valid.1 in omega (arith, ints, high, room, v, low);
+      aligned = omega (arith, whole, high, low);
       inside = omega (arith, room);
-      above_code = omega (arith, high);
+      above_code = omega (arith, high, low);
     }
 
-pub start_at : (φ : Layer) → IsFrame φ.at → WordAt (start_place none_taken) 2 φ
-start_at φ h =
-    let whole = h.whole in
-    let high = h.high in
-    let room = h.room in
-    record {
-      small' = omega (arith, ints);
-      sums = λ b. let v = b.valid.1 in omega (arith, ints, high, room, v);
-      aligned = omega (arith, whole, high);
-      inside = omega (arith, room);
-      above_code = omega (arith, high);
-    }
+-- how long the code is that stores and loads them
+abbrev pub limit_stores : (words : ℕ) → ℕ
+limit_stores words = size_of (store_word frame_register a0 (limit_place (set_aside words)))
+
+abbrev pub limit_loads : (words : ℕ) → ℕ
+limit_loads words = size_of (load_word u1 frame_register (limit_place (set_aside words)))
+
+abbrev pub start_stores : (words : ℕ) → ℕ
+start_stores words = size_of (store_word frame_register a0 (start_place (set_aside words)))
+
+abbrev pub start_loads : (words : ℕ) → ℕ
+start_loads words = size_of (load_word a0 frame_register (start_place (set_aside words)))
+
+abbrev pub test_length : (words : ℕ) → ℕ
+test_length words = limit_loads words + 3
 
 -- ---- orders
 
@@ -163,38 +168,46 @@ passed_size false behind = refl
 
 -- ---- the value in a0 against the limit in its word
 
-pub limit_size : (by behind : _) → size_of (limit_tested none_taken (Some by) behind) ≡ 4
-limit_size by behind = ap (λ n. 1 + n) (passed_size (int_lt by (pos 0)) behind)
+pub limit_size :
+    (words : ℕ) (by : ℤ) (behind : ℕ) →
+    size_of (limit_tested (set_aside words) (Some by) behind) ≡ test_length words
+limit_size words by behind =
+    let a = load_word u1 frame_register (limit_place (set_aside words)) in
+    size_append a (passed (int_lt by (pos 0)) behind)
+    ∙ ap (λ n. size_of a + n) (passed_size (int_lt by (pos 0)) behind)
 
 pub limit_does :
-    (w : Surroundings) (code : List Instr) (p : Point) (φ : Layer) (φs : List Layer) {numbers : ℕ → ℕ} {index : ℕ}
+    (words : ℕ) → words < 2 ^ 16 → (w : Surroundings) (code : List Instr) (p : Point) (φ : Layer)
+    (φs : List Layer) {numbers : ℕ → ℕ} {index : ℕ}
     {aims : Aims (Unit {0})} (closed : Closed code aims) (c : ℕ) (f : Family) (h : IsFrame φ.at)
     (limit by z : ℤ) (behind : ℕ) (s : State) (k : ℕ) (one other : Meaning (Unit {0})) →
-    IsWide limit × IsWide z → (0 < φ.words) × (φ.waits 0 ≡ Some (word limit)) →
-    Linked w.links code index (limit_tested none_taken (Some by) behind) → index + 4 + behind ≤ length code →
+    IsWide limit × IsWide z → (words < φ.words) × (φ.waits words ≡ Some (word limit)) →
+    Linked w.links code index (limit_tested (set_aside words) (Some by) behind) → index + test_length words + behind
+    ≤ length code →
     ((b : Base) → At b index (Known (point_ground w (layered (φ ∷ φs) p) h) (services_of (layered (φ ∷ φs) p)) numbers
     (λ j. 0) (valued (word z)) b) (f b)) →
-    ((g : Family) → ((b : Base) → At b (index + 4) (Known (point_ground w (layered (φ ∷ φs) p) h)
+    ((g : Family) → ((b : Base) → At b (index + test_length words) (Known (point_ground w (layered (φ ∷ φs) p) h)
     (services_of (layered (φ ∷ φs) p)) numbers (λ j. 0) nothing b) (g b)) →
-    Comes code (c + 4) g (services_of (layered (φ ∷ φs) p)) aims (one k s)) →
-    ((g : Family) → ((b : Base) → At b (index + 4 + behind) (Known (point_ground w (layered (φ ∷ φs) p) h)
-    (services_of (layered (φ ∷ φs) p)) numbers (λ j. 0) nothing b) (g b)) →
-    Comes code (c + 4 + behind) g (services_of (layered (φ ∷ φs) p)) aims (other k s)) →
+    Comes code (c + test_length words) g (services_of (layered (φ ∷ φs) p)) aims (one k s)) →
+    ((g : Family) → ((b : Base) → At b (index + test_length words + behind) (Known (point_ground w
+    (layered (φ ∷ φs) p) h) (services_of (layered (φ ∷ φs) p)) numbers (λ j. 0) nothing b) (g b)) →
+    Comes code (c + test_length words + behind) g (services_of (layered (φ ∷ φs) p)) aims (other k s)) →
     Comes code c f (services_of (layered (φ ∷ φs) p)) aims (choose (has_not_passed limit by z) one other k s)
-limit_does w code p φ φs {numbers} {index} {aims} closed c f h limit by z behind s k one other wide told l inside at
-    within past' =
+limit_does words low w code p φ φs {numbers} {index} {aims} closed c f h limit by z behind s k one other wide told l
+    inside at within past' =
     let v = services_of (layered (φ ∷ φs) p) in
     let falls = int_lt by (pos 0) in
-    let a = load_word u1 frame_register (limit_place none_taken) in
+    let a = load_word u1 frame_register (limit_place (set_aside words)) in
     let last = passed falls behind in
     onward closed
-    (word_back w code p φ φs (limit_place none_taken) 0 (word limit) c f u1 h told (limit_at φ h)
+    (word_back w code p φ φs (limit_place (set_aside words)) words (word limit) c f u1 h told (word_at φ words h low)
     (record { reserved_stay = λ y u. refl; known_stay = λ b y u o. o; set = λ y u. refl })
     (record { reserved_stay = λ y u. refl; known_stay = λ b y u o. o; set = λ y u. refl }) (front_of a last l) at)
     (λ f1 at1.
-    subst (λ q. Comes code (c + 1) f1 v aims (choose q one other k s)) (sym (not_passed falls limit by z refl))
-    (by_direction s k one other falls closed (c + 1) f1 limit z behind wide.0 wide.1 (omega (arith, inside))
-    (back_of a last l) at1
+    subst (λ q. Comes code (c + limit_loads words) f1 v aims (choose q one other k s))
+    (sym (not_passed falls limit by z refl))
+    (by_direction s k one other falls closed (c + limit_loads words) f1 limit z behind wide.0 wide.1
+    (omega (arith, inside)) (back_of a last l) at1
     (λ f2 at2. subst (λ n. Comes code n f2 v aims (one k s)) (omega arith)
     (within f2 (λ b. record { pc = (at2 b).pc ∙ ap (address b) (omega arith); holds = (at2 b).holds })))
     (λ f2 at2. subst (λ n. Comes code n f2 v aims (other k s)) (omega arith)

@@ -136,14 +136,14 @@ turn_linked =
 turn_each :
     (waits : ℕ → Option ℕ) (input : List ℕ) (more : ℕ) → suc more + 1 < 2 ^ 64 →
     IsBegun (behind_block input (suc more)) →
-    TurnDoes (told waits input (suc more)) [] tally_turn turn_index left_over
+    TurnDoes 0 (told waits input (suc more)) [] tally_turn turn_index left_over
 turn_each waits input more few b =
     let k = told waits input (suc more) in
     let eight = main_setting waits input more 8 0 in
     let n = linked_length (links_of tally_code) 0 tally_code in
     let operand = variable_does eight tally_spot (told_begun waits input (suc more) b)
     (told_number waits input (suc more)) in
-    turn_does k [] tally_turn turn_index left_over refl
+    turn_does 0 k [] tally_turn turn_index left_over
     (record {
       begun = told_begun waits input (suc more) b;
       turns = omega arith;
@@ -184,13 +184,14 @@ loop_does input (suc more) few b =
     let k = behind_block input (suc more) in
     let φ = main_layer input (suc more) in
     let n = linked_length (links_of tally_code) 0 tally_code in
-    count_does k tallying φ [] [] loop_index left_over 2 400
+    count_does 0 k tallying φ [] [] loop_index left_over 2 400
     (record {
       act = record { line_fits = omega arith; acts = few };
       begun = b;
       turns = omega arith;
       newest = refl;
-      words = omega arith;
+      inside = omega arith;
+      low = omega arith;
       free = (refl, refl);
       step = up_step 1 (omega arith);
       some = omega arith;
@@ -201,8 +202,8 @@ loop_does input (suc more) few b =
     })
     (does_more (setting_with k [] 7 400 3) 0 2 (Y.NumberConstant 1) (omega arith)
     (constant_does (setting_with k [] 7 400 3) 1 (omega arith)))
-    (λ z wide. does_more (setting_with (starting φ [] k z) [] 7 400 3) 0 2 (Y.NumberConstant 3) (omega arith)
-    (constant_does (setting_with (starting φ [] k z) [] 7 400 3) 3 (omega arith)))
+    (λ z wide. does_more (setting_with (starting 0 φ [] k z) [] 7 400 3) 0 2 (Y.NumberConstant 3) (omega arith)
+    (constant_does (setting_with (starting 0 φ [] k z) [] 7 400 3) 3 (omega arith)))
     (λ y wide. counter_is (with_word 0 (word y) φ.waits) input more few b)
     (λ y wide. main_over (with_word 0 (word y) φ.waits) input more 7 2 few b)
     (λ y wide. turn_each (with_word 0 (word y) φ.waits) input more few b)

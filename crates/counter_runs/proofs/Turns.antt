@@ -1,6 +1,7 @@
 -- The turns of a DO that counts: each makes an act, so the turns that the meaning allows are enough.
 use Rattle.std.proofs.Common.{◌≡◌, ℕ, zero, suc, ◌+◌, ◌<◌, ◌≤◌, List, [], ◌∷◌, ◌++◌, None, Option, Some, Bool, true}
 use Rattle.std.proofs.Common.{false, refl, sym, ap, ◌∙◌, subst, arith}
+use Rattle.std.proofs.lemmas.Bool.{eq-eqb}
 use Rattle.std.proofs.lemmas.Bool.Decides.{nat_tests}
 use Rattle.std.specs.Prelude.{ℤ, cond, ◌+ℤ◌, ◌==◌}
 use Rattle.rv_meaning.specs.declared.instr.Instr.{Instr}
@@ -20,7 +21,6 @@ use Rattle.pli_serving.specs.ServiceState.{Services}
 use Rattle.pli_coding.specs.Allocating.{act_code}
 use Rattle.pli_coding.specs.Arithmetic.{constant_added}
 use Rattle.pli_coding.specs.Assembly.{Code, JumpBack, size_of}
-use Rattle.pli_coding.specs.Environments.{none_taken}
 use Rattle.pli_coding.specs.Expressions.{number_code}
 use Rattle.pli_coding.specs.Instructions.{number, service, small}
 use Rattle.pli_coding.specs.Registers.{a0, a1}
@@ -45,7 +45,7 @@ use Rattle.block_runs.proofs.CallStatements.{comes_map}
 use Rattle.block_runs.proofs.PointActs.{act_comes}
 use Rattle.block_runs.proofs.PointGrounds.{in_known, point_frame}
 use Rattle.pli_headline.proofs.Loops.{back_piece}
-use Rattle.program_runs.specs.Statements.{Block, IsAmong, JumpsTo, size_in, statement_aims}
+use Rattle.program_runs.specs.Statements.{Block, IsAmong, JumpsTo, set_aside, size_with, statement_aims}
 use Rattle.program_runs.proofs.JumpsOut.{jumps_repaid, jumps_since, returns_repaid}
 use Rattle.program_runs.proofs.Statements.{acted_among}
 use Rattle.expression_runs.specs.Values.{HasWord, OverflowComes, Setting, Stretch, behind, in_registers, number_aims}
@@ -58,13 +58,14 @@ use Rattle.counter_runs.specs.Counts.{Counting, IsCount, TurnDoes, body_index, c
 use Rattle.counter_runs.specs.Counts.{IsStep, value_of_start}
 use Rattle.counter_runs.specs.Counts.{turn_in, turning, turns_index}
 use Rattle.counter_runs.specs.Words.{with_word}
-use Rattle.counter_runs.proofs.Limits.{limit_does, limit_size}
+use Rattle.counter_runs.proofs.Limits.{limit_does, limit_size, test_length}
 use Rattle.counter_runs.proofs.Steps.{added_does, line_reaches, line_size, lined_among}
 use Rattle.counter_runs.proofs.Words.{Fewer, in_fewer, jumps_back, returns_back, untold_among}
 
 -- ---- a loop whose limit is known
 
 pub record Loop : Type 0 where
+  pub words : ℕ
   pub block : Block
   pub count : Counting
   pub layer : Layer
@@ -74,22 +75,26 @@ pub record Loop : Type 0 where
   pub left' : ℕ
   pub need : ℕ
   pub most : ℕ
-  pub is : IsCount block count layer others index need most
+  pub is : IsCount words block count layer others index need most
   pub limit : ℤ
   pub wide : IsWide limit
-  pub counter : IsCounter (setting_with (turning layer others block limit) labels count.line most 2) need count.counter
-  pub over : OverflowComes (setting_with (turning layer others block limit) labels count.line most 2)
-  pub turn : TurnDoes (turning layer others block limit) labels count.body (body_index block count index) left'
+  pub counter :
+      IsCounter (setting_with (turning words layer others block limit) labels count.line most (words + 2)) need
+      count.counter
+  pub over : OverflowComes (setting_with (turning words layer others block limit) labels count.line most (words + 2))
+  pub turn :
+      TurnDoes words (turning words layer others block limit) labels count.body (body_index words block count index)
+      left'
 
 -- the block while it runs, and around its expressions
 abbrev pub within : Loop → Block
-within x = turning x.layer x.others x.block x.limit
+within x = turning x.words x.layer x.others x.block x.limit
 
 abbrev pub setting_in : Loop → Setting
-setting_in x = setting_with (within x) x.labels x.count.line x.most 2
+setting_in x = setting_with (within x) x.labels x.count.line x.most (x.words + 2)
 
 abbrev pub waits_in : Loop → ℕ → Option ℕ
-waits_in x = with_word 0 (word x.limit) x.layer.waits
+waits_in x = with_word x.words (word x.limit) x.layer.waits
 
 pub fewer_in : (waits : ℕ → Option ℕ) (n given : ℕ) → waits n ≡ None → Fewer waits (with_word n given waits)
 fewer_in waits n given none i v e = by (i == n) refl
@@ -120,16 +125,16 @@ assigns x z = M.assigned (around_of x) x.count.counter (BasicNumber z)
 -- ---- its code
 
 abbrev pub put_code : Loop → Code
-put_code x = word_stored x.block.environment (in_registers 2 0) x.count.counter
+put_code x = word_stored x.block.environment (in_registers (x.words + 2) 0) x.count.counter
 
 abbrev pub read_code : Loop → Code
-read_code x = number_code x.block.environment (in_registers 2 0) (Y.NumberIn x.count.counter)
+read_code x = number_code x.block.environment (in_registers (x.words + 2) 0) (Y.NumberIn x.count.counter)
 
 abbrev pub body_code : Loop → Code
-body_code x = stmts_code x.block.environment (in_turns none_taken) x.count.body
+body_code x = stmts_code x.block.environment (in_turns (set_aside x.words)) x.count.body
 
 abbrev pub added_code : Loop → Code
-added_code x = constant_added (in_registers 2 0) x.count.by
+added_code x = constant_added (in_registers (x.words + 2) 0) x.count.by
 
 -- how much of it stands behind the test
 abbrev pub step_size : Loop → ℕ
@@ -140,33 +145,37 @@ behind_test x = size_of (body_code x) + (step_size x + 2)
 
 -- and of a turn
 abbrev pub turn_size : Loop → ℕ
-turn_size x = size_of (put_code x) + size_of (act_code x.count.line) + (size_of (read_code x) + 4) + behind_test x
+turn_size x = size_of (put_code x) + size_of (act_code x.count.line) + (size_of (read_code x) + test_length x.words)
+    + behind_test x
 
 -- what comes before the turns, behind the act
-abbrev pub starts_code : Block → Counting → Code
-starts_code k c =
-    start_code k.environment none_taken (value_of_start c)
-    ++ (limit_code k.environment none_taken (Some c.limit) ++ started_code none_taken (counter_of c) (value_of_start c))
+abbrev pub starts_code : (words : ℕ) → Block → Counting → Code
+starts_code words k c =
+    start_code k.environment (set_aside words) (value_of_start c)
+    ++ (limit_code k.environment (set_aside words) (Some c.limit) ++ started_code (set_aside words) (counter_of c)
+    (value_of_start c))
 
 -- all of it, by the step
-abbrev coded_by : Block → Counting → Option ℤ → Code
-coded_by k c step =
+abbrev coded_by : (words : ℕ) → Block → Counting → Option ℤ → Code
+coded_by words k c step =
     let e = k.environment in
     act_code c.line
-    ++ ((start_code e none_taken (value_of_start c)
-    ++ (limit_code e none_taken (Some c.limit)
-    ++ (step_kept e none_taken c.step step ++ started_code none_taken (counter_of c) (value_of_start c))))
-    ++ turns_code (turn_of e none_taken (counter_of c) (Some c.limit) step None c.line
-    (stmts_code e (in_turns none_taken) c.body)))
+    ++ ((start_code e (set_aside words) (value_of_start c)
+    ++ (limit_code e (set_aside words) (Some c.limit)
+    ++ (step_kept e (set_aside words) c.step step ++ started_code (set_aside words) (counter_of c) (value_of_start c))))
+    ++ turns_code (turn_of e (set_aside words) (counter_of c) (Some c.limit) step None c.line
+    (stmts_code e (in_turns (set_aside words)) c.body)))
 
-pub coded : (k : Block) (c : Counting) → IsStep c.step c.by →
-    stmt_code k.environment none_taken (count_of c) ≡ act_code c.line ++ (starts_code k c ++ turns_code (turn_in k c))
-coded k c is = ap (coded_by k c) is.constant
+pub coded :
+    (words : ℕ) (k : Block) (c : Counting) → IsStep c.step c.by →
+    stmt_code k.environment (set_aside words) (count_of c)
+    ≡ act_code c.line ++ (starts_code words k c ++ turns_code (turn_in words k c))
+coded words k c is = ap (coded_by words k c) is.constant
 
 -- ---- where its parts stand
 
 abbrev pub act_index : Loop → ℕ
-act_index x = turns_index x.block x.count x.index + size_of (put_code x)
+act_index x = turns_index x.words x.block x.count x.index + size_of (put_code x)
 
 abbrev pub read_index : Loop → ℕ
 read_index x = act_index x + size_of (act_code x.count.line)
@@ -175,7 +184,7 @@ abbrev pub test_index : Loop → ℕ
 test_index x = read_index x + size_of (read_code x)
 
 abbrev pub line_index : Loop → ℕ
-line_index x = test_index x + 4 + size_of (body_code x)
+line_index x = test_index x + test_length x.words + size_of (body_code x)
 
 abbrev pub again_index : Loop → ℕ
 again_index x = line_index x + line_size x.count.line
@@ -190,34 +199,35 @@ abbrev pub IsLinked : Loop → (index : ℕ) → Code → Type 0
 IsLinked x index part = Linked x.block.call.surroundings.links x.block.call.code index part
 
 pub record AreLinked (x : Loop) : Type 0 where
-  pub put : IsLinked x (turns_index x.block x.count x.index) (put_code x)
+  pub put : IsLinked x (turns_index x.words x.block x.count x.index) (put_code x)
   pub act : IsLinked x (act_index x) (act_code x.count.line)
   pub read : IsLinked x (read_index x) (read_code x)
   pub test :
       IsLinked x (test_index x)
-      (limit_tested none_taken (Some x.count.by) (words_behind_limit (turn_in x.block x.count)))
-  pub body : IsLinked x (body_index x.block x.count x.index) (body_code x)
+      (limit_tested (set_aside x.words) (Some x.count.by) (words_behind_limit (turn_in x.words x.block x.count)))
+  pub body : IsLinked x (body_index x.words x.block x.count x.index) (body_code x)
   pub line : IsLinked x (line_index x) (number a0 x.count.line)
   pub service : IsLinked x (line_index x + size_of (number a0 x.count.line)) (small a1 1 ∷ service 1)
   pub again : IsLinked x (again_index x) (read_code x)
   pub added : IsLinked x (added_index x) (added_code x)
-  pub back : IsLinked x (back_index x) (JumpBack (words_back (turn_in x.block x.count)) ∷ [])
+  pub back : IsLinked x (back_index x) (JumpBack (words_back (turn_in x.words x.block x.count)) ∷ [])
   -- how far the jumps go, and where the statements of a turn begin
-  pub far : words_behind_limit (turn_in x.block x.count) ≡ behind_test x
-  pub near : words_back (turn_in x.block x.count) + 2 ≡ turn_size x
-  pub first : body_index x.block x.count x.index ≡ test_index x + 4
-  pub size : size_of (turns_code (turn_in x.block x.count)) ≡ turn_size x
+  pub far : words_behind_limit (turn_in x.words x.block x.count) ≡ behind_test x
+  pub near : words_back (turn_in x.words x.block x.count) + 2 ≡ turn_size x
+  pub first : body_index x.words x.block x.count x.index ≡ test_index x + test_length x.words
+  pub size : size_of (turns_code (turn_in x.words x.block x.count)) ≡ turn_size x
 
 pub linked_in :
     (x : Loop) →
-    IsLinked x (turns_index x.block x.count x.index) (turns_code (turn_in x.block x.count)) → AreLinked x
+    IsLinked x (turns_index x.words x.block x.count x.index) (turns_code (turn_in x.words x.block x.count)) →
+    AreLinked x
 linked_in x l =
-    let u = turn_in x.block x.count in
+    let u = turn_in x.words x.block x.count in
     let put' = put_code x in
     let one = act_code x.count.line in
     let read' = read_code x in
     let far = words_behind_limit u in
-    let test' = limit_tested none_taken (Some x.count.by) far in
+    let test' = limit_tested (set_aside x.words) (Some x.count.by) far in
     let body' = body_code x in
     let line' = number a0 x.count.line in
     let three = small a1 1 ∷ service 1 in
@@ -228,19 +238,19 @@ linked_in x l =
     let last = stepped' ++ jump in
     let after = body' ++ last in
     let limit' = read' ++ test' in
-    let i0 = turns_index x.block x.count x.index in
+    let i0 = turns_index x.words x.block x.count x.index in
     let n0 = size_append (put' ++ one) (limit' ++ after) in
     let n1 = size_append put' one in
     let n2 = size_append limit' after in
     let n3 = size_append read' test' in
-    let n4 = limit_size x.count.by far in
+    let n4 = limit_size x.words x.count.by far in
     let n5 = size_append body' last in
     let n6 = size_append stepped' jump in
     let n7 = size_append line' (three ++ rest2) in
     let n8 = size_append read' (added' ++ []) in
     let n9 = size_append added' [] in
-    let m0 = size_append read' (limit_tested none_taken (Some x.count.by) 0) in
-    let m1 = limit_size x.count.by 0 in
+    let m0 = size_append read' (limit_tested (set_aside x.words) (Some x.count.by) 0) in
+    let m1 = limit_size x.words x.count.by 0 in
     let l0 = front_of (put' ++ one) (limit' ++ after) l in
     let l1 = back_of (put' ++ one) (limit' ++ after) l in
     let l2 = front_of limit' after l1 in
@@ -255,7 +265,7 @@ linked_in x l =
       act = back_of put' one l0;
       read = linked_at (read_index x) read' (omega (arith, n1)) (front_of read' test' l2);
       test = linked_at (test_index x) test' (omega (arith, n1)) (back_of read' test' l2);
-      body = linked_at (body_index x.block x.count x.index) body' (omega (arith, n1, n3, n4, m0, m1))
+      body = linked_at (body_index x.words x.block x.count x.index) body' (omega (arith, n1, n3, n4, m0, m1))
           (front_of body' last l3);
       line = linked_at (line_index x) line' (omega (arith, n1, n3, n4)) (front_of line' (three ++ rest2) l5);
       service = linked_at (line_index x + size_of line') three (omega (arith, n1, n3, n4)) (front_of three rest2 l6);
@@ -273,12 +283,12 @@ linked_in x l =
 abbrev pub goal_of : Loop → (acts wanted debt : ℕ) → Aims (Unit {0})
 goal_of x acts wanted debt =
     owing x.block.call.code debt
-    (statement_aims x.block x.labels acts (x.index + size_in x.block (count_of x.count)) wanted x.left')
+    (statement_aims x.block x.labels acts (x.index + size_with x.words x.block (count_of x.count)) wanted x.left')
 
 pub goal_closed : (x : Loop) (acts wanted debt : ℕ) → Closed x.block.call.code (goal_of x acts wanted debt)
 goal_closed x acts wanted debt =
     owing_closed x.block.call.code debt
-    (statement_aims x.block x.labels acts (x.index + size_in x.block (count_of x.count)) wanted x.left')
+    (statement_aims x.block x.labels acts (x.index + size_with x.words x.block (count_of x.count)) wanted x.left')
 
 pub jumps_on :
     (x : Loop) (acts wanted debt more : ℕ) → acts ≤ more → (c : ℕ) (f : Family) (v : Services) (height : ℕ)
@@ -288,14 +298,15 @@ jumps_on x acts wanted debt more since c f v height label s q i0 f0 v0 from =
     jumps_repaid debt from
     (jumps_since since
     (jumps_back x.block x.layer x.others (waits_in x) x.is.newest
-    (fewer_in x.layer.waits 0 (word x.limit) x.is.free.0) q))
+    (fewer_in x.layer.waits x.words (word x.limit) x.is.free.0) q))
 
-end_is : (x : Loop) → AreLinked x → test_index x + 4 + behind_test x ≡ x.index + size_in x.block (count_of x.count)
+end_is : (x : Loop) → AreLinked x → test_index x + test_length x.words + behind_test x ≡ x.index + size_with x.words
+    x.block (count_of x.count)
 end_is x ls =
     let one = act_code x.count.line in
-    let turns = turns_code (turn_in x.block x.count) in
-    let starts = starts_code x.block x.count in
-    let n0 = ap (λ u. size_of u) (coded x.block x.count x.is.step) in
+    let turns = turns_code (turn_in x.words x.block x.count) in
+    let starts = starts_code x.words x.block x.count in
+    let n0 = ap (λ u. size_of u) (coded x.words x.block x.count x.is.step) in
     let n1 = size_append one (starts ++ turns) in
     let n2 = size_append starts turns in
     let n3 = size_append one starts in
@@ -305,7 +316,7 @@ end_is x ls =
 past_does :
     (x : Loop) (acts wanted debt : ℕ) {numbers : ℕ → ℕ} {p : Point} (c i : ℕ) (f : Family) →
     acts ≤ p.state.world.acts → c ≤ wanted + debt → IsAmong (within x) numbers p →
-    i ≡ x.index + size_in x.block (count_of x.count) → AreIn x.block.call.surroundings p numbers i f →
+    i ≡ x.index + size_with x.words x.block (count_of x.count) → AreIn x.block.call.surroundings p numbers i f →
     Comes x.block.call.code c f (services_of p) (goal_of x acts wanted debt)
     (give tt x.block.call.surroundings.acts p.state)
 past_does x acts wanted debt {numbers} {p} c i f since few o end there =
@@ -314,10 +325,10 @@ past_does x acts wanted debt {numbers} {p} c i f since few o end there =
     let φ = x.layer in
     let φs = x.others in
     let newest = o.later.layers in
-    let fewer = fewer_in φ.waits 0 (word x.limit) x.is.free.0 in
+    let fewer = fewer_in φ.waits x.words (word x.limit) x.is.free.0 in
     subst (λ v. Comes k.call.code c f v (goal_of x acts wanted debt) (give tt w.acts p.state))
     (sym (ap (λ ls. services_of (layered ls p)) newest))
-    (none_owed k x.labels acts (x.index + size_in k (count_of x.count)) wanted x.left' c debt f
+    (none_owed k x.labels acts (x.index + size_with x.words k (count_of x.count)) wanted x.left' c debt f
     (with_list φ.waits φ φs p) numbers since few (untold_among k φ φs (waits_in x) x.is.newest o)
     (λ b. subst (λ j. IsIn w (with_list φ.waits φ φs p) numbers j b (f b)) end
     (in_fewer φ φs φ.waits (waits_in x) fewer newest (there b))))
@@ -336,7 +347,7 @@ abbrev Again : Loop → Aims (Unit {0}) → (acts credits : ℕ) → Type 0
 Again x aims acts credits =
     (q : Point) (after : ℕ → ℕ) (g : Family) (z : ℤ) → IsWide z → IsAmong (within x) after q →
     acts ≤ q.state.world.acts → q.control.line ≡ x.count.line →
-    ((b : Base) → IsIn x.block.call.surroundings q after (turns_index x.block x.count x.index) b (g b)
+    ((b : Base) → IsIn x.block.call.surroundings q after (turns_index x.words x.block x.count x.index) b (g b)
     × (value (g b).machine a0 ≡ word z)) →
     Comes x.block.call.code credits g (services_of q) aims (assigns x z x.block.call.surroundings.acts q.state)
 
@@ -350,7 +361,7 @@ unfolding M.counter_value ◌>>=◌
 summed_does x ls {aims} closed acts c c' f v z s y wide since line at paid q next' =
     let w = x.block.call.surroundings in
     let code = x.block.call.code in
-    let i0 = turns_index x.block x.count x.index in
+    let i0 = turns_index x.words x.block x.count x.index in
     let p = q.point in
     let h = point_frame q.among.stands q.among.image in
     let near = ls.near in
@@ -364,7 +375,7 @@ summed_does x ls {aims} closed acts c c' f v z s y wide since line at paid q nex
           (onward closed q.reach
           (λ g1 at1.
           onward closed
-          (back_piece {t = λ j. 0} {rs = valued (word z)} y.wanted g1 (words_back (turn_in x.block x.count)) i0
+          (back_piece {t = λ j. 0} {rs = valued (word z)} y.wanted g1 (words_back (turn_in x.words x.block x.count)) i0
           (omega (arith, near))
           (record { reserved_stay = λ u n. refl; known_stay = λ b u n o. o; set = λ u n. refl }) ls.back
           (λ b.
@@ -435,7 +446,7 @@ turned x turns = (part_of x) >> (turns_of turns x)
 met_does :
     (x : Loop) → AreLinked x → (turns acts wanted debt c : ℕ) {numbers : ℕ → ℕ} {p : Point} (f : Family) →
     acts ≤ p.state.world.acts → 0 < p.state.world.acts → c + behind_test x + x.most ≤ cost x.block.call.code →
-    IsAmong (within x) numbers p → AreIn x.block.call.surroundings p numbers (test_index x + 4) f →
+    IsAmong (within x) numbers p → AreIn x.block.call.surroundings p numbers (test_index x + test_length x.words) f →
     Again x
     (before x.block.call.code (goal_of x acts wanted debt) x.block.call.surroundings.acts (λ u. turns_of turns x))
     p.state.world.acts (c + behind_test x) →
@@ -450,7 +461,7 @@ met_does x ls turns acts wanted debt c {numbers} {p} f since some paid o there n
     let again : Unit {0} → Meaning (Unit {0}) = λ u. turns_of turns x in
     let step : Unit {0} → Meaning (Unit {0}) = λ u. M.stepped (around_of x) (counter_of x.count) x.count.by in
     let body' = body_code x in
-    let i = test_index x + 4 in
+    let i = test_index x + test_length x.words in
     let more = p.state.world.acts in
     let closed = before_closed w.acts again (goal_closed x acts wanted debt) in
     let first = ls.first in
@@ -483,10 +494,11 @@ abbrev Limited : Loop → Aims (Unit {0}) → (numbers : ℕ → ℕ) → (c : �
 Limited x aims numbers c f z one other q =
     IsAmong (within x) numbers q →
     ((b : Base) → IsIn x.block.call.surroundings q numbers (test_index x) b (f b) × (value (f b).machine a0 ≡ word z)) →
-    ((g : Family) → AreIn x.block.call.surroundings q numbers (test_index x + 4) g →
-    Comes x.block.call.code (c + 4) g (services_of q) aims (one x.block.call.surroundings.acts q.state)) →
-    ((g : Family) → AreIn x.block.call.surroundings q numbers (test_index x + 4 + behind_test x) g →
-    Comes x.block.call.code (c + 4 + behind_test x) g (services_of q) aims
+    ((g : Family) → AreIn x.block.call.surroundings q numbers (test_index x + test_length x.words) g →
+    Comes x.block.call.code (c + test_length x.words) g (services_of q) aims (one x.block.call.surroundings.acts
+    q.state)) →
+    ((g : Family) → AreIn x.block.call.surroundings q numbers (test_index x + test_length x.words + behind_test x) g →
+    Comes x.block.call.code (c + test_length x.words + behind_test x) g (services_of q) aims
     (other x.block.call.surroundings.acts q.state)) →
     Comes x.block.call.code c f (services_of q) aims
     (choose (M.has_not_passed x.limit x.count.by z) one other x.block.call.surroundings.acts q.state)
@@ -496,10 +508,11 @@ limited_does :
     {numbers : ℕ → ℕ} {p : Point} (f : Family) (z : ℤ) (one other : Meaning (Unit {0})) → IsWide z →
     IsAmong (within x) numbers p →
     ((b : Base) → IsIn x.block.call.surroundings p numbers (test_index x) b (f b) × (value (f b).machine a0 ≡ word z)) →
-    ((g : Family) → AreIn x.block.call.surroundings p numbers (test_index x + 4) g →
-    Comes x.block.call.code (c + 4) g (services_of p) aims (one x.block.call.surroundings.acts p.state)) →
-    ((g : Family) → AreIn x.block.call.surroundings p numbers (test_index x + 4 + behind_test x) g →
-    Comes x.block.call.code (c + 4 + behind_test x) g (services_of p) aims
+    ((g : Family) → AreIn x.block.call.surroundings p numbers (test_index x + test_length x.words) g →
+    Comes x.block.call.code (c + test_length x.words) g (services_of p) aims (one x.block.call.surroundings.acts
+    p.state)) →
+    ((g : Family) → AreIn x.block.call.surroundings p numbers (test_index x + test_length x.words + behind_test x) g →
+    Comes x.block.call.code (c + test_length x.words + behind_test x) g (services_of p) aims
     (other x.block.call.surroundings.acts p.state)) →
     Comes x.block.call.code c f (services_of p) aims
     (choose (M.has_not_passed x.limit x.count.by z) one other x.block.call.surroundings.acts p.state)
@@ -522,11 +535,14 @@ limited_does x ls {aims} closed c {numbers} {p} f z one other wide o there met p
     known o' there' met' past' =
         let h = point_frame o'.stands o'.image in
         let inside = ls.back.inside in
-        let words = x.is.words in
+        let words = x.is.inside in
+        let low = x.is.low in
+        let here : x.words == x.words ≡ true = eq-eqb x.words x.words refl in
         let same = ls.far in
-        limit_does w code p ψ x.others closed c f h x.limit x.count.by z far p.state w.acts one other (x.wide, wide)
-        (omega (arith, words), refl)
-        (subst (λ n. IsLinked x (test_index x) (limit_tested none_taken (Some x.count.by) n)) same ls.test)
+        limit_does x.words (omega (arith, words, low)) w code p ψ x.others closed c f h x.limit x.count.by z far p.state
+        w.acts one other (x.wide, wide)
+        (omega (arith, words), ap (λ q. cond q (Some (word x.limit)) (x.layer.waits x.words)) here)
+        (subst (λ n. IsLinked x (test_index x) (limit_tested (set_aside x.words) (Some x.count.by) n)) same ls.test)
         (omega (arith, inside)) (λ b. known_word (within x) h (there' b))
         (λ g at. met' g (λ b. in_known h o'.image.parts (at b)))
         (λ g at. past' g (λ b. in_known h o'.image.parts (at b)))
@@ -555,7 +571,7 @@ due_does :
     ((more : ℕ) → p.state.world.acts ≤ more →
     Again x
     (before x.block.call.code (goal_of x acts wanted debt) x.block.call.surroundings.acts (λ u. turns_of turns x))
-    more (size_of (read_code x) + 4 + behind_test x)) →
+    more (size_of (read_code x) + test_length x.words + behind_test x)) →
     Comes x.block.call.code 0 f (services_of p)
     (before x.block.call.code (goal_of x acts wanted debt) x.block.call.surroundings.acts (chosen x turns))
     (((M.within_limit (around_of x) (counter_of x.count) (Some x.limit) x.count.by) >>= met_next x)
@@ -592,14 +608,14 @@ due_does x ls turns acts wanted debt {numbers} {p} f since some paid owed line o
                 (λ g at.
                 limited_does x ls closed (0 + size_of read') g z (turned x turns) (give tt) q.0 q.1.among at
                 (λ g2 at2.
-                met_does x ls turns acts wanted debt (0 + size_of read' + 4) g2 (omega (arith, since, since'))
-                (omega (arith, some, since')) (omega (arith, paid)) q.1.among at2
+                met_does x ls turns acts wanted debt (0 + size_of read' + test_length x.words) g2
+                (omega (arith, since, since')) (omega (arith, some, since')) (omega (arith, paid)) q.1.among at2
                 (subst (λ n. Again x (before code goal w.acts (λ u. turns_of turns x)) q1.state.world.acts n)
                 (omega arith) (next' q1.state.world.acts since')))
                 (λ g2 at2.
-                past_does x acts wanted debt (0 + size_of read' + 4 + behind_test x)
-                (test_index x + 4 + behind_test x) g2 (omega (arith, since, since')) (omega (arith, owed)) q.1.among
-                (end_is x ls) at2)));
+                past_does x acts wanted debt (0 + size_of read' + test_length x.words + behind_test x)
+                (test_index x + test_length x.words + behind_test x) g2 (omega (arith, since, since'))
+                (omega (arith, owed)) q.1.among (end_is x ls) at2)));
           });
     })
     (λ c' f' v' height label s q. jumps_on x acts wanted debt more since c' f' v' height label s q)
@@ -613,7 +629,7 @@ pub turns_do :
     c + size_of (put_code x) + size_of (act_code x.count.line) + x.most ≤ cost x.block.call.code →
     turn_size x + x.most ≤ cost x.block.call.code → turn_size x ≤ debt → IsAmong (within x) numbers p →
     p.control.line ≡ x.count.line →
-    ((b : Base) → IsIn x.block.call.surroundings p numbers (turns_index x.block x.count x.index) b (f b)
+    ((b : Base) → IsIn x.block.call.surroundings p numbers (turns_index x.words x.block x.count x.index) b (f b)
     × (value (f b).machine a0 ≡ word z)) →
     Comes x.block.call.code c f (services_of p)
     (before x.block.call.code (goal_of x acts wanted debt) x.block.call.surroundings.acts (λ u. turns_of turns x))
@@ -631,7 +647,7 @@ turns_do (suc turns) x ls acts wanted debt c {numbers} {p} f z wide since few pa
     let put' = put_code x in
     let one = act_code x.count.line in
     let need = x.is.registers in
-    let i0 = turns_index x.block x.count x.index in
+    let i0 = turns_index x.words x.block x.count x.index in
     let after = before code goal w.acts (chosen x turns) in
     let due : Unit {0} → Meaning Bool =
     λ u. (M.within_limit (around_of x) (counter_of x.count) (Some x.limit) x.count.by) >>= met_next x in
@@ -653,7 +669,7 @@ turns_do (suc turns) x ls acts wanted debt c {numbers} {p} f z wide since few pa
     due_does x ls turns acts wanted debt g2 (omega (arith, since, since1)) (omega arith) all owed refl
     (acted_among x.count.line q.among less) at2
     (λ more since2 q2 after2 g3 z2 wide2 o2 since3 line2 there2.
-    turns_do turns x ls acts wanted debt (size_of (read_code x) + 4 + behind_test x) g3 z2 wide2
+    turns_do turns x ls acts wanted debt (size_of (read_code x) + test_length x.words + behind_test x) g3 z2 wide2
     (omega (arith, since, since1, since2, since3)) (omega (arith, few, since1, since2, since3)) (omega (arith, all)) all
     owed o2 line2 there2)))))))
     (λ c' f' v' height label s q. jumps_on x acts wanted debt p.state.world.acts since c' f' v' height label s q)

@@ -1,21 +1,19 @@
 -- The laws of DO with a variable that counts.
-use Rattle.std.specs.Prelude.{ℕ, ℤ, ◌^◌, ◌<◌, ◌≡◌, ◌∷◌, ◌++◌, List, Option, neg_ℤ, pos}
+use Rattle.std.specs.Prelude.{ℕ, ℤ, ◌+◌, ◌^◌, ◌<◌, ◌≡◌, ◌∷◌, ◌++◌, List, Option, neg_ℤ, pos}
 use Rattle.pli_typing.specs.Signatures.{Bounds}
 use Rattle.pli_typing.specs.TypedTree as Y
 use Rattle.pli_meaning.specs.Control.{Label}
 use Rattle.pli_meaning.specs.Executing.{labels_in}
-use Rattle.pli_coding.specs.Environments.{none_taken}
-use Rattle.pli_coding.specs.Statements.{in_turns, stmts_code}
 use Rattle.activation_relation.specs.Layers.{Layer}
 use Rattle.run_steps.specs.Numbers.{IsWide}
-use Rattle.program_runs.specs.Statements.{Block, Does, EachDoes, IsBegun}
+use Rattle.program_runs.specs.Statements.{Block, DoesWith, EachDoesWith, IsBegun}
 use Rattle.expression_runs.specs.Laws as L
 use Rattle.expression_runs.specs.Values.{OverflowComes, Setting}
 use Rattle.expression_runs.specs.Variables.{IsNumber, Spot, whole}
 use Rattle.variable_runs.specs.Known.{IsKnown}
 use Rattle.element_runs.specs.Arrays.{IsArray, element}
 use Rattle.element_runs.specs.Subscripts.{IsSubscript, SubscriptComes}
-use Rattle.test_runs.specs.Choices.{IsInner}
+use Rattle.test_runs.specs.Choices.{IsInnerWith}
 use Rattle.counter_runs.specs.Counters.{IsCounter}
 use Rattle.counter_runs.specs.Counts.{IsStep}
 use Rattle.counter_runs.specs.Counts.{Counting, IsCount, TurnDoes, body_index, count_of, setting_with, starting}
@@ -23,25 +21,25 @@ use Rattle.counter_runs.specs.Counts.{turning}
 use Rattle.counter_runs.specs.Words.{telling}
 
 -- it does what it means if its start and its limit do, its variable is read and assigned, and its statements do,
--- whatever its limit is
+-- whatever its limit is; it may stand in the turns of another one
 abbrev pub CountsDo : Type 0
 CountsDo =
-    (k : Block) (c : Counting) (φ : Layer) (φs : List Layer) (labels : List Label) (index left' need most : ℕ) →
-    IsCount k c φ φs index need most → L.Does (setting_with k labels c.line most 3) need c.start →
-    ((z : ℤ) → IsWide z → L.Does (setting_with (starting φ φs k z) labels c.line most 3) need c.limit) →
-    ((y : ℤ) → IsWide y → IsCounter (setting_with (turning φ φs k y) labels c.line most 2) need c.counter) →
-    ((y : ℤ) → IsWide y → OverflowComes (setting_with (turning φ φs k y) labels c.line most 2)) →
-    ((y : ℤ) → IsWide y → TurnDoes (turning φ φs k y) labels c.body (body_index k c index) left') →
-    Does k labels (count_of c) index left'
+    (words : ℕ) (k : Block) (c : Counting) (φ : Layer) (φs : List Layer) (labels : List Label)
+    (index left' need most : ℕ) →
+    IsCount words k c φ φs index need most → L.Does (setting_with k labels c.line most (words + 3)) need c.start →
+    ((z : ℤ) → IsWide z → L.Does (setting_with (starting words φ φs k z) labels c.line most (words + 3)) need c.limit) →
+    ((y : ℤ) → IsWide y → IsCounter (setting_with (turning words φ φs k y) labels c.line most (words + 2)) need
+    c.counter) →
+    ((y : ℤ) → IsWide y → OverflowComes (setting_with (turning words φ φs k y) labels c.line most (words + 2))) →
+    ((y : ℤ) → IsWide y → TurnDoes words (turning words φ φs k y) labels c.body (body_index words k c index) left') →
+    DoesWith words k labels (count_of c) index left'
 
--- statements whose code is the same whether words are set aside or not do what they mean in a turn, if each of them
--- does
+-- statements do what they mean in a turn, if each of them does while two words more are set aside
 abbrev pub TurnsDo : Type 0
 TurnsDo =
-    (k : Block) (labels : List Label) (body : Y.Stmts) (index left' : ℕ) →
-    stmts_code k.environment (in_turns none_taken) body ≡ stmts_code k.environment none_taken body →
-    IsInner k body index → EachDoes k (labels_in body ++ labels) body index left' →
-    TurnDoes k labels body index left'
+    (words : ℕ) (k : Block) (labels : List Label) (body : Y.Stmts) (index left' : ℕ) →
+    IsInnerWith (words + 2) k body index → EachDoesWith (words + 2) k (labels_in body ++ labels) body index left' →
+    TurnDoes words k labels body index left'
 
 -- ---- the variable
 

@@ -7,8 +7,8 @@ use Rattle.rv_meaning.specs.declared.instr.BranchTest.TheVariants as Test
 use Rattle.pli_meaning.specs.Control.{Meaning, give, given, stuck, ◌>>=◌, ◌>>◌}
 use Rattle.pli_meaning.specs.StorageState.{State}
 use Rattle.pli_meaning.specs.Streaming as P
-use Rattle.pli_meaning.specs.Streaming.{ControlFormat, ControlItem, DataFormat, DataItem, FixedItem, FormatItem, TextItem}
-use Rattle.pli_meaning.specs.Streaming.{control_written}
+use Rattle.pli_meaning.specs.Streaming.{ControlFormat, ControlItem, DataFormat, DataItem, FixedItem, FormatItem}
+use Rattle.pli_meaning.specs.Streaming.{TextItem, control_written}
 use Rattle.pli_meaning.specs.InputLines.{Input}
 use Rattle.pli_serving.specs.Answers.{Answer, Done}
 use Rattle.pli_serving.specs.Edits as E
@@ -362,7 +362,8 @@ passes_come z a closed (ControlFormat item ∷ left') rest are {p} h here is c f
     (rest_of _ back_code l) at1)
     (λ g2 at2.
     comes_on w.acts (P.control_put item w.acts p.state) next'
-    (turn_comes z a (before_closed w.acts next' closed) item rest left' h here is (c + 1 + 2) g2 (omega (arith, few)) at2
+    (turn_comes z a (before_closed w.acts next' closed) item rest left' h here is (c + 1 + 2) g2 (omega (arith, few))
+    at2
     (λ g3 here3 at3.
     passes_come z a closed left' left' are h here3 (are_left z left') 0 g3 (omega arith) at3 goal ended))))
 

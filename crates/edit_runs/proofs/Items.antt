@@ -49,9 +49,9 @@ use Rattle.block_runs.specs.Machines.{IsIn}
 use Rattle.block_runs.proofs.BlockEntries.{small_is}
 use Rattle.block_runs.proofs.CallStatements.{comes_map}
 use Rattle.block_runs.proofs.PointGrounds.{in_known, point_ground}
-use Rattle.program_runs.specs.Statements.{Block, IsAmong, JumpsTo}
+use Rattle.program_runs.specs.Statements.{Block, IsAmong, JumpsTo, set_aside}
 use Rattle.program_runs.proofs.JumpsOut.{jumps_later, jumps_since}
-use Rattle.expression_runs.specs.Assignments.{setting_of}
+use Rattle.expression_runs.specs.Assignments.{setting_around}
 use Rattle.expression_runs.specs.Values.{Setting}
 use Rattle.expression_runs.proofs.Saving.{fetched_reach, held_after, held_among, held_is_given, saved_reach}
 use Rattle.expression_runs.proofs.Words.{frame_of, valued}
@@ -69,8 +69,9 @@ signed-word z h = grind (arith, ints, nat_tests)
 
 -- ---- the code of one number
 
--- what is put, where, and how much a call in it may take to its first act
+-- what is put, where, how many words are set aside there, and how much a call in it may take to its first act
 pub record Puts : Type 0 where
+  pub words : ℕ
   pub block : Block
   pub labels : List Label
   pub line : ℕ
@@ -81,7 +82,7 @@ pub record Puts : Type 0 where
   pub more : List FormatItem
 
 abbrev pub setting_in : Puts → Setting
-setting_in u = setting_of u.block u.labels u.line u.most
+setting_in u = setting_around u.words u.block u.labels u.line u.most
 
 abbrev pub whole_in : Puts → List FormatItem
 whole_in u = u.first ∷ u.more
@@ -102,15 +103,15 @@ abbrev pub number_shown : Code
 number_shown = save a0 none_taken ++ (controls_carried_out ++ (fetch a0 none_taken ++ number_written))
 
 abbrev pub item_code : Puts → Item → Code
-item_code u x = number_code u.block.environment none_taken x.source ++ number_shown
+item_code u x = number_code u.block.environment (set_aside u.words) x.source ++ number_shown
 
 -- lists of F items have no other code
 pub item_coded : (u : Puts) → ArePut u → (x : Item) →
-    C.value_put u.block.environment none_taken u.formats (Y.NumberValue x.precision x.source) ≡ item_code u x
+    C.value_put u.block.environment (set_aside u.words) u.formats (Y.NumberValue x.precision x.source) ≡ item_code u x
 item_coded u a x =
     let shows = fetch a0 none_taken ++ number_written in
     let texts = fetch a0 none_taken ++ (C.as_text x.precision ++ C.text_written) in
-    let rest : Code → Code = λ c. number_code u.block.environment none_taken x.source
+    let rest : Code → Code = λ c. number_code u.block.environment (set_aside u.words) x.source
     ++ (save a0 none_taken ++ (controls_carried_out ++ c)) in
     let both = small u1 1 ∷ choice Test.Equal a0 u1 shows texts in
     ap (λ q. rest (cond (q && has_text u.formats) both (cond q shows texts))) a.fixed

@@ -20,7 +20,6 @@ use Rattle.pli_serving.specs.Outcomes.{or_bad}
 use Rattle.pli_serving.specs.ServiceState.{EditPlace, Putting}
 use Rattle.pli_coding.specs.Allocating.{act_code}
 use Rattle.pli_coding.specs.Assembly.{Code, DataPlace, OffsetOf, Plain, size_of}
-use Rattle.pli_coding.specs.Environments.{none_taken}
 use Rattle.pli_coding.specs.Expressions.{number_code}
 use Rattle.pli_coding.specs.Instructions.{small}
 use Rattle.pli_coding.specs.Linking.{place_of}
@@ -51,18 +50,18 @@ use Rattle.block_runs.proofs.BlockEntries.{small_is}
 use Rattle.block_runs.proofs.PointActs.{act_comes}
 use Rattle.block_runs.proofs.CallStatements.{comes_map}
 use Rattle.block_runs.proofs.PointGrounds.{in_known, known_in, point_frame, point_ground}
-use Rattle.program_runs.specs.Statements.{Block, Does, IsAmong, JumpsTo, size_in, statement_aims}
+use Rattle.program_runs.specs.Statements.{Block, DoesWith, IsAmong, JumpsTo, set_aside, size_with, statement_aims}
 use Rattle.program_runs.proofs.JumpsOut.{jumps_later, jumps_repaid, jumps_since}
 use Rattle.program_runs.proofs.Statements.{acted_among, goes_here, statement_closed}
 use Rattle.program_runs.proofs.Waiting.{over_first}
 use Rattle.expression_runs.specs.Laws as L
-use Rattle.expression_runs.specs.Assignments.{setting_of}
+use Rattle.expression_runs.specs.Assignments.{setting_around}
 use Rattle.expression_runs.specs.Values.{behind, number_aims}
 use Rattle.expression_runs.proofs.Words.{frame_of, known_word}
 use Rattle.text_runs.specs.Texts.{ErrorComes}
 use Rattle.text_runs.proofs.TextCalls.{Asking, asks}
-use Rattle.edit_runs.specs.Edits.{AreFixed, AreListed, IsPut, IsSkipped, Item, ItemsDo, KnowsFormats, Pair, PairsDo, has_data}
-use Rattle.edit_runs.specs.Edits.{Put, placing, put_items, put_of, put_pairs, putting, within}
+use Rattle.edit_runs.specs.Edits.{AreFixed, AreListed, IsPut, IsSkipped, Item, ItemsDo, KnowsFormats, Pair, PairsDo}
+use Rattle.edit_runs.specs.Edits.{Put, has_data, placing, put_items, put_of, put_pairs, putting, within}
 use Rattle.edit_runs.specs.Writing.{with_edits}
 use Rattle.edit_runs.proofs.Items.{ArePut, HasLeft, Puts, item_code, item_coded, left_aims, left_closed}
 use Rattle.edit_runs.proofs.Items.{number_shown, setting_in, valued_comes, whole_in}
@@ -106,7 +105,7 @@ item_comes u a x does d acts' wanted i is l end =
     let p = d.point in
     let around = (setting_in u).around in
     let place = putting (whole_in u) d.rest in
-    let part = number_code u.block.environment none_taken x.source in
+    let part = number_code u.block.environment (set_aside u.words) x.source in
     let n0 = size_append part number_shown in
     let y = behind p d.numbers 0 d.credits d.index part in
     let goal = left_aims u acts' i wanted in
@@ -175,7 +174,7 @@ items_closed u acts' index wanted =
     }
 
 abbrev items_code : Puts → List Item → Code
-items_code u xs = C.items_put u.block.environment none_taken u.formats (put_items xs)
+items_code u xs = C.items_put u.block.environment (set_aside u.words) u.formats (put_items xs)
 
 items_comes :
     (u : Puts) → ArePut u → (x : Item) (xs : List Item) → ItemsDo (setting_in u) u.need (x ∷ xs) → (d : Due)
@@ -190,7 +189,7 @@ items_comes u a x [] does d acts' wanted i is l end =
     let w = u.block.call.surroundings in
     let code = u.block.call.code in
     let around = (setting_in u).around in
-    let one = C.value_put u.block.environment none_taken u.formats (Y.NumberValue x.precision x.source) in
+    let one = C.value_put u.block.environment (set_aside u.words) u.formats (Y.NumberValue x.precision x.source) in
     let same = item_coded u a x in
     let n0 = size_append one [] in
     let n1 = ap (λ c. size_of c) same in
@@ -216,7 +215,7 @@ items_comes u a x (x' ∷ xs) does d acts' wanted i is l end =
     let w = u.block.call.surroundings in
     let code = u.block.call.code in
     let around = (setting_in u).around in
-    let one = C.value_put u.block.environment none_taken u.formats (Y.NumberValue x.precision x.source) in
+    let one = C.value_put u.block.environment (set_aside u.words) u.formats (Y.NumberValue x.precision x.source) in
     let others = items_code u (x' ∷ xs) in
     let same = item_coded u a x in
     let n0 = size_append one others in
@@ -309,7 +308,8 @@ begin_reach k fs {p} {numbers} {i} h c f l knows among there =
           let call = call_at code v (g b).machine.memory in
           called code (g b) v 34 place 1 (x 12) (x 13) (x 14) (λ c' x0 x1 x2 x3 x4. E.edit_begin_served c' x0 x1)
           o.body.services o.regs.1.1.0 o.regs.0 o.regs.1.0 refl refl refl (λ c' y. refl)
-          ∙ ap (λ o'. or_bad o' (E.edit_begun call place 1 Putting)) ((knows p numbers (g b).machine.memory among o.body.memory.storage).read v);
+          ∙ ap (λ o'. or_bad o' (E.edit_begun call place 1 Putting))
+          ((knows p numbers (g b).machine.memory among o.body.memory.storage).read v);
     } in
     reach_moved {i'' = i + 5} (omega arith) (omega arith)
     (reach_then r1
@@ -374,9 +374,10 @@ opened [] h = absurd (cc h)
 opened (x ∷ xs) h = record { first = x; more = xs; is = refl }
 
 abbrev puts_of :
-    Block → List Label → Pair → (line need most : ℕ) → (first : FormatItem) → (more : List FormatItem) → Puts
-puts_of k labels x line need most first more =
+    (words : ℕ) → Block → List Label → Pair → (line need most : ℕ) → (first : FormatItem) → (more : List FormatItem) → Puts
+puts_of words k labels x line need most first more =
     record {
+      words = words;
       block = k;
       labels = labels;
       line = line;
@@ -392,31 +393,32 @@ abbrev debt : ℕ
 debt = 2
 
 -- what is known around its lists
-record IsAround (k : Block) (labels : List Label) (line need most : ℕ) : Type 0 where
+record IsAround (words : ℕ) (k : Block) (labels : List Label) (line need most : ℕ) : Type 0 where
   acts : k.call.surroundings.acts + 1 < 2 ^ 64
   over : AreOver k.first.control.entries k.first.control.edits k.first.control.layers
   registers : need ≤ k.registers
   one : 1 ≤ k.registers
   held : k.registers ≤ held_registers
-  error : (place : EditPlace) → ErrorComes (List ℕ) (within place (setting_of k labels line most))
+  error : (place : EditPlace) → ErrorComes (List ℕ) (within place (setting_around words k labels line most))
 
-abbrev lists_code : Block → List Pair → Code
-lists_code k xs = C.put_pairs k.environment none_taken (put_pairs xs)
+abbrev lists_code : (words : ℕ) → Block → List Pair → Code
+lists_code words k xs = C.put_pairs k.environment (set_aside words) (put_pairs xs)
 
 -- from a point before a list on, one list behind the other
 lists_come :
-    (k : Block) (labels : List Label) (line need most left' : ℕ) → IsAround k labels line need most →
-    (xs : List Pair) → AreListed k xs → PairsDo (setting_of k labels line most) need xs →
+    (words : ℕ) (k : Block) (labels : List Label) (line need most left' : ℕ) → IsAround words k labels line need most →
+    (xs : List Pair) → AreListed k xs → PairsDo (setting_around words k labels line most) need xs →
     (acts' c wanted i j : ℕ) (f : Family) {p : Point} {numbers : ℕ → ℕ} → IsAmong k numbers p →
     p.control.line ≡ line → acts' ≤ p.state.world.acts →
-    (c ≤ debt) × (c + size_of (lists_code k xs) + most ≤ cost k.call.code) →
-    Linked k.call.surroundings.links k.call.code i (lists_code k xs) → i + size_of (lists_code k xs) ≡ j →
+    (c ≤ debt) × (c + size_of (lists_code words k xs) + most ≤ cost k.call.code) →
+    Linked k.call.surroundings.links k.call.code i (lists_code words k xs) → i + size_of (lists_code words k xs) ≡ j →
     AreIn k.call.surroundings p numbers i f →
     Comes k.call.code c f (services_of p)
     (owing k.call.code debt (statement_aims k labels acts' j wanted left'))
     (P.pairs_put (at_line k.around line) (put_pairs xs) k.call.surroundings.acts p.state)
 unfolding P.pairs_put ◌>>◌ ◌>>=◌ give
-lists_come k labels line need most left' a [] known does acts' c wanted i j f {p} {numbers} o at since few l end there =
+lists_come words k labels line need most left' a [] known does acts' c wanted i j f {p} {numbers} o at since few l end
+    there =
     let code = k.call.code in
     let low = few.0 in
     record {
@@ -426,20 +428,20 @@ lists_come k labels line need most left' a [] known does acts' c wanted i j f {p
           goes_here acts' wanted g since o
           (λ b. subst (λ n. IsIn k.call.surroundings p numbers n b (g b)) (omega (arith, end)) (at' b)));
     }
-lists_come k labels line need most left' a (x ∷ xs) known does acts' c wanted i j f {p} {numbers} o at since few l end
-    there =
+lists_come words k labels line need most left' a (x ∷ xs) known does acts' c wanted i j f {p} {numbers} o at since few
+    l end there =
     let w = k.call.surroundings in
     let code = k.call.code in
     let fs = x.formats in
     let fixed = known.0.0 in
     let list = opened (format_items fs) fixed.some in
-    let u = puts_of k labels x line need most list.first list.more in
+    let u = puts_of words k labels x line need most list.first list.more in
     let here = at_line k.around line in
     let first = k.first.control in
     let begun = edit_begun fs 1 in
     let items = items_code u (x.first ∷ x.more) in
     let pair = begun ++ (items ++ edit_ended) in
-    let rest = lists_code k xs in
+    let rest = lists_code words k xs in
     let n1 = size_append pair rest in
     let n2 = size_append begun (items ++ edit_ended) in
     let n3 = size_append items edit_ended in
@@ -489,8 +491,8 @@ lists_come k labels line need most left' a (x ∷ xs) known does acts' c wanted 
     subst (λ s'. Comes code c1 f1 v1 owed (next2 t w.acts s')) (sym o2.state)
     (onward closed (reach_then o2.reach r2)
     (λ g2 at2.
-    lists_come k labels line need most left' a xs known.1 does.1 acts' 2 wanted (i + size_of pair) j g2 among2 o2.line
-    o2.since (omega arith, omega (arith, all, n1, n2, n3)) (back_of pair rest l) (omega (arith, n1, end))
+    lists_come words k labels line need most left' a xs known.1 does.1 acts' 2 wanted (i + size_of pair) j g2 among2
+    o2.line o2.since (omega arith, omega (arith, all, n1, n2, n3)) (back_of pair rest l) (omega (arith, n1, end))
     (λ b'. in_known h2 o2.among.image.parts (moved_at b' (g2 b') (omega (arith, n2, n3)) (at2 b'))))))
     (λ c1 f1 v1 height label s e. λ i0 f0 v0 from. jumps_repaid debt from e)
     (λ c1 f1 v1 r' s e. absurd e)
@@ -511,24 +513,25 @@ lists_come k labels line need most left' a (x ∷ xs) known does acts' c wanted 
 
 -- lines end first, or none
 skipped_come :
-    (k : Block) (labels : List Label) (line need most left' : ℕ) → IsAround k labels line need most →
+    (words : ℕ) (k : Block) (labels : List Label) (line need most left' : ℕ) → IsAround words k labels line need most →
     (skip : Option ℕ) → IsSkipped skip → (xs : List Pair) → AreListed k xs →
-    PairsDo (setting_of k labels line most) need xs → (acts' wanted i j : ℕ) (f : Family) {p : Point}
+    PairsDo (setting_around words k labels line most) need xs → (acts' wanted i j : ℕ) (f : Family) {p : Point}
     {numbers : ℕ → ℕ} → IsAmong k numbers p → p.control.line ≡ line → acts' ≤ p.state.world.acts →
-    size_of (C.skip_option 1 skip ++ lists_code k xs) + most ≤ cost k.call.code →
-    Linked k.call.surroundings.links k.call.code i (C.skip_option 1 skip ++ lists_code k xs) →
-    i + size_of (C.skip_option 1 skip ++ lists_code k xs) ≡ j → AreIn k.call.surroundings p numbers i f →
+    size_of (C.skip_option 1 skip ++ lists_code words k xs) + most ≤ cost k.call.code →
+    Linked k.call.surroundings.links k.call.code i (C.skip_option 1 skip ++ lists_code words k xs) →
+    i + size_of (C.skip_option 1 skip ++ lists_code words k xs) ≡ j → AreIn k.call.surroundings p numbers i f →
     Comes k.call.code 0 f (services_of p) (owing k.call.code debt (statement_aims k labels acts' j wanted left'))
     (P.put (at_line k.around line) skip (put_pairs xs) k.call.surroundings.acts p.state)
 unfolding P.put P.control_put ◌>>◌ ◌>>=◌
-skipped_come k labels line need most left' a None some xs known does acts' wanted i j f o at since paid l end there =
-    lists_come k labels line need most left' a xs known does acts' 0 wanted i j f o at since
+skipped_come words k labels line need most left' a None some xs known does acts' wanted i j f o at since paid l end
+    there =
+    lists_come words k labels line need most left' a xs known does acts' 0 wanted i j f o at since
     (omega arith, omega (arith, paid)) l end there
-skipped_come k labels line need most left' a (Some lines) some xs known does acts' wanted i j f {p} {numbers} o at since
-    paid l end there =
+skipped_come words k labels line need most left' a (Some lines) some xs known does acts' wanted i j f {p} {numbers} o
+    at since paid l end there =
     let w = k.call.surroundings in
     let option = C.skip_option 1 (Some lines) in
-    let rest = lists_code k xs in
+    let rest = lists_code words k xs in
     let n0 = size_append option rest in
     let closed = owing_closed k.call.code debt (statement_aims k labels acts' j wanted left') in
     let next' : Unit {0} → Meaning (Unit {0}) = λ t. P.pairs_put (at_line k.around line) (put_pairs xs) in
@@ -536,15 +539,17 @@ skipped_come k labels line need most left' a (Some lines) some xs known does act
     (skip_comes (before_closed w.acts next' closed) lines 0 0 f (o.stands, o.image) (some, a.acts)
     (omega (arith, paid, n0)) (front_of option rest l) there
     (λ g less at'.
-    lists_come k labels line need most left' a xs known does acts' 0 wanted (i + size_of option) j g
+    lists_come words k labels line need most left' a xs known does acts' 0 wanted (i + size_of option) j g
     (writing_among (item_of lines) o less) at (omega (arith, since)) (omega arith, omega (arith, paid, n0))
     (back_of option rest l) (omega (arith, n0, end)) at'))
 
 pub put_does :
-    (k : Block) (labels : List Label) (x : Put) (index left' need most : ℕ) → IsPut k labels x index need most →
-    PairsDo (setting_of k labels x.line most) need (x.first ∷ x.more) → Does k labels (put_of x) index left'
+    (words : ℕ) (k : Block) (labels : List Label) (x : Put) (index left' need most : ℕ) →
+    IsPut words k labels x index need most →
+    PairsDo (setting_around words k labels x.line most) need (x.first ∷ x.more) →
+    DoesWith words k labels (put_of x) index left'
 unfolding M.statement ◌>>◌ ◌>>=◌
-put_does k labels x index left' need most is does p numbers c wanted f o paid there =
+put_does words k labels x index left' need most is does p numbers c wanted f o paid there =
     let w = k.call.surroundings in
     let code = k.call.code in
     let line = x.line in
@@ -553,21 +558,21 @@ put_does k labels x index left' need most is does p numbers c wanted f o paid th
     let first = k.first.control in
     let one = act_code line in
     let xs = x.first ∷ x.more in
-    let behind' = C.skip_option 1 x.skip ++ lists_code k xs in
+    let behind' = C.skip_option 1 x.skip ++ lists_code words k xs in
     let n0 = size_append one behind' in
     let all = is.paid in
-    let j = index + size_in k (put_of x) in
+    let j = index + size_with words k (put_of x) in
     let owed = owing code debt (statement_aims k labels acts' j wanted left') in
     let closed = owing_closed code debt (statement_aims k labels acts' j wanted left') in
     let next1 : Unit {0} → Meaning (Unit {0}) = λ t. P.put here x.skip (put_pairs xs) in
     let over' : AreOver first.entries first.edits first.layers = over_first k [] o in
-    let some = some_behind k x in
+    let some = some_behind words k x in
     comes_owing debt (M.statement k.around (put_of x) w.acts p.state)
     (comes_on w.acts (act counted w.acts p.state) next1
     (act_comes (before_closed w.acts next1 closed) line (c + debt) 0 f (o.stands, o.image)
     (is.act.line_fits, is.act.acts, omega (arith, paid, n0, some)) (front_of one behind' is.statement) there
     (λ g less at.
-    skipped_come k labels line need most left'
+    skipped_come words k labels line need most left'
     (record {
       acts = is.act.acts;
       over = over';
@@ -579,12 +584,15 @@ put_does k labels x index left' need most is does p numbers c wanted f o paid th
     x.skip is.skip xs is.lists does acts' wanted (index + size_of one) j g (acted_among line o less) refl (omega arith)
     (omega (arith, all, n0)) (back_of one behind' is.statement) (omega (arith, n0)) at)))
   where
-    some_behind : (k : Block) (x : Put) → debt ≤ size_of (C.skip_option 1 x.skip ++ lists_code k (x.first ∷ x.more))
-    some_behind k x =
+    some_behind :
+        (words : ℕ) (k : Block) (x : Put) →
+        debt ≤ size_of (C.skip_option 1 x.skip ++ lists_code words k (x.first ∷ x.more))
+    some_behind words k x =
         let begun = edit_begun x.first.formats 1 in
-        let items = C.items_put k.environment none_taken x.first.formats (put_items (x.first.first ∷ x.first.more)) in
+        let items = C.items_put k.environment (set_aside words) x.first.formats
+        (put_items (x.first.first ∷ x.first.more)) in
         let pair = begun ++ (items ++ edit_ended) in
-        let rest = lists_code k x.more in
+        let rest = lists_code words k x.more in
         let n0 = size_append (C.skip_option 1 x.skip) (pair ++ rest) in
         let n1 = size_append pair rest in
         let n2 = size_append begun (items ++ edit_ended) in

@@ -7,7 +7,6 @@ use Rattle.pli_meaning.specs.Streaming.{ControlFormat, DataFormat, FixedItem, Fo
 use Rattle.pli_serving.specs.FormatLists.{formats_at}
 use Rattle.pli_serving.specs.ServiceState.{EditPlace, Putting, Services}
 use Rattle.pli_coding.specs.Assembly.{DataPlace}
-use Rattle.pli_coding.specs.Environments.{none_taken}
 use Rattle.pli_coding.specs.Linking.{place_of}
 use Rattle.pli_coding.specs.Registers.{held_registers}
 use Rattle.pli_coding.specs.Statements.{stmt_code}
@@ -19,8 +18,8 @@ use Rattle.run_steps.specs.Engine.{call_at}
 use Rattle.run_steps.specs.Items.{Linked}
 use Rattle.run_steps.specs.Reach.{cost}
 use Rattle.program_runs.specs.Calls.{Callee}
-use Rattle.program_runs.specs.Statements.{Block, Does, HasAct, IsAmong, IsBegun, size_in}
-use Rattle.expression_runs.specs.Assignments.{setting_of}
+use Rattle.program_runs.specs.Statements.{Block, DoesWith, HasAct, IsAmong, IsBegun, set_aside, size_with}
+use Rattle.expression_runs.specs.Assignments.{setting_around}
 use Rattle.expression_runs.specs.Laws as L
 use Rattle.expression_runs.specs.Raises.{IsUnraised}
 use Rattle.expression_runs.specs.Values.{Setting}
@@ -128,17 +127,19 @@ abbrev pub AreListed : Block → List Pair → Type 0
 AreListed k [] = ⊤
 AreListed k (x ∷ xs) = (IsFixed x.formats × KnowsFormats k x.formats) × AreListed k xs
 
--- where it stands, how many registers its expressions need, and that one act pays for each of them
-pub record IsPut (k : Block) (labels : List Label) (x : Put) (index need most : ℕ) : Type 0 where
+-- where it stands while so many words are set aside, how many registers its expressions need, and that one act pays
+-- for each of them
+pub record IsPut (words : ℕ) (k : Block) (labels : List Label) (x : Put) (index need most : ℕ) : Type 0 where
   pub act : HasAct k x.line
   pub skip : IsSkipped x.skip
   pub lists : AreListed k (x.first ∷ x.more)
   pub registers : need ≤ k.registers
   pub one : 1 ≤ k.registers
   pub held : k.registers ≤ held_registers
-  pub error : (place : EditPlace) → ErrorComes (List ℕ) (within place (setting_of k labels x.line most))
-  pub statement : Linked k.call.surroundings.links k.call.code index (stmt_code k.environment none_taken (put_of x))
-  pub paid : size_in k (put_of x) + most ≤ cost k.call.code
+  pub error : (place : EditPlace) → ErrorComes (List ℕ) (within place (setting_around words k labels x.line most))
+  pub statement :
+      Linked k.call.surroundings.links k.call.code index (stmt_code k.environment (set_aside words) (put_of x))
+  pub paid : size_with words k (put_of x) + most ≤ cost k.call.code
 
 -- wherever the list is, each of its expressions leaves what it means
 abbrev pub ItemsDo : Setting → (need : ℕ) → List Item → Type 0
@@ -151,5 +152,7 @@ PairsDo s need (x ∷ xs) = ItemsDo s need (x.first ∷ x.more) × PairsDo s nee
 
 abbrev pub PutsDo : Type 0
 PutsDo =
-    (k : Block) (labels : List Label) (x : Put) (index left' need most : ℕ) → IsPut k labels x index need most →
-    PairsDo (setting_of k labels x.line most) need (x.first ∷ x.more) → Does k labels (put_of x) index left'
+    (words : ℕ) (k : Block) (labels : List Label) (x : Put) (index left' need most : ℕ) →
+    IsPut words k labels x index need most →
+    PairsDo (setting_around words k labels x.line most) need (x.first ∷ x.more) →
+    DoesWith words k labels (put_of x) index left'

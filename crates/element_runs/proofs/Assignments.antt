@@ -19,7 +19,7 @@ use Rattle.pli_meaning.specs.World.{counted}
 use Rattle.pli_serving.specs.ServiceState.{Services}
 use Rattle.pli_coding.specs.Allocating.{act_code}
 use Rattle.pli_coding.specs.Assembly.{size_of}
-use Rattle.pli_coding.specs.Environments.{fetch, none_taken, save, with_number}
+use Rattle.pli_coding.specs.Environments.{fetch, save, with_number}
 use Rattle.pli_coding.specs.Expressions.{number_code, reference_code}
 use Rattle.pli_coding.specs.Registers.{a0, u3}
 use Rattle.pli_coding.specs.Storing.{word_stored}
@@ -40,10 +40,11 @@ use Rattle.block_runs.specs.Machines.{IsIn, acted}
 use Rattle.block_runs.proofs.CallStatements.{comes_map}
 use Rattle.block_runs.proofs.PointActs.{act_comes}
 use Rattle.block_runs.proofs.PointGrounds.{StandsIn, in_known, point_frame, point_ground}
-use Rattle.program_runs.specs.Statements.{Block, Does, IsAmong, IsBegun, size_in, statement_aims}
+use Rattle.program_runs.specs.Statements.{Block, Does, DoesWith, IsAmong, IsBegun, set_aside, size_with}
+use Rattle.program_runs.specs.Statements.{statement_aims}
 use Rattle.program_runs.proofs.JumpsOut.{jumps_repaid, jumps_since}
 use Rattle.program_runs.proofs.Statements.{acted_among, goes_here, statement_closed}
-use Rattle.expression_runs.specs.Assignments.{setting_of}
+use Rattle.expression_runs.specs.Assignments.{setting_around, setting_of}
 use Rattle.expression_runs.specs.Laws as L
 use Rattle.expression_runs.specs.Values.{HasRegisters, Setting, behind, in_registers, number_aims}
 use Rattle.expression_runs.specs.Variables.{Spot, number_place}
@@ -53,7 +54,7 @@ use Rattle.expression_runs.proofs.Saving.{register_left, saved_reach}
 use Rattle.expression_runs.proofs.VariablePoints.{first_base}
 use Rattle.expression_runs.proofs.Words.{frame_of, known_word, valued}
 use Rattle.element_runs.specs.Arrays.{IsArray, element}
-use Rattle.element_runs.specs.Laws.{IsElementAssignment, element_assigned}
+use Rattle.element_runs.specs.Laws.{IsElementAssignment, IsElementAssignmentWith, element_assigned}
 use Rattle.element_runs.specs.Subscripts.{IsConstant, IsSubscript, IsVariable, IsWaiting, SubscriptComes}
 use Rattle.element_runs.proofs.Simple.{brought_simple}
 use Rattle.element_runs.proofs.AssignedElements.{Assigning, assigned_among, behind_assigned, services_same}
@@ -307,24 +308,25 @@ most_first m n most h = let least = le-max_left m n in omega (arith, least, h)
 most_second : (m n most : ℕ) → max m n ≤ most → n ≤ most
 most_second m n most h = let least = le-max_right m n in omega (arith, least, h)
 
-pub assign_does :
-    (k : Block) (labels : List Label) (x : Spot) (b : Bounds) (s source : Y.Number)
+pub assign_with :
+    (words : ℕ) (k : Block) (labels : List Label) (x : Spot) (b : Bounds) (s source : Y.Number)
     (line index left' first second most : ℕ) →
-    IsElementAssignment k x b s source line index (max first second) most →
-    SubscriptComes (setting_of k labels line most) → L.Does (setting_of k labels line most) first source →
-    IsSubscript (setting_of k labels line most) 1 second s →
-    Does k labels (element_assigned x s source line) index left'
+    IsElementAssignmentWith words k x b s source line index (max first second) most →
+    SubscriptComes (setting_around words k labels line most) →
+    L.Does (setting_around words k labels line most) first source →
+    IsSubscript (setting_around words k labels line most) 1 second s →
+    DoesWith words k labels (element_assigned x s source line) index left'
 unfolding M.statement V.stored_value ◌>>=◌ ◌>>◌
-assign_does k labels x b s source line index left' first second most h outside ev subscript p numbers c wanted f o paid
-    there =
+assign_with words k labels x b s source line index left' first second most h outside ev subscript p numbers c wanted f o
+    paid there =
     let w = k.call.surroundings in
     let code = k.call.code in
     let e = k.environment in
     let stmt = element_assigned x s source line in
     let around' = at_line k.around line in
     let one = act_code line in
-    let value' = number_code e none_taken source in
-    let store' = word_stored e none_taken (element x s) in
+    let value' = number_code e (set_aside words) source in
+    let store' = word_stored e (set_aside words) (element x s) in
     let n0 = size_append one ((value' ++ []) ++ store') in
     let n1 = size_append (value' ++ []) store' in
     let n2 = size_append value' [] in
@@ -334,7 +336,7 @@ assign_does k labels x b s source line index left' first second most h outside e
     let ls = back_of (value' ++ []) store' l1 in
     let debt = size_of value' + size_of store' in
     let acts = p.state.world.acts in
-    let aims = statement_aims k labels acts (index + size_in k stmt) wanted left' in
+    let aims = statement_aims k labels acts (index + size_with words k stmt) wanted left' in
     let owed = owing code debt aims in
     let closed = owing_closed code debt aims in
     let source' = V.stored_value around' (Y.StoredNumber 31 source) in
@@ -368,14 +370,14 @@ assign_does k labels x b s source line index left' first second most h outside e
           (onward closed q.1.reach
           (λ g2 at2.
           let h2 = point_frame q.1.among.stands q.1.among.image in
-          puts_does (setting_of k labels line most) x b h.array owed z q.0 second s outside h.begun subscript closed q1
+          puts_does (setting_around words k labels line most) x b h.array owed z q.0 second s outside h.begun subscript closed q1
           q.1.numbers 0 y.wanted y.index g2
           (λ c3 f3 v3 height label s3 j i0 f0 v0 from. jumps_repaid debt from (jumps_since (omega (arith, since)) j))
           h2 q.1.among q.1.line (omega (arith, room2), h.held)
           (linked_at (index + size_of one + size_of value') store' (omega (arith, n2)) ls)
           (omega (arith, all, n0, n1, n2)) (λ b'. known_word k h2 (at2 b'))
           (λ q2 after c3 f3 v3 among3 since3 r.
-          done_owing (statement_closed k labels acts (index + size_in k stmt) wanted left') debt wanted
+          done_owing (statement_closed k labels acts (index + size_with words k stmt) wanted left') debt wanted
           (omega (arith, n0, n1, n2)) r tt q2.state
           (λ g4 at4. goes_here acts wanted g4 (omega (arith, since, since3)) among3
           (λ b'. subst (λ j. IsIn w q2 after j b' (g4 b')) (omega (arith, n0, n1, n2)) (at4 b'))))));
@@ -385,3 +387,14 @@ assign_does k labels x b s source line index left' first second most h outside e
     (λ c' f' v' r u q. absurd q)
     (ev p' numbers 0 0 (index + size_of one) g o' refl (omega (arith, room1), h.held) lv
     (omega (arith, all, n0, n1, n2)) at))))))
+
+-- where no words are set aside
+pub assign_does :
+    (k : Block) (labels : List Label) (x : Spot) (b : Bounds) (s source : Y.Number)
+    (line index left' first second most : ℕ) →
+    IsElementAssignment k x b s source line index (max first second) most →
+    SubscriptComes (setting_of k labels line most) → L.Does (setting_of k labels line most) first source →
+    IsSubscript (setting_of k labels line most) 1 second s →
+    Does k labels (element_assigned x s source line) index left'
+assign_does k labels x b s source line index left' first second most h outside ev subscript =
+    assign_with 0 k labels x b s source line index left' first second most h outside ev subscript

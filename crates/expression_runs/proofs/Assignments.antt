@@ -20,7 +20,6 @@ use Rattle.pli_meaning.specs.World.{counted}
 use Rattle.pli_serving.specs.ServiceState.{Services}
 use Rattle.pli_coding.specs.Allocating.{act_code}
 use Rattle.pli_coding.specs.Assembly.{Code, size_of}
-use Rattle.pli_coding.specs.Environments.{none_taken}
 use Rattle.pli_coding.specs.Expressions.{number_code}
 use Rattle.pli_coding.specs.Statements.{stmt_code}
 use Rattle.pli_coding.specs.Storing.{word_stored}
@@ -40,10 +39,12 @@ use Rattle.block_runs.specs.Machines.{IsIn, acted}
 use Rattle.block_runs.proofs.CallStatements.{comes_map}
 use Rattle.block_runs.proofs.PointActs.{act_comes}
 use Rattle.block_runs.proofs.PointGrounds.{StandsIn, in_known, point_frame, point_ground}
-use Rattle.program_runs.specs.Statements.{Block, Does, IsAmong, IsBegun, size_in, statement_aims}
+use Rattle.program_runs.specs.Statements.{Block, Does, DoesWith, IsAmong, IsBegun, set_aside, size_with}
+use Rattle.program_runs.specs.Statements.{statement_aims}
 use Rattle.program_runs.proofs.JumpsOut.{jumps_repaid, jumps_since}
 use Rattle.program_runs.proofs.Statements.{acted_among, goes_here, statement_closed}
-use Rattle.expression_runs.specs.Assignments.{IsAssignment, assignment, setting_of}
+use Rattle.expression_runs.specs.Assignments.{IsAssignment, IsAssignmentWith, assignment, setting_around}
+use Rattle.expression_runs.specs.Assignments.{setting_of}
 use Rattle.expression_runs.specs.Laws as L
 use Rattle.expression_runs.specs.Values.{HasWord, Stretch, behind, number_aims}
 use Rattle.expression_runs.specs.Variables.{IsNumber, Spot, number_place, whole}
@@ -129,16 +130,16 @@ put_in k x line v = M.assigned (at_line k.around line) (whole x) v
 
 -- the value goes to the variable, and the act has paid for it
 stored_goes :
-    (k : Block) (labels : List Label) (x : Spot) (source : Y.Number) (line index left' need most : ℕ)
-    (h : IsAssignment k x source line index need most) (acts wanted debt size i : ℕ) (c' : ℕ) (f' : Family)
+    (words : ℕ) (k : Block) (labels : List Label) (x : Spot) (source : Y.Number) (line index left' need most : ℕ)
+    (h : IsAssignmentWith words k x source line index need most) (acts wanted debt size i : ℕ) (c' : ℕ) (f' : Family)
     (v' : Services) (z : ℤ) (s : State) (y : Stretch) → acts ≤ y.acts → is_of_precision 31 z ≡ true →
     HasWord k y (word z) c' f' v' s → y.wanted + size_of (stores k.environment x) ≤ wanted + debt →
     y.index + size_of (stores k.environment x) ≡ i →
     Linked k.call.surroundings.links k.call.code y.index (stores k.environment x) →
     Comes k.call.code c' f' v' (owing k.call.code debt (statement_aims k labels acts i wanted left'))
     (put_in k x line (BasicNumber z) k.call.surroundings.acts s)
-stored_goes k labels x source line index left' need most h acts wanted debt size i c' f' v' z s y since wide q paid end
-    l =
+stored_goes words k labels x source line index left' need most h acts wanted debt size i c' f' v' z s y since wide q
+    paid end l =
     let w = k.call.surroundings in
     let code = k.call.code in
     let aims = statement_aims k labels acts i wanted left' in
@@ -159,21 +160,21 @@ stored_goes k labels x source line index left' need most h acts wanted debt size
           (λ b. subst (λ j. IsIn w (behind_assigned p a) q.numbers j b (g' b)) end (at' b)));
     })))
 
-pub assign_does :
-    (k : Block) (labels : List Label) (x : Spot) (source : Y.Number) (line index left' need most : ℕ) →
-    IsAssignment k x source line index need most → L.Does (setting_of k labels line most) need source →
-    Does k labels (assignment x source line) index left'
+pub assign_with :
+    (words : ℕ) (k : Block) (labels : List Label) (x : Spot) (source : Y.Number) (line index left' need most : ℕ) →
+    IsAssignmentWith words k x source line index need most → L.Does (setting_around words k labels line most) need
+    source → DoesWith words k labels (assignment x source line) index left'
 unfolding M.statement V.stored_value ◌>>=◌ ◌>>◌
-assign_does k labels x source line index left' need most h ev p numbers c wanted f o paid there =
+assign_with words k labels x source line index left' need most h ev p numbers c wanted f o paid there =
     let w = k.call.surroundings in
     let code = k.call.code in
     let e = k.environment in
     let stmt = assignment x source line in
     let around' = at_line k.around line in
     let one = act_code line in
-    let value' = number_code e none_taken source in
-    let store' = word_stored e none_taken (whole x) in
-    let coded = stored_is e none_taken x h.number.initial h.number.declared in
+    let value' = number_code e (set_aside words) source in
+    let store' = word_stored e (set_aside words) (whole x) in
+    let coded = stored_is e (set_aside words) x h.number.initial h.number.declared in
     let n0 = size_append one ((value' ++ []) ++ store') in
     let n1 = size_append (value' ++ []) store' in
     let n2 = size_append value' [] in
@@ -185,7 +186,7 @@ assign_does k labels x source line index left' need most h ev p numbers c wanted
     (back_of (value' ++ []) store' l1) in
     let debt = size_of value' + size_of store' in
     let acts = p.state.world.acts in
-    let aims = statement_aims k labels acts (index + size_in k stmt) wanted left' in
+    let aims = statement_aims k labels acts (index + size_with words k stmt) wanted left' in
     let owed = owing code debt aims in
     let closed = owing_closed code debt aims in
     let source' = V.stored_value around' (Y.StoredNumber 31 source) in
@@ -210,7 +211,8 @@ assign_does k labels x source line index left' need most h ev p numbers c wanted
     subst (Comes code c' f' v' (before code owed w.acts (λ v. put_in k x line v)))
     (sym (fit_is around' z w.acts s q.0))
     (record {
-      to = stored_goes k labels x source line index left' need most h acts wanted debt 0 (index + size_in k stmt) c' f'
+      to = stored_goes words k labels x source line index left' need most h acts wanted debt 0
+          (index + size_with words k stmt) c' f'
           v' z s y (omega arith) q.0 q.1 (omega (arith, n2, n3)) (omega (arith, n0, n1, n2, n3))
           (linked_at (index + size_of one + size_of value') (stores e x) (omega (arith, n2)) ls);
     }))
@@ -219,3 +221,11 @@ assign_does k labels x source line index left' need most h ev p numbers c wanted
     (λ c' f' v' r s q. absurd q)
     (ev p' numbers 0 0 (index + size_of one) g o' refl (let room = h.registers in omega (arith, room), h.held) lv
     (omega (arith, all, n0, n1, n2)) at))))))
+
+-- where no words are set aside
+pub assign_does :
+    (k : Block) (labels : List Label) (x : Spot) (source : Y.Number) (line index left' need most : ℕ) →
+    IsAssignment k x source line index need most → L.Does (setting_of k labels line most) need source →
+    Does k labels (assignment x source line) index left'
+assign_does k labels x source line index left' need most h ev =
+    assign_with 0 k labels x source line index left' need most h ev

@@ -23,7 +23,7 @@ use Rattle.pli_serving.specs.Bytes.{number_bytes}
 use Rattle.pli_serving.specs.ServiceState.{Services}
 use Rattle.pli_coding.specs.Allocating.{act_code}
 use Rattle.pli_coding.specs.Assembly.{Code, JumpTo, ReturnPlace, size_of}
-use Rattle.pli_coding.specs.Environments.{Owner, none_taken}
+use Rattle.pli_coding.specs.Environments.{Owner}
 use Rattle.pli_coding.specs.Expressions.{number_code}
 use Rattle.pli_coding.specs.Frames.{result}
 use Rattle.pli_coding.specs.Instructions.{load_word, store_word}
@@ -61,26 +61,27 @@ use Rattle.block_runs.proofs.CallStatements.{comes_map}
 use Rattle.block_runs.proofs.Places.{bounds, ground_at, word_in}
 use Rattle.block_runs.proofs.PointActs.{act_comes}
 use Rattle.block_runs.proofs.PointGrounds.{StandsIn, in_known, point_frame, point_ground}
-use Rattle.program_runs.specs.Statements.{Block, Does, IsAmong, IsBegun, size_in, statement_aims}
+use Rattle.program_runs.specs.Statements.{Block, Does, DoesWith, IsAmong, IsBegun, set_aside, size_with}
+use Rattle.program_runs.specs.Statements.{statement_aims}
 use Rattle.program_runs.proofs.JumpsOut.{end_later, jumps_repaid, jumps_since, own_end}
 use Rattle.program_runs.proofs.NewestBlocks.{Newest, newest_at}
 use Rattle.program_runs.proofs.Statements.{acted_among, resumes_among}
 use Rattle.activation_relation.proofs.Remaining.{remains_then}
-use Rattle.expression_runs.specs.Assignments.{setting_of}
+use Rattle.expression_runs.specs.Assignments.{setting_around, setting_of}
 use Rattle.expression_runs.specs.Laws as L
 use Rattle.expression_runs.specs.Values.{HasWord, Stretch, behind, number_aims}
 use Rattle.expression_runs.proofs.Assignments.{fit_is}
 use Rattle.expression_runs.proofs.Words.{frame_of, known_word}
-use Rattle.function_runs.specs.Returns.{IsReturn, return_of}
+use Rattle.function_runs.specs.Returns.{IsReturn, IsReturnWith, return_of}
 
 -- ---- its code
 
 -- in the function's own block
 own_return :
-    (k : Block) (source : Y.Number) (line index left' need most : ℕ) → IsReturn k source line index left' need most →
-    word_returned k.environment
+    (words : ℕ) (k : Block) (source : Y.Number) (line index left' need most : ℕ) →
+    IsReturnWith words k source line index left' need most → word_returned k.environment
     ≡ store_word frame_register a0 (pos result) ++ (JumpTo (ReturnPlace k.call.beginning.head.number) ∷ [])
-own_return k source line index left' need most h =
+own_return words k source line index left' need most h =
     let e = k.environment in
     let n = k.call.beginning.head.number in
     ap (λ o. owner_found e o ++ (store_word (result_address e o).register a0 (pos result) ++ returned_by e 0 o)) h.owner
@@ -156,7 +157,8 @@ stands_returned {k} {p = p} b m given begun o bytes stands =
 
 -- a word in a0 goes into the frame, and the jump to the end
 end_reaches :
-    (k : Block) (source : Y.Number) (line i left' need most : ℕ) (h : IsReturn k source line i left' need most)
+    (words : ℕ) (k : Block) (source : Y.Number) (line i left' need most : ℕ) (h : IsReturnWith words k source line i
+    left' need most)
     {numbers : ℕ → ℕ} {p : Point} (index c : ℕ) (f : Family) (given : ℕ) → given < 2 ^ 32 → (o : IsAmong k numbers p) →
     Linked k.call.surroundings.links k.call.code index
     (store_word frame_register a0 (pos result) ++ (JumpTo (ReturnPlace k.call.beginning.head.number) ∷ [])) →
@@ -164,7 +166,7 @@ end_reaches :
     Reach k.call.code c f (services_of p) (c + size_of (store_word frame_register a0 (pos result)) + 2) (services_of p)
     (λ b y. IsIn k.call.surroundings p numbers k.call.end b y
     × (load 4 y.machine.memory (frame_under k.call.surroundings.parts p.control.layers + result) ≡ given))
-end_reaches k source line i left' need most h {numbers} {p} index c f given small' o l there =
+end_reaches words k source line i left' need most h {numbers} {p} index c f given small' o l there =
     let w = k.call.surroundings in
     let frame = point_frame o.stands o.image in
     let g' = result_ground k p frame given in
@@ -203,20 +205,21 @@ end_reaches k source line i left' need most h {numbers} {p} index c f given smal
 
 -- the block has come to its end
 at_result :
-    (k : Block) (source : Y.Number) (line i left' need most : ℕ) (h : IsReturn k source line i left' need most)
+    (words : ℕ) (k : Block) (source : Y.Number) (line i left' need most : ℕ) (h : IsReturnWith words k source line i
+    left' need most)
     (debt c' : ℕ) (f' : Family) (v' : Services) (z : ℤ) (s : State) (y : Stretch) → is_of_precision 31 z ≡ true →
     HasWord k y (word z) c' f' v' s → y.wanted + size_of (store_word frame_register a0 (pos result)) ≤ debt →
     Linked k.call.surroundings.links k.call.code y.index
     (store_word frame_register a0 (pos result) ++ (JumpTo (ReturnPlace k.call.beginning.head.number) ∷ [])) →
     (i0 : ℕ) (f0 : Family) (v0 : Services) → Between k.call.code (i0 + debt) f0 v0 c' f' v' →
     AtEnd k.call left' i0 f0 v0 (Some (BasicNumber z)) s
-at_result k source line i left' need most h debt c' f' v' z s y wide q paid l i0 f0 v0 from =
+at_result words k source line i left' need most h debt c' f' v' z s y wide q paid l i0 f0 v0 from =
     let p = q.point in
     let w = k.call.surroundings in
     let enough = h.enough in
     let n = newest_at h.begun q.among in
     let b = h.begun in
-    let there = end_reaches k source line i left' need most h y.index y.wanted (reached q.reach) (word z)
+    let there = end_reaches words k source line i left' need most h y.index y.wanted (reached q.reach) (word z)
     (word_small z wide) q.among l (reached_holds q.reach) in
     let here : frame_under w.parts p.control.layers ≡ k.call.beginning.layer.at =
     ap (λ ls. frame_under w.parts ls) (q.among.later.layers ∙ b.resumes.layers) in
@@ -245,23 +248,23 @@ at_result k source line i left' need most h debt c' f' v' z s y wide q paid l i0
 abbrev returned_value : BasicValue → Meaning (Unit {0})
 returned_value v = returns (Some (kept (kind_of [] (Y.FixedLeaf 31)) (BasicText []) v))
 
-pub return_does :
-    (k : Block) (labels : List Label) (source : Y.Number) (line index left' need most : ℕ) →
-    IsReturn k source line index left' need most → L.Does (setting_of k labels line most) need source →
-    Does k labels (return_of source line) index left'
+pub return_with :
+    (words : ℕ) (k : Block) (labels : List Label) (source : Y.Number) (line index left' need most : ℕ) →
+    IsReturnWith words k source line index left' need most → L.Does (setting_around words k labels line most) need
+    source → DoesWith words k labels (return_of source line) index left'
 unfolding M.statement V.stored_value ◌>>=◌ ◌>>◌ returns
-return_does k labels source line index left' need most h ev p numbers c wanted f o paid there =
+return_with words k labels source line index left' need most h ev p numbers c wanted f o paid there =
     let w = k.call.surroundings in
     let code = k.call.code in
     let e = k.environment in
     let stmt = return_of source line in
     let around' = at_line k.around line in
     let one = act_code line in
-    let value' = number_code e none_taken source in
+    let value' = number_code e (set_aside words) source in
     let last = word_returned e in
     let put' = store_word frame_register a0 (pos result) in
     let jump = JumpTo (ReturnPlace k.call.beginning.head.number) ∷ [] in
-    let coded = own_return k source line index left' need most h in
+    let coded = own_return words k source line index left' need most h in
     let n0 = size_append one ((value' ++ []) ++ last) in
     let n1 = size_append (value' ++ []) last in
     let n2 = size_append value' [] in
@@ -274,7 +277,7 @@ return_does k labels source line index left' need most h ev p numbers c wanted f
     (back_of (value' ++ []) last l1) in
     let debt = size_of value' + size_of put' in
     let acts = p.state.world.acts in
-    let aims = statement_aims k labels acts (index + size_in k stmt) wanted left' in
+    let aims = statement_aims k labels acts (index + size_with words k stmt) wanted left' in
     let owed = owing code debt aims in
     let closed = owing_closed code debt aims in
     let source' = V.stored_value around' (Y.StoredNumber 31 source) in
@@ -301,7 +304,7 @@ return_does k labels source line index left' need most h ev p numbers c wanted f
     (record {
       to = record {
         to = λ i0 f0 v0 from. own_end h.kind
-            (at_result k source line index left' need most h debt c' f' v' z s y q.0 q.1 (omega arith)
+            (at_result words k source line index left' need most h debt c' f' v' z s y q.0 q.1 (omega arith)
             (linked_at (index + size_of one + size_of value') (put' ++ jump) (omega (arith, n2)) ls) i0 f0 v0 from);
       };
     }))
@@ -310,3 +313,11 @@ return_does k labels source line index left' need most h ev p numbers c wanted f
     (λ c' f' v' r s q. absurd q)
     (ev p' numbers 0 0 (index + size_of one) g o' refl (let room = h.registers in omega (arith, room), h.held) lv
     (omega (arith, all, n0, n1, n2)) at))))))
+
+-- where no words are set aside
+pub return_does :
+    (k : Block) (labels : List Label) (source : Y.Number) (line index left' need most : ℕ) →
+    IsReturn k source line index left' need most → L.Does (setting_of k labels line most) need source →
+    Does k labels (return_of source line) index left'
+return_does k labels source line index left' need most h ev =
+    return_with 0 k labels source line index left' need most h ev

@@ -6,7 +6,6 @@ use Rattle.pli_meaning.specs.Executing as M
 use Rattle.pli_meaning.specs.World.{counted}
 use Rattle.pli_coding.specs.Allocating.{act_code}
 use Rattle.pli_coding.specs.Assembly.{size_of}
-use Rattle.pli_coding.specs.Environments.{none_taken}
 use Rattle.pli_coding.specs.Statements.{stmts_code}
 use Rattle.run_steps.proofs.Jumps.{back_of, front_of}
 use Rattle.run_steps.proofs.Linking.{size_append}
@@ -14,26 +13,28 @@ use Rattle.run_steps.proofs.Reach.{before_closed, comes_on, reach_map}
 use Rattle.block_runs.specs.Machines.{IsIn, acted}
 use Rattle.block_runs.proofs.CallStatements.{comes_map}
 use Rattle.block_runs.proofs.PointActs.{act_comes}
-use Rattle.program_runs.specs.Statements.{Block, Does, EachDoes, size_in, statement_aims}
+use Rattle.program_runs.specs.Statements.{Block, Does, DoesWith, EachDoes, EachDoesWith, set_aside, size_with}
+use Rattle.program_runs.specs.Statements.{statement_aims}
 use Rattle.program_runs.proofs.JumpsOut.{jumps_since}
-use Rattle.program_runs.proofs.Lists.{list_does}
+use Rattle.program_runs.proofs.Lists.{list_with}
 use Rattle.program_runs.proofs.Statements.{acted_among, statement_closed}
-use Rattle.group_runs.specs.Groups.{IsGroup, list_index}
+use Rattle.group_runs.specs.Groups.{IsGroup, IsGroupWith, list_index}
 
-pub group_does :
-    (k : Block) (labels : List Label) (body : Y.Stmts) (line index left' : ℕ) → IsGroup k body line index →
-    EachDoes k (M.labels_in body ++ labels) body (list_index line index) left' →
-    Does k labels (Y.Do body line) index left'
+pub group_with :
+    (words : ℕ) (k : Block) (labels : List Label) (body : Y.Stmts) (line index left' : ℕ) →
+    IsGroupWith words k body line index →
+    EachDoesWith words k (M.labels_in body ++ labels) body (list_index line index) left' →
+    DoesWith words k labels (Y.Do body line) index left'
 unfolding M.statement M.list ◌>>=◌ ◌>>◌
-group_does k labels body line index left' h each p numbers c wanted f o paid there =
+group_with words k labels body line index left' h each p numbers c wanted f o paid there =
     let w = k.call.surroundings in
     let stmt = Y.Do body line in
     let one = act_code line in
-    let all = stmts_code k.environment none_taken body in
+    let all = stmts_code k.environment (set_aside words) body in
     let n0 = size_append one all in
     let acts = p.state.world.acts in
-    let aims = statement_aims k labels acts (index + size_in k stmt) wanted left' in
-    let closed = statement_closed k labels acts (index + size_in k stmt) wanted left' in
+    let aims = statement_aims k labels acts (index + size_with words k stmt) wanted left' in
+    let closed = statement_closed k labels acts (index + size_with words k stmt) wanted left' in
     let next' : Unit {0} → Meaning (Unit {0}) = λ u. M.list k.around body in
     let turns = h.turns in
     let later = o.later.acts in
@@ -56,5 +57,13 @@ group_does k labels body line index left' h each p numbers c wanted f o paid the
     })
     (λ c' f' v' height label s q. jumps_since (omega arith) q)
     (λ c' f' v' r s q. q)
-    (list_does k labels body (list_index line index) left' p' numbers 0 wanted g h.begun (omega (arith, turns, later))
+    (list_with words k labels body (list_index line index) left' p' numbers 0 wanted g h.begun
+    (omega (arith, turns, later))
     each h.marks (acted_among line o less) (back_of one all h.statement) (omega arith, omega (arith, paid, n0)) at)))
+
+-- where no words are set aside
+pub group_does :
+    (k : Block) (labels : List Label) (body : Y.Stmts) (line index left' : ℕ) → IsGroup k body line index →
+    EachDoes k (M.labels_in body ++ labels) body (list_index line index) left' →
+    Does k labels (Y.Do body line) index left'
+group_does k labels body line index left' h each = group_with 0 k labels body line index left' h each

@@ -39,7 +39,7 @@ use Rattle.block_runs.proofs.PointActs.{act_comes}
 use Rattle.program_runs.specs.Calls.{Callee}
 use Rattle.program_runs.specs.Procedures.{Calling, Procedure, beginning_for, begin_of, block_of, end_of}
 use Rattle.program_runs.specs.Procedures.{frame_for, layer_for}
-use Rattle.program_runs.specs.Statements.{Block, Does, IsAmong, IsBegun, size_in, statement_aims}
+use Rattle.program_runs.specs.Statements.{Block, DoesWith, IsAmong, IsBegun, size_with, statement_aims}
 use Rattle.program_runs.proofs.Statements.{acted_among, statement_closed}
 use Rattle.nested_calls.specs.Nested.{IsNested, parent_at}
 use Rattle.nested_calls.specs.NestedCalls.{IsNestedCall, call_at}
@@ -163,20 +163,21 @@ rest_of c =
     ++ (Mark (ReturnPlace c.procedure.head.number) ∷ end_of c.procedure)))
 
 deep_goes :
-    (k : Block) (c : Callee) (labels : List Label) (acts level line index left' more : ℕ)
-    (h : IsNestedCall k c level line index more) (p : Point) (numbers : ℕ → ℕ) (wanted : ℕ) (f : Family)
+    (words : ℕ) (k : Block) (c : Callee) (labels : List Label) (acts level line index left' more : ℕ)
+    (h : IsNestedCall words k c level line index more) (p : Point) (numbers : ℕ → ℕ) (wanted : ℕ) (f : Family)
     (o : IsAmong k numbers p) → nat_lt (length k.first.state.activations) most_activations ≡ false → IsBegun k →
-    Linked k.call.surroundings.links k.call.code (index + size_of (act_code line)) (given_in k level ++ call_of c) →
-    size_in k (call_at c level line) ≡ size_of (act_code line) + size_of (given_in k level ++ call_of c) →
+    Linked k.call.surroundings.links k.call.code (index + size_of (act_code line))
+    (given_in words k level ++ call_of c) →
+    size_with words k (call_at c level line) ≡ size_of (act_code line) + size_of (given_in words k level ++ call_of c) →
     AreIn k.call.surroundings p numbers (index + size_of (act_code line)) f →
     Comes k.call.code 0 f (services_of p)
-    (before k.call.code (statement_aims k labels acts (index + size_in k (call_at c level line)) wanted left')
+    (before k.call.code (statement_aims k labels acts (index + size_with words k (call_at c level line)) wanted left')
     k.call.surroundings.acts behind_call)
     (finish {R = Option BasicValue} (E.Limit L.Depth) k.call.surroundings.acts p.state)
-deep_goes k c labels acts level line index left' more h p numbers wanted f o many b l size there =
+deep_goes words k c labels acts level line index left' more h p numbers wanted f o many b l size there =
     let w = k.call.surroundings in
     let x = c.procedure in
-    let given' = given_in k level in
+    let given' = given_in words k level in
     let call = call_of c in
     let n = size_append given' call in
     let n1 = size_append (begin_of x) (rest_of c) in
@@ -185,12 +186,12 @@ deep_goes k c labels acts level line index left' more h p numbers wanted f o man
     let at_call = h.call in
     let base = frame_at k.first.control.layers (parent_at k level) in
     let closed = before_closed w.acts behind_call
-    (statement_closed k labels acts (index + size_in k (call_at c level line)) wanted left') in
+    (statement_closed k labels acts (index + size_with words k (call_at c level line)) wanted left') in
     let coded = h.callee.coded in
     let entry = begun (block_of x) c.calling.parent in
     onward closed
-    (given (level == k.environment.level) 0 level base (beginning_for w p numbers x c.calling)
-    (index + size_of (act_code line)) 0 f o.stands o.image (omega arith, refl)
+    (given (level == k.environment.level) words level base (beginning_for w p numbers x c.calling)
+    (index + size_of (act_code line)) 0 f o.stands o.image (h.low, refl)
     (parent_reached level h.nested b o h.around_it) (
       parent_inside level h.nested o h.around_it,
       ap (λ ls. frame_at ls (parent_at k level)) (sym o.later.layers)
@@ -212,24 +213,25 @@ deep_goes k c labels acts level line index left' more h p numbers wanted f o man
     (λ b'. (at b').1))
 
 pub deep_call_ends :
-    (k : Block) (c : Callee) (level line index left' more : ℕ) → IsNestedCall k c level line index more →
+    (words : ℕ) (k : Block) (c : Callee) (level line index left' more : ℕ) →
+    IsNestedCall words k c level line index more →
     nat_lt (length k.first.state.activations) most_activations ≡ false → IsBegun k → (labels : List Label) →
-    Does k labels (call_at c level line) index left'
+    DoesWith words k labels (call_at c level line) index left'
 unfolding M.statement ◌>>=◌ ◌>>◌
-deep_call_ends k c level line index left' more h many b labels p numbers credits wanted f o paid there =
+deep_call_ends words k c level line index left' more h many b labels p numbers credits wanted f o paid there =
     let w = k.call.surroundings in
     let p' = acted line p in
     let one = act_code line in
-    let given' = given_in k level in
+    let given' = given_in words k level in
     let call = call_of c in
-    let eq = call_coded k c level line in
+    let eq = call_coded words k c level line in
     let l = subst (Linked w.links k.call.code index) eq h.statement in
     let n0 = size_append one (given' ++ call) in
     let size = ap (λ u. size_of u) eq in
     let tree = Y.Calling c.procedure.head.number level Y.NoArgument in
     let tail : Unit {0} → Meaning (Unit {0}) = λ u. V.called (at_line k.around line) tree >> give tt in
     let acts = p.state.world.acts in
-    let closed = statement_closed k labels acts (index + size_in k (call_at c level line)) wanted left' in
+    let closed = statement_closed k labels acts (index + size_with words k (call_at c level line)) wanted left' in
     comes_on w.acts (act counted w.acts p.state) tail
     (act_comes (before_closed w.acts tail closed) line credits 0 f (o.stands, o.image)
     (h.line_fits, h.callee.acts, omega (arith, paid, n0, size)) (front_of one (given' ++ call) l) there
@@ -237,10 +239,11 @@ deep_call_ends k c level line index left' more h many b labels p numbers credits
     let o' = acted_among line o less in
     comes_on w.acts (V.called (at_line k.around line) tree w.acts p'.state) behind_call
     (subst (Comes k.call.code 0 g (services_of p')
-    (before k.call.code (statement_aims k labels acts (index + size_in k (call_at c level line)) wanted left') w.acts
+    (before k.call.code (statement_aims k labels acts (index + size_with words k (call_at c level line)) wanted left')
+    w.acts
     behind_call))
     (sym (called_means h o' ∙ deep_means c.around c.procedure.head c.procedure.body
     (begun (block_of c.procedure) c.calling.parent) w.acts p'.state
     (subst (λ xs. nat_lt (length xs) most_activations ≡ false) (sym o'.later.activations) many)))
-    (deep_goes k c labels acts level line index left' more h p' numbers wanted g o' many b
+    (deep_goes words k c labels acts level line index left' more h p' numbers wanted g o' many b
     (back_of one (given' ++ call) l) (size ∙ n0) at))))

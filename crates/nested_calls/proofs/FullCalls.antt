@@ -36,7 +36,7 @@ use Rattle.block_runs.proofs.PointActs.{act_comes}
 use Rattle.block_runs.proofs.PointCalls.{calls}
 use Rattle.program_runs.specs.Calls.{Callee}
 use Rattle.program_runs.specs.Procedures.{beginning_for, begin_of, end_of}
-use Rattle.program_runs.specs.Statements.{Block, Does, IsAmong, IsBegun, size_in, statement_aims}
+use Rattle.program_runs.specs.Statements.{Block, DoesWith, IsAmong, IsBegun, size_with, statement_aims}
 use Rattle.program_runs.proofs.Procedures.{layer_begins}
 use Rattle.program_runs.proofs.Statements.{acted_among, statement_closed}
 use Rattle.expression_runs.specs.Laws as L
@@ -114,28 +114,29 @@ behind_made c =
     ++ (Mark (ReturnPlace c.procedure.head.number) ∷ end_of c.procedure))
 
 pub full_call_ends :
-    (k : Block) (c : Callee) (level line index left' more : ℕ) → IsNestedCall k c level line index more →
+    (words : ℕ) (k : Block) (c : Callee) (level line index left' more : ℕ) →
+    IsNestedCall words k c level line index more →
     nat_lt (length k.first.state.activations) most_activations ≡ true →
     ((p : Point) (numbers : ℕ → ℕ) → IsAmong k numbers p → AreFull k.call.surroundings k.call.code c p numbers) →
-    IsBegun k → (labels : List Label) → Does k labels (call_at c level line) index left'
+    IsBegun k → (labels : List Label) → DoesWith words k labels (call_at c level line) index left'
 unfolding M.statement ◌>>=◌ ◌>>◌
-full_call_ends k c level line index left' more h few full b labels p numbers credits wanted f o paid there =
+full_call_ends words k c level line index left' more h few full b labels p numbers credits wanted f o paid there =
     let w = k.call.surroundings in
     let code = k.call.code in
     let p' = acted line p in
     let x = c.procedure in
     let one = act_code line in
-    let given' = given_in k level in
+    let given' = given_in words k level in
     let call = call_of c in
-    let eq = call_coded k c level line in
+    let eq = call_coded words k c level line in
     let l = subst (Linked w.links code index) eq h.statement in
     let n0 = size_append one (given' ++ call) in
     let size = ap (λ u. size_of u) eq in
     let tree = Y.Calling x.head.number level Y.NoArgument in
     let tail : Unit {0} → Meaning (Unit {0}) = λ u. V.called (at_line k.around line) tree >> give tt in
     let acts = p.state.world.acts in
-    let aims = statement_aims k labels acts (index + size_in k (call_at c level line)) wanted left' in
-    let closed = statement_closed k labels acts (index + size_in k (call_at c level line)) wanted left' in
+    let aims = statement_aims k labels acts (index + size_with words k (call_at c level line)) wanted left' in
+    let closed = statement_closed k labels acts (index + size_with words k (call_at c level line)) wanted left' in
     let shut = before_closed w.acts behind_call closed in
     let base = frame_at k.first.control.layers (parent_at k level) in
     let l1 = back_of one (given' ++ call) l in
@@ -163,8 +164,8 @@ full_call_ends k c level line index left' more h few full b labels p numbers cre
     (E.Limit W.Automatic) h.callee.kind
     (subst (λ xs. nat_lt (length xs) most_activations ≡ true) (sym o'.later.activations) few) made.means))
     (onward shut
-    (given (level == k.environment.level) 0 level base (beginning_for w p' numbers x c.calling)
-    (index + size_of one) 0 g o'.stands o'.image (omega arith, refl) (parent_reached level h.nested b o' h.around_it) (
+    (given (level == k.environment.level) words level base (beginning_for w p' numbers x c.calling)
+    (index + size_of one) 0 g o'.stands o'.image (h.low, refl) (parent_reached level h.nested b o' h.around_it) (
       parent_inside level h.nested o' h.around_it,
       ap (λ ls. frame_at ls (parent_at k level)) (sym o'.later.layers)
           ∙ ap (λ j. frame_at p'.control.layers j) (sym h.parent),

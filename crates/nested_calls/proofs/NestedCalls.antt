@@ -17,7 +17,6 @@ use Rattle.pli_meaning.specs.StorageState.{most_activations}
 use Rattle.pli_meaning.specs.World.{World, counted}
 use Rattle.pli_coding.specs.Allocating.{act_code}
 use Rattle.pli_coding.specs.Assembly.{CallTo, Code, ProcedureEntry, size_of}
-use Rattle.pli_coding.specs.Environments.{none_taken}
 use Rattle.pli_coding.specs.Frames.{fixed_size, words_place}
 use Rattle.pli_coding.specs.Instructions.{number, plus}
 use Rattle.pli_coding.specs.Registers.{a1, a2, frame_register}
@@ -43,8 +42,8 @@ use Rattle.block_runs.proofs.PointActs.{act_comes}
 use Rattle.block_runs.proofs.PointGrounds.{point_frame, point_ground}
 use Rattle.program_runs.specs.Calls.{AreMade, Callee, block_at, body_index, called_at, labels_of, left_over}
 use Rattle.program_runs.specs.Procedures.{HasRoom, beginning_for, block_of, frame_for}
-use Rattle.program_runs.specs.Statements.{Block, Does, EachDoes, GoesOn, IsAmong, IsBegun, own_height, size_in}
-use Rattle.program_runs.specs.Statements.{statement_aims}
+use Rattle.program_runs.specs.Statements.{Block, DoesWith, EachDoes, GoesOn, IsAmong, IsBegun, own_height, set_aside}
+use Rattle.program_runs.specs.Statements.{size_with, statement_aims}
 use Rattle.program_runs.proofs.Calls.{BodyComes, body_goes, procedure_comes}
 use Rattle.program_runs.proofs.NewestBlocks.{newest_at, own_ancestor}
 use Rattle.program_runs.proofs.Statements.{acted_among, statement_closed}
@@ -136,8 +135,8 @@ is_parent {k} {p = p} level inner parent nest o within e f =
 -- ---- at each of the block's points
 
 pub room_among :
-    {k : Block} {c : Callee} {level line index more : ℕ} {numbers : ℕ → ℕ} {p : Point} →
-    IsNestedCall k c level line index more → nat_lt (length k.first.state.activations) most_activations ≡ true →
+    {words : ℕ} {k : Block} {c : Callee} {level line index more : ℕ} {numbers : ℕ → ℕ} {p : Point} →
+    IsNestedCall words k c level line index more → nat_lt (length k.first.state.activations) most_activations ≡ true →
     IsAmong k numbers p → HasRoom k.call.surroundings p c.procedure c.calling
 room_among {k} {c} {level} h few o =
     let parts = k.call.surroundings.parts in
@@ -152,8 +151,8 @@ room_among {k} {c} {level} h few o =
 
 -- what the call means
 pub called_means :
-    {k : Block} {c : Callee} {level line index more : ℕ} {numbers : ℕ → ℕ} {p : Point} →
-    IsNestedCall k c level line index more → IsAmong k numbers p →
+    {words : ℕ} {k : Block} {c : Callee} {level line index more : ℕ} {numbers : ℕ → ℕ} {p : Point} →
+    IsNestedCall words k c level line index more → IsAmong k numbers p →
     V.called (at_line k.around line) (Y.Calling c.procedure.head.number level Y.NoArgument)
     k.call.surroundings.acts p.state
     ≡ M.block_run c.around (block_of c.procedure) (begun (block_of c.procedure) c.calling.parent)
@@ -172,18 +171,19 @@ called_means {k} {c} {level} {line} {more = more} {p = p} h o =
 
 -- ---- its code
 
-abbrev pub given_in : Block → (level : ℕ) → Code
-given_in k level = given_code (level == k.environment.level) 0 level
+abbrev pub given_in : (words : ℕ) → Block → (level : ℕ) → Code
+given_in words k level = given_code (level == k.environment.level) words level
 
 abbrev pub call_of : Callee → Code
 call_of c = CallTo (ProcedureEntry c.procedure.head.number) ∷ []
 
 pub call_coded :
-    (k : Block) (c : Callee) (level line : ℕ) →
-    stmt_code k.environment none_taken (call_at c level line) ≡ act_code line ++ (given_in k level ++ call_of c)
-call_coded k c level line =
+    (words : ℕ) (k : Block) (c : Callee) (level line : ℕ) →
+    stmt_code k.environment (set_aside words) (call_at c level line)
+    ≡ act_code line ++ (given_in words k level ++ call_of c)
+call_coded words k c level line =
     let q = level == k.environment.level in
-    let list = plus a1 frame_register (words_place 0 0) in
+    let list = plus a1 frame_register (words_place words 0) in
     ap (λ u. act_code line ++ (list ++ u)) (sym (append_assoc (number a2 0) (parent_code q level) (call_of c)))
     ∙ ap (λ u. act_code line ++ u) (sym (append_assoc list (number a2 0 ++ parent_code q level) (call_of c)))
 
@@ -194,11 +194,12 @@ behind_call r = give tt
 
 -- behind the call its block goes on
 behind_goes :
-    {k : Block} {c : Callee} {acts level line index more wanted credits : ℕ} {numbers : ℕ → ℕ} {p : Point} {f : Family}
-    {r : Option BasicValue} {s : State} {v : _} (h : IsNestedCall k c level line index more) (o : IsAmong k numbers p) →
+    {words : ℕ} {k : Block} {c : Callee} {acts level line index more wanted credits : ℕ} {numbers : ℕ → ℕ}
+    {p : Point} {f : Family} {r : Option BasicValue} {s : State} {v : _} (h : IsNestedCall words k c level line index more)
+    (o : IsAmong k numbers p) →
     acts ≤ p.state.world.acts →
     IsBehind (called_at k.call.surroundings k.call.code c p numbers) wanted credits f v r s →
-    GoesOn k acts (index + size_in k (call_at c level line)) wanted credits f v s
+    GoesOn k acts (index + size_with words k (call_at c level line)) wanted credits f v s
 behind_goes {k} {numbers = numbers} {p = p} h o since q =
     let w = k.call.surroundings in
     let more = q.later.acts in
@@ -220,36 +221,37 @@ behind_goes {k} {numbers = numbers} {p = p} h o since q =
     }
 
 call_goes :
-    (k : Block) (c : Callee) (labels : List Label) (acts level line index left' more : ℕ)
-    (h : IsNestedCall k c level line index more) (p : Point) (numbers : ℕ → ℕ) (wanted : ℕ) (f : Family)
+    (words : ℕ) (k : Block) (c : Callee) (labels : List Label) (acts level line index left' more : ℕ)
+    (h : IsNestedCall words k c level line index more) (p : Point) (numbers : ℕ → ℕ) (wanted : ℕ) (f : Family)
     (o : IsAmong k numbers p) → nat_lt (length k.first.state.activations) most_activations ≡ true → IsBegun k →
     acts ≤ p.state.world.acts → AreMade k.call.surroundings k.call.code c p numbers →
     BodyComes k.call.surroundings k.call.code c p numbers →
-    Linked k.call.surroundings.links k.call.code (index + size_of (act_code line)) (given_in k level ++ call_of c) →
-    size_in k (call_at c level line) ≡ size_of (act_code line) + size_of (given_in k level ++ call_of c) →
+    Linked k.call.surroundings.links k.call.code (index + size_of (act_code line))
+    (given_in words k level ++ call_of c) →
+    size_with words k (call_at c level line) ≡ size_of (act_code line) + size_of (given_in words k level ++ call_of c) →
     AreIn k.call.surroundings p numbers (index + size_of (act_code line)) f →
     Comes k.call.code 0 f (services_of p)
-    (before k.call.code (statement_aims k labels acts (index + size_in k (call_at c level line)) wanted left')
+    (before k.call.code (statement_aims k labels acts (index + size_with words k (call_at c level line)) wanted left')
     k.call.surroundings.acts behind_call)
     (M.block_run c.around (block_of c.procedure) (begun (block_of c.procedure) c.calling.parent)
     k.call.surroundings.acts p.state)
 unfolding give
-call_goes k c labels acts level line index left' more h p numbers wanted f o few b since made' body l size there =
+call_goes words k c labels acts level line index left' more h p numbers wanted f o few b since made' body l size there =
     let w = k.call.surroundings in
-    let given' = given_in k level in
+    let given' = given_in words k level in
     let call = call_of c in
     let n = size_append given' call in
     let inside = l.inside in
     let proc = h.callee.stands.inside in
     let at_call = h.call in
-    let aims = statement_aims k labels acts (index + size_in k (call_at c level line)) wanted left' in
+    let aims = statement_aims k labels acts (index + size_with words k (call_at c level line)) wanted left' in
     let flow = M.block_run c.around (block_of c.procedure) (begun (block_of c.procedure) c.calling.parent) w.acts
     p.state in
     let base = frame_at k.first.control.layers (parent_at k level) in
-    let closed = statement_closed k labels acts (index + size_in k (call_at c level line)) wanted left' in
+    let closed = statement_closed k labels acts (index + size_with words k (call_at c level line)) wanted left' in
     onward (before_closed w.acts behind_call closed)
-    (given (level == k.environment.level) 0 level base (beginning_for w p numbers c.procedure c.calling)
-    (index + size_of (act_code line)) 0 f o.stands o.image (omega arith, refl)
+    (given (level == k.environment.level) words level base (beginning_for w p numbers c.procedure c.calling)
+    (index + size_of (act_code line)) 0 f o.stands o.image (h.low, refl)
     (parent_reached level h.nested b o h.around_it) (
       parent_inside level h.nested o h.around_it,
       ap (λ ls. frame_at ls (parent_at k level)) (sym o.later.layers)
@@ -269,28 +271,29 @@ call_goes k c labels acts level line index left' more h p numbers wanted f o few
 
 -- if the procedure's body comes to its end
 call_comes :
-    (k : Block) (c : Callee) (level line index left' more : ℕ) → IsNestedCall k c level line index more →
+    (words : ℕ) (k : Block) (c : Callee) (level line index left' more : ℕ) →
+    IsNestedCall words k c level line index more →
     nat_lt (length k.first.state.activations) most_activations ≡ true →
     ((p : Point) (numbers : ℕ → ℕ) → IsAmong k numbers p →
     AreMade k.call.surroundings k.call.code c p numbers) →
     ((p : Point) (numbers : ℕ → ℕ) → IsAmong k numbers p →
     BodyComes k.call.surroundings k.call.code c p numbers) → IsBegun k → (labels : List Label) →
-    Does k labels (call_at c level line) index left'
+    DoesWith words k labels (call_at c level line) index left'
 unfolding M.statement ◌>>=◌ ◌>>◌
-call_comes k c level line index left' more h few made' body b labels p numbers credits wanted f o paid there =
+call_comes words k c level line index left' more h few made' body b labels p numbers credits wanted f o paid there =
     let w = k.call.surroundings in
     let p' = acted line p in
     let one = act_code line in
-    let given' = given_in k level in
+    let given' = given_in words k level in
     let call = call_of c in
-    let eq = call_coded k c level line in
+    let eq = call_coded words k c level line in
     let l = subst (Linked w.links k.call.code index) eq h.statement in
     let n0 = size_append one (given' ++ call) in
     let size = ap (λ u. size_of u) eq in
     let tree = Y.Calling c.procedure.head.number level Y.NoArgument in
     let tail : Unit {0} → Meaning (Unit {0}) = λ u. V.called (at_line k.around line) tree >> give tt in
     let acts = p.state.world.acts in
-    let closed = statement_closed k labels acts (index + size_in k (call_at c level line)) wanted left' in
+    let closed = statement_closed k labels acts (index + size_with words k (call_at c level line)) wanted left' in
     comes_on w.acts (act counted w.acts p.state) tail
     (act_comes (before_closed w.acts tail closed) line credits 0 f (o.stands, o.image)
     (h.line_fits, h.callee.acts, omega (arith, paid, n0, size)) (front_of one (given' ++ call) l) there
@@ -298,26 +301,28 @@ call_comes k c level line index left' more h few made' body b labels p numbers c
     let o' = acted_among line o less in
     comes_on w.acts (V.called (at_line k.around line) tree w.acts p'.state) behind_call
     (subst (Comes k.call.code 0 g (services_of p')
-    (before k.call.code (statement_aims k labels acts (index + size_in k (call_at c level line)) wanted left') w.acts
+    (before k.call.code (statement_aims k labels acts (index + size_with words k (call_at c level line)) wanted left')
+    w.acts
     behind_call))
     (sym (called_means h o'))
-    (call_goes k c labels acts level line index left' more h p' numbers wanted g o' few b (omega arith)
+    (call_goes words k c labels acts level line index left' more h p' numbers wanted g o' few b (omega arith)
     (made' p' numbers o')
     (body p' numbers o') (back_of one (given' ++ call) l) (size ∙ n0) at))))
 
 pub nested_call_does :
-    (k : Block) (c : Callee) (level line index left' more : ℕ) → IsNestedCall k c level line index more →
+    (words : ℕ) (k : Block) (c : Callee) (level line index left' more : ℕ) →
+    IsNestedCall words k c level line index more →
     nat_lt (length k.first.state.activations) most_activations ≡ true →
     ((p : Point) (numbers : ℕ → ℕ) → IsAmong k numbers p →
     AreMade k.call.surroundings k.call.code c p numbers) →
     ((p : Point) (numbers : ℕ → ℕ) → IsAmong k numbers p →
     IsBegun (block_at k.call.surroundings k.call.code c p numbers) →
     EachDoes (block_at k.call.surroundings k.call.code c p numbers) (labels_of c) c.procedure.body (body_index c)
-    left_over) → IsBegun k → (labels : List Label) → Does k labels (call_at c level line) index left'
-nested_call_does k c level line index left' more h few made' each =
+    left_over) → IsBegun k → (labels : List Label) → DoesWith words k labels (call_at c level line) index left'
+nested_call_does words k c level line index left' more h few made' each =
     let enough = h.enough in
     let turns = ap (λ (a : Around). a.turns) h.around in
-    call_comes k c level line index left' more h few made'
+    call_comes words k c level line index left' more h few made'
     (λ p numbers o b o' f at.
     let later = o.later.acts in
     let same = ap (λ (u : World). u.acts) (made' p numbers o).world in

@@ -1,12 +1,16 @@
 -- Static ancestors and variables of a block in what is called from it: the same ones, in frames that its display has.
-use Rattle.std.proofs.Common.{◌≡◌, ℕ, suc, ◌+◌, ◌*◌, ◌^◌, ◌<◌, ◌≤◌, List, ◌∷◌, length, Some, true, false, inl, inr}
-use Rattle.std.proofs.Common.{refl, sym, ap, ◌∙◌, subst, arith}
+use Rattle.std.proofs.Common.{◌≡◌, ℕ, suc, ◌+◌, ◌*◌, ◌^◌, ◌<◌, ◌≤◌, List, [], ◌∷◌, length, Some, true, false, inl}
+use Rattle.std.proofs.Common.{inr, refl, sym, ap, ◌∙◌, subst, arith}
 use Rattle.std.proofs.lemmas.Bool.{eq-eqb, eqb-true, leb-true}
 use Rattle.std.proofs.lemmas.Bool.Decides.{nat_tests}
 use Rattle.std.specs.Prelude.{Bool, cond, ◌==◌, nat_le}
-use Rattle.pli_meaning.specs.DeclaredShapes.{declared_variable}
-use Rattle.pli_meaning.specs.StorageState.{Activation, ancestor, ancestor_at, binding_in, height_of, living_of}
-use Rattle.pli_meaning.specs.StorageState.{newest_height}
+use Rattle.pli_typing.specs.Signatures.{data_size}
+use Rattle.pli_typing.specs.TypedTree as Y
+use Rattle.pli_meaning.specs.DeclaredShapes.{declared_variable, shape_of}
+use Rattle.pli_meaning.specs.StorageState.{Activation, Living, ancestor, ancestor_at, binding_in, height_of}
+use Rattle.pli_meaning.specs.StorageState.{living_of, newest_height}
+use Rattle.pli_coding.specs.Environments.{Environment}
+use Rattle.pli_coding.specs.Frames.{name_bytes}
 use Rattle.storage_relation.proofs.Holders.{eqb-other, eqb-refl}
 use Rattle.storage_relation.proofs.Placing.{none_above}
 use Rattle.activation_relation.specs.Chains.{AreActive, frame_at}
@@ -24,6 +28,7 @@ use Rattle.program_runs.specs.Procedures.{layer_for}
 use Rattle.program_runs.specs.Statements.{Block, IsAmong, IsBegun, own_height}
 use Rattle.program_runs.proofs.NewestBlocks.{newest_at, own_ancestor}
 use Rattle.expression_runs.specs.Variables.{IsFrameOf, IsNumber, Spot, number_place, variable_of}
+use Rattle.variable_runs.specs.Known.{IsKnown, place_of}
 use Rattle.function_runs.specs.Functions.{function_block}
 use Rattle.nested_calls.specs.Nested.{IsNested, parent_at}
 use Rattle.nested_calls.specs.NestedVariables.{IsInside}
@@ -175,79 +180,119 @@ below_frame {k} {p = p} level base nest b o (inl own) =
     )
 below_frame level base nest b o (inr outer) = (outer.2, outer.4)
 
-pub over_number :
-    {k inner : Block} {level : ℕ} {numbers : ℕ → ℕ} {p : Point} (x : Spot) → Over k inner level p → IsNested k →
-    IsBegun k → IsAmong k numbers p → level ≤ k.environment.level → x.level ≤ level →
-    inner.environment.program ≡ k.environment.program → inner.environment.parts ≡ k.environment.parts → IsNumber k x →
-    IsNumber inner x
-over_number {k} {inner} {level} {p = p} x i nest b o within less program parts is =
+-- what stays so for what a variable of a level around stands for, and its frame
+record Stays (k inner : Block) (level serial base : ℕ) (living : Living) : Type 0 where
+  same : ancestor_at inner.first.state level ≡ ancestor_at k.first.state level
+  on : LivesOn living (living_of inner.first.state.living serial)
+  moved : inner.first.places.at serial ≡ k.first.places.at serial
+  frame : IsFrameOf inner level base
+
+over_stays :
+    {k inner : Block} {level : ℕ} {numbers : ℕ → ℕ} {p : Point} (n serial base : ℕ) (living : Living) →
+    Over k inner level p → IsNested k → IsBegun k → IsAmong k numbers p → level ≤ k.environment.level → n ≤ level →
+    living_of k.first.state.living serial ≡ Some living → IsFrameOf k n base → Stays k inner n serial base living
+over_stays {k} {inner} {level} {p = p} n serial base living i nest b o within less lives is =
     record {
-      initial = is.initial;
-      declared = ap (λ y. declared_variable y (variable_of x)) program ∙ is.declared;
-      serial = is.serial;
-      binding = ap (λ a. binding_in a x.index) same ∙ is.binding;
-      living = on.there;
-      lives = on.lives;
-      shape = on.shape ∙ is.shape;
-      base = is.base;
-      frame = inr (other, inside, above, subst (λ n. n < most_levels) (sym i.layer_level) i.few, frame);
-      at = moved ∙ is.at ∙ ap (λ n. is.base + n) (sym place);
-      low = subst (λ n. 2 ^ 22 ≤ is.base + n) (sym place) is.low;
-      inside = subst (λ n. is.base + n + 4 ≤ 15 * 2 ^ 20) (sym place) is.inside;
+      same = same;
+      on = to.living serial living lives;
+      moved = to.at serial (omega (arith, low));
+      frame = inr (other, inside, above, subst (λ j. j < most_levels) (sym i.layer_level) i.few, frame);
     }
   where
     φs : List Layer
     φs = p.control.layers
 
-    same : ancestor_at inner.first.state x.level ≡ ancestor_at k.first.state x.level
-    same = same_ancestor x.level i nest o within less
-
-    place : number_place inner.environment x ≡ number_place k.environment x
-    place =
-        ap (λ y. number_place (record inner.environment { program = y }) x) program
-        ∙ ap (λ y. number_place (record k.environment { parts = y }) x) parts
+    same : ancestor_at inner.first.state n ≡ ancestor_at k.first.state n
+    same = same_ancestor n i nest o within less
 
     to : Remains k.first inner.first
     to = remains_then k.first p inner.first o.later.remains i.remains
 
-    on : LivesOn is.living (living_of inner.first.state.living is.serial)
-    on = to.living is.serial is.living is.lives
+    low : serial < k.first.state.serials + 1
+    low = none_above (k.first.state.serials + 1) k.first.state.living serial living b.resumes.stands.lives.falling lives
 
-    low : is.serial < k.first.state.serials + 1
-    low = none_above (k.first.state.serials + 1) k.first.state.living is.serial is.living b.resumes.stands.lives.falling
-        is.lives
-
-    moved : inner.first.places.at is.serial ≡ k.first.places.at is.serial
-    moved = to.at is.serial (omega (arith, low))
-
-    inside : x.level < inner.call.beginning.layer.level
+    inside : n < inner.call.beginning.layer.level
     inside = let e = i.layer_level in omega (arith, e, less)
 
-    other : (x.level == inner.environment.level) ≡ false
-    other = let code = i.code in eqb-other x.level inner.environment.level (omega (arith, code, less))
+    other : (n == inner.environment.level) ≡ false
+    other = let code = i.code in eqb-other n inner.environment.level (omega (arith, code, less))
 
-    below : (0 < parent_at k x.level) × (is.base ≡ frame_at k.first.control.layers (parent_at k x.level))
-    below = below_frame x.level is.base nest b o is.frame
+    below : (0 < parent_at k n) × (base ≡ frame_at k.first.control.layers (parent_at k n))
+    below = below_frame n base nest b o is
 
-    above : 0 < height_of (ancestor_at inner.first.state x.level)
+    above : 0 < height_of (ancestor_at inner.first.state n)
     above = subst (λ a. 0 < height_of a) (sym same) below.0
 
-    high : parent_at k x.level ≤ length φs
+    high : parent_at k n ≤ length φs
     high =
         let short = ancestor_low k.call.surroundings.units p.state.activations φs (newest_height p.state.activations)
-        x.level o.stands.active in
+        n o.stands.active in
         let many = same_length k.call.surroundings.units p.state.activations φs o.stands.active in
-        let e = ap (λ xs. height_of (ancestor xs (newest_height xs) x.level)) o.later.activations in
+        let e = ap (λ xs. height_of (ancestor xs (newest_height xs) n)) o.later.activations in
         omega (arith, short, many, e)
 
-    frame : is.base ≡ frame_at inner.first.control.layers (height_of (ancestor_at inner.first.state x.level))
+    frame : base ≡ frame_at inner.first.control.layers (height_of (ancestor_at inner.first.state n))
     frame =
         below.1
-        ∙ ap (λ ls. frame_at ls (parent_at k x.level)) (sym o.later.layers)
-        ∙ sym (i.frames (parent_at k x.level))
-        ∙ sym (frame_below i.layer i.below (parent_at k x.level) (let many = i.many in omega (arith, high, many)))
-        ∙ ap (λ ls. frame_at ls (parent_at k x.level)) (sym i.layers)
+        ∙ ap (λ ls. frame_at ls (parent_at k n)) (sym o.later.layers)
+        ∙ sym (i.frames (parent_at k n))
+        ∙ sym (frame_below i.layer i.below (parent_at k n) (let many = i.many in omega (arith, high, many)))
+        ∙ ap (λ ls. frame_at ls (parent_at k n)) (sym i.layers)
         ∙ ap (λ a. frame_at inner.first.control.layers (height_of a)) (sym same)
+
+-- its code looks for one at the same place
+same_place :
+    (e f : Environment) (x : Spot) → e.program ≡ f.program → e.parts ≡ f.parts → place_of e x ≡ place_of f x
+same_place e f x program parts =
+    ap (λ y. place_of (record e { program = y }) x) program ∙ ap (λ y. place_of (record f { parts = y }) x) parts
+
+pub over_number :
+    {k inner : Block} {level : ℕ} {numbers : ℕ → ℕ} {p : Point} (x : Spot) → Over k inner level p → IsNested k →
+    IsBegun k → IsAmong k numbers p → level ≤ k.environment.level → x.level ≤ level →
+    inner.environment.program ≡ k.environment.program → inner.environment.parts ≡ k.environment.parts → IsNumber k x →
+    IsNumber inner x
+over_number {k} {inner} x i nest b o within less program parts is =
+    let s = over_stays x.level is.serial is.base is.living i nest b o within less is.lives is.frame in
+    let place : number_place inner.environment x ≡ number_place k.environment x =
+    ap (λ n. n + 16 + 0) (same_place inner.environment k.environment x program parts) in
+    record {
+      initial = is.initial;
+      declared = ap (λ y. declared_variable y (variable_of x)) program ∙ is.declared;
+      serial = is.serial;
+      binding = ap (λ a. binding_in a x.index) s.same ∙ is.binding;
+      living = s.on.there;
+      lives = s.on.lives;
+      shape = s.on.shape ∙ is.shape;
+      base = is.base;
+      frame = s.frame;
+      at = s.moved ∙ is.at ∙ ap (λ n. is.base + n) (sym place);
+      low = subst (λ n. 2 ^ 22 ≤ is.base + n) (sym place) is.low;
+      inside = subst (λ n. is.base + n + 4 ≤ 15 * 2 ^ 20) (sym place) is.inside;
+    }
+
+over_known :
+    {k inner : Block} {level : ℕ} {numbers : ℕ → ℕ} {p : Point} (x : Spot) (d : Y.DeclaredVariable) →
+    Over k inner level p → IsNested k → IsBegun k → IsAmong k numbers p → level ≤ k.environment.level →
+    x.level ≤ level → inner.environment.program ≡ k.environment.program →
+    inner.environment.parts ≡ k.environment.parts → IsKnown k x d → IsKnown inner x d
+over_known {k} {inner} x d i nest b o within less program parts is =
+    let s = over_stays x.level is.serial is.base is.living i nest b o within less is.lives is.frame in
+    let place = same_place inner.environment k.environment x program parts in
+    record {
+      declared = ap (λ y. declared_variable y (variable_of x)) program ∙ is.declared;
+      serial = is.serial;
+      binding = ap (λ a. binding_in a x.index) s.same ∙ is.binding;
+      living = s.on.there;
+      lives = s.on.lives;
+      shape = s.on.shape ∙ is.shape;
+      base = is.base;
+      frame = s.frame;
+      at = s.moved ∙ is.at ∙ ap (λ n. is.base + (n + name_bytes)) (sym place);
+      low = is.low;
+      inside =
+          subst (λ n. is.base + (n + name_bytes + data_size (shape_of [] d).signature) ≤ 15 * 2 ^ 20) (sym place)
+          is.inside;
+    }
 
 -- ---- what is called
 
@@ -345,4 +390,24 @@ pub function_number :
     IsNumber (function_block k.call.surroundings k.call.code c p numbers) x
 function_number k c level x h less is p numbers o made b =
     over_number {k = k} {inner = function_block k.call.surroundings k.call.code c p numbers} {numbers = numbers} x
+    (function_over k c level h p numbers o made b) h.nested h.begun o h.around_it less h.program h.parts is
+
+pub procedure_known :
+    (k : Block) (c : Callee) (level : ℕ) (x : Spot) (d : Y.DeclaredVariable) → IsInside k c level → x.level ≤ level →
+    IsKnown k x d → (p : Point) (numbers : ℕ → ℕ) → IsAmong k numbers p →
+    AreMade k.call.surroundings k.call.code c p numbers →
+    IsBegun (block_at k.call.surroundings k.call.code c p numbers) →
+    IsKnown (block_at k.call.surroundings k.call.code c p numbers) x d
+procedure_known k c level x d h less is p numbers o made b =
+    over_known {k = k} {inner = block_at k.call.surroundings k.call.code c p numbers} {numbers = numbers} x d
+    (procedure_over k c level h p numbers o made b) h.nested h.begun o h.around_it less h.program h.parts is
+
+pub function_known :
+    (k : Block) (c : Callee) (level : ℕ) (x : Spot) (d : Y.DeclaredVariable) → IsInside k c level → x.level ≤ level →
+    IsKnown k x d → (p : Point) (numbers : ℕ → ℕ) → IsAmong k numbers p →
+    AreMade k.call.surroundings k.call.code c p numbers →
+    IsBegun (function_block k.call.surroundings k.call.code c p numbers) →
+    IsKnown (function_block k.call.surroundings k.call.code c p numbers) x d
+function_known k c level x d h less is p numbers o made b =
+    over_known {k = k} {inner = function_block k.call.surroundings k.call.code c p numbers} {numbers = numbers} x d
     (function_over k c level h p numbers o made b) h.nested h.begun o h.around_it less h.program h.parts is

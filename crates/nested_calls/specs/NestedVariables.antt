@@ -1,10 +1,12 @@
 -- Variables of a block, and of those around it, in what is called from it, at any level around.
 use Rattle.std.specs.Prelude.{ℕ, suc, ◌<◌, ◌≤◌, ◌≡◌}
+use Rattle.pli_typing.specs.TypedTree as Y
 use Rattle.activation_relation.specs.CodeStores.{most_levels}
 use Rattle.activation_relation.specs.Layers.{Point}
 use Rattle.program_runs.specs.Calls.{AreMade, Callee, block_at}
 use Rattle.program_runs.specs.Statements.{Block, IsAmong, IsBegun}
 use Rattle.expression_runs.specs.Variables.{IsNumber, Spot}
+use Rattle.variable_runs.specs.Known.{IsKnown}
 use Rattle.function_runs.specs.Functions.{function_block}
 use Rattle.nested_calls.specs.Nested.{IsNested, parent_at}
 
@@ -43,3 +45,16 @@ pub record NestedNumbers : Type 0 where
       (p : Point) (numbers : ℕ → ℕ) → IsAmong k numbers p → AreMade k.call.surroundings k.call.code c p numbers →
       IsBegun (function_block k.call.surroundings k.call.code c p numbers) →
       IsNumber (function_block k.call.surroundings k.call.code c p numbers) x
+  -- so is one of any other type
+  pub known :
+      (k : Block) (c : Callee) (level : ℕ) (x : Spot) (d : Y.DeclaredVariable) → IsInside k c level →
+      x.level ≤ level → IsKnown k x d → (p : Point) (numbers : ℕ → ℕ) → IsAmong k numbers p →
+      AreMade k.call.surroundings k.call.code c p numbers →
+      IsBegun (block_at k.call.surroundings k.call.code c p numbers) →
+      IsKnown (block_at k.call.surroundings k.call.code c p numbers) x d
+  pub known_function :
+      (k : Block) (c : Callee) (level : ℕ) (x : Spot) (d : Y.DeclaredVariable) → IsInside k c level →
+      x.level ≤ level → IsKnown k x d → (p : Point) (numbers : ℕ → ℕ) → IsAmong k numbers p →
+      AreMade k.call.surroundings k.call.code c p numbers →
+      IsBegun (function_block k.call.surroundings k.call.code c p numbers) →
+      IsKnown (function_block k.call.surroundings k.call.code c p numbers) x d

@@ -16,7 +16,7 @@ pub fn nested_functions_do()
     ensures { NestedFunctionsDo }
 {}
 
-/// What is called is nested in the blocks around it, whose variables are the same ones there.
+/// What is called is nested in the blocks around it, whose variables, of any type, are the same ones there.
 pub fn nested_numbers()
     ensures { NestedNumbers }
 {}

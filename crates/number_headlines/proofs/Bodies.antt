@@ -1,6 +1,6 @@
 -- The statements of each block of a program of the class do what they mean, and so do the calls in them, as deep as
 -- they go.
-use Rattle.std.proofs.Common.{◌≡◌, ℕ, zero, suc, ◌+◌, ◌*◌, ◌^◌, ◌<◌, ◌≤◌, List, [], ◌∷◌, ◌++◌, length}
+use Rattle.std.proofs.Common.{◌≡◌, ℕ, zero, suc, ◌+◌, ◌^◌, ◌<◌, ◌≤◌, List, [], ◌∷◌, ◌++◌, length}
 use Rattle.std.proofs.Common.{Bool, true, false, refl, sym, ap, subst, arith}
 use Rattle.std.specs.Prelude.{cond, nat_le, nat_lt, ◌==◌}
 use Rattle.std.proofs.lemmas.Bool.{leb-true}
@@ -13,13 +13,14 @@ use Rattle.pli_meaning.specs.Executing.{labels_in}
 use Rattle.pli_meaning.specs.StorageState.{automatic_in_use, most_activations, most_automatic}
 use Rattle.pli_coding.specs.Allocating.{act_code}
 use Rattle.pli_coding.specs.Assembly.{size_of}
-use Rattle.pli_coding.specs.Environments.{Environment, none_taken}
+use Rattle.pli_coding.specs.Environments.{Environment}
 use Rattle.pli_coding.specs.Images.{linked_code}
 use Rattle.pli_coding.specs.Procedures.{procedure_of_block}
 use Rattle.pli_coding.specs.Statements.{stmt_code}
 use Rattle.code_marks.specs.CodeMarks.{MarkedOnce}
 use Rattle.activation_relation.specs.Frames.{lower_end, upper_top}
-use Rattle.activation_relation.specs.Layers.{Point}
+use Rattle.activation_relation.specs.FrameLaws.{with_waits}
+use Rattle.activation_relation.specs.Layers.{Layer, Point}
 use Rattle.run_steps.specs.Items.{Linked}
 use Rattle.run_steps.proofs.Jumps.{back_of}
 use Rattle.run_steps.proofs.Linking.{size_append}
@@ -32,8 +33,8 @@ use Rattle.program_places.proofs.Functions.{function_end_is, function_stands}
 use Rattle.program_places.proofs.Procedures.{body_placed, raise_routines}
 use Rattle.program_runs.specs.Calls.{left_over}
 use Rattle.program_runs.specs.Starts.{image_parts}
-use Rattle.program_runs.specs.Statements.{Does, EachDoes, IsBegun, IsOwn}
-use Rattle.expression_runs.specs.Assignments.{setting_of}
+use Rattle.program_runs.specs.Statements.{DoesWith, EachDoes, IsBegun, IsOwn, set_aside}
+use Rattle.expression_runs.specs.Assignments.{setting_around}
 use Rattle.expression_runs.specs.Laws as L
 use Rattle.nested_calls.specs.NestedCalls.{HasFrame, IsNestedCall}
 use Rattle.nested_calls.specs.NestedFunctions.{IsNestedFunction}
@@ -41,17 +42,22 @@ use Rattle.nested_calls.proofs.DeepCalls.{deep_call_ends}
 use Rattle.nested_calls.proofs.FullCalls.{full_call_ends, full_function_ends}
 use Rattle.nested_calls.proofs.NestedCalls.{call_coded, call_of, given_in, nested_call_does}
 use Rattle.nested_calls.proofs.NestedFunctions.{deep_function_ends, nested_function_does}
-use Rattle.number_runs.specs.Knowledge.{IsReady, IsUnraised, IsValued, KnowsCalls, call_number, call_statement}
+use Rattle.number_runs.specs.Knowledge as Left
+use Rattle.number_runs.specs.Knowledge.{IsReady, IsUnraised, IsValued, KnowsCalls, KnowsPuts, KnowsRaises}
+use Rattle.number_runs.specs.Knowledge.{call_number, call_statement, most_set}
+use Rattle.number_runs.specs.Statements.{statements_set}
+use Rattle.number_runs.specs.Variables.{bytes_of}
 use Rattle.number_runs.proofs.Statements.{body_does, none_raised}
 use Rattle.number_runs.proofs.Puts.{puts_known}
 use Rattle.number_runs.proofs.Takes.{registers_held}
 use Rattle.number_headlines.specs.Programs.{scope_of}
-use Rattle.number_headlines.proofs.Entered.{are_made, entered, entered_at, none_waits, unraised_there}
+use Rattle.number_headlines.proofs.Entered.{are_made, entered, entered_at, inner_set, unraised_there}
 use Rattle.number_headlines.proofs.Full.{are_full}
 use Rattle.number_headlines.proofs.Inner.{Inner, inner_is}
 use Rattle.number_headlines.proofs.Mains.{Main, most_for, result_of, run_for}
 use Rattle.number_headlines.proofs.Puts.{error_routine, lists_known}
-use Rattle.number_headlines.proofs.Running.{IsRunning, Running, block_of_run, callee_of, site_of}
+use Rattle.number_headlines.proofs.Running.{IsEntered, IsRunning, Running, block_of_run, callee_of, site_of, told_run}
+use Rattle.number_headlines.proofs.Running.{told_running}
 use Rattle.number_headlines.proofs.Tables.{block_plain}
 
 -- ---- at the end of a block
@@ -95,41 +101,93 @@ values_by once {program} m input acts true more a is inner e =
 
 -- ---- its statements, if the calls in them do what they mean
 
-ready :
+unraised_of :
     MarkedOnce → {program : Y.Program} (m : Main program) (input : List ℕ) (acts : ℕ) (valued : Bool) (more : ℕ)
-    (a : Running) (blocks : ℕ) → acts + 1 < 2 ^ 64 → (valued ≡ true → 1 ≤ a.head.level) →
-    IsRunning m input acts valued more a blocks →
-    KnowsCalls (scope_of program m.called a.head) (block_of_run program input acts valued more a)
-    (labels_in a.body ++ []) (most_for program) left_over →
-    IsReady (scope_of program m.called a.head) valued (block_of_run program input acts valued more a)
-    (labels_in a.body ++ []) (most_for program) left_over
-ready once {program} m input acts valued more a blocks few inner h calls =
+    (a : Running) (blocks : ℕ) → acts + 1 < 2 ^ 64 → IsRunning m input acts valued more a blocks →
+    IsUnraised (block_of_run program input acts valued more a) (most_for program)
+unraised_of once {program} m input acts valued more a blocks few h =
     let routines = raise_routines once program m.loadable in
     let inside = routines.linked.inside in
-    let enough = h.enough in
-    let k = block_of_run program input acts valued more a in
-    let s = scope_of program m.called a.head in
-    let u : IsUnraised k (most_for program) =
     record {
       routines = routines;
+      place = error_routine once program m.loadable;
       overflow = h.unraised C.FixedOverflow;
       divisor = h.unraised C.ZeroDivide;
       error = h.unraised C.Error;
       acts = few;
       few = omega (arith, inside);
-    } in
+    }
+
+-- raises end the run
+raises_of :
+    MarkedOnce → {program : Y.Program} (m : Main program) (input : List ℕ) (acts : ℕ) (valued : Bool) (more : ℕ)
+    (a : Running) (blocks : ℕ) → acts + 1 < 2 ^ 64 → IsRunning m input acts valued more a blocks →
+    KnowsRaises (scope_of program m.called a.head) (block_of_run program input acts valued more a) (labels_in a.body ++ [])
+    (most_for program)
+raises_of once {program} m input acts valued more a blocks few h =
+    none_raised (scope_of program m.called a.head) (block_of_run program input acts valued more a) (labels_in a.body ++ [])
+    (most_for program) (unraised_of once m input acts valued more a blocks few h)
+
+-- numbers are written by the lists of the program
+puts_of :
+    MarkedOnce → {program : Y.Program} (m : Main program) (input : List ℕ) (acts : ℕ) (valued : Bool) (more : ℕ)
+    (a : Running) (blocks : ℕ) → acts + 1 < 2 ^ 64 → IsRunning m input acts valued more a blocks →
+    KnowsPuts (scope_of program m.called a.head) (block_of_run program input acts valued more a) (most_for program)
+unfolding unraised_of
+puts_of once {program} m input acts valued more a blocks few h =
+    let k = block_of_run program input acts valued more a in
+    puts_known (scope_of program m.called a.head) k (most_for program) h.begun
+    (unraised_of once m input acts valued more a blocks few h) h.variables (λ may. h.arrays)
+    (lists_known program k m.memory h.told)
+
+-- wherever limits wait in words of its frame, calls do what they mean
+abbrev EachCall : {program : Y.Program} → Main program → (input : List ℕ) → (acts : ℕ) → (valued : Bool) →
+    (more : ℕ) → Running → (blocks : ℕ) → Type 0
+EachCall {program} m input acts valued more a blocks =
+    (layers : List Layer → List Layer) →
+    IsRunning m input acts valued more (record a { layers = layers }) blocks →
+    KnowsCalls (scope_of program m.called a.head)
+    (block_of_run program input acts valued more (record a { layers = layers })) (labels_in a.body ++ [])
+    (most_for program) left_over
+
+ready :
+    MarkedOnce → {program : Y.Program} (m : Main program) (input : List ℕ) (acts : ℕ) (valued : Bool) (more : ℕ)
+    (a : Running) (blocks : ℕ) → acts + 1 < 2 ^ 64 → (valued ≡ true → 1 ≤ a.head.level) →
+    IsEntered m input acts valued more a blocks → EachCall m input acts valued more a blocks →
+    IsReady (scope_of program m.called a.head) valued (block_of_run program input acts valued more a)
+    (labels_in a.body ++ []) (most_for program) left_over
+ready once {program} m input acts valued more a blocks few inner e calls =
+    let h = e.running in
+    let enough = h.enough in
+    let φ = h.free.layer in
+    let φs = h.free.below in
+    let words = e.words in
+    let waiting = h.waiting in
     record {
       begun = h.begun;
       acts = few;
       turns = omega (arith, enough);
       held = omega arith;
-      raises = none_raised s k (labels_in a.body ++ []) (most_for program) u;
+      raises = raises_of once m input acts valued more a blocks few h;
       variables = h.variables;
-      calls = calls;
+      arrays = λ may. h.arrays;
+      calls = calls a.layers h;
       jumps = λ labels level label line index includes out. absurd (cc out);
-      puts = λ may.
-          puts_known s k (most_for program) h.begun u (error_routine once program m.loadable) h.variables
-          (lists_known program k m.memory h.told);
+      puts = λ may. puts_of once m input acts valued more a blocks few h;
+      loops = λ may. record {
+        layer = φ;
+        others = φs;
+        newest = h.free.newest;
+        few = omega (arith, words, waiting);
+        behind = 0;
+        free = λ n behind. e.clear n;
+        raises = λ waits.
+            raises_of once m input acts valued more (told_run a waits φ φs) blocks few (told_running h waits);
+        calls = λ waits. calls (λ ls. with_waits waits φ ∷ φs) (told_running h waits);
+        jumps = λ waits labels level label line index includes out. absurd (cc out);
+        puts = λ waits may.
+            puts_of once m input acts valued more (told_run a waits φ φs) blocks few (told_running h waits);
+      };
       room = omega arith;
       home = λ may. record {
         level = refl;
@@ -140,20 +198,31 @@ ready once {program} m input acts valued more a blocks few inner h calls =
       };
     }
 
+-- its frame has the words that its loops set aside
+frame_left :
+    (once : MarkedOnce) {program : Y.Program} (m : Main program) (input : List ℕ) (acts : ℕ) (valued : Bool) (more : ℕ)
+    (a : Running) (blocks : ℕ) (few : acts + 1 < 2 ^ 64) (inner : valued ≡ true → 1 ≤ a.head.level)
+    (e : IsEntered m input acts valued more a blocks) (calls : EachCall m input acts valued more a blocks) →
+    Left.HasFrame (ready once m input acts valued more a blocks few inner e calls) 0 (statements_set a.body)
+unfolding ready
+frame_left once m input acts valued more a blocks few inner e calls may =
+    let words = e.words in
+    (omega arith, omega (arith, words))
+
 body_each :
     MarkedOnce → {program : Y.Program} (m : Main program) (input : List ℕ) (acts : ℕ) (valued : Bool) (more : ℕ)
     (a : Running) (blocks : ℕ) → acts + 1 < 2 ^ 64 → (valued ≡ true → 1 ≤ a.head.level) →
-    IsRunning m input acts valued more a blocks →
-    KnowsCalls (scope_of program m.called a.head) (block_of_run program input acts valued more a)
-    (labels_in a.body ++ []) (most_for program) left_over →
+    IsEntered m input acts valued more a blocks → EachCall m input acts valued more a blocks →
     EachDoes (block_of_run program input acts valued more a) (labels_in a.body ++ []) a.body
     (body_for program a.head a.body) left_over
-body_each once {program} m input acts valued more a blocks few inner h calls =
+body_each once {program} m input acts valued more a blocks few inner e calls =
+    let h = e.running in
     let s = scope_of program m.called a.head in
     let plain = block_plain program.variables a.head.number m.plain in
     body_does s valued (block_of_run program input acts valued more a) a.body (body_for program a.head a.body)
-    (most_for program) left_over (ready once m input acts valued more a blocks few inner h calls) h.statements
-    (registers_held s valued (environment_for program a.head) a.head.number a.body plain.0 h.statements h.fits)
+    (most_for program) left_over (ready once m input acts valued more a blocks few inner e calls) h.statements
+    (registers_held s valued (environment_for program a.head) a.head.number a.body plain.plain h.statements h.fits)
+    (frame_left once m input acts valued more a blocks few inner e calls)
     (body_placed once program a.head a.body (result_of valued) m.loadable h.is)
 
 -- ---- calls, if the statements of blocks that may be entered one level less deep do what they mean
@@ -161,7 +230,7 @@ body_each once {program} m input acts valued more a blocks few inner h calls =
 abbrev EachBody : {program : Y.Program} → Main program → (input : List ℕ) → (acts more : ℕ) → Type 0
 EachBody {program} m input acts more =
     (valued : Bool) (a : Running) (blocks : ℕ) → (valued ≡ true → 1 ≤ a.head.level) →
-    IsRunning m input acts valued more a blocks →
+    IsEntered m input acts valued more a blocks →
     EachDoes (block_of_run program input acts valued more a) (labels_in a.body ++ []) a.body
     (body_for program a.head a.body) left_over
 
@@ -173,13 +242,14 @@ frame_fits :
     HasFrame (block_of_run program input acts valued (suc more) a)
     (callee_of program v more (entered_at i (block_of_run program input acts valued (suc more) a) call p numbers))
 frame_fits {program} m input acts valued more b a h {v} i call p numbers =
-    let words = none_waits m i in
+    let words = inner_set m i in
+    let waiting = i.waiting in
     let level = (known program i.head i.body (result_of v) m.loadable.well_formed i.is).level in
     let fits = h.free.fits in
     let used = h.free.used in
     let top = ap (λ ls. upper_top image_parts ls) h.free.newest in
     let low = ap (λ ls. lower_end image_parts ls) h.free.newest in
-    omega (arith, words, level, fits, used, top, low)
+    omega (arith, words, waiting, level, fits, used, top, low)
 
 by_decision : (q : Bool) {P : Type 0} → (q ≡ true → P) → (q ≡ false → P) → P
 by_decision true one other = one refl
@@ -191,28 +261,30 @@ past used e = grind (arith, e, nat_tests)
 call_by :
     MarkedOnce → {program : Y.Program} (m : Main program) (input : List ℕ) (acts : ℕ) (valued : Bool) (more b : ℕ)
     (a : Running) → acts + 1 < 2 ^ 64 → IsRunning m input acts valued (suc more) a (suc b) →
-    EachBody m input acts more →
+    EachBody m input acts more → (words : ℕ) → words ≤ most_set →
     (labels : List Label) (level number line index : ℕ) → Inner m a.head false level number → line < 2 ^ 31 →
     Linked (links_for program) (linked_code (code_for program)) index
-    (stmt_code (environment_for program a.head) none_taken (call_statement level number line)) →
-    Does (block_of_run program input acts valued (suc more) a) labels (call_statement level number line) index left_over
-call_by once {program} m input acts valued more b a few h each labels level number line index i less l =
+    (stmt_code (environment_for program a.head) (set_aside words) (call_statement level number line)) →
+    DoesWith words (block_of_run program input acts valued (suc more) a) labels (call_statement level number line) index
+    left_over
+call_by once {program} m input acts valued more b a few h each words set labels level number line index i less l =
     let k = block_of_run program input acts valued (suc more) a in
-    let used = automatic_in_use k.first.state.living + 32 * length (variables_of_block program i.head.number) in
+    let used = automatic_in_use k.first.state.living + bytes_of (variables_of_block program i.head.number) in
     let one = act_code line in
-    let given' = given_in k level in
+    let given' = given_in words k level in
     let c0 = callee_of program false more (entered_at i k 0 k.first (λ n. 0)) in
     let last = call_of c0 in
     let l0 = subst (λ n. Linked (links_for program) (linked_code (code_for program)) index
-    (stmt_code (environment_for program a.head) none_taken (call_statement level n line))) (sym i.numbered) l in
-    let eq = call_coded k c0 level line in
+    (stmt_code (environment_for program a.head) (set_aside words) (call_statement level n line))) (sym i.numbered) l in
+    let eq = call_coded words k c0 level line in
     let l' = subst (Linked (links_for program) (linked_code (code_for program)) index) eq l0 in
     let size = ap (λ u. size_of u) eq in
     let n0 = size_append one (given' ++ last) in
     let n1 = size_append given' last in
     let call = index + size_of one + size_of given' in
     let c = callee_of program false more (entered_at i k call k.first (λ n. 0)) in
-    let is : IsNestedCall k c level line index more = record {
+    let is : IsNestedCall words k c level line index more = record {
+      low = omega (arith, set);
       line_fits = less;
       callee = callee_stands once program i.head i.body (run_for input acts)
           (site_of program more (entered_at i k call k.first (λ n. 0))) m.loadable i.is
@@ -230,21 +302,21 @@ call_by once {program} m input acts valued more b a few h each labels level numb
       around = refl;
       enough = h.enough;
     } in
-    subst (λ n. Does k labels (call_statement level n line) index left_over) i.numbered
+    subst (λ n. DoesWith words k labels (call_statement level n line) index left_over) i.numbered
     (by_decision (nat_lt (length k.first.state.activations) most_activations)
     (λ shallow.
     by_decision (nat_le used most_automatic)
     (λ e.
     let pass = leb-true used most_automatic e in
-    nested_call_does k c level line index left_over more is shallow
+    nested_call_does words k c level line index left_over more is shallow
     (λ p numbers o. are_made m (record { running = h; among = o }) i call pass)
     (λ p numbers o b'.
     each false (entered_at i k call p numbers) b (λ e'. absurd (cc e'))
     (entered m (record { running = h; among = o }) i call pass shallow b')) h.begun labels)
     (λ e.
-    full_call_ends k c level line index left_over more is shallow
+    full_call_ends words k c level line index left_over more is shallow
     (λ p numbers o. are_full m (record { running = h; among = o }) i call few (past used e)) h.begun labels))
-    (λ deep. deep_call_ends k c level line index left_over more is deep h.begun labels))
+    (λ deep. deep_call_ends words k c level line index left_over more is deep h.begun labels))
 
 -- procedures stand behind the start and the routines of raises
 entry_low :
@@ -267,14 +339,14 @@ entry_low e number (p ∷ ps) index =
 value_by :
     MarkedOnce → {program : Y.Program} (m : Main program) (input : List ℕ) (acts : ℕ) (valued : Bool) (more b : ℕ)
     (a : Running) → acts + 1 < 2 ^ 64 → IsRunning m input acts valued (suc more) a (suc b) →
-    EachBody m input acts more →
+    EachBody m input acts more → (words : ℕ) → words ≤ most_set →
     (labels : List Label) (line level number : ℕ) → Inner m a.head true level number →
-    L.Does (setting_of (block_of_run program input acts valued (suc more) a) labels line (most_for program)) 0
+    L.Does (setting_around words (block_of_run program input acts valued (suc more) a) labels line (most_for program)) 0
     (call_number level number)
-value_by once {program} m input acts valued more b a few h each labels line level number i =
+value_by once {program} m input acts valued more b a few h each words set labels line level number i =
     let k = block_of_run program input acts valued (suc more) a in
-    let z = setting_of k labels line (most_for program) in
-    let used = automatic_in_use k.first.state.living + 32 * length (variables_of_block program i.head.number) in
+    let z = setting_around words k labels line (most_for program) in
+    let used = automatic_in_use k.first.state.living + bytes_of (variables_of_block program i.head.number) in
     let c = callee_of program true more (entered_at i k 0 k.first (λ n. 0)) in
     let inside = i.inside in
     let stands = function_stands once program i.head i.body 31 (run_for input acts)
@@ -295,7 +367,7 @@ value_by once {program} m input acts valued more b a few h each labels line leve
       around = refl;
       enough = h.enough;
       most = omega (arith, within, low);
-      words = omega arith;
+      words = omega (arith, set);
     } in
     subst (λ n. L.Does z 0 (call_number level n)) i.numbered
     (by_decision (nat_lt (length k.first.state.activations) most_activations)
@@ -328,10 +400,11 @@ knows_calls once m input acts valued more zero a few h each =
     let some = h.depth.some in absurd (omega (arith, some))
 knows_calls once m input acts valued more (suc b) a few h each =
     record {
-      functions = λ labels line level n includes f.
-          value_by once m input acts valued more b a few h each labels line level n (inner_is m a.head true level n f);
-      procedures = λ labels level n line index includes f less l.
-          call_by once m input acts valued more b a few h each labels level n line index
+      functions = λ words set labels line level n includes f.
+          value_by once m input acts valued more b a few h each words set.0 labels line level n
+          (inner_is m a.head true level n f);
+      procedures = λ words set labels level n line index includes f less l.
+          call_by once m input acts valued more b a few h each words set.0 labels level n line index
           (inner_is m a.head false level n f) less l;
     }
 
@@ -339,9 +412,11 @@ pub each_body :
     MarkedOnce → {program : Y.Program} (m : Main program) (input : List ℕ) (acts : ℕ) → acts + 1 < 2 ^ 64 →
     (more : ℕ) → EachBody m input acts more
 each_body once m input acts few zero valued a blocks inner h =
-    let enough = h.enough in
-    let allowed = h.begun.resumes.stands.allowed in
+    let enough = h.running.enough in
+    let allowed = h.running.begun.resumes.stands.allowed in
     absurd (omega (arith, enough, allowed))
 each_body once m input acts few (suc more) valued a blocks inner h =
     body_each once m input acts valued (suc more) a blocks few inner h
-    (knows_calls once m input acts valued more blocks a few h (each_body once m input acts few more))
+    (λ layers is.
+    knows_calls once m input acts valued more blocks (record a { layers = layers }) few is
+    (each_body once m input acts few more))

@@ -1,21 +1,19 @@
 -- A block of the class that is called from another: its variables are made, and what is known there is known of it.
-use Rattle.std.proofs.Common.{◌≡◌, ℕ, suc, ◌+◌, ◌*◌, ◌<◌, ◌≤◌, List, [], ◌∷◌, length}
+use Rattle.std.proofs.Common.{◌≡◌, ◌⊎◌, inl, inr, ℕ, suc, ◌+◌, ◌<◌, ◌≤◌, List, [], ◌∷◌, length}
 use Rattle.std.proofs.Common.{Bool, true, false, refl, sym, ap, ◌∙◌, subst, arith}
 use Rattle.std.specs.Prelude.{nat_le, nat_lt}
 use Rattle.std.specs.List.{list_any}
 use Rattle.std.proofs.lemmas.Bool.{and_from, and_parts, leb-true, ltb-true}
 use Rattle.std.proofs.lemmas.Bool.Decides.{nat_tests}
 use Rattle.pli_language.specs.declared.condition.Condition.{Condition}
+use Rattle.pli_typing.specs.Signatures.{Bounds}
 use Rattle.pli_typing.specs.TypedTree as Y
 use Rattle.pli_meaning.specs.DeclaredShapes.{declared_variable, variables_of_block}
 use Rattle.pli_meaning.specs.StorageState.{Activation, automatic_in_use, force, most_activations, most_automatic}
 use Rattle.pli_meaning.specs.World.{World}
 use Rattle.pli_coding.specs.Environments.{block_around}
 use Rattle.pli_coding.specs.Frames.{fixed_size, parameters_in, temporary_bytes}
-use Rattle.pli_coding.specs.SignatureTable.{number_in_table, table_of}
-use Rattle.pli_serving.specs.Templates.{shape_at}
 use Rattle.pli_coding.specs.Images.{linked_code}
-use Rattle.pli_coding.specs.Locating.{table_number}
 use Rattle.activation_relation.specs.Frames.{lower_end, upper_top}
 use Rattle.activation_relation.specs.Layers.{Layer, Point}
 use Rattle.activation_relation.specs.ServiceLaws.{IsSystem}
@@ -28,24 +26,32 @@ use Rattle.program_runs.specs.Procedures.{Procedure, layer_for}
 use Rattle.program_runs.specs.Starts.{image_parts}
 use Rattle.program_runs.specs.Statements.{Block, IsAmong, IsBegun}
 use Rattle.program_runs.specs.Variables.{Declared}
-use Rattle.expression_runs.specs.Variables.{IsNumber, Spot, number_declared, number_shape, variable_of}
-use Rattle.variable_runs.specs.Lists.{AreAll, all_made, behind_made, layer_behind}
+use Rattle.expression_runs.specs.Variables.{IsNumber, Spot, variable_of}
+use Rattle.element_runs.specs.Arrays.{IsArray}
+use Rattle.element_runs.proofs.Outer.{outer_array}
+use Rattle.variable_runs.specs.Lists.{AreAll, all_made, behind_made, layer_after, layer_behind}
 use Rattle.variable_runs.proofs.Lists.{all_procedure}
 use Rattle.block_headlines.proofs.Constants.{called_of_program}
 use Rattle.nested_calls.specs.Nested.{IsNested, parent_at}
 use Rattle.nested_calls.specs.NestedVariables.{IsInside}
-use Rattle.nested_calls.proofs.NestedVariables.{function_nested, function_number, procedure_nested, procedure_number}
-use Rattle.number_runs.specs.Numbers.{is_known, is_place, is_plain_if}
-use Rattle.number_runs.specs.Variables.{HasWords, HaveRoom, words_in}
-use Rattle.number_runs.proofs.Takes.{words_none}
-use Rattle.number_runs.proofs.Words.{all_words, function_word, own_word, room_behind, room_fewer}
+use Rattle.nested_calls.proofs.NestedVariables.{function_known, function_nested, function_number, procedure_known}
+use Rattle.nested_calls.proofs.NestedVariables.{procedure_nested, procedure_number}
+use Rattle.number_runs.specs.Arrays.{bounds_if, is_array_if}
+use Rattle.number_runs.specs.Numbers.{is_array_known, is_known, is_place, is_plain_if}
+use Rattle.number_runs.specs.Statements.{statements_set}
+use Rattle.number_runs.specs.Variables.{HasWords, HaveRoom, bytes_of, words_in}
+use Rattle.number_runs.proofs.Takes.{words_set}
+use Rattle.number_runs.proofs.Words.{all_words, function_array, function_word, own_array, own_word, room_behind}
+use Rattle.number_runs.proofs.Words.{room_fewer}
 use Rattle.number_headlines.specs.Programs.{places_to, scope_of}
 use Rattle.number_headlines.proofs.FullWords.{words_at, words_count, words_lower}
 use Rattle.number_headlines.proofs.Inner.{Inner}
+use Rattle.number_headlines.proofs.Loops.{after_waits, after_words}
 use Rattle.number_headlines.proofs.Mains.{Main, made_system, result_of, surroundings_for}
 use Rattle.number_headlines.proofs.Places.{alike_at, around_is, is_around}
-use Rattle.number_headlines.proofs.Running.{IsRunning, Running, block_of_run, callee_of, free_among}
-use Rattle.number_headlines.proofs.Tables.{block_plain, has_table, word_signature}
+use Rattle.number_headlines.proofs.Running.{IsEntered, IsRunning, Running, block_of_run, callee_of, free_among}
+use Rattle.number_headlines.proofs.Running.{table_later}
+use Rattle.number_headlines.proofs.Tables.{block_plain}
 
 -- ---- what is called at a point of a block
 
@@ -59,23 +65,31 @@ abbrev pub entered_at :
     {program : Y.Program} → {m : Main program} → {caller : Y.BlockHead} → {valued : Bool} → {level number : ℕ} →
     Inner m caller valued level number → Block → (call : ℕ) → Point → (numbers : ℕ → ℕ) → Running
 entered_at {level = level} i k call p numbers =
-    record { head = i.head; body = i.body; parent = parent_at k level; call = call; point = p; numbers = numbers }
+    record {
+      head = i.head;
+      body = i.body;
+      parent = parent_at k level;
+      call = call;
+      point = p;
+      numbers = numbers;
+      layers = λ ls. ls;
+    }
 
 -- ---- its words
 
-pub none_waits :
+pub inner_set :
     {program : Y.Program} (m : Main program) {caller : Y.BlockHead} {valued : Bool} {level number : ℕ}
-    (i : Inner m caller valued level number) → (procedure_for program i.head i.body).words ≡ 0
-none_waits {program} m {valued = valued} i =
+    (i : Inner m caller valued level number) → (procedure_for program i.head i.body).words ≡ statements_set i.body
+inner_set {program} m {valued = valued} i =
     let plain = block_plain program.variables i.head.number m.plain in
-    words_none (scope_of program m.called i.head) valued (environment_for program i.head) i.head.number i.body plain.0
-    i.statements i.fits
+    words_set (scope_of program m.called i.head) valued (environment_for program i.head) i.head.number i.body
+    plain.plain i.statements i.fits
 
 -- they don't pass the limit on what is AUTOMATIC
 abbrev pub DontPass : {program : Y.Program} → Block → {m : Main program} → {caller : Y.BlockHead} → {valued : Bool} →
     {level number : ℕ} → Inner m caller valued level number → Type 0
 DontPass {program} k i =
-    automatic_in_use k.first.state.living + 32 * length (variables_of_block program i.head.number) ≤ most_automatic
+    automatic_in_use k.first.state.living + bytes_of (variables_of_block program i.head.number) ≤ most_automatic
 
 -- then there is room for them where it begins
 pub begun_room :
@@ -86,17 +100,18 @@ pub begun_room :
     DontPass (block_of_run program input acts valued (suc more) a) i →
     HaveRoom (surroundings_for program input acts) (begun_at (surroundings_for program input acts) c p numbers)
     (layer_for (surroundings_for program input acts) p numbers c.procedure c.calling) p.control.layers
-    (fixed_size i.head.level 0) (length (variables_of_block program i.head.number) + 0)
+    (fixed_size i.head.level 0) (bytes_of (variables_of_block program i.head.number) + 0)
 begun_room {program} m {input} {acts} {valued} {more} {b} {a} {p} {numbers} o {v} i c is pass =
     let k = o.running in
     let block = block_of_run program input acts valued (suc more) a in
     let f = free_among (suc b) k.begun o.among k.free in
     let same = in_use_later (surroundings_for program input acts) block.first p k.begun.resumes.stands o.among.stands
     o.among.later in
-    let words = ap (λ (x : Procedure). x.words) is ∙ none_waits m i in
+    let words = ap (λ (x : Procedure). x.words) is ∙ inner_set m i in
+    let waiting = i.waiting in
     let inside = ap (λ (x : Procedure). x.head.level) is in
     let level = (known program i.head i.body (result_of v) m.loadable.well_formed i.is).level in
-    let few = (block_plain program.variables i.head.number m.plain).1 in
+    let few = (block_plain program.variables i.head.number m.plain).room in
     let fits = f.fits in
     let even = f.even in
     let top = ap (λ ls. upper_top image_parts ls) f.newest in
@@ -105,9 +120,9 @@ begun_room {program} m {input} {acts} {valued} {more} {b} {a} {p} {numbers} o {v
       newest = refl;
       here = ap (λ n. upper_top image_parts p.control.layers + temporary_bytes c.procedure.words + fixed_size n 0)
           (sym inside);
-      even = omega (arith, words, level, inside, even, top);
+      even = omega (arith, words, waiting, level, inside, even, top);
       counted = omega (arith, level, few);
-      fits = omega (arith, words, level, inside, fits, pass, same, top, low);
+      fits = omega (arith, words, waiting, level, inside, fits, pass, same, top, low);
       low = f.low;
       limit = omega (arith, pass, same);
     }
@@ -124,7 +139,7 @@ has_words {program} m {input} {acts} {valued} {more} {b} {a} {p = p} {numbers = 
     let w = surroundings_for program input acts in
     let k = block_of_run program input acts valued (suc more) a in
     let c = callee_of program v more (entered_at i k call p numbers) in
-    let n = length (variables_of_block program i.head.number) in
+    let n = bytes_of (variables_of_block program i.head.number) in
     let plain = block_plain program.variables i.head.number m.plain in
     record {
       kind = (known program i.head i.body (result_of v) m.loadable.well_formed i.is).kind;
@@ -135,11 +150,9 @@ has_words {program} m {input} {acts} {valued} {more} {b} {a} {p = p} {numbers = 
       parts = refl;
       bare = ap parameters_in i.is;
       made = refl;
-      plain = plain.0;
-      few = plain.1;
-      small = (has_table program i.head.number m.plain).small;
-      shape = λ some. o.among.later.remains.signatures
-          (number_in_table word_signature (table_of program)) number_shape (o.running.shape i.head.number some);
+      plain = plain.plain;
+      few = plain.few;
+      tabled = table_later program o.among.later.remains o.running.tabled i.head;
       room = room_fewer w (begun_at w c p numbers) (layer_for w p numbers c.procedure c.calling) p.control.layers
           (fixed_size i.head.level 0) n (n + 0) (omega arith) (begun_room m o i c refl pass);
     }
@@ -172,16 +185,11 @@ are_made {program} m {input} {acts} {valued} {more} {a = a} {p = p} {numbers = n
 
 -- ---- what stays as it is while variables are made
 
-record Same (p q : Point) : Type 0 where
-  signatures : q.places.signatures ≡ p.places.signatures
-  waiting : q.control.waiting ≡ p.control.waiting
-
-made_same :
-    (φ : Layer) (xs : List Declared) (p : Point) → Same p (all_made image_parts φ xs p)
-made_same φ [] p = record { signatures = refl; waiting = refl }
-made_same φ (x ∷ xs) p =
-    let h = made_same (layer_behind image_parts (p.state.serials + 1) φ x) xs (behind_made image_parts φ x p) in
-    record { signatures = h.signatures; waiting = h.waiting }
+pub made_idle :
+    (φ : Layer) (xs : List Declared) (p : Point) → (all_made image_parts φ xs p).control.waiting ≡ p.control.waiting
+made_idle φ [] p = refl
+made_idle φ (x ∷ xs) p =
+    made_idle (layer_behind image_parts (p.state.serials + 1) φ x) xs (behind_made image_parts φ x p)
 
 -- ---- where its first statement begins
 
@@ -278,6 +286,111 @@ own_by true {program} m {input} {acts} {valued} {more} {a = a} {p = p} {numbers 
     (record { high = omega arith; inside = omega arith }) (has_words m o i call pass, has_all m o i call pass)
     (record { block = is.0; level = is.1; plain = plain }) b'
 
+-- ---- its arrays
+
+-- an array of a block around is the one of the calling block
+outer_array_by :
+    (v : Bool) {program : Y.Program} (m : Main program) {input : List ℕ} {acts : ℕ} {valued : Bool} {more b : ℕ}
+    {a : Running} {p : Point} {numbers : ℕ → ℕ}
+    (o : Moment m input acts valued (suc more) a (suc b) p numbers) {level number : ℕ}
+    (i : Inner m a.head v level number) (call : ℕ) →
+    DontPass (block_of_run program input acts valued (suc more) a) i →
+    IsBegun (block_of_run program input acts v more
+    (entered_at i (block_of_run program input acts valued (suc more) a) call p numbers)) → (x : Spot) (s : Bounds) →
+    x.level ≤ level → IsArray (block_of_run program input acts valued (suc more) a) x s →
+    IsArray (block_of_run program input acts v more
+    (entered_at i (block_of_run program input acts valued (suc more) a) call p numbers)) x s
+outer_array_by false {program} m {input} {acts} {valued} {more} {a = a} {p = p} {numbers = numbers} o {level} i call
+    pass b' x s low is =
+    let k = block_of_run program input acts valued (suc more) a in
+    let r = entered_at i k call p numbers in
+    outer_array k (block_of_run program input acts false more r) x s
+    (λ d known'. procedure_known k (callee_of program false more r) level x d (is_inside m o i call) low known' p
+    numbers o.among (are_made m o i call pass) b') is
+outer_array_by true {program} m {input} {acts} {valued} {more} {a = a} {p = p} {numbers = numbers} o {level} i call
+    pass b' x s low is =
+    let k = block_of_run program input acts valued (suc more) a in
+    let r = entered_at i k call p numbers in
+    outer_array k (block_of_run program input acts true more r) x s
+    (λ d known'. function_known k (callee_of program true more r) level x d (is_inside m o i call) low known' p
+    numbers o.among (are_made m o i call pass) b') is
+
+-- one of its own stands in its frame
+own_array_by :
+    (v : Bool) {program : Y.Program} (m : Main program) {input : List ℕ} {acts : ℕ} {valued : Bool} {more b : ℕ}
+    {a : Running} {p : Point} {numbers : ℕ → ℕ}
+    (o : Moment m input acts valued (suc more) a (suc b) p numbers) {level number : ℕ}
+    (i : Inner m a.head v level number) (call : ℕ) →
+    DontPass (block_of_run program input acts valued (suc more) a) i →
+    IsBegun (block_of_run program input acts v more
+    (entered_at i (block_of_run program input acts valued (suc more) a) call p numbers)) → (x : Spot) →
+    (x.block ≡ i.head.number) × (x.level ≡ i.head.level) →
+    is_array_if (declared_variable program (variable_of x)) ≡ true →
+    IsArray (block_of_run program input acts v more
+    (entered_at i (block_of_run program input acts valued (suc more) a) call p numbers)) x
+    (bounds_if (declared_variable program (variable_of x)))
+own_array_by false {program} m {input} {acts} {valued} {more} {a = a} {p = p} {numbers = numbers} o i call pass b' x is
+    array =
+    let k = block_of_run program input acts valued (suc more) a in
+    own_array (surroundings_for program input acts) (linked_code (code_for program))
+    (callee_of program false more (entered_at i k call p numbers)) p p numbers x
+    (record { high = omega arith; inside = omega arith }) (has_words m o i call pass, has_all m o i call pass)
+    (record { block = is.0; level = is.1; array = array }) b'
+own_array_by true {program} m {input} {acts} {valued} {more} {a = a} {p = p} {numbers = numbers} o i call pass b' x is
+    array =
+    let k = block_of_run program input acts valued (suc more) a in
+    function_array (surroundings_for program input acts) (linked_code (code_for program))
+    (callee_of program true more (entered_at i k call p numbers)) p p numbers x
+    (record { high = omega arith; inside = omega arith }) (has_words m o i call pass, has_all m o i call pass)
+    (record { block = is.0; level = is.1; array = array }) b'
+
+-- ---- what it may name
+
+-- where the block that declares it stands: around the calling block too, or it is the block that is entered
+record StandsAt {program : Y.Program} {m : Main program} {caller : Y.BlockHead} {v : Bool} {level number : ℕ}
+    (i : Inner m caller v level number) (x : Spot) : Type 0
+  where
+    at :
+        ((x.level ≤ level)
+        × (list_any (is_place x) (places_to (environment_for program caller) caller.level) ≡ true))
+        ⊎ ((x.block ≡ i.head.number) × (x.level ≡ i.head.level))
+
+stands_at :
+    {program : Y.Program} {m : Main program} {caller : Y.BlockHead} {v : Bool} {level number : ℕ}
+    (i : Inner m caller v level number) (x : Spot) →
+    list_any (is_place x) (places_to (environment_for program i.head) i.head.level) ≡ true → StandsAt i x
+stands_at {program} {caller = caller} {v} {level} i x h =
+    record { at = by (nat_le x.level level) refl }
+  where
+    there : (x.level ≤ i.head.level) × (x.block ≡ block_around (environment_for program i.head) x.level)
+    there = around_is (environment_for program i.head) i.head.level x h
+
+    by :
+        (q : Bool) → nat_le x.level level ≡ q →
+        ((x.level ≤ level)
+        × (list_any (is_place x) (places_to (environment_for program caller) caller.level) ≡ true))
+        ⊎ ((x.block ≡ i.head.number) × (x.level ≡ i.head.level))
+    by true e =
+        let low = leb-true x.level level e in
+        let within = i.around_it in
+        let same = alike_at (environment_for program caller) (environment_for program i.head) level x.level i.alike
+        low in
+        inl (
+          low,
+          is_around (environment_for program caller) caller.level x
+              (omega (arith, low, within), there.1 ∙ sym same),
+        )
+    by false e =
+        let less = there.0 in
+        let inside = i.inside in
+        let high : level < x.level = grind (arith, nat_tests) in
+        let same : x.level ≡ i.head.level = omega (arith, less, inside, high) in
+        inr (
+          there.1 ∙ ap (λ n. block_around (environment_for program i.head) n) same
+              ∙ own_block program i.head i.body (result_of v) i.is,
+          same,
+        )
+
 each_number :
     {program : Y.Program} (m : Main program) {input : List ℕ} {acts : ℕ} {valued : Bool} {more b : ℕ}
     {a : Running} {p : Point} {numbers : ℕ → ℕ}
@@ -290,7 +403,7 @@ each_number :
     IsNumber (block_of_run program input acts v more
     (entered_at i (block_of_run program input acts valued (suc more) a) call p numbers)) x
 each_number {program} m {input} {acts} {valued} {more} {b} {a} {p} {numbers} o {v} {level} i call pass b' x h =
-    by (nat_le x.level level) refl
+    by (stands_at i x parts.0).at
   where
     plain : Bool
     plain = is_plain_if (declared_variable program (variable_of x))
@@ -299,34 +412,54 @@ each_number {program} m {input} {acts} {valued} {more} {b} {a} {p} {numbers} o {
         (list_any (is_place x) (places_to (environment_for program i.head) i.head.level) ≡ true) × (plain ≡ true)
     parts = and_parts (list_any (is_place x) (places_to (environment_for program i.head) i.head.level)) plain h
 
-    there : (x.level ≤ i.head.level) × (x.block ≡ block_around (environment_for program i.head) x.level)
-    there = around_is (environment_for program i.head) i.head.level x parts.0
-
     by :
-        (q : Bool) → nat_le x.level level ≡ q →
+        ((x.level ≤ level)
+        × (list_any (is_place x) (places_to (environment_for program a.head) a.head.level) ≡ true))
+        ⊎ ((x.block ≡ i.head.number) × (x.level ≡ i.head.level)) →
         IsNumber (block_of_run program input acts v more
         (entered_at i (block_of_run program input acts valued (suc more) a) call p numbers)) x
-    by true e =
-        let low = leb-true x.level level e in
-        let within = i.around_it in
-        let same = alike_at (environment_for program a.head) (environment_for program i.head) level x.level i.alike
-        low in
-        outer_by v m o i call pass b' x low
+    by (inl low) =
+        outer_by v m o i call pass b' x low.0
         (o.running.variables x
-        (and_from (list_any (is_place x) (places_to (environment_for program a.head) a.head.level)) plain
-        (is_around (environment_for program a.head) a.head.level x
-        (omega (arith, low, within), there.1 ∙ sym same))
+        (and_from (list_any (is_place x) (places_to (environment_for program a.head) a.head.level)) plain low.1
         parts.1))
-    by false e =
-        let less = there.0 in
-        let inside = i.inside in
-        let high : level < x.level = grind (arith, nat_tests) in
-        let same : x.level ≡ i.head.level = omega (arith, less, inside, high) in
-        own_by v m o i call pass b' x (
-          there.1 ∙ ap (λ n. block_around (environment_for program i.head) n) same
-              ∙ own_block program i.head i.body (result_of v) i.is,
-          same,
-        ) parts.1
+    by (inr own) = own_by v m o i call pass b' x own parts.1
+
+each_array :
+    {program : Y.Program} (m : Main program) {input : List ℕ} {acts : ℕ} {valued : Bool} {more b : ℕ}
+    {a : Running} {p : Point} {numbers : ℕ → ℕ}
+    (o : Moment m input acts valued (suc more) a (suc b) p numbers) {v : Bool} {level number : ℕ}
+    (i : Inner m a.head v level number) (call : ℕ) →
+    DontPass (block_of_run program input acts valued (suc more) a) i →
+    IsBegun (block_of_run program input acts v more
+    (entered_at i (block_of_run program input acts valued (suc more) a) call p numbers)) → (x : Spot) →
+    is_array_known (scope_of program m.called i.head) x ≡ true →
+    IsArray (block_of_run program input acts v more
+    (entered_at i (block_of_run program input acts valued (suc more) a) call p numbers)) x
+    (bounds_if (declared_variable program (variable_of x)))
+each_array {program} m {input} {acts} {valued} {more} {b} {a} {p} {numbers} o {v} {level} i call pass b' x h =
+    by (stands_at i x parts.0).at
+  where
+    array : Bool
+    array = is_array_if (declared_variable program (variable_of x))
+
+    parts :
+        (list_any (is_place x) (places_to (environment_for program i.head) i.head.level) ≡ true) × (array ≡ true)
+    parts = and_parts (list_any (is_place x) (places_to (environment_for program i.head) i.head.level)) array h
+
+    by :
+        ((x.level ≤ level)
+        × (list_any (is_place x) (places_to (environment_for program a.head) a.head.level) ≡ true))
+        ⊎ ((x.block ≡ i.head.number) × (x.level ≡ i.head.level)) →
+        IsArray (block_of_run program input acts v more
+        (entered_at i (block_of_run program input acts valued (suc more) a) call p numbers)) x
+        (bounds_if (declared_variable program (variable_of x)))
+    by (inl low) =
+        outer_array_by v m o i call pass b' x (bounds_if (declared_variable program (variable_of x))) low.0
+        (o.running.arrays x
+        (and_from (list_any (is_place x) (places_to (environment_for program a.head) a.head.level)) array low.1
+        parts.1))
+    by (inr own) = own_array_by v m o i call pass b' x own parts.1
 
 -- no unit is in force there either
 pub unraised_there :
@@ -351,7 +484,7 @@ pub entered :
     ≡ true →
     IsBegun (block_of_run program input acts v more
     (entered_at i (block_of_run program input acts valued (suc more) a) call p numbers)) →
-    IsRunning m input acts v more (entered_at i (block_of_run program input acts valued (suc more) a) call p numbers) b
+    IsEntered m input acts v more (entered_at i (block_of_run program input acts valued (suc more) a) call p numbers) b
 entered {program} m {input} {acts} {valued} {more} {b} {a} {p} {numbers} o {v} i call pass few b' =
     let w = surroundings_for program input acts in
     let k = block_of_run program input acts valued (suc more) a in
@@ -359,11 +492,10 @@ entered {program} m {input} {acts} {valued} {more} {b} {a} {p} {numbers} o {v} i
     let φ = layer_for w p numbers c.procedure c.calling in
     let start = begun_at w c p numbers in
     let ds = variables_of_block program i.head.number in
-    let word = table_number (environment_for program i.head) (number_declared []) in
     let first = fixed_size i.head.level 0 in
     let xs = words_in (environment_for program i.head) in
+    let serial = start.state.serials + 1 in
     let made = are_made m o i call pass in
-    let same = made_same φ xs start in
     let later = o.among.later.acts in
     let enough = o.running.enough in
     let world = ap (λ (u : World). u.acts) made.world in
@@ -372,47 +504,53 @@ entered {program} m {input} {acts} {valued} {more} {b} {a} {p} {numbers} o {v} i
     let shallow = ltb-true (length k.first.state.activations) most_activations few in
     let deep = o.running.depth.all in
     let begun' = begun_room m o i c refl pass in
-    let room = room_behind w start φ p.control.layers word first 0 0 ds begun' in
+    let e = environment_for program i.head in
+    let plain = (block_plain program.variables i.head.number m.plain).plain in
+    let room = room_behind w start φ p.control.layers e first 0 0 ds plain begun' in
     let f = free_among (suc b) o.running.begun o.among o.running.free in
-    let words = none_waits m i in
+    let words = inner_set m i in
+    let waiting = i.waiting in
     let level = (known program i.head i.body (result_of v) m.loadable.well_formed i.is).level in
     let used = f.used in
     let fits = f.fits in
     let top = ap (λ ls. upper_top image_parts ls) f.newest in
     let low = ap (λ ls. lower_end image_parts ls) f.newest in
     let place = room.here in
-    let lower = words_lower image_parts (start.state.serials + 1) φ word first 0 ds in
-    let at = words_at image_parts (start.state.serials + 1) φ word first 0 ds in
+    let lower = words_lower image_parts (start.state.serials + 1) φ xs in
+    let at = words_at image_parts (start.state.serials + 1) φ xs in
     let limit = begun'.limit in
-    let counts = words_count image_parts start φ word first 0 ds
+    let counts = words_count image_parts start φ e first 0 ds plain
     (record { activation = _; below = _; active = refl; some = omega arith }) in
     record {
-      is = i.is;
-      statements = i.statements;
-      fits = i.fits;
-      begun = b';
-      enough = omega (arith, later, enough, world);
-      nested = nested_by v m o i call pass b';
-      variables = λ x h. each_number m o i call pass b' x h;
-      unraised = λ condition. unraised_there m o i call condition;
-      idle = same.waiting;
-      told = called_of_program program k (block_of_run program input acts v more (entered_at i k call p numbers)) numbers
-          o.running.told o.among refl refl b';
-      free = record {
-        layer = _;
-        below = _;
-        newest = room.newest;
-        even = room.even;
-        low = room.low;
-        used = omega (arith, counts, limit);
-        fits = omega (arith, words, level, fits, top, low, place, at, lower, counts);
+      running = record {
+        is = i.is;
+        statements = i.statements;
+        fits = i.fits;
+        waiting = i.waiting;
+        begun = b';
+        enough = omega (arith, later, enough, world);
+        nested = nested_by v m o i call pass b';
+        variables = λ x h. each_number m o i call pass b' x h;
+        arrays = λ x h. each_array m o i call pass b' x h;
+        unraised = λ condition. unraised_there m o i call condition;
+        idle = made_idle φ xs start;
+        told = called_of_program program k (block_of_run program input acts v more (entered_at i k call p numbers))
+            numbers o.running.told o.among refl refl b';
+        free = record {
+          layer = layer_after image_parts serial φ xs;
+          below = _;
+          newest = room.newest;
+          even = room.even;
+          low = room.low;
+          used = omega (arith, counts, limit);
+          fits = omega (arith, words, waiting, level, fits, top, low, place, at, lower, counts);
+        };
+        tabled = table_later program b'.remains (table_later program o.among.later.remains o.running.tabled);
+        depth = record {
+          some = omega (arith, shallow, deep);
+          all = omega (arith, deep, there, here);
+        };
       };
-      shape = λ block some.
-          ap (λ t. shape_at t (number_in_table word_signature (table_of program))) same.signatures
-          ∙ o.among.later.remains.signatures (number_in_table word_signature (table_of program)) number_shape
-          (o.running.shape block some);
-      depth = record {
-        some = omega (arith, shallow, deep);
-        all = omega (arith, deep, there, here);
-      };
+      words = after_words serial φ xs ∙ inner_set m i;
+      clear = λ n. ap (λ waits. waits n) (after_waits serial φ xs);
     }

@@ -1,16 +1,18 @@
 -- Variables of a block of the class: what they count for in AUTOMATIC storage, and that those which pass the limit on
 -- that end the run.
-use Rattle.std.proofs.Common.{◌≡◌, ℕ, suc, ◌+◌, ◌*◌, ◌%◌, ◌^◌, ◌<◌, ◌≤◌, List, [], ◌∷◌, length, Some, Bool, true, false}
-use Rattle.std.proofs.Common.{refl, ap, ◌∙◌, arith}
-use Rattle.std.specs.Prelude.{cond, nat_le, nat_lt, if◌then◌else◌}
+use Rattle.std.proofs.Common.{◌≡◌, ℕ, ◌+◌, ◌%◌, ◌^◌, ◌<◌, ◌≤◌, List, [], ◌∷◌, Bool, true, false}
+use Rattle.std.proofs.Common.{refl, sym, ap, ◌∙◌, subst, arith}
+use Rattle.std.specs.Prelude.{cond, nat_le, nat_lt, pos, if◌then◌else◌}
 use Rattle.std.proofs.lemmas.Bool.{and_parts, leb-true}
 use Rattle.rv_meaning.specs.declared.instr.Instr.{Instr}
 use Rattle.pli_typing.specs.TypedTree as Y
 use Rattle.pli_meaning.specs.BasicValues.{VariableName}
+use Rattle.pli_meaning.specs.Contents.{footprint_of, fresh}
 use Rattle.pli_meaning.specs.Control as F
-use Rattle.pli_meaning.specs.Control.{Meaning, Normal, choose, finish, flow_on, give, looked, stored, ◌>>=◌, ◌>>◌}
+use Rattle.pli_meaning.specs.Control.{Normal, choose, finish, flow_on, give, looked, stored, ◌>>=◌, ◌>>◌}
+use Rattle.pli_meaning.specs.DeclaredShapes.{initial_of, shape_of}
 use Rattle.pli_meaning.specs.Making as K
-use Rattle.pli_meaning.specs.Making.{living_at, with_binding, with_variable}
+use Rattle.pli_meaning.specs.Making.{with_binding, with_variable}
 use Rattle.pli_meaning.specs.Raising.{Around}
 use Rattle.pli_meaning.specs.StorageState.{Activation, Binding, State, automatic_in_use, most_automatic, newest_height}
 use Rattle.pli_meaning.specs.StorageState.{with_world}
@@ -18,32 +20,30 @@ use Rattle.pli_meaning.specs.World.{ending}
 use Rattle.pli_meaning.specs.declared.outcome.End.{End}
 use Rattle.pli_meaning.specs.declared.outcome.End.TheVariants as E
 use Rattle.pli_meaning.specs.declared.outcome.Limit.TheVariants as L
-use Rattle.pli_serving.specs.Templates.{shape_at}
 use Rattle.pli_coding.specs.Assembly.{size_of}
 use Rattle.pli_coding.specs.Entries.{constant_made}
 use Rattle.pli_coding.specs.Environments.{Environment}
 use Rattle.pli_coding.specs.Frames.{MemoryParts, last_place}
-use Rattle.pli_coding.specs.Locating.{table_number}
 use Rattle.storage_relation.proofs.Holders.{eqb-other}
 use Rattle.activation_relation.specs.Layers.{Layer, Point, services_of}
 use Rattle.activation_relation.specs.Points.{Stands, Surroundings}
+use Rattle.activation_relation.specs.Variables.{with_made}
 use Rattle.run_steps.specs.Items.{Linked}
 use Rattle.run_steps.proofs.Jumps.{back_of, front_of}
 use Rattle.run_steps.proofs.Linking.{size_append}
-use Rattle.run_steps.specs.Reach.{Family, cost, reached}
+use Rattle.run_steps.specs.Reach.{Family, Reach, cost, reached}
 use Rattle.run_steps.proofs.Reach.{reached_holds}
-use Rattle.block_runs.specs.Machines.{AreIn, IsImage}
-use Rattle.program_runs.specs.Variables.{IsDeclared, generation_for}
+use Rattle.block_runs.specs.Machines.{AreIn, IsImage, IsIn}
+use Rattle.program_runs.specs.Variables.{Declared, IsDeclared, generation_for, made_of}
 use Rattle.program_runs.proofs.Variables.{made_becomes, variable_comes, variable_means}
-use Rattle.expression_runs.specs.Variables.{number_declared, number_shape}
-use Rattle.variable_runs.specs.Lists.{all_made, behind_made, layer_after, layer_behind, made_code}
+use Rattle.variable_runs.specs.Lists.{all_made, behind_made, layer_after, layer_behind, made_code, told_by}
 use Rattle.variable_runs.proofs.Lists.{next_layers}
 use Rattle.nested_calls.specs.FullVariables.{Over, PassesLimit}
 use Rattle.nested_calls.proofs.FullVariables.{over_then, variable_ends}
-use Rattle.number_runs.specs.Numbers.{is_plain}
-use Rattle.number_runs.specs.Variables.{HaveRoom, are_plain, word_made, words_from}
-use Rattle.number_runs.proofs.Variables.{plain_is}
-use Rattle.number_runs.proofs.Words.{one_declared}
+use Rattle.number_runs.specs.Variables.{AreTabled, HaveRoom, IsTabled, are_plain, bytes_of, is_declared}
+use Rattle.number_runs.specs.Variables.{variable_bytes, words_from}
+use Rattle.number_runs.proofs.Declared.{makeable, sized}
+use Rattle.number_runs.proofs.Words.{one_declared, word_made}
 
 -- ---- what they count for
 
@@ -55,13 +55,12 @@ pub record IsOwner (p : Point) : Type 0 where
   pub some : 0 < activation.height
 
 next_owner :
-    (parts : MemoryParts) (p : Point) (φ : Layer) (number place index : ℕ) → IsOwner p →
-    IsOwner (behind_made parts φ (word_made number place index) p)
-next_owner parts p φ number place index h =
+    (parts : MemoryParts) (p : Point) (φ : Layer) (x : Declared) → IsOwner p → IsOwner (behind_made parts φ x p)
+next_owner parts p φ x h =
     let b : Binding = record {
-      variable = index;
+      variable = x.index;
       name = VariableName (p.state.serials + 1);
-      shape = (generation_for (word_made number place index)).shape;
+      shape = (generation_for x).shape;
     } in
     record {
       activation = record h.activation { bindings = b ∷ h.activation.bindings };
@@ -71,66 +70,66 @@ next_owner parts p φ number place index h =
     }
 
 one_counts :
-    (parts : MemoryParts) (p : Point) (φ : Layer) (number place index : ℕ) → IsOwner p →
-    automatic_in_use (behind_made parts φ (word_made number place index) p).state.living
-    ≡ automatic_in_use p.state.living + 32
-one_counts parts p φ number place index h =
+    (parts : MemoryParts) (p : Point) (φ : Layer) (e : Environment) (place index : ℕ) (d : Y.DeclaredVariable) →
+    is_declared d ≡ true → IsOwner p →
+    automatic_in_use (behind_made parts φ (word_made e place index d) p).state.living
+    ≡ automatic_in_use p.state.living + variable_bytes d
+one_counts parts p φ e place index d is h =
+    let x = word_made e place index d in
+    let used = automatic_in_use p.state.living in
     let height = ap (λ as'. newest_height as') h.active in
     let some = h.some in
-    ap (λ q. if q then automatic_in_use p.state.living else 32 + automatic_in_use p.state.living)
-    (eqb-other (newest_height p.state.activations) 0 (λ e. omega (arith, height, some, e)))
-    ∙ omega arith
+    let counts = (makeable d is).counts in
+    ap (λ q. if q then used else footprint_of (generation_for x) + used)
+    (eqb-other (newest_height p.state.activations) 0 (λ e'. omega (arith, height, some, e')))
+    ∙ omega (arith, counts)
 
 pub words_count :
-    (parts : MemoryParts) (p : Point) (φ : Layer) (number place index : ℕ) (ds : List Y.DeclaredVariable) →
-    IsOwner p →
-    automatic_in_use (all_made parts φ (words_from number place index ds) p).state.living
-    ≡ automatic_in_use p.state.living + 32 * length ds
-words_count parts p φ number place index [] h = omega arith
-words_count parts p φ number place index (d ∷ ds) h =
-    let one = one_counts parts p φ number place index h in
-    let rest = words_count parts (behind_made parts φ (word_made number place index) p)
-    (layer_behind parts (p.state.serials + 1) φ (word_made number place index)) number (place + 32) (index + 1) ds
-    (next_owner parts p φ number place index h) in
+    (parts : MemoryParts) (p : Point) (φ : Layer) (e : Environment) (place index : ℕ) (ds : List Y.DeclaredVariable) →
+    are_plain ds ≡ true → IsOwner p →
+    automatic_in_use (all_made parts φ (words_from e place index ds) p).state.living
+    ≡ automatic_in_use p.state.living + bytes_of ds
+words_count parts p φ e place index [] plain h = omega arith
+words_count parts p φ e place index (d ∷ ds) plain h =
+    let a = and_parts (is_declared d) (are_plain ds) plain in
+    let x = word_made e place index d in
+    let one = one_counts parts p φ e place index d a.0 h in
+    let rest = words_count parts (behind_made parts φ x p) (layer_behind parts (p.state.serials + 1) φ x) e
+    (place + variable_bytes d) (index + 1) ds a.1 (next_owner parts p φ x h) in
     omega (arith, one, rest)
 
 -- the lower stack stays as it is
 pub words_lower :
-    (parts : MemoryParts) (serial : ℕ) (φ : Layer) (number place index : ℕ) (ds : List Y.DeclaredVariable) →
-    (layer_after parts serial φ (words_from number place index ds)).lower ≡ φ.lower
-words_lower parts serial φ number place index [] = refl
-words_lower parts serial φ number place index (d ∷ ds) =
-    words_lower parts (serial + 1) (layer_behind parts serial φ (word_made number place index)) number (place + 32)
-    (index + 1) ds
+    (parts : MemoryParts) (serial : ℕ) (φ : Layer) (xs : List Declared) →
+    (layer_after parts serial φ xs).lower ≡ φ.lower
+words_lower parts serial φ [] = refl
+words_lower parts serial φ (x ∷ xs) = words_lower parts (serial + 1) (layer_behind parts serial φ x) xs
 
 -- and the frame where it is
 pub words_at :
-    (parts : MemoryParts) (serial : ℕ) (φ : Layer) (number place index : ℕ) (ds : List Y.DeclaredVariable) →
-    (layer_after parts serial φ (words_from number place index ds)).at ≡ φ.at
-words_at parts serial φ number place index [] = refl
-words_at parts serial φ number place index (d ∷ ds) =
-    words_at parts (serial + 1) (layer_behind parts serial φ (word_made number place index)) number (place + 32)
-    (index + 1) ds
+    (parts : MemoryParts) (serial : ℕ) (φ : Layer) (xs : List Declared) → (layer_after parts serial φ xs).at ≡ φ.at
+words_at parts serial φ [] = refl
+words_at parts serial φ (x ∷ xs) = words_at parts (serial + 1) (layer_behind parts serial φ x) xs
 
 -- ---- those that pass the limit
 
--- the frame has room for them
-pub record HasStack (w : Surroundings) (p : Point) (φ : Layer) (φs : List Layer) (place count : ℕ) : Type 0 where
+-- the frame has room for so many bytes
+pub record HasStack (w : Surroundings) (p : Point) (φ : Layer) (φs : List Layer) (place bytes : ℕ) : Type 0 where
   pub newest : p.control.layers ≡ φ ∷ φs
   pub here : φ.at + place ≡ φ.top
   pub even : φ.top % 16 ≡ 0
-  pub counted : place + 32 * count ≤ last_place
-  pub inside : φ.top + 32 * count < 2 ^ 24
+  pub counted : place + bytes ≤ last_place
+  pub inside : φ.top + bytes < 2 ^ 24
   pub low : p.places.low ≤ w.parts.stack_start
   -- for those that don't pass the limit between the stacks
   pub fits : φ.top + most_automatic ≤ φ.lower + automatic_in_use p.state.living
   pub used : automatic_in_use p.state.living ≤ most_automatic
 
 stack_room :
-    {w : Surroundings} {p : Point} {φ : Layer} {φs : List Layer} {place count : ℕ} →
-    HasStack w p φ φs place (suc count) → automatic_in_use p.state.living + 32 ≤ most_automatic →
-    HaveRoom w p φ φs place 1
-stack_room h less =
+    {w : Surroundings} {p : Point} {φ : Layer} {φs : List Layer} {place : ℕ} (bytes more : ℕ) →
+    HasStack w p φ φs place (bytes + more) → automatic_in_use p.state.living + bytes ≤ most_automatic →
+    HaveRoom w p φ φs place (bytes + 0)
+stack_room bytes more h less =
     let counted = h.counted in
     let fits = h.fits in
     record {
@@ -144,46 +143,46 @@ stack_room h less =
     }
 
 next_stack :
-    (w : Surroundings) (p : Point) (φ : Layer) (φs : List Layer) (number place index count : ℕ) → IsOwner p →
-    HasStack w p φ φs place (suc count) → automatic_in_use p.state.living + 32 ≤ most_automatic →
-    HasStack w (behind_made w.parts φ (word_made number place index) p)
-    (layer_behind w.parts (p.state.serials + 1) φ (word_made number place index)) φs (place + 32) count
-next_stack w p φ φs number place index count owner h less =
+    (w : Surroundings) (p : Point) (φ : Layer) (φs : List Layer) (e : Environment) (place index more : ℕ)
+    (d : Y.DeclaredVariable) → is_declared d ≡ true → IsOwner p → HasStack w p φ φs place (variable_bytes d + more) →
+    automatic_in_use p.state.living + variable_bytes d ≤ most_automatic →
+    HasStack w (behind_made w.parts φ (word_made e place index d) p)
+    (layer_behind w.parts (p.state.serials + 1) φ (word_made e place index d)) φs (place + variable_bytes d) more
+next_stack w p φ φs e place index more d is owner h less =
     let here = h.here in
     let even = h.even in
     let counted = h.counted in
     let fits = h.fits in
     let inside = h.inside in
-    let used = h.used in
-    let one = one_counts w.parts p φ number place index owner in
+    let one = one_counts w.parts p φ e place index d is owner in
+    let frame = (makeable d is).frame w.parts in
+    let whole' = (sized d is).even in
     record {
-      newest = next_layers w p (word_made number place index) φ φs h.newest;
-      here = omega (arith, here, counted);
-      even = omega (arith, here, even, counted);
+      newest = next_layers w p (word_made e place index d) φ φs h.newest;
+      here = omega (arith, here, counted, frame);
+      even = omega (arith, here, even, counted, frame, whole');
       counted = omega (arith, counted);
-      inside = omega (arith, here, inside, counted);
+      inside = omega (arith, here, inside, counted, frame);
       low = h.low;
-      fits = omega (arith, here, fits, counted, one);
+      fits = omega (arith, here, fits, counted, one, frame);
       used = omega (arith, less, one);
     }
 
--- what surrounds their code, and their signature
-pub record HasWord (w : Surroundings) (e : Environment) (number : ℕ) : Type 0 where
-  pub table : table_number e (number_declared []) ≡ number
+-- what surrounds their code
+pub record HasWord (w : Surroundings) (e : Environment) : Type 0 where
   pub parts : e.parts ≡ w.parts
-  pub small : number < 2 ^ 31
   pub acts : w.acts + 1 < 2 ^ 64
 
 -- the run ends where the first that passes the limit would be made
 pub record AreOver (w : Surroundings) (code : List Instr) (e : Environment) (around : Around) (p : Point)
-    (numbers : ℕ → ℕ) (number place index : ℕ) (ds : List Y.DeclaredVariable) : Type 0
+    (numbers : ℕ → ℕ) (place index : ℕ) (ds : List Y.DeclaredVariable) : Type 0
   where
     pub state : State
     pub means : K.variables_made around index ds w.acts p.state ≡ finish (E.Limit L.Automatic) w.acts state
     pub over :
         (c i : ℕ) (f : Family) → Stands w p × IsImage w code p →
-        c + size_of (made_code e (words_from number place index ds)) ≤ cost code →
-        Linked w.links code i (made_code e (words_from number place index ds)) → AreIn w p numbers i f →
+        c + size_of (made_code e (words_from e place index ds)) ≤ cost code →
+        Linked w.links code i (made_code e (words_from e place index ds)) → AreIn w p numbers i f →
         Over code c f (services_of p) (E.Limit L.Automatic) state
 
 abbrev over_flow : Bool → End → State → F.Flow (Unit {0})
@@ -202,39 +201,56 @@ unfolding finish
 finish_first end k s next = finish_by (nat_lt s.world.acts k) end k s next
 
 passes :
-    (w : Surroundings) (p : Point) (φ : Layer) (φs : List Layer) (number place index count : ℕ) →
-    HasStack w p φ φs place (suc count) → number < 2 ^ 31 →
-    shape_at p.places.signatures number ≡ Some number_shape →
-    nat_le (automatic_in_use p.state.living + 32) most_automatic ≡ false →
-    PassesLimit p (word_made number place index) φ φs
-passes w p φ φs number place index count h small shape past =
+    (w : Surroundings) (p : Point) (φ : Layer) (φs : List Layer) (e : Environment) (place index more : ℕ)
+    (d : Y.DeclaredVariable) → is_declared d ≡ true → IsTabled e p.places.signatures d →
+    HasStack w p φ φs place (variable_bytes d + more) →
+    nat_le (automatic_in_use p.state.living + variable_bytes d) most_automatic ≡ false →
+    PassesLimit p (word_made e place index d) φ φs
+passes w p φ φs e place index more d is table h past =
     let here = h.here in
     let inside = h.inside in
+    let m = makeable d is in
+    let some = (sized d is).some in
     record {
       newest = h.newest;
-      inside = omega (arith, here, inside);
-      shape = shape;
-      number = small;
-      initial = refl;
-      none = refl;
-      limit = past;
+      inside = omega (arith, here, inside, some);
+      shape = table.shape;
+      number = table.small;
+      initial = m.initial;
+      none = m.none;
+      limit = ap (λ n. nat_le (automatic_in_use p.state.living + n) most_automatic) m.counts ∙ past;
     }
 
 by_decision : (q : Bool) {P : Type 0} → (q ≡ true → P) → (q ≡ false → P) → P
 by_decision true one other = one refl
 by_decision false one other = other refl
 
+-- what is AUTOMATIC and evaluates nothing is made before those behind it
+first_means :
+    (around : Around) (index acts : ℕ) (d : Y.DeclaredVariable) (ds : List Y.DeclaredVariable) (s : State) →
+    is_declared d ≡ true →
+    K.variables_made around index (d ∷ ds) acts s
+    ≡ flow_on acts (K.variable_made index (fresh (shape_of [] d) (pos 0) (initial_of d)) acts s)
+    (λ u. K.variables_made around (index + 1) ds)
+unfolding K.variables_made K.automatic_made K.extents give ◌>>=◌ ◌>>◌
+first_means around index acts d ds s is =
+    let m = makeable d is in
+    let next : F.Meaning (Unit {0}) = K.variables_made around (index + 1) ds in
+    ap (λ c. flow_on acts (K.automatic_made around index d c acts s) (λ u. next)) m.class
+    ∙ ap (λ es. flow_on acts (flow_on acts (K.extents around es acts s)
+    (λ values. K.variable_made index (fresh (shape_of values d) (pos 0) (initial_of d)))) (λ u. next)) m.evaluations
+
 -- the first one passes it
 first_over :
     (w : Surroundings) (code : List Instr) (e : Environment) (around : Around) (p : Point) (numbers : ℕ → ℕ)
-    (φ : Layer) (φs : List Layer) (number place index : ℕ) (d : Y.DeclaredVariable) (ds : List Y.DeclaredVariable) →
-    HasWord w e number → is_plain d ≡ true → PassesLimit p (word_made number place index) φ φs →
-    AreOver w code e around p numbers number place index (d ∷ ds)
-unfolding K.variables_made K.automatic_made K.extents K.variable_made looked choose stored give ◌>>=◌ ◌>>◌
-first_over w code e around p numbers φ φs number place index d ds has plain past =
-    let x = word_made number place index in
-    let first = constant_made e place (number_declared []) in
-    let rest = made_code e (words_from number (place + 32) (index + 1) ds) in
+    (φ : Layer) (φs : List Layer) (place index : ℕ) (d : Y.DeclaredVariable) (ds : List Y.DeclaredVariable) →
+    HasWord w e → is_declared d ≡ true → PassesLimit p (word_made e place index d) φ φs →
+    AreOver w code e around p numbers place index (d ∷ ds)
+unfolding K.variable_made looked choose stored give ◌>>=◌ ◌>>◌
+first_over w code e around p numbers φ φs place index d ds has is past =
+    let x = word_made e place index d in
+    let first = constant_made e place d in
+    let rest = made_code e (words_from e (place + variable_bytes d) (index + 1) ds) in
     let n = size_append first rest in
     let made : K.variable_made index (generation_for x) w.acts p.state
     ≡ finish (E.Limit L.Automatic) w.acts p.state =
@@ -243,65 +259,77 @@ first_over w code e around p numbers φ φs number place index d ds has plain pa
     record {
       state = p.state;
       means =
-          ap (λ d'. K.variables_made around index (d' ∷ ds) w.acts p.state) (plain_is d plain)
+          first_means around index w.acts d ds p.state is
           ∙ ap (λ flow. flow_on w.acts flow (λ u. K.variables_made around (index + 1) ds)) made
           ∙ finish_first (E.Limit L.Automatic) w.acts p.state (K.variables_made around (index + 1) ds);
       over = λ c i f known paid l there.
-          variable_ends w code e p numbers x φ φs c i f known past (has.table, has.parts)
+          variable_ends w code e p numbers x φ φs c i f known past (refl, has.parts)
           (omega (arith, paid, n), has.acts) (front_of first rest l) there;
     }
+
+-- nothing is told of the name of what is no area
+values_now :
+    (w : Surroundings) (p : Point) (x : Declared) (φ : Layer) (φs : List Layer) → IsDeclared w p x φ φs →
+    with_made (made_of w.parts φ x) p ≡ behind_made w.parts φ x p
+values_now w p x φ φs is =
+    sym (ap (λ o. with_made (record (made_of w.parts φ x) { told = told_by o x.place (p.state.serials + 1) φ.told }) p)
+    is.fixed)
 
 -- it is made, and one behind it passes the limit
 later_over :
     (w : Surroundings) (code : List Instr) (e : Environment) (around : Around) (p : Point) (numbers : ℕ → ℕ)
-    (φ : Layer) (φs : List Layer) (number place index : ℕ) (d : Y.DeclaredVariable) (ds : List Y.DeclaredVariable) →
-    HasWord w e number → is_plain d ≡ true → IsDeclared w p (word_made number place index) φ φs →
-    AreOver w code e around (behind_made w.parts φ (word_made number place index) p) numbers number (place + 32)
-    (index + 1) ds →
-    AreOver w code e around p numbers number place index (d ∷ ds)
-unfolding K.variables_made K.automatic_made K.extents give ◌>>=◌ ◌>>◌
-later_over w code e around p numbers φ φs number place index d ds has plain is next =
-    let x = word_made number place index in
+    (φ : Layer) (φs : List Layer) (place index : ℕ) (d : Y.DeclaredVariable) (ds : List Y.DeclaredVariable) →
+    HasWord w e → is_declared d ≡ true → IsDeclared w p (word_made e place index d) φ φs →
+    AreOver w code e around (behind_made w.parts φ (word_made e place index d) p) numbers
+    (place + variable_bytes d) (index + 1) ds →
+    AreOver w code e around p numbers place index (d ∷ ds)
+later_over w code e around p numbers φ φs place index d ds has plain is next =
+    let x = word_made e place index d in
     let q = behind_made w.parts φ x p in
-    let first = constant_made e place (number_declared []) in
-    let rest = made_code e (words_from number (place + 32) (index + 1) ds) in
+    let first = constant_made e place d in
+    let rest = made_code e (words_from e (place + variable_bytes d) (index + 1) ds) in
     let n = size_append first rest in
+    let now' = values_now w p x φ φs is in
     record {
       state = next.state;
       means =
-          ap (λ d'. K.variables_made around index (d' ∷ ds) w.acts p.state) (plain_is d plain)
+          first_means around index w.acts d ds p.state plain
           ∙ ap (λ flow. flow_on w.acts flow (λ u. K.variables_made around (index + 1) ds))
           (variable_means w p x φ φs w.acts is)
+          ∙ ap (λ (r : Point). K.variables_made around (index + 1) ds w.acts r.state) now'
           ∙ next.means;
       over = λ c i f known paid l there.
-          let r = variable_comes w code e p numbers x φ φs c i f known is (has.table, has.parts) (front_of first rest l)
-          there in
+          let r = subst (λ r'. Reach code c f (services_of p) (c + size_of first) (services_of r')
+          (λ b y. IsIn w r' numbers (i + size_of first) b y)) now'
+          (variable_comes w code e p numbers x φ φs c i f known is (refl, has.parts) (front_of first rest l) there) in
           over_then r
           (next.over (c + size_of first) (i + size_of first) (reached r)
-          (made_becomes (record { stands = known.0; image = known.1; is = is })).stands (omega (arith, paid, n))
+          (subst (λ r'. Stands w r' × IsImage w code r') now'
+          (made_becomes (record { stands = known.0; image = known.1; is = is })).stands) (omega (arith, paid, n))
           (back_of first rest l) (reached_holds r));
     }
 
 pub words_over :
     (w : Surroundings) (code : List Instr) (e : Environment) (around : Around) (p : Point) (numbers : ℕ → ℕ)
-    (φ : Layer) (φs : List Layer) (number place index : ℕ) (ds : List Y.DeclaredVariable) → HasWord w e number →
-    are_plain ds ≡ true → (0 < length ds → shape_at p.places.signatures number ≡ Some number_shape) → IsOwner p →
-    HasStack w p φ φs place (length ds) → most_automatic < automatic_in_use p.state.living + 32 * length ds →
-    AreOver w code e around p numbers number place index ds
-words_over w code e around p numbers φ φs number place index [] has plain shape owner h past =
+    (φ : Layer) (φs : List Layer) (place index : ℕ) (ds : List Y.DeclaredVariable) → HasWord w e →
+    are_plain ds ≡ true → AreTabled e p.places.signatures ds → IsOwner p →
+    HasStack w p φ φs place (bytes_of ds) → most_automatic < automatic_in_use p.state.living + bytes_of ds →
+    AreOver w code e around p numbers place index ds
+words_over w code e around p numbers φ φs place index [] has plain tabled owner h past =
     let used = h.used in absurd (omega (arith, used, past))
-words_over w code e around p numbers φ φs number place index (d ∷ ds) has plain shape owner h past =
-    let a = and_parts (is_plain d) (are_plain ds) plain in
-    let one = one_counts w.parts p φ number place index owner in
-    by_decision (nat_le (automatic_in_use p.state.living + 32) most_automatic)
+words_over w code e around p numbers φ φs place index (d ∷ ds) has plain tabled owner h past =
+    let a = and_parts (is_declared d) (are_plain ds) plain in
+    let x = word_made e place index d in
+    let one = one_counts w.parts p φ e place index d a.0 owner in
+    by_decision (nat_le (automatic_in_use p.state.living + variable_bytes d) most_automatic)
     (λ e'.
-    let less = leb-true (automatic_in_use p.state.living + 32) most_automatic e' in
-    later_over w code e around p numbers φ φs number place index d ds has a.0
-    (one_declared w p φ φs number place index 0 (shape (omega arith)) has.small (stack_room h less))
-    (words_over w code e around (behind_made w.parts φ (word_made number place index) p) numbers
-    (layer_behind w.parts (p.state.serials + 1) φ (word_made number place index)) φs number (place + 32) (index + 1) ds
-    has a.1 (λ some. shape (omega arith)) (next_owner w.parts p φ number place index owner)
-    (next_stack w p φ φs number place index (length ds) owner h less) (omega (arith, past, one))))
+    let less = leb-true (automatic_in_use p.state.living + variable_bytes d) most_automatic e' in
+    later_over w code e around p numbers φ φs place index d ds has a.0
+    (one_declared w p φ φs e place index 0 d a.0 tabled.0 (stack_room (variable_bytes d) (bytes_of ds) h less))
+    (words_over w code e around (behind_made w.parts φ x p) numbers
+    (layer_behind w.parts (p.state.serials + 1) φ x) φs (place + variable_bytes d) (index + 1) ds
+    has a.1 tabled.1 (next_owner w.parts p φ x owner)
+    (next_stack w p φ φs e place index (bytes_of ds) d a.0 owner h less) (omega (arith, past, one))))
     (λ e'.
-    first_over w code e around p numbers φ φs number place index d ds has a.0
-    (passes w p φ φs number place index (length ds) h has.small (shape (omega arith)) e'))
+    first_over w code e around p numbers φ φs place index d ds has a.0
+    (passes w p φ φs e place index (bytes_of ds) d a.0 tabled.0 h e'))

@@ -11,9 +11,9 @@ use Rattle.pli_meaning.specs.Executing.{labels_in}
 use Rattle.pli_coding.specs.Registers.{held_registers}
 use Rattle.program_places.specs.Programs.{IsProcedure, environment_for}
 use Rattle.number_runs.specs.Numbers.{has_none}
-use Rattle.number_runs.specs.Statements.{are_statements, statements_need}
+use Rattle.number_runs.specs.Statements.{are_statements, statements_need, statements_set}
 use Rattle.number_headlines.specs.Programs.{are_inner, body_of, has_result, is_body, is_callable, is_declared_if}
-use Rattle.number_headlines.specs.Programs.{is_inner_if, is_valued, scope_of, stand_alike}
+use Rattle.number_headlines.specs.Programs.{is_inner_if, is_valued, most_waiting, scope_of, stand_alike}
 use Rattle.number_headlines.proofs.Mains.{Main, procedure_is, result_of}
 
 pub record Inner {program : Y.Program} (m : Main program) (caller : Y.BlockHead) (valued : Bool) (level number : ℕ)
@@ -28,6 +28,7 @@ pub record Inner {program : Y.Program} (m : Main program) (caller : Y.BlockHead)
     pub alike : stand_alike (environment_for program caller) (environment_for program head) level ≡ true
     pub statements : are_statements (scope_of program m.called head) valued (labels_in body ++ []) body ≡ true
     pub fits : statements_need body ≤ held_registers
+    pub waiting : statements_set body ≤ most_waiting
 
 number_found :
     (number : ℕ) (p : Y.Procedure) (ps : List Y.Procedure) → procedure_numbered number ps ≡ Some p →
@@ -107,7 +108,9 @@ inner_is {program} m caller valued level number h =
         let i = and_parts (has_none p.parameters) (is_body s (is_valued p.result) body) g in
         let own = subst (λ v. is_body s v body ≡ true) (valued_is valued p.result b.0) i.1 in
         let j = and_parts (are_statements s valued (labels_in body ++ []) body)
-        (nat_le (statements_need body) held_registers) own in
+        (nat_le (statements_need body) held_registers && nat_le (statements_set body) most_waiting) own in
+        let l = and_parts (nat_le (statements_need body) held_registers) (nat_le (statements_set body) most_waiting) j.1
+        in
         let n = number_found number p program.procedures e in
         record {
           head = head;
@@ -120,5 +123,6 @@ inner_is {program} m caller valued level number h =
           around_it = leb-true level caller.level d.0;
           alike = d.1;
           statements = j.0;
-          fits = leb-true (statements_need body) held_registers j.1;
+          fits = leb-true (statements_need body) held_registers l.0;
+          waiting = leb-true (statements_set body) most_waiting l.1;
         }

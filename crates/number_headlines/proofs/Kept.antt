@@ -12,13 +12,11 @@ use Rattle.pli_meaning.specs.Making.{with_binding}
 use Rattle.pli_meaning.specs.Pictures.{first_bytes}
 use Rattle.pli_meaning.specs.StorageState.{Activation, Binding, ancestor, height_of, most_activations}
 use Rattle.pli_meaning.specs.StorageState.{newest_height}
-use Rattle.pli_serving.specs.Templates.{shape_at}
 use Rattle.pli_coding.specs.Environments.{block_around}
 use Rattle.pli_coding.specs.Frames.{fixed_size}
 use Rattle.pli_coding.specs.Images.{linked_code, picture_of}
-use Rattle.pli_coding.specs.Locating.{table_number}
-use Rattle.pli_coding.specs.SignatureTable.{number_in_table, table_of}
 use Rattle.code_marks.specs.CodeMarks.{MarkedOnce}
+use Rattle.pli_coding.specs.SignatureTable.{table_of}
 use Rattle.storage_relation.specs.ServiceLaws.{TableDiffers}
 use Rattle.activation_relation.specs.Layers.{Layer, Point}
 use Rattle.program_places.specs.Constants.{constants_in}
@@ -31,28 +29,32 @@ use Rattle.program_runs.specs.Calls.{left_over}
 use Rattle.program_runs.specs.Starts.{call_index, image_parts, no_numbers}
 use Rattle.program_runs.specs.Statements.{EachDoes, IsBegun}
 use Rattle.program_runs.specs.Variables.{Declared, generation_for}
-use Rattle.expression_runs.specs.Variables.{IsNumber, Spot, number_declared, variable_of}
-use Rattle.variable_runs.specs.Lists.{all_made, behind_made, layer_behind}
+use Rattle.expression_runs.specs.Variables.{IsNumber, Spot, variable_of}
+use Rattle.element_runs.specs.Arrays.{IsArray}
+use Rattle.variable_runs.specs.Lists.{all_made, behind_made, layer_after, layer_behind}
 use Rattle.variable_runs.proofs.Lists.{all_procedure}
 use Rattle.pli_headline.specs.Headline.{FitsMemory, Headline, parts}
 use Rattle.block_headlines.proofs.Constants.{constants_stand}
 use Rattle.block_headlines.specs.Headlines.{HeadlinesKept, Layout, Runs}
 use Rattle.nested_calls.specs.Nested.{IsNested}
-use Rattle.number_runs.specs.Numbers.{is_known, is_place, is_plain_if}
+use Rattle.number_runs.specs.Arrays.{bounds_if, is_array_if}
+use Rattle.number_runs.specs.Numbers.{is_array_known, is_known, is_place, is_plain_if}
 use Rattle.number_runs.specs.Variables.{words_in}
 use Rattle.number_runs.proofs.Words.{room_behind}
 use Rattle.number_headlines.specs.Headlines.{IsNumberProgram}
 use Rattle.number_headlines.specs.Programs.{are_all_plain, has_main, most_words, places_to, scope_of}
 use Rattle.number_headlines.proofs.Bodies.{each_body}
+use Rattle.number_headlines.proofs.Entered.{made_idle}
 use Rattle.number_headlines.proofs.FullWords.{words_at, words_count, words_lower}
 use Rattle.number_headlines.proofs.Mains.{Main, block_for, level_of, made_for, made_system, main_all, main_begun}
-use Rattle.number_headlines.proofs.Mains.{main_for}
-use Rattle.number_headlines.proofs.Mains.{main_is, main_layer, main_number, main_room, main_spare, main_told, no_words}
+use Rattle.number_headlines.proofs.Loops.{after_waits, after_words}
+use Rattle.number_headlines.proofs.Mains.{main_array, main_for}
+use Rattle.number_headlines.proofs.Mains.{main_is, main_layer, main_number, main_room, main_spare, main_told, own_words}
 use Rattle.number_headlines.proofs.Mains.{placed, run_for}
 use Rattle.number_headlines.proofs.Mains.{spare, start_for, surroundings_for}
 use Rattle.number_headlines.proofs.Places.{around_is}
-use Rattle.number_headlines.proofs.Running.{IsRunning, Running}
-use Rattle.number_headlines.proofs.Tables.{block_plain, has_start, has_table, word_signature}
+use Rattle.number_headlines.proofs.Running.{IsEntered, Running, table_later}
+use Rattle.number_headlines.proofs.Tables.{block_plain, has_start, has_table}
 
 -- ---- the main procedure as the first block that runs
 
@@ -65,6 +67,7 @@ main_run {program} m input acts =
       call = call_index;
       point = start_for program input acts;
       numbers = no_numbers;
+      layers = λ ls. ls;
     }
 
 -- the one activation, with the variables that it has by then
@@ -97,18 +100,6 @@ main_lone {program} m input acts =
     (main_begun m input acts)
     (record { bindings = []; is = refl })
 
--- what stays as it is while variables are made
-record Same (p q : Point) : Type 0 where
-  signatures : q.places.signatures ≡ p.places.signatures
-  waiting : q.control.waiting ≡ p.control.waiting
-
-made_same :
-    (φ : Layer) (xs : List Declared) (p : Point) → Same p (all_made image_parts φ xs p)
-made_same φ [] p = record { signatures = refl; waiting = refl }
-made_same φ (x ∷ xs) p =
-    let h = made_same (layer_behind image_parts (p.state.serials + 1) φ x) xs (behind_made image_parts φ x p) in
-    record { signatures = h.signatures; waiting = h.waiting }
-
 lone_ancestor :
     (level : ℕ) (bs : List Binding) → level ≡ 0 → height_of (ancestor (lone level bs) 1 0) ≡ 1
 lone_ancestor level bs e = subst (λ l. height_of (ancestor (lone l bs) 1 0) ≡ 1) (sym e) refl
@@ -134,74 +125,96 @@ main_nested {program} m input acts =
           ∙ ap (λ j. ancestor as' j n) (here ∙ sym newest);
     }
 
+-- it may name its own variables
+main_owns :
+    {program : Y.Program} (m : Main program) (x : Spot) →
+    list_any (is_place x) (places_to (environment_for program m.head) m.head.level) ≡ true →
+    (x.block ≡ m.head.number) × (x.level ≡ m.head.level)
+main_owns {program} m x h =
+    let e = environment_for program m.head in
+    let there = around_is e m.head.level x h in
+    let less = there.0 in
+    let level = level_of m in
+    let same : x.level ≡ m.head.level = omega (arith, less, level) in (
+      there.1 ∙ ap (λ n. block_around e n) same
+          ∙ own_block program m.head m.body None (main_found program (placed m) m.main),
+      same,
+    )
+
 main_variable :
     {program : Y.Program} (m : Main program) (input : List ℕ) (acts : ℕ) → IsBegun (block_for m input acts) →
     (x : Spot) → is_known (scope_of program m.called m.head) x ≡ true → IsNumber (block_for m input acts) x
 main_variable {program} m input acts b x h =
-    let e = environment_for program m.head in
     let plain = is_plain_if (declared_variable program (variable_of x)) in
-    let a = and_parts (list_any (is_place x) (places_to e m.head.level)) plain h in
-    let there = around_is e m.head.level x a.0 in
-    let less = there.0 in
-    let level = level_of m in
-    let same : x.level ≡ m.head.level = omega (arith, less, level) in
-    main_number m input acts x
-    (record {
-      block = there.1 ∙ ap (λ n. block_around e n) same
-          ∙ own_block program m.head m.body None (main_found program (placed m) m.main);
-      level = same;
-      plain = a.1;
-    }) b
+    let a = and_parts (list_any (is_place x) (places_to (environment_for program m.head) m.head.level)) plain h in
+    let own = main_owns m x a.0 in
+    main_number m input acts x (record { block = own.0; level = own.1; plain = a.1 }) b
+
+main_element :
+    {program : Y.Program} (m : Main program) (input : List ℕ) (acts : ℕ) → IsBegun (block_for m input acts) →
+    (x : Spot) → is_array_known (scope_of program m.called m.head) x ≡ true →
+    IsArray (block_for m input acts) x (bounds_if (declared_variable program (variable_of x)))
+main_element {program} m input acts b x h =
+    let array = is_array_if (declared_variable program (variable_of x)) in
+    let a = and_parts (list_any (is_place x) (places_to (environment_for program m.head) m.head.level)) array h in
+    let own = main_owns m x a.0 in
+    main_array m input acts x (record { block = own.0; level = own.1; array = a.1 }) b
 
 main_running :
     {program : Y.Program} (m : Main program) (input : List ℕ) (acts : ℕ) → IsBegun (block_for m input acts) →
-    IsRunning m input acts false acts (main_run m input acts) most_activations
+    IsEntered m input acts false acts (main_run m input acts) most_activations
 main_running {program} m input acts b =
     let w = surroundings_for program input acts in
     let start = main_begun m input acts in
     let φ = main_layer m input acts in
     let xs = words_in (environment_for program m.head) in
-    let same = made_same φ xs start in
+    let serial = start.state.serials + 1 in
     let first = b.acts in
     let one = main_lone m input acts in
     let long = ap (λ (as' : List Activation). length as') one.is in
     let ds = variables_of_block program m.head.number in
-    let word = table_number (environment_for program m.head) (number_declared []) in
+    let e = environment_for program m.head in
     let spot = fixed_size m.head.level 0 in
     let spared = main_spare m input acts in
-    let room = room_behind w start φ [] word spot 0 spare ds spared in
+    let plain = block_plain program.variables m.head.number m.plain in
+    let room = room_behind w start φ [] e spot 0 spare ds plain.plain spared in
     let place = room.here in
-    let lower = words_lower image_parts (start.state.serials + 1) φ word spot 0 ds in
-    let counts = words_count image_parts start φ word spot 0 ds
+    let lower = words_lower image_parts (start.state.serials + 1) φ xs in
+    let counts = words_count image_parts start φ e spot 0 ds plain.plain
     (record { activation = _; below = _; active = refl; some = omega arith }) in
-    let at = words_at image_parts (start.state.serials + 1) φ word spot 0 ds in
-    let few = (block_plain program.variables m.head.number m.plain).1 in
+    let at = words_at image_parts (start.state.serials + 1) φ xs in
+    let few = plain.room in
     let level = level_of m in
-    let words = no_words m in
+    let words = own_words m in
+    let waiting = m.waiting in
     record {
-      is = main_found program (placed m) m.main;
-      statements = m.statements;
-      fits = m.fits;
-      begun = b;
-      enough = omega (arith, first);
-      nested = main_nested m input acts;
-      variables = λ x h. main_variable m input acts b x h;
-      unraised = λ c. made_system image_parts _ xs _ c tt;
-      idle = same.waiting;
-      told = main_told m input acts b;
-      free = record {
-        layer = _;
-        below = _;
-        newest = room.newest;
-        even = room.even;
-        low = room.low;
-        used = omega (arith, counts, few);
-        fits = omega (arith, words, level, place, at, lower, counts);
+      running = record {
+        is = main_found program (placed m) m.main;
+        statements = m.statements;
+        fits = m.fits;
+        waiting = m.waiting;
+        begun = b;
+        enough = omega (arith, first);
+        nested = main_nested m input acts;
+        variables = λ x h. main_variable m input acts b x h;
+        arrays = λ x h. main_element m input acts b x h;
+        unraised = λ c. made_system image_parts _ xs _ c tt;
+        idle = made_idle φ xs start;
+        told = main_told m input acts b;
+        free = record {
+          layer = layer_after image_parts serial φ xs;
+          below = _;
+          newest = room.newest;
+          even = room.even;
+          low = room.low;
+          used = omega (arith, counts, few);
+          fits = omega (arith, words, waiting, level, place, at, lower, counts);
+        };
+        tabled = table_later program b.remains (λ head. has_table program head m.plain);
+        depth = record { some = omega arith; all = omega (arith, long) };
       };
-      shape = λ block some.
-          ap (λ t. shape_at t (number_in_table word_signature (table_of program))) same.signatures
-          ∙ (has_table program block m.plain).shape some;
-      depth = record { some = omega arith; all = omega (arith, long) };
+      words = after_words serial φ xs ∙ own_words m;
+      clear = λ n. ap (λ waits. waits n) (after_waits serial φ xs);
     }
 
 main_each :

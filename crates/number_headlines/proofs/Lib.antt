@@ -1,5 +1,6 @@
 pub mod Tables
 pub mod Puts
+pub mod Loops
 pub mod Mains
 pub mod Places
 pub mod Running
@@ -11,5 +12,7 @@ pub mod Bodies
 pub mod Kept
 pub mod Rows
 pub mod CallRows
+pub mod CountRows
 pub mod NestRows
 pub mod PutRows
+pub mod ArrayRows

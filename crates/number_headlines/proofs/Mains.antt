@@ -1,5 +1,5 @@
 -- The main procedure of a program of the class where it begins: its variables are made, and there is room for more.
-use Rattle.std.proofs.Common.{◌≡◌, ℕ, ◌+◌, ◌≤◌, List, [], ◌∷◌, ◌++◌, Option, None, Some}
+use Rattle.std.proofs.Common.{◌≡◌, ℕ, ◌+◌, ◌*◌, ◌≤◌, List, [], ◌∷◌, ◌++◌, Option, None, Some}
 use Rattle.std.proofs.Common.{true, false}
 use Rattle.std.proofs.Common.{length, refl, sym, ap, ◌∙◌, subst, arith}
 use Rattle.std.specs.Prelude.{◌&&◌, Bool, nat_le}
@@ -35,14 +35,15 @@ use Rattle.well_formed_trees.specs.WellFormed.{HasMain}
 use Rattle.pli_headline.specs.Headline.{FitsMemory, parts}
 use Rattle.block_headlines.specs.Constants.{IsOf}
 use Rattle.block_headlines.proofs.Constants.{main_of_program}
+use Rattle.element_runs.specs.Arrays.{IsArray}
 use Rattle.number_runs.specs.Numbers.{has_none}
-use Rattle.number_runs.specs.Statements.{are_statements, statements_need}
-use Rattle.number_runs.specs.Variables.{HasWords, HaveRoom, IsOwnWord, words_in}
-use Rattle.number_runs.proofs.Takes.{words_none}
-use Rattle.number_runs.proofs.Words.{all_words, own_word, room_fewer}
+use Rattle.number_runs.specs.Statements.{are_statements, statements_need, statements_set}
+use Rattle.number_runs.specs.Variables.{HasWords, HaveRoom, IsOwnArray, IsOwnWord, bytes_of, own_bounds, words_in}
+use Rattle.number_runs.proofs.Takes.{words_set}
+use Rattle.number_runs.proofs.Words.{all_words, own_array, own_word, room_fewer}
 use Rattle.number_runs.proofs.Variables.{fixed_is}
 use Rattle.number_headlines.specs.Programs.{are_all_plain, are_inner, body_of, callable_ones, has_main, has_result}
-use Rattle.number_headlines.specs.Programs.{is_body, most_words, scope_of}
+use Rattle.number_headlines.specs.Programs.{is_body, most_bytes, most_waiting, most_words, scope_of}
 use Rattle.number_headlines.proofs.Tables.{block_plain, has_table}
 
 -- ---- no unit comes with variables
@@ -112,6 +113,7 @@ pub record Main (program : Y.Program) : Type 0 where
   pub called : List ℕ
   pub statements : are_statements (scope_of program called head) false (labels_in body ++ []) body ≡ true
   pub fits : statements_need body ≤ held_registers
+  pub waiting : statements_set body ≤ most_waiting
   pub inners : are_inner program called called ≡ true
 
 -- as it is placed
@@ -133,7 +135,8 @@ main_is program (p ∷ ps) e plain load fits h =
     let b = and_parts (has_result false p.result) (is_body s false body && all) a.1 in
     let c = and_parts (is_body s false body) all b.1 in
     let f = and_parts (are_statements s false (labels_in body ++ []) body)
-    (nat_le (statements_need body) held_registers) c.0 in
+    (nat_le (statements_need body) held_registers && nat_le (statements_set body) most_waiting) c.0 in
+    let g = and_parts (nat_le (statements_need body) held_registers) (nat_le (statements_set body) most_waiting) f.1 in
     record {
       head = head;
       body = body;
@@ -144,7 +147,8 @@ main_is program (p ∷ ps) e plain load fits h =
       memory = fits;
       called = called;
       statements = f.0;
-      fits = leb-true (statements_need body) held_registers f.1;
+      fits = leb-true (statements_need body) held_registers g.0;
+      waiting = leb-true (statements_set body) most_waiting g.1;
       inners = c.1;
     }
 
@@ -169,11 +173,12 @@ main_for {program} m input acts =
 pub level_of : {program : Y.Program} (m : Main program) → m.head.level ≡ 0
 level_of {program} m = (subst HasMain m.main m.loadable.well_formed.main).0
 
-pub no_words : {program : Y.Program} (m : Main program) → (procedure_for program m.head m.body).words ≡ 0
-no_words {program} m =
+pub own_words :
+    {program : Y.Program} (m : Main program) → (procedure_for program m.head m.body).words ≡ statements_set m.body
+own_words {program} m =
     let plain = block_plain program.variables m.head.number m.plain in
-    words_none (scope_of program m.called m.head) false (environment_for program m.head) m.head.number m.body plain.0
-    m.statements m.fits
+    words_set (scope_of program m.called m.head) false (environment_for program m.head) m.head.number m.body
+    plain.plain m.statements m.fits
 
 parented : (level parent : ℕ) → level ≡ 0 → HasParent level parent []
 parented level parent e = subst (λ n. HasParent n parent []) (sym e) tt
@@ -184,10 +189,11 @@ pub main_room :
     (start_for program input acts) (procedure_for program m.head m.body)
     (main_for m input acts).calling
 main_room {program} m input acts =
-    let words = no_words m in
+    let words = own_words m in
+    let waiting = m.waiting in
     let level = level_of m in
     record {
-      room = omega (arith, words, level);
+      room = omega (arith, words, waiting, level);
       shallow = refl;
       parent = parented m.head.level 0 level;
       idle = refl;
@@ -195,7 +201,7 @@ main_room {program} m input acts =
 
 -- what stays free where a block of the greatest frame is the only one beside it: its variables, and its frame
 abbrev pub spare : ℕ
-spare = most_words + 16
+spare = most_bytes + 32 * 16
 
 abbrev pub main_layer : {program : Y.Program} → Main program → (input : List ℕ) → (acts : ℕ) → Layer
 main_layer {program} m input acts =
@@ -213,18 +219,19 @@ pub main_spare :
     {program : Y.Program} (m : Main program) (input : List ℕ) (acts : ℕ) →
     HaveRoom (surroundings_for program input acts) (main_begun m input acts)
     (main_layer m input acts) [] (fixed_size m.head.level 0)
-    (length (variables_of_block program m.head.number) + spare)
+    (bytes_of (variables_of_block program m.head.number) + spare)
 main_spare {program} m input acts =
-    let words = no_words m in
+    let words = own_words m in
+    let waiting = m.waiting in
     let level = level_of m in
-    let few = (block_plain program.variables m.head.number m.plain).1 in
+    let few = (block_plain program.variables m.head.number m.plain).room in
     let code = m.loadable.fits in
     record {
       newest = refl;
       here = refl;
-      even = omega (arith, words, level);
+      even = omega (arith, words, waiting, level);
       counted = omega (arith, level, few);
-      fits = omega (arith, words, level, few);
+      fits = omega (arith, words, waiting, level, few);
       low = omega (arith, code);
       limit = omega (arith, few);
     }
@@ -238,8 +245,7 @@ main_words {program} m input acts =
     let found = main_found program (placed m) m.main in
     let kind = (known program m.head m.body None m.loadable.well_formed found).kind in
     let plain = block_plain program.variables m.head.number m.plain in
-    let table = has_table program m.head.number m.plain in
-    let n = length (variables_of_block program m.head.number) in
+    let n = bytes_of (variables_of_block program m.head.number) in
     record {
       kind = kind;
       code = refl;
@@ -249,10 +255,9 @@ main_words {program} m input acts =
       parts = refl;
       bare = ap parameters_in found;
       made = refl;
-      plain = plain.0;
-      few = plain.1;
-      small = table.small;
-      shape = table.shape;
+      plain = plain.plain;
+      few = plain.few;
+      tabled = has_table program m.head m.plain;
       room = room_fewer (surroundings_for program input acts) (main_begun m input acts)
           (main_layer m input acts) [] (fixed_size m.head.level 0) n (n + spare) (omega arith)
           (main_spare m input acts);
@@ -283,6 +288,16 @@ pub main_number :
     IsOwnWord (main_for m input acts) x → IsBegun (block_for m input acts) → IsNumber (block_for m input acts) x
 main_number {program} m input acts x own b =
     own_word (surroundings_for program input acts) (linked_code (code_for program)) (main_for m input acts)
+    (start_for program input acts) (start_for program input acts) no_numbers x
+    (record { high = omega arith; inside = omega arith }) (main_words m input acts, main_all m input acts) own b
+
+-- and each array an array of it
+pub main_array :
+    {program : Y.Program} (m : Main program) (input : List ℕ) (acts : ℕ) (x : Spot) →
+    IsOwnArray (main_for m input acts) x → IsBegun (block_for m input acts) →
+    IsArray (block_for m input acts) x (own_bounds (main_for m input acts) x)
+main_array {program} m input acts x own b =
+    own_array (surroundings_for program input acts) (linked_code (code_for program)) (main_for m input acts)
     (start_for program input acts) (start_for program input acts) no_numbers x
     (record { high = omega arith; inside = omega arith }) (main_words m input acts, main_all m input acts) own b
 

@@ -1,163 +1,213 @@
--- The table of a program whose variables are all FIXED BINARY(31): one signature, or none.
-use Rattle.std.proofs.Common.{◌≡◌, ℕ, zero, suc, ◌^◌, ◌<◌, ◌≤◌, List, [], ◌∷◌, ◌++◌, Some, true, inl, inr, ◌⊎◌}
-use Rattle.std.proofs.Common.{length, map, refl, sym, ap, ◌∙◌, subst, arith, length-append, rules}
-use Rattle.std.specs.Prelude.{◌&&◌, nat_le, slice_get, unwrap_or}
+-- The table of a program whose variables are all FIXED BINARY(31), scalars and arrays: each signature is there once,
+-- and its number leads to it.
+use Rattle.std.proofs.Common.{◌≡◌, ℕ, zero, suc, ◌+◌, ◌*◌, ◌^◌, ◌<◌, ◌≤◌, List, [], ◌∷◌, ◌++◌, Some, true, length, map}
+use Rattle.std.proofs.Common.{refl, sym, ap, ◌∙◌, subst, arith, rules}
+use Rattle.std.specs.Prelude.{◌&&◌, nat_le, nat_lt, slice_get, unwrap_or}
 use Rattle.std.specs.List.{flat_map}
-use Rattle.std.proofs.lemmas.Bool.{and_parts, and_from, leb-true}
-use Rattle.rv_meaning.specs.Tables.{AreSignatures, TableSignature}
+use Rattle.std.proofs.lemmas.Bool.{and_parts, leb-true, ltb-true}
+use Rattle.rv_meaning.specs.Tables.{AreSignatures, IsSignature, TableSignature}
+use Rattle.run_steps.proofs.Numbers.{word_small}
+use Rattle.pli_typing.specs.Signatures.{Bounds}
 use Rattle.pli_typing.specs.TypedTree as Y
-use Rattle.pli_meaning.specs.DeclaredShapes.{variables_of_block}
+use Rattle.pli_meaning.specs.DeclaredShapes.{shape_of, variables_of_block}
 use Rattle.pli_serving.specs.Templates.{shape_at, template_of}
-use Rattle.pli_coding.specs.SignatureTable.{number_in_table, signature_of, table_of, with_signature, with_signatures}
+use Rattle.pli_coding.specs.Environments.{Environment}
+use Rattle.pli_coding.specs.SignatureTable.{number_in_table, signature_of, table_of, with_signatures}
 use Rattle.well_formed_trees.specs.Every.{Every}
-use Rattle.storage_relation.specs.Tables.{AreRuled}
-use Rattle.program_places.specs.Programs.{HasStart, IsUnstatic}
-use Rattle.expression_runs.specs.Variables.{number_declared, number_shape}
-use Rattle.number_runs.specs.Numbers.{is_plain}
-use Rattle.number_runs.specs.Variables.{are_plain}
-use Rattle.number_runs.proofs.Variables.{plain_is}
-use Rattle.number_headlines.specs.Programs.{are_all_plain, most_words}
+use Rattle.storage_relation.specs.Tables.{AreLeaves, AreRuled}
+use Rattle.pli_headline.specs.ProvedSoFar.{Kind}
+use Rattle.pli_headline.proofs.ArraySignatures.{array_kept}
+use Rattle.pli_headline.proofs.PlainNumbers.{Numbered, numbered_shape}
+use Rattle.pli_headline.proofs.PlainSignatures.{HasAll, HasSignature, kind_signature}
+use Rattle.pli_headline.proofs.Scalars.{place_below}
+use Rattle.pli_headline.proofs.SignaturesOnce.{found_any, has_every}
+use Rattle.program_places.specs.Programs.{HasStart, IsUnstatic, environment_for}
+use Rattle.program_places.specs.Tables.{IsRuled}
+use Rattle.program_places.proofs.Tables.{table_ruled}
+use Rattle.expression_runs.specs.Variables.{number_declared}
+use Rattle.element_runs.specs.Arrays.{IsBounds, array_declared}
+use Rattle.number_runs.specs.Variables.{AreTabled, IsTabled, are_plain, bytes_of, is_declared}
+use Rattle.number_runs.proofs.Declared.{of_declared, sized}
+use Rattle.number_headlines.specs.Programs.{are_all_plain, are_blocks_plain, most_bytes, most_signatures, most_words}
 
-abbrev pub word_signature : TableSignature
-word_signature = signature_of (number_declared [])
+-- ---- the variables of each block
 
--- ---- its signatures
+-- so many bytes hold no more variables than that
+few_variables : (ds : List Y.DeclaredVariable) → are_plain ds ≡ true → 32 * length ds ≤ bytes_of ds
+few_variables [] h = omega arith
+few_variables (d ∷ ds) h =
+    let a = and_parts (is_declared d) (are_plain ds) h in
+    let one = (sized d a.0).some in
+    let rest = few_variables ds a.1 in
+    omega (arith, one, rest)
 
-all_one :
-    (ds : List Y.DeclaredVariable) → are_plain ds ≡ true →
-    with_signatures ds (word_signature ∷ []) ≡ word_signature ∷ []
-all_one [] h = refl
-all_one (d ∷ ds) h =
-    let a = and_parts (is_plain d) (are_plain ds) h in
-    ap (λ d'. with_signatures ds (with_signature (signature_of d') (word_signature ∷ []))) (plain_is d a.0)
-    ∙ all_one ds a.1
+pub record IsPlainBlock (ds : List Y.DeclaredVariable) : Type 0 where
+  pub plain : are_plain ds ≡ true
+  pub room : bytes_of ds ≤ most_bytes
+  pub few : length ds ≤ most_words
 
-one_or_none :
-    (ds : List Y.DeclaredVariable) → are_plain ds ≡ true →
-    ((length ds ≡ 0) × (with_signatures ds [] ≡ [])) ⊎ (with_signatures ds [] ≡ word_signature ∷ [])
-one_or_none [] h = inl (refl, refl)
-one_or_none (d ∷ ds) h =
-    let a = and_parts (is_plain d) (are_plain ds) h in
-    inr (ap (λ d'. with_signatures ds (with_signature (signature_of d') [])) (plain_is d a.0) ∙ all_one ds a.1)
+by_blocks :
+    (vs : List (List Y.DeclaredVariable)) (n : ℕ) → are_blocks_plain vs ≡ true →
+    IsPlainBlock (unwrap_or (slice_get vs n) [])
+by_blocks [] n h = record { plain = refl; room = omega arith; few = omega arith }
+by_blocks (ds ∷ vs) zero h =
+    let a = and_parts (nat_le (bytes_of ds) most_bytes && are_plain ds) (are_blocks_plain vs) h in
+    let b = and_parts (nat_le (bytes_of ds) most_bytes) (are_plain ds) a.0 in
+    let room = leb-true (bytes_of ds) most_bytes b.0 in
+    let many = few_variables ds b.1 in
+    record { plain = b.1; room = room; few = omega (arith, room, many) }
+by_blocks (ds ∷ vs) (suc n) h =
+    let a = and_parts (nat_le (bytes_of ds) most_bytes && are_plain ds) (are_blocks_plain vs) h in
+    by_blocks vs n a.1
 
-plain_append :
-    (ds es : List Y.DeclaredVariable) → are_plain ds ≡ true → are_plain es ≡ true → are_plain (ds ++ es) ≡ true
-plain_append [] es h g = g
-plain_append (d ∷ ds) es h g =
-    let a = and_parts (is_plain d) (are_plain ds) h in
-    and_from (is_plain d) (are_plain (ds ++ es)) a.0 (plain_append ds es a.1 g)
+blocks_of : (vs : List (List Y.DeclaredVariable)) → are_all_plain vs ≡ true → are_blocks_plain vs ≡ true
+blocks_of vs h =
+    (and_parts (nat_lt (length (with_signatures (flat_map (λ ds. ds) vs) [])) most_signatures) (are_blocks_plain vs)
+    h).1
 
-all_listed :
-    (vs : List (List Y.DeclaredVariable)) → are_all_plain vs ≡ true → are_plain (flat_map (λ ds. ds) vs) ≡ true
-all_listed [] h = refl
-all_listed (ds ∷ vs) h =
-    let a = and_parts (nat_le (length ds) most_words && are_plain ds) (are_all_plain vs) h in
-    let b = and_parts (nat_le (length ds) most_words) (are_plain ds) a.0 in
-    plain_append ds (flat_map (λ es. es) vs) b.1 (all_listed vs a.1)
-
--- a block with variables has some among all
-some_listed :
-    (vs : List (List Y.DeclaredVariable)) (n : ℕ) → 0 < length (unwrap_or (slice_get vs n) []) →
-    0 < length (flat_map (λ ds. ds) vs)
-some_listed [] n some = absurd (omega (arith, some))
-some_listed (ds ∷ vs) zero some =
-    let e = length-append ds (flat_map (λ es. es) vs) in omega (arith, e, some)
-some_listed (ds ∷ vs) (suc n) some =
-    let e = length-append ds (flat_map (λ es. es) vs) in
-    let rest = some_listed vs n some in
-    omega (arith, e, rest)
-
--- the variables of each block
 pub block_plain :
     (vs : List (List Y.DeclaredVariable)) (n : ℕ) → are_all_plain vs ≡ true →
-    (are_plain (unwrap_or (slice_get vs n) []) ≡ true) × (length (unwrap_or (slice_get vs n) []) ≤ most_words)
-block_plain [] n h = (refl, omega arith)
-block_plain (ds ∷ vs) zero h =
-    let a = and_parts (nat_le (length ds) most_words && are_plain ds) (are_all_plain vs) h in
-    let b = and_parts (nat_le (length ds) most_words) (are_plain ds) a.0 in
-    (b.1, leb-true (length ds) most_words b.0)
-block_plain (ds ∷ vs) (suc n) h =
-    let a = and_parts (nat_le (length ds) most_words && are_plain ds) (are_all_plain vs) h in
-    block_plain vs n a.1
+    IsPlainBlock (unwrap_or (slice_get vs n) [])
+block_plain vs n h = by_blocks vs n (blocks_of vs h)
 
 -- ---- the table
 
-pub record HasTable (program : Y.Program) (block : ℕ) : Type 0 where
-  pub small : number_in_table word_signature (table_of program) < 2 ^ 31
-  pub shape :
-      0 < length (variables_of_block program block) →
-      shape_at (map template_of (table_of program)) (number_in_table word_signature (table_of program))
-      ≡ Some number_shape
-  pub ruled : AreRuled (table_of program)
+has_front :
+    (ds es : List Y.DeclaredVariable) (table : List TableSignature) → HasAll (ds ++ es) table → HasAll ds table
+has_front [] es table has = tt
+has_front (d ∷ ds) es table has = (has.0, has_front ds es table has.1)
 
-ruled_word : AreRuled (word_signature ∷ [])
-ruled_word = (record { headed = search rules; leaved = search rules }, (tt, tt), tt)
+has_back :
+    (ds es : List Y.DeclaredVariable) (table : List TableSignature) → HasAll (ds ++ es) table → HasAll es table
+has_back [] es table has = has
+has_back (d ∷ ds) es table has = has_back ds es table has.1
 
+block_has :
+    (vs : List (List Y.DeclaredVariable)) (n : ℕ) (table : List TableSignature) →
+    HasAll (flat_map (λ ds. ds) vs) table → HasAll (unwrap_or (slice_get vs n) []) table
+block_has [] n table has = tt
+block_has (ds ∷ vs) zero table has = has_front ds (flat_map (λ es. es) vs) table has
+block_has (ds ∷ vs) (suc n) table has = block_has vs n table (has_back ds (flat_map (λ es. es) vs) table has)
+
+abbrev number_kind : Kind
+number_kind = record { type = Y.FixedLeaf 31; bounds = [] }
+
+abbrev array_kind : Bounds → Kind
+array_kind b = record { type = Y.FixedLeaf 31; bounds = b ∷ [] }
+
+number_numbered :
+    (table : List TableSignature) → length table < most_signatures → HasSignature (kind_signature number_kind) table →
+    Numbered table number_kind
+number_numbered table few has =
+    let stands = found_any (kind_signature number_kind) table has in
+    let most = place_below table (number_in_table (kind_signature number_kind) table) (kind_signature number_kind)
+    stands in
+    record { held = (omega arith, omega arith); stands = stands; few = omega (arith, most, few) }
+
+array_numbered :
+    (table : List TableSignature) (b : Bounds) → IsBounds b → length table < most_signatures →
+    HasSignature (kind_signature (array_kind b)) table → Numbered table (array_kind b)
+array_numbered table b is few has =
+    let k = array_kind b in
+    let stands = found_any (kind_signature k) table has in
+    let most = place_below table (number_in_table (kind_signature k) table) (kind_signature k) stands in
+    record {
+      held = ((omega arith, omega arith), (((is.lower, (is.upper, is.order)), tt), omega arith));
+      stands = stands;
+      few = omega (arith, most, few);
+    }
+
+one_tabled :
+    (e : Environment) (d : Y.DeclaredVariable) → is_declared d ≡ true → length e.table < most_signatures →
+    HasSignature (signature_of d) e.table → IsTabled e (map template_of e.table) d
+one_tabled e d is few =
+    of_declared (λ d'. HasSignature (signature_of d') e.table → IsTabled e (map template_of e.table) d')
+    (λ has.
+    let n = number_numbered e.table few has in
+    let small = n.few in
+    record { small = omega (arith, small); shape = numbered_shape e.table number_kind n })
+    (λ b bounds has.
+    let n = array_numbered e.table b bounds few has in
+    let small = n.few in
+    record { small = omega (arith, small); shape = numbered_shape e.table (array_kind b) n })
+    d is
+
+all_tabled :
+    (e : Environment) (ds : List Y.DeclaredVariable) → are_plain ds ≡ true → length e.table < most_signatures →
+    HasAll ds e.table → AreTabled e (map template_of e.table) ds
+all_tabled e [] h few has = tt
+all_tabled e (d ∷ ds) h few has =
+    let a = and_parts (is_declared d) (are_plain ds) h in
+    (one_tabled e d a.0 few has.0, all_tabled e ds a.1 few has.1)
+
+-- the variables of a block in the table of their program
 pub has_table :
-    (program : Y.Program) (block : ℕ) → are_all_plain program.variables ≡ true → HasTable program block
-has_table program block h = by (one_or_none (flat_map (λ ds. ds) program.variables) (all_listed program.variables h))
-  where
-    by :
-        ((length (flat_map (λ ds. ds) program.variables) ≡ 0) × (table_of program ≡ []))
-        ⊎ (table_of program ≡ word_signature ∷ []) →
-        HasTable program block
-    by (inl none) =
-        record {
-          small = subst (λ t. number_in_table word_signature t < 2 ^ 31) (sym none.1) (omega arith);
-          shape = λ some.
-              let more = some_listed program.variables block some in
-              let zero' = none.0 in
-              absurd (omega (arith, more, zero'));
-          ruled = subst AreRuled (sym none.1) tt;
-        }
-    by (inr one) =
-        record {
-          small = subst (λ t. number_in_table word_signature t < 2 ^ 31) (sym one) (omega arith);
-          shape = λ some.
-              subst (λ t. shape_at (map template_of t) (number_in_table word_signature t) ≡ Some number_shape) (sym one)
-              refl;
-          ruled = subst AreRuled (sym one) ruled_word;
-        }
+    (program : Y.Program) (head : Y.BlockHead) → are_all_plain program.variables ≡ true →
+    AreTabled (environment_for program head) (map template_of (table_of program))
+    (variables_of_block program head.number)
+has_table program head h =
+    let every = flat_map (λ ds. ds) program.variables in
+    let a = and_parts (nat_lt (length (table_of program)) most_signatures) (are_blocks_plain program.variables) h in
+    all_tabled (environment_for program head) (variables_of_block program head.number)
+    (block_plain program.variables head.number h).plain (ltb-true (length (table_of program)) most_signatures a.0)
+    (block_has program.variables head.number (table_of program) (has_every every []))
+
+-- ---- its rules
+
+array_ruled : (b : Bounds) → IsBounds b → IsRuled (array_declared b [])
+array_ruled b is = (
+  array_kept (Y.FixedLeaf 31) (omega arith, omega arith) (b ∷ []) ((is.lower, (is.upper, is.order)), tt) (omega arith),
+  ((word_small b.lower is.lower, word_small b.upper is.upper, tt), tt),
+)
+
+each_ruled : (ds : List Y.DeclaredVariable) → are_plain ds ≡ true → Every IsRuled ds
+each_ruled [] h = tt
+each_ruled (d ∷ ds) h =
+    let a = and_parts (is_declared d) (are_plain ds) h in (
+      of_declared IsRuled (record { headed = search rules; leaved = search rules }, (tt, tt)) array_ruled d a.0,
+      each_ruled ds a.1,
+    )
+
+all_ruled :
+    (vs : List (List Y.DeclaredVariable)) → are_blocks_plain vs ≡ true → Every (Every IsRuled) vs
+all_ruled [] h = tt
+all_ruled (ds ∷ vs) h =
+    let a = and_parts (nat_le (bytes_of ds) most_bytes && are_plain ds) (are_blocks_plain vs) h in
+    let b = and_parts (nat_le (bytes_of ds) most_bytes) (are_plain ds) a.0 in
+    (each_ruled ds b.1, all_ruled vs a.1)
+
+rules_kept : (program : Y.Program) → are_all_plain program.variables ≡ true → AreRuled (table_of program)
+rules_kept program h = table_ruled program (all_ruled program.variables (blocks_of program.variables h))
 
 -- ---- none is STATIC
 
 each_unstatic : (ds : List Y.DeclaredVariable) → are_plain ds ≡ true → Every IsUnstatic ds
 each_unstatic [] h = tt
 each_unstatic (d ∷ ds) h =
-    let a = and_parts (is_plain d) (are_plain ds) h in
-    (subst IsUnstatic (sym (plain_is d a.0)) (tt, refl), each_unstatic ds a.1)
+    let a = and_parts (is_declared d) (are_plain ds) h in
+    (of_declared IsUnstatic (tt, refl) (λ b is. (tt, refl)) d a.0, each_unstatic ds a.1)
 
 all_unstatic :
-    (vs : List (List Y.DeclaredVariable)) → are_all_plain vs ≡ true → Every (Every IsUnstatic) vs
+    (vs : List (List Y.DeclaredVariable)) → are_blocks_plain vs ≡ true → Every (Every IsUnstatic) vs
 all_unstatic [] h = tt
 all_unstatic (ds ∷ vs) h =
-    let a = and_parts (nat_le (length ds) most_words && are_plain ds) (are_all_plain vs) h in
-    let b = and_parts (nat_le (length ds) most_words) (are_plain ds) a.0 in
+    let a = and_parts (nat_le (bytes_of ds) most_bytes && are_plain ds) (are_blocks_plain vs) h in
+    let b = and_parts (nat_le (bytes_of ds) most_bytes) (are_plain ds) a.0 in
     (each_unstatic ds b.1, all_unstatic vs a.1)
 
 pub has_start : (program : Y.Program) → are_all_plain program.variables ≡ true → HasStart program
 has_start program h =
-    record { variables = all_unstatic program.variables h; table = (has_table program 0 h).ruled }
+    record {
+      variables = all_unstatic program.variables (blocks_of program.variables h);
+      table = rules_kept program h;
+    }
 
 -- ---- as an image has it
 
-word_fits : AreSignatures (word_signature ∷ [])
-word_fits = (
-  record {
-    headed = refl;
-    leaved = (record { sized = refl; few = omega arith; bounded = tt; placed = refl }, tt);
-  },
-  tt,
-)
+ruled_fit : (t : List TableSignature) → AreRuled t → AreSignatures t
+ruled_fit [] h = tt
+ruled_fit (g ∷ gs) h = (h.0, ruled_fit gs h.2)
 
 pub number_table_fits :
     (program : Y.Program) → are_all_plain program.variables ≡ true → AreSignatures (table_of program)
-number_table_fits program h =
-    by (one_or_none (flat_map (λ ds. ds) program.variables) (all_listed program.variables h))
-  where
-    by :
-        ((length (flat_map (λ ds. ds) program.variables) ≡ 0) × (table_of program ≡ []))
-        ⊎ (table_of program ≡ word_signature ∷ []) →
-        AreSignatures (table_of program)
-    by (inl none) = subst AreSignatures (sym none.1) tt
-    by (inr one) = subst AreSignatures (sym one) word_fits
+number_table_fits program h = ruled_fit (table_of program) (rules_kept program h)

@@ -1,27 +1,41 @@
 -- Programs of FIXED BINARY(31) numbers, as a class that is computed from typed trees.
-use Rattle.std.specs.Prelude.{ℕ, zero, suc, ◌^◌, ◌&&◌, ◌++◌, ◌==◌, Bool, true, false, List, [], ◌∷◌, length}
-use Rattle.std.specs.Prelude.{nat_le, Option, None, Some, if◌then◌else◌}
-use Rattle.std.specs.List.{list_any}
+use Rattle.std.specs.Prelude.{ℕ, zero, suc, ◌*◌, ◌^◌, ◌&&◌, ◌++◌, ◌==◌, Bool, true, false, List, [], ◌∷◌, length}
+use Rattle.std.specs.Prelude.{nat_le, nat_lt, Option, None, Some, if◌then◌else◌}
+use Rattle.std.specs.List.{flat_map, list_any}
 use Rattle.pli_typing.specs.TypedTree as Y
 use Rattle.pli_meaning.specs.DeclaredShapes.{head_of, procedure_numbered}
 use Rattle.pli_meaning.specs.Executing.{labels_in}
 use Rattle.pli_coding.specs.Environments.{BlockPlace, Environment, block_around}
 use Rattle.pli_coding.specs.Registers.{held_registers}
+use Rattle.pli_coding.specs.SignatureTable.{with_signatures}
 use Rattle.program_places.specs.Programs.{environment_for}
 use Rattle.number_runs.specs.Numbers.{Scope, has_none, is_fixed}
-use Rattle.number_runs.specs.Statements.{are_statements, statements_need}
-use Rattle.number_runs.specs.Variables.{are_plain}
+use Rattle.number_runs.specs.Statements.{are_statements, statements_need, statements_set}
+use Rattle.number_runs.specs.Variables.{are_plain, bytes_of}
 
 -- ---- variables
 
--- so many fit the frame of a block
+-- so many scalars fit the frame of a block
 abbrev pub most_words : ℕ
 most_words = 2 ^ 13
 
+-- and so many bytes
+abbrev pub most_bytes : ℕ
+most_bytes = 32 * most_words
+
 -- the variables of each block
+abbrev pub are_blocks_plain : List (List Y.DeclaredVariable) → Bool
+are_blocks_plain [] = true
+are_blocks_plain (ds ∷ rest) = (nat_le (bytes_of ds) most_bytes && are_plain ds) && are_blocks_plain rest
+
+-- so many signatures differ, each of which has a number
+abbrev pub most_signatures : ℕ
+most_signatures = 2 ^ 24
+
+-- those of all blocks
 abbrev pub are_all_plain : List (List Y.DeclaredVariable) → Bool
-are_all_plain [] = true
-are_all_plain (ds ∷ rest) = (nat_le (length ds) most_words && are_plain ds) && are_all_plain rest
+are_all_plain all =
+    nat_lt (length (with_signatures (flat_map (λ ds. ds) all) [])) most_signatures && are_blocks_plain all
 
 -- ---- blocks around
 
@@ -37,10 +51,15 @@ stand_alike e f (suc n) = (block_around e (suc n) == block_around f (suc n)) && 
 
 -- ---- procedures
 
--- the statements of a block, whose temporaries fit registers
+-- so many words of its frame a block's loops may set aside: those of sixty-four, one in the turns of another
+abbrev pub most_waiting : ℕ
+most_waiting = 128
+
+-- the statements of a block, whose temporaries fit registers, and whose loops the words of its frame
 abbrev pub is_body : Scope → (valued : Bool) → Y.Stmts → Bool
 is_body s valued body =
-    are_statements s valued (labels_in body ++ []) body && nat_le (statements_need body) held_registers
+    are_statements s valued (labels_in body ++ []) body
+    && (nat_le (statements_need body) held_registers && nat_le (statements_set body) most_waiting)
 
 abbrev pub body_of : Y.Block → Y.Stmts
 body_of (Y.BlockOf head body) = body
@@ -85,9 +104,11 @@ scope_of program ns head =
       blocks = places_to (environment_for program head) head.level;
       is_function = is_callable program ns head true;
       is_procedure = is_callable program ns head false;
+      counts = true;
       puts = true;
       overflows = true;
       divides = true;
+      elements = true;
       own = true;
       is_outer = λ level label. false;
     }

@@ -1,6 +1,8 @@
 // Laws of the definitions: each function's contract is one law, and calling it does nothing.
 
+ghost use Rattle.number_headlines.specs.ArrayRows.{SieveKept};
 ghost use Rattle.number_headlines.specs.CallRows.{CallingKept};
+ghost use Rattle.number_headlines.specs.CountRows.{CountingKept};
 ghost use Rattle.number_headlines.specs.Headlines.{NumberHeadlinesKept};
 ghost use Rattle.number_headlines.specs.NestRows.{NestKept};
 ghost use Rattle.number_headlines.specs.PutRows.{SquaresKept};
@@ -43,6 +45,20 @@ pub fn nest_kept()
 /// A worked row that writes: a loop that prints a table of numbers with their squares.
 pub fn squares_kept()
     ensures { SquaresKept }
+{
+    number_headlines_kept();
+}
+
+/// A worked row with an array: flags are struck at places that a function returns, and its last subscript is too great.
+pub fn sieve_kept()
+    ensures { SieveKept }
+{
+    number_headlines_kept();
+}
+
+/// A worked row with loops that count: one stands in the turns of the other, where a function is called.
+pub fn counting_kept()
+    ensures { CountingKept }
 {
     number_headlines_kept();
 }

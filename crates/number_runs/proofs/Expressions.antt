@@ -16,9 +16,11 @@ use Rattle.operator_runs.proofs.Remainders.{modulo_does}
 use Rattle.operator_runs.proofs.Signs.{absolute_does, negative_does, positive_does, sign_does}
 use Rattle.test_runs.specs.Tests.{Tests}
 use Rattle.test_runs.proofs.Bits.{and_tests, bits_tests, constant_tests, negated_tests, numbers_tests, or_tests}
+use Rattle.element_runs.proofs.Elements.{element_does}
 use Rattle.number_runs.specs.Knowledge.{KnowsNumbers}
-use Rattle.number_runs.specs.Numbers.{Scope, are_numbers, is_number, is_test, may_calculate, number_needs}
-use Rattle.number_runs.specs.Numbers.{numbers_need, test_needs}
+use Rattle.number_runs.specs.Numbers.{Scope, are_numbers, bounds_known, is_element, is_number, is_reference, is_test}
+use Rattle.number_runs.specs.Numbers.{may_calculate, number_needs, numbers_need, reference_needs, test_needs}
+use Rattle.number_runs.proofs.Arrays.{element_is, subscript_given}
 use Rattle.number_runs.proofs.Variables.{variable_is}
 
 -- with more registers, too
@@ -62,9 +64,7 @@ mutual
   pub number_does :
       (s : Scope) (k : Setting) (x : Y.Number) → KnowsNumbers s k → is_number s x ≡ true → Does k (number_needs x) x
   number_does s k (Y.NumberConstant n) h is = constant_does k n (ltb-true n (2 ^ 31) is)
-  number_does s k (Y.NumberIn r) h is =
-      let v = variable_is s r is in
-      subst (λ r'. Does k 0 (Y.NumberIn r')) (sym v.is) (variable_does k v.spot h.begun (h.variables v.spot v.known))
+  number_does s k (Y.NumberIn r) h is = reference_does s k r h is
   number_does s k (Y.NumberFrom c) h is = called_does s k c h is
   number_does s k (Y.Signed sign x) h is =
       let a = and_parts s.overflows (is_number s x) is in
@@ -107,6 +107,25 @@ mutual
   number_does s k (Y.ElementsOf r n) h is = absurd (cc is)
   number_does s k (Y.AllocationsOf v) h is = absurd (cc is)
   number_does s k Y.OnCode h is = absurd (cc is)
+
+  reference_does :
+      (s : Scope) (k : Setting) (r : Y.Reference) → KnowsNumbers s k → is_reference s r ≡ true →
+      Does k (reference_needs r) (Y.NumberIn r)
+  reference_does s k (Y.Referring v Y.NotLocated part Y.NoNumber) h is =
+      let w = variable_is s (Y.Referring v Y.NotLocated part Y.NoNumber) is in
+      subst (λ r. Does k 0 (Y.NumberIn r)) (sym w.is) (variable_does k w.spot h.begun (h.variables w.spot w.known))
+  reference_does s k (Y.Referring v Y.NotLocated part (Y.NumberThen subscript Y.NoNumber)) h is =
+      let a = and_parts (is_element s v part) (is_number s subscript) is in
+      let w = element_is s v part subscript a.0 in
+      let need = max (number_needs subscript) 1 in
+      subst (λ r. Does k need (Y.NumberIn r)) (sym w.is)
+      (element_does k w.spot (bounds_known s w.spot) subscript need h.begun (h.arrays w.may w.spot w.known)
+      (h.subscript w.may)
+      (subscript_given s k 0 need subscript h a.1 (omega arith) (number_does s k subscript h a.1)))
+  reference_does s k (Y.Referring v Y.NotLocated part (Y.NumberThen first (Y.NumberThen second rest))) h is =
+      absurd (cc is)
+  reference_does s k (Y.Referring v (Y.LocatedBy p) part Y.NoNumber) h is = absurd (cc is)
+  reference_does s k (Y.Referring v (Y.LocatedBy p) part (Y.NumberThen first rest)) h is = absurd (cc is)
 
   numbers_do :
       (s : Scope) (k : Setting) (xs : Y.Numbers) → KnowsNumbers s k → are_numbers s xs ≡ true →

@@ -1,8 +1,13 @@
 pub mod Variables
+pub mod Arrays
+pub mod Declared
 pub mod Words
 pub mod Takes
 pub mod Expressions
 pub mod Formats
 pub mod Puts
 pub mod Labels
+pub mod Counters
+pub mod Turns
 pub mod Statements
+pub mod Uncounted

@@ -4,13 +4,12 @@ use Rattle.std.proofs.Common.{◌∙◌, subst, arith, inl, None, Some}
 use Rattle.std.specs.Prelude.{◌&&◌, map, max, nat_le, Option}
 use Rattle.std.proofs.lemmas.Bool.{and_parts, leb-true}
 use Rattle.pli_language.specs.Formats.{is_times}
+use Rattle.pli_typing.specs.Signatures.{Bounds}
 use Rattle.pli_typing.specs.TypedTree as Y
 use Rattle.pli_meaning.specs.Control.{Label}
 use Rattle.pli_serving.specs.ServiceState.{EditPlace}
 use Rattle.pli_coding.specs.Allocating.{act_code}
-use Rattle.pli_coding.specs.Assembly.{RaiseError, size_of}
-use Rattle.pli_coding.specs.Environments.{none_taken}
-use Rattle.pli_coding.specs.Linking.{place_of}
+use Rattle.pli_coding.specs.Assembly.{size_of}
 use Rattle.pli_coding.specs.Registers.{held_registers}
 use Rattle.pli_coding.specs.Statements.{stmt_code}
 use Rattle.pli_coding.specs.StaticForms.{formats_datum}
@@ -18,20 +17,22 @@ use Rattle.pli_coding.specs.Streams as C
 use Rattle.run_steps.specs.Items.{Linked}
 use Rattle.run_steps.specs.Reach.{cost}
 use Rattle.run_steps.proofs.Jumps.{back_of}
-use Rattle.program_runs.specs.Statements.{Block, Does, HasAct, IsBegun, size_in}
-use Rattle.expression_runs.specs.Assignments.{setting_of}
+use Rattle.program_runs.specs.Statements.{Block, DoesWith, HasAct, IsBegun, set_aside, size_with}
+use Rattle.expression_runs.specs.Assignments.{setting_around}
 use Rattle.expression_runs.specs.Values.{Setting}
 use Rattle.expression_runs.specs.Variables.{IsNumber, Spot}
 use Rattle.expression_runs.proofs.Raises.{overflow_ends}
+use Rattle.element_runs.specs.Arrays.{IsArray}
+use Rattle.element_runs.proofs.Outside.{subscripts_end}
 use Rattle.operator_runs.proofs.Divisors.{zero_divide_ends}
 use Rattle.text_runs.proofs.Errors.{error_ends}
 use Rattle.edit_runs.specs.Edits.{AreListed, IsSkipped, Item, ItemsDo, Pair, PairsDo, Put}
-use Rattle.edit_runs.specs.Edits.{put_items, put_pairs, within}
+use Rattle.edit_runs.specs.Edits.{placing, put_items, put_pairs, within}
 use Rattle.edit_runs.proofs.Places.{begun_placed, number_placed}
 use Rattle.edit_runs.proofs.Puts.{put_does}
 use Rattle.edit_runs.proofs.Skips.{skip_does}
-use Rattle.number_runs.specs.Knowledge.{IsUnraised, KnowsLists, KnowsNumbers, KnowsPuts}
-use Rattle.number_runs.specs.Numbers.{Scope, is_known, is_number, number_needs}
+use Rattle.number_runs.specs.Knowledge.{IsUnraised, KnowsLists, KnowsNumbers, KnowsPuts, MayBeSet}
+use Rattle.number_runs.specs.Numbers.{Scope, bounds_known, is_array_known, is_known, is_number, number_needs}
 use Rattle.number_runs.specs.Puts.{are_pairs, are_put_items, is_fixed_list, is_put, is_put_item}
 use Rattle.number_runs.specs.Puts.{is_put_list, is_skip, put_items_need, put_needs, without_calls}
 use Rattle.number_runs.proofs.Expressions.{more_registers, number_does}
@@ -87,16 +88,19 @@ items_do s k need (i ∷ is) knows h fits =
       items_do s k need is knows a.1 (omega (arith, fits)),
     )
 
--- where the statement stands, in a block of a scope, and that one act pays for it and for so much more
-pub record HasPut (s : Scope) (k : Block) (skip : Option ℕ) (pairs : List Y.PutPair) (line index most : ℕ) : Type 0
+-- where the statement stands, in a block of a scope, while so many words are set aside, and that one act pays for it
+-- and for so much more
+pub record HasPut (words : ℕ) (s : Scope) (k : Block) (skip : Option ℕ) (pairs : List Y.PutPair) (line index most : ℕ)
+    : Type 0
   where
     pub act : HasAct k line
+    pub may : MayBeSet s words
     pub registers : put_needs pairs ≤ k.registers
     pub held : k.registers ≤ held_registers
     pub statement :
         Linked k.call.surroundings.links k.call.code index
-        (stmt_code k.environment none_taken (Y.Put skip pairs line))
-    pub paid : size_in k (Y.Put skip pairs line) + most ≤ cost k.call.code
+        (stmt_code k.environment (set_aside words) (Y.Put skip pairs line))
+    pub paid : size_with words k (Y.Put skip pairs line) + most ≤ cost k.call.code
     pub knows : s.puts ≡ true → KnowsPuts s k most
 
 -- ---- lists of them
@@ -132,18 +136,18 @@ pairs_are s (p ∷ ps) h =
     ∙ ap (λ qs. p ∷ qs) (pairs_are s ps a.1)
 
 pairs_listed :
-    (s : Scope) (k : Block) (most : ℕ) → KnowsPuts s k most → (ps : List Y.PutPair) (i : ℕ) →
+    (words : ℕ) (s : Scope) (k : Block) (most : ℕ) → KnowsPuts s k most → (ps : List Y.PutPair) (i : ℕ) →
     are_pairs s ps ≡ true →
-    Linked k.call.surroundings.links k.call.code i (C.put_pairs k.environment none_taken ps) →
+    Linked k.call.surroundings.links k.call.code i (C.put_pairs k.environment (set_aside words) ps) →
     AreListed k (pairs_of ps)
-pairs_listed s k most knows [] i h l = tt
-pairs_listed s k most knows (p ∷ ps) i h l =
+pairs_listed words s k most knows [] i h l = tt
+pairs_listed words s k most knows (p ∷ ps) i h l =
     let a = and_parts (is_put_list s p.items && is_fixed_list p.formats) (are_pairs s ps) h in
     let fixed = (and_parts (is_put_list s p.items) (is_fixed_list p.formats) a.0).1 in
-    let one = C.put_pair k.environment none_taken p in (
+    let one = C.put_pair k.environment (set_aside words) p in (
       (list_fixed p.formats fixed, knows.lists p.formats fixed (l.named (formats_datum p.formats) (inl refl))),
-      pairs_listed s k most knows ps (i + size_of one) a.1
-          (back_of one (C.put_pairs k.environment none_taken ps) l),
+      pairs_listed words s k most knows ps (i + size_of one) a.1
+          (back_of one (C.put_pairs k.environment (set_aside words) ps) l),
     )
 
 list_does :
@@ -180,10 +184,10 @@ skip_is None h = tt
 skip_is (Some lines) h = times_are lines h
 
 edit_does :
-    (s : Scope) (k : Block) (labels : List Label) (skip : Option ℕ) (p : Y.PutPair) (ps : List Y.PutPair)
+    (words : ℕ) (s : Scope) (k : Block) (labels : List Label) (skip : Option ℕ) (p : Y.PutPair) (ps : List Y.PutPair)
     (line index left' most : ℕ) → is_skip skip ≡ true → s.puts ≡ true → are_pairs s (p ∷ ps) ≡ true →
-    HasPut s k skip (p ∷ ps) line index most → Does k labels (Y.Put skip (p ∷ ps) line) index left'
-edit_does s k labels skip p ps line index left' most some puts are has =
+    HasPut words s k skip (p ∷ ps) line index most → DoesWith words k labels (Y.Put skip (p ∷ ps) line) index left'
+edit_does words s k labels skip p ps line index left' most some puts are has =
     let a = and_parts (is_put_list s p.items && is_fixed_list p.formats) (are_pairs s ps) are in
     let b = and_parts (is_put_list s p.items) (is_fixed_list p.formats) a.0 in
     let x : Put = record { skip = skip; first = pair_of p; more = pairs_of ps; line = line } in
@@ -194,76 +198,111 @@ edit_does s k labels skip p ps line index left' most some puts are has =
     let same = pairs_are s (p ∷ ps) are in
     let stmt : List Y.PutPair → Y.Stmt = λ qs. Y.Put skip qs line in
     let option = C.skip_option 1 skip in
-    let lists = C.put_pairs k.environment none_taken (p ∷ ps) in
+    let lists = C.put_pairs k.environment (set_aside words) (p ∷ ps) in
     let l = back_of option lists (back_of (act_code line) (option ++ lists) has.statement) in
-    subst (λ qs. Does k labels (stmt qs) index left') same
-    (put_does k labels x index left' need most
+    subst (λ qs. DoesWith words k labels (stmt qs) index left') same
+    (put_does words k labels x index left' need most
     (record {
       act = has.act;
       skip = skip_is skip some;
-      lists = pairs_listed s k most knows (p ∷ ps) (index + size_of (act_code line) + size_of option) are l;
+      lists = pairs_listed words s k most knows (p ∷ ps) (index + size_of (act_code line) + size_of option) are l;
       registers = omega (arith, room);
       one = omega (arith, one, room);
       held = has.held;
-      error = λ place. knows.error place labels line;
+      error = λ place. knows.error words has.may place labels line;
       statement = subst
-          (λ qs. Linked k.call.surroundings.links k.call.code index (stmt_code k.environment none_taken (stmt qs)))
+          (λ qs. Linked k.call.surroundings.links k.call.code index
+          (stmt_code k.environment (set_aside words) (stmt qs)))
           (sym same) has.statement;
-      paid = subst (λ qs. size_in k (stmt qs) + most ≤ cost k.call.code) (sym same) has.paid;
+      paid = subst (λ qs. size_with words k (stmt qs) + most ≤ cost k.call.code) (sym same) has.paid;
     })
-    (pairs_do s (setting_of k labels line most) need (p ∷ ps) (λ place. knows.numbers place labels line) are
+    (pairs_do s (setting_around words k labels line most) need (p ∷ ps)
+    (λ place. knows.numbers words has.may place labels line) are
     (omega arith)))
 
 pub put_statement_does :
-    (s : Scope) (k : Block) (labels : List Label) (skip : Option ℕ) (pairs : List Y.PutPair)
-    (line index left' most : ℕ) → is_put s skip pairs ≡ true → HasPut s k skip pairs line index most →
-    Does k labels (Y.Put skip pairs line) index left'
-put_statement_does s k labels None [] line index left' most h has = absurd (cc h)
-put_statement_does s k labels (Some lines) [] line index left' most h has =
+    (words : ℕ) (s : Scope) (k : Block) (labels : List Label) (skip : Option ℕ) (pairs : List Y.PutPair)
+    (line index left' most : ℕ) → is_put s skip pairs ≡ true → HasPut words s k skip pairs line index most →
+    DoesWith words k labels (Y.Put skip pairs line) index left'
+put_statement_does words s k labels None [] line index left' most h has = absurd (cc h)
+put_statement_does words s k labels (Some lines) [] line index left' most h has =
     let a = times_are lines h in
     skip_does k labels lines line index left'
     (record { act = has.act; some = a.0; most = a.1; statement = has.statement })
-put_statement_does s k labels skip (p ∷ ps) line index left' most h has =
+put_statement_does words s k labels skip (p ∷ ps) line index left' most h has =
     let a = and_parts (is_skip skip) (s.puts && are_pairs s (p ∷ ps)) h in
     let b = and_parts s.puts (are_pairs s (p ∷ ps)) a.1 in
-    edit_does s k labels skip p ps line index left' most a.0 b.0 b.1 has
+    edit_does words s k labels skip p ps line index left' most a.0 b.0 b.1 has
 
 -- ---- what is known where no unit is in force
 
+-- an array of a block is one within a place in a format list
+array_placed :
+    (k : Block) (place : EditPlace) (x : Spot) (b : Bounds) → IsArray k x b → IsArray (placing place k) x b
+array_placed k place x b is =
+    let h = is.known in
+    record {
+      initial = is.initial;
+      known = record {
+        declared = h.declared;
+        serial = h.serial;
+        binding = h.binding;
+        living = h.living;
+        lives = h.lives;
+        shape = h.shape;
+        base = h.base;
+        frame = h.frame;
+        at = h.at;
+        low = h.low;
+        inside = h.inside;
+      };
+      bounds = is.bounds;
+    }
+
 pub puts_known :
-    (s : Scope) (k : Block) (most : ℕ) → IsBegun k → (u : IsUnraised k most) →
-    place_of k.call.surroundings.links RaiseError ≡ 4 * (u.routines.at + 8) →
-    ((x : Spot) → is_known s x ≡ true → IsNumber k x) → KnowsLists k → KnowsPuts s k most
-puts_known s k most b u raises variables lists =
+    (s : Scope) (k : Block) (most : ℕ) → IsBegun k → IsUnraised k most →
+    ((x : Spot) → is_known s x ≡ true → IsNumber k x) →
+    (s.elements ≡ true → (x : Spot) → is_array_known s x ≡ true → IsArray k x (bounds_known s x)) → KnowsLists k →
+    KnowsPuts s k most
+puts_known s k most b u variables arrays lists =
     let few = u.few in
     record {
-      numbers = λ place labels line.
-          let h = within place (setting_of k labels line most) in
+      numbers = λ words may place labels line.
+          let h = within place (setting_around words k labels line most) in
           record {
             begun = begun_placed k place b;
-            overflow = λ may. overflow_ends h (record {
+            overflow = λ raises'. overflow_ends h (record {
               routines = u.routines;
               overflow = u.overflow;
               error = u.error;
               acts = u.acts;
               most = u.few;
             });
-            divisor = λ may. zero_divide_ends h (record {
+            divisor = λ raises'. zero_divide_ends h (record {
               routines = u.routines;
               divisor = u.divisor;
               error = u.error;
               acts = u.acts;
               most = u.few;
             });
+            subscript = λ may. subscripts_end h (record {
+              routines = u.routines;
+              place = u.place;
+              error = u.error;
+              acts = u.acts;
+              most = u.few;
+            });
             variables = λ x is. number_placed k place x (variables x is);
+            arrays = λ may x is. array_placed k place x (bounds_known s x) (arrays may x is);
             functions = λ level n is. absurd (cc is);
           };
-      error = λ place labels line. error_ends (List ℕ) (within place (setting_of k labels line most)) (record {
-        routines = u.routines;
-        raises = raises;
-        error = u.error;
-        acts = u.acts;
-        most = omega (arith, few);
-      });
+      error = λ words may place labels line.
+          error_ends (List ℕ) (within place (setting_around words k labels line most)) (record {
+            routines = u.routines;
+            raises = u.place;
+            error = u.error;
+            acts = u.acts;
+            most = omega (arith, few);
+          });
       lists = lists;
     }

@@ -1,53 +1,69 @@
 -- Statements of the class: each does what it means, by the law of its form.
 use Rattle.std.proofs.Common.{◌≡◌, ℕ, ◌+◌, ◌^◌, ◌≤◌, List, [], ◌∷◌, ◌++◌, true, false, refl, sym, ap}
-use Rattle.std.proofs.Common.{◌∙◌, ◌⊎◌, inl, inr, subst, arith}
-use Rattle.std.specs.Prelude.{◌&&◌, ◌||◌, ◌==◌, Bool, not}
+use Rattle.std.proofs.Common.{◌∙◌, ◌⊎◌, inl, inr, None, subst, arith}
+use Rattle.std.specs.Prelude.{◌&&◌, ◌||◌, ◌==◌, Bool, ℤ, max, not, suc, Option}
+use Rattle.rv_meaning.specs.Words.{word}
 use Rattle.std.proofs.lemmas.Bool.{and_parts, eqb-true, ltb-true, or_cases}
 use Rattle.pli_typing.specs.TypedTree as Y
 use Rattle.pli_meaning.specs.Control.{Label, is_among}
 use Rattle.pli_meaning.specs.Executing.{labels_in}
 use Rattle.pli_coding.specs.Allocating.{act_code}
 use Rattle.pli_coding.specs.Assembly.{JumpAhead, JumpBack, size_of}
-use Rattle.pli_coding.specs.Environments.{none_taken}
 use Rattle.pli_coding.specs.Expressions.{bit_code}
 use Rattle.pli_coding.specs.Statements.{if_met, marked, one_of, stmt_code, stmts_code, while_met}
 use Rattle.run_steps.specs.Items.{Linked}
 use Rattle.run_steps.specs.Reach.{cost}
 use Rattle.run_steps.proofs.Linking.{size_append}
 use Rattle.program_places.specs.Placed.{Placed}
-use Rattle.program_places.proofs.Labels.{are_marked}
+use Rattle.program_places.proofs.Labels.{marked_with}
 use Rattle.program_places.proofs.Marks.{placed_back, placed_front}
-use Rattle.program_runs.specs.Statements.{AreMarked, Block, Does, EachDoes, HasAct, size_in}
+use Rattle.program_runs.specs.Statements.{AreMarked, AreMarkedWith, Block, Does, DoesWith, EachDoes, EachDoesWith}
+use Rattle.program_runs.specs.Statements.{HasAct, set_aside, size_with}
 use Rattle.program_runs.proofs.Gotos.{goto_does}
 use Rattle.program_runs.proofs.Statements.{null_does, return_does, stop_does}
-use Rattle.expression_runs.specs.Assignments.{assignment, setting_of}
+use Rattle.expression_runs.specs.Assignments.{assignment, setting_around}
 use Rattle.expression_runs.specs.Variables.{whole}
-use Rattle.expression_runs.proofs.Assignments.{assign_does}
+use Rattle.expression_runs.proofs.Assignments.{assign_with}
 use Rattle.expression_runs.proofs.Raises.{overflow_ends}
 use Rattle.operator_runs.proofs.Divisors.{zero_divide_ends}
 use Rattle.group_runs.specs.Groups.{list_index}
-use Rattle.group_runs.proofs.Groups.{group_does}
+use Rattle.group_runs.proofs.Groups.{group_with}
 use Rattle.function_runs.specs.Returns.{return_of}
 use Rattle.function_runs.proofs.ReturnValues as W
-use Rattle.test_runs.specs.Choices.{HasTest, behind_act, behind_choice, behind_test, body_index}
+use Rattle.element_runs.specs.Arrays.{element}
+use Rattle.element_runs.proofs.Assignments as A
+use Rattle.element_runs.proofs.Outside.{subscripts_end}
+use Rattle.test_runs.specs.Choices.{HasTestWith, behind_act, behind_choice_with, behind_test_with, body_index_with}
 use Rattle.test_runs.proofs.Chosen.{met_size, past}
-use Rattle.test_runs.proofs.Ifs.{met_does, one_of_does}
-use Rattle.test_runs.proofs.Loops.{loop_does}
-use Rattle.number_runs.specs.Knowledge.{AreAround, AreStanding, Includes, IsReady, IsUnraised, KnowsNumbers}
-use Rattle.number_runs.specs.Knowledge.{KnowsRaises, Standing}
-use Rattle.number_runs.specs.Numbers.{Scope, is_fixed, is_number, is_test, is_variable, number_needs}
-use Rattle.number_runs.specs.Numbers.{test_needs}
+use Rattle.test_runs.proofs.Ifs.{met_with, one_of_with}
+use Rattle.test_runs.proofs.Loops.{loop_with}
+use Rattle.counter_runs.specs.Counts as N
+use Rattle.counter_runs.specs.Words.{with_word}
+use Rattle.counter_runs.proofs.Bodies.{turn_does}
+use Rattle.counter_runs.proofs.Counts.{count_does}
+use Rattle.counter_runs.proofs.Needs.{does_more}
+use Rattle.counter_runs.proofs.Scalars.{number_counts}
+use Rattle.number_runs.specs.Counting.{count_needs, is_count, limit_needs, start_needs}
+use Rattle.number_runs.specs.Knowledge.{AreAround, AreStanding, AreStandingWith, HasFrame, Includes, IsReady}
+use Rattle.number_runs.specs.Knowledge.{IsUnraised, KnowsNumbers, KnowsRaises, MayBeSet, Standing, StandingWith}
+use Rattle.number_runs.specs.Numbers.{Scope, bounds_known, is_element, is_fixed, is_number, is_reference, is_test}
+use Rattle.number_runs.specs.Numbers.{is_variable, number_needs, reference_needs, test_needs}
 use Rattle.number_runs.specs.Puts.{is_put}
 use Rattle.number_runs.specs.Statements.{are_statements, is_line, is_statement, is_stored, statement_needs}
-use Rattle.number_runs.specs.Statements.{statements_need, stored_needs}
+use Rattle.number_runs.specs.Statements.{statement_sets, statements_need, statements_set, stored_needs}
+use Rattle.number_runs.proofs.Arrays.{element_is, subscript_given}
+use Rattle.number_runs.proofs.Counters.{IsCounting, counting_is, counting_of, statement_is}
 use Rattle.number_runs.proofs.Expressions.{number_does, test_does}
 use Rattle.number_runs.proofs.Labels.{placed_in, placed_with}
 use Rattle.number_runs.proofs.Puts.{put_statement_does}
+use Rattle.number_runs.proofs.Turns.{frame_told, free_above, ready_told, turn_stands}
 use Rattle.number_runs.proofs.Variables.{fixed_is, variable_is}
 
--- a block, with all that is known around its statements
+-- a block, with all that is known around its statements, and how many words are set aside
 pub record Home : Type 0 where
+  pub words : ℕ
   pub scope : Scope
+  pub set : MayBeSet scope words
   pub valued : Bool
   pub block : Block
   pub own : List Label
@@ -60,20 +76,30 @@ pub none_raised :
     (s : Scope) (k : Block) (own : List Label) (most : ℕ) → IsUnraised k most → KnowsRaises s k own most
 none_raised s k own most u =
     record {
-      overflow = λ may labels line includes. overflow_ends (setting_of k labels line most) (record {
-        routines = u.routines;
-        overflow = u.overflow;
-        error = u.error;
-        acts = u.acts;
-        most = u.few;
-      });
-      divisor = λ may labels line includes. zero_divide_ends (setting_of k labels line most) (record {
-        routines = u.routines;
-        divisor = u.divisor;
-        error = u.error;
-        acts = u.acts;
-        most = u.few;
-      });
+      overflow = λ may words set labels line includes.
+          overflow_ends (setting_around words k labels line most) (record {
+            routines = u.routines;
+            overflow = u.overflow;
+            error = u.error;
+            acts = u.acts;
+            most = u.few;
+          });
+      divisor = λ may words set labels line includes.
+          zero_divide_ends (setting_around words k labels line most) (record {
+            routines = u.routines;
+            divisor = u.divisor;
+            error = u.error;
+            acts = u.acts;
+            most = u.few;
+          });
+      subscript = λ may words set labels line includes.
+          subscripts_end (setting_around words k labels line most) (record {
+            routines = u.routines;
+            place = u.place;
+            error = u.error;
+            acts = u.acts;
+            most = u.few;
+          });
     }
 
 -- ---- what the laws of single forms ask for
@@ -83,28 +109,35 @@ act_of h line is = record { line_fits = ltb-true line (2 ^ 31) is; acts = h.read
 
 paid_for :
     (h : Home) (stmt : Y.Stmt) (index : ℕ) →
-    Linked h.block.call.surroundings.links h.block.call.code index (stmt_code h.block.environment none_taken stmt) →
-    size_in h.block stmt + h.most ≤ cost h.block.call.code
+    Linked h.block.call.surroundings.links h.block.call.code index (stmt_code h.block.environment
+    (set_aside h.words) stmt) → size_with h.words h.block stmt + h.most ≤ cost h.block.call.code
 paid_for h stmt index l = let inside = l.inside in let room = h.ready.room in omega (arith, inside, room)
+
+knows_in :
+    {s : Scope} {valued : Bool} {k : Block} {own : List Label} {most left' : ℕ} → IsReady s valued k own most left' →
+    (words : ℕ) → MayBeSet s words → (labels : List Label) (line : ℕ) → Includes own labels →
+    KnowsNumbers s (setting_around words k labels line most)
+knows_in r words set labels line includes =
+    record {
+      begun = r.begun;
+      overflow = λ may. r.raises.overflow may words set labels line includes;
+      divisor = λ may. r.raises.divisor may words set labels line includes;
+      subscript = λ may. r.raises.subscript may words set labels line includes;
+      variables = r.variables;
+      arrays = r.arrays;
+      functions = λ level n is. r.calls.functions words set labels line level n includes is;
+    }
 
 knows :
     (h : Home) (labels : List Label) (line : ℕ) → Includes h.own labels →
-    KnowsNumbers h.scope (setting_of h.block labels line h.most)
-knows h labels line includes =
-    let r = h.ready in
-    record {
-      begun = r.begun;
-      overflow = λ may. r.raises.overflow may labels line includes;
-      divisor = λ may. r.raises.divisor may labels line includes;
-      variables = r.variables;
-      functions = λ level n is. r.calls.functions labels line level n includes is;
-    }
+    KnowsNumbers h.scope (setting_around h.words h.block labels line h.most)
+knows h labels line includes = knows_in h.ready h.words h.set labels line includes
 
 has_test :
     (h : Home) (stmt : Y.Stmt) (condition : Y.Bit) (line index : ℕ) → is_line line ≡ true →
     test_needs condition ≤ h.block.registers →
-    Linked h.block.call.surroundings.links h.block.call.code index (stmt_code h.block.environment none_taken stmt) →
-    HasTest h.block stmt line index (test_needs condition) h.most
+    Linked h.block.call.surroundings.links h.block.call.code index (stmt_code h.block.environment
+    (set_aside h.words) stmt) → HasTestWith h.words h.block stmt line index (test_needs condition) h.most
 has_test h stmt condition line index is fits l =
     record {
       act = act_of h line is;
@@ -133,8 +166,8 @@ storing s (Y.StoredOffset x) h = absurd (cc h)
 
 abbrev Coded : Home → List Label → Y.Stmt → (index : ℕ) → Type 0
 Coded h labels stmt index =
-    Linked h.block.call.surroundings.links h.block.call.code index (stmt_code h.block.environment none_taken stmt) →
-    Does h.block labels stmt index h.left'
+    Linked h.block.call.surroundings.links h.block.call.code index (stmt_code h.block.environment
+    (set_aside h.words) stmt) → DoesWith h.words h.block labels stmt index h.left'
 
 assigned_does :
     (h : Home) (labels : List Label) (target : Y.Reference) (source : Y.Stored) (line index : ℕ) →
@@ -149,7 +182,7 @@ assigned_does h labels target source line index includes is one two fits =
     let stmt = assignment v.spot x.number line in
     subst (λ t. Coded h labels (Y.Assign t source line) index) (sym v.is)
     (subst (λ q. Coded h labels (Y.Assign (whole v.spot) q line) index) (sym x.is)
-    (λ l. assign_does h.block labels v.spot x.number line index h.left' need h.most
+    (λ l. assign_with h.words h.block labels v.spot x.number line index h.left' need h.most
     (record {
       act = act_of h line is;
       begun = h.ready.begun;
@@ -159,7 +192,63 @@ assigned_does h labels target source line index includes is one two fits =
       statement = l;
       paid = paid_for h stmt index l;
     })
-    (number_does h.scope (setting_of h.block labels line h.most) x.number (knows h labels line includes) x.known)))
+    (number_does h.scope (setting_around h.words h.block labels line h.most) x.number
+    (knows h labels line includes) x.known)))
+
+-- into an element: the value waits while the subscript is computed
+element_given :
+    (h : Home) (labels : List Label) (v : Y.Variable) (part : Y.Part) (subscript : Y.Number) (source : Y.Stored)
+    (line index : ℕ) → Includes h.own labels → is_line line ≡ true → is_element h.scope v part ≡ true →
+    is_number h.scope subscript ≡ true → is_stored h.scope source ≡ true → stored_needs source ≤ h.block.registers →
+    suc (max (number_needs subscript) 1) ≤ h.block.registers →
+    Coded h labels (Y.Assign (Y.Referring v Y.NotLocated part (Y.NumberThen subscript Y.NoNumber)) source line) index
+element_given h labels v part subscript source line index includes is one number two fits more =
+    let s = h.scope in
+    let t = element_is s v part subscript one in
+    let x = storing s source two in
+    let first = number_needs x.number in
+    let second = suc (max (number_needs subscript) 1) in
+    let needs = x.needs in
+    let k = setting_around h.words h.block labels line h.most in
+    let knows' = knows h labels line includes in
+    subst (λ r. Coded h labels (Y.Assign r source line) index) (sym t.is)
+    (subst (λ q. Coded h labels (Y.Assign (element t.spot subscript) q line) index) (sym x.is)
+    (λ l. A.assign_with h.words h.block labels t.spot (bounds_known s t.spot) subscript x.number line index h.left'
+    first second h.most
+    (record {
+      act = act_of h line is;
+      begun = h.ready.begun;
+      array = h.ready.arrays t.may t.spot t.known;
+      registers = omega (arith, fits, needs, more);
+      held = h.ready.held;
+      statement = l;
+      paid = paid_for h (Y.Assign (element t.spot subscript) (Y.StoredNumber 31 x.number) line) index l;
+    })
+    (knows'.subscript t.may) (number_does s k x.number knows' x.known)
+    (subscript_given s k 1 second subscript knows' number (omega arith) (number_does s k subscript knows' number))))
+
+given_does :
+    (h : Home) (labels : List Label) (target : Y.Reference) (source : Y.Stored) (line index : ℕ) →
+    Includes h.own labels → is_line line ≡ true → is_reference h.scope target ≡ true →
+    is_stored h.scope source ≡ true →
+    max (stored_needs source) (suc (reference_needs target)) ≤ h.block.registers →
+    Coded h labels (Y.Assign target source line) index
+given_does h labels (Y.Referring v Y.NotLocated part Y.NoNumber) source line index includes is one two fits =
+    assigned_does h labels (Y.Referring v Y.NotLocated part Y.NoNumber) source line index includes is one two
+    (omega (arith, fits))
+given_does h labels (Y.Referring v Y.NotLocated part (Y.NumberThen subscript Y.NoNumber)) source line index includes is
+    one two fits =
+    let a = and_parts (is_element h.scope v part) (is_number h.scope subscript) one in
+    element_given h labels v part subscript source line index includes is a.0 a.1 two (omega (arith, fits))
+    (omega (arith, fits))
+given_does h labels (Y.Referring v Y.NotLocated part (Y.NumberThen first (Y.NumberThen second rest))) source line index
+    includes is one two fits =
+    absurd (cc one)
+given_does h labels (Y.Referring v (Y.LocatedBy p) part Y.NoNumber) source line index includes is one two fits =
+    absurd (cc one)
+given_does h labels (Y.Referring v (Y.LocatedBy p) part (Y.NumberThen first rest)) source line index includes is one two
+    fits =
+    absurd (cc one)
 
 returned_does :
     (h : Home) (labels : List Label) (type : Y.LeafType) (source : Y.Stored) (line index : ℕ) →
@@ -174,7 +263,7 @@ returned_does h labels type source line index includes is own valued one two fit
     let v = (h.ready.home own).values valued in
     subst (λ t. Coded h labels (Y.ReturnValue t source line) index) (sym (fixed_is type one))
     (subst (λ q. Coded h labels (Y.ReturnValue (Y.FixedLeaf 31) q line) index) (sym x.is)
-    (λ l. W.return_does h.block labels x.number line index h.left' need h.most
+    (λ l. W.return_with h.words h.block labels x.number line index h.left' need h.most
     (record {
       act = act_of h line is;
       begun = h.ready.begun;
@@ -190,7 +279,8 @@ returned_does h labels type source line index includes is own valued one two fit
       statement = l;
       paid = paid_for h stmt index l;
     })
-    (number_does h.scope (setting_of h.block labels line h.most) x.number (knows h labels line includes) x.known)))
+    (number_does h.scope (setting_around h.words h.block labels line h.most) x.number
+    (knows h labels line includes) x.known)))
 
 -- ---- jumps and calls
 
@@ -237,10 +327,10 @@ gone_does h labels level label line index placed is to =
 
 calls_does :
     (h : Home) (labels : List Label) (number level line index : ℕ) → Includes h.own labels → is_line line ≡ true →
-    h.scope.is_procedure level number ≡ true → Coded h labels (Y.CallProcedure (Y.Calling number level Y.NoArgument) line)
-    index
+    h.scope.is_procedure level number ≡ true →
+    Coded h labels (Y.CallProcedure (Y.Calling number level Y.NoArgument) line) index
 calls_does h labels number level line index includes is known l =
-    h.ready.calls.procedures labels level number line index includes known (ltb-true line (2 ^ 31) is) l
+    h.ready.calls.procedures h.words h.set labels level number line index includes known (ltb-true line (2 ^ 31) is) l
 
 not_true : (q : Bool) → not q ≡ true → q ≡ false
 not_true true h = absurd (cc h)
@@ -250,23 +340,23 @@ not_true false h = refl
 
 unit_stands :
     (h : Home) (condition : Y.Bit) (unit : Y.Stmt) (line index : ℕ) →
-    Standing h.block (Y.If condition unit line) index →
-    Standing h.block unit (behind_test h.block condition (behind_act line index))
+    StandingWith h.words h.block (Y.If condition unit line) index →
+    StandingWith h.words h.block unit (behind_test_with h.words h.block condition (behind_act line index))
 unit_stands h condition unit line index at =
     let one = act_code line in
-    let test = bit_code h.block.environment none_taken condition in
-    let part = stmt_code h.block.environment none_taken unit in
+    let test = bit_code h.block.environment (set_aside h.words) condition in
+    let part = stmt_code h.block.environment (set_aside h.words) unit in
     placed_back (past part) part (placed_back test (if_met part) (placed_back one (test ++ if_met part) at))
 
 first_stands :
     (h : Home) (condition : Y.Bit) (unit otherwise : Y.Stmt) (line index : ℕ) →
-    Standing h.block (Y.IfElse condition unit otherwise line) index →
-    Standing h.block unit (behind_test h.block condition (behind_act line index))
+    StandingWith h.words h.block (Y.IfElse condition unit otherwise line) index →
+    StandingWith h.words h.block unit (behind_test_with h.words h.block condition (behind_act line index))
 first_stands h condition unit otherwise line index at =
     let one = act_code line in
-    let test = bit_code h.block.environment none_taken condition in
-    let first = stmt_code h.block.environment none_taken unit in
-    let second = stmt_code h.block.environment none_taken otherwise in
+    let test = bit_code h.block.environment (set_aside h.words) condition in
+    let first = stmt_code h.block.environment (set_aside h.words) unit in
+    let second = stmt_code h.block.environment (set_aside h.words) otherwise in
     let jump = JumpAhead (size_of second) ∷ [] in
     let part = first ++ jump in
     let both = one_of first second in
@@ -276,13 +366,14 @@ first_stands h condition unit otherwise line index at =
 
 second_stands :
     (h : Home) (condition : Y.Bit) (unit otherwise : Y.Stmt) (line index : ℕ) →
-    Standing h.block (Y.IfElse condition unit otherwise line) index →
-    Standing h.block otherwise (behind_choice h.block unit (behind_test h.block condition (behind_act line index)))
+    StandingWith h.words h.block (Y.IfElse condition unit otherwise line) index →
+    StandingWith h.words h.block otherwise (behind_choice_with h.words h.block unit
+    (behind_test_with h.words h.block condition (behind_act line index)))
 second_stands h condition unit otherwise line index at =
     let one = act_code line in
-    let test = bit_code h.block.environment none_taken condition in
-    let first = stmt_code h.block.environment none_taken unit in
-    let second = stmt_code h.block.environment none_taken otherwise in
+    let test = bit_code h.block.environment (set_aside h.words) condition in
+    let first = stmt_code h.block.environment (set_aside h.words) unit in
+    let second = stmt_code h.block.environment (set_aside h.words) otherwise in
     let jump = JumpAhead (size_of second) ∷ [] in
     let part = first ++ jump in
     let both = one_of first second in
@@ -292,19 +383,20 @@ second_stands h condition unit otherwise line index at =
     (placed_back (if_met part) second (placed_back test both (placed_back one (test ++ both) at)))
 
 group_stands :
-    (h : Home) (body : Y.Stmts) (line index : ℕ) → Standing h.block (Y.Do body line) index →
-    AreStanding h.block body (list_index line index)
-group_stands h body line index at = placed_back (act_code line) (stmts_code h.block.environment none_taken body) at
+    (h : Home) (body : Y.Stmts) (line index : ℕ) → StandingWith h.words h.block (Y.Do body line) index →
+    AreStandingWith h.words h.block body (list_index line index)
+group_stands h body line index at = placed_back (act_code line) (stmts_code h.block.environment
+    (set_aside h.words) body) at
 
 turns_stand :
     (h : Home) (condition : Y.Bit) (body : Y.Stmts) (line index : ℕ) →
-    Standing h.block (Y.DoWhile condition body line) index →
-    AreStanding h.block body (body_index h.block condition line index)
+    StandingWith h.words h.block (Y.DoWhile condition body line) index →
+    AreStandingWith h.words h.block body (body_index_with h.words h.block condition line index)
 turns_stand h condition body line index at =
     let one = act_code line in
-    let bit = bit_code h.block.environment none_taken condition in
+    let bit = bit_code h.block.environment (set_aside h.words) condition in
     let test = one ++ bit in
-    let all = stmts_code h.block.environment none_taken body in
+    let all = stmts_code h.block.environment (set_aside h.words) body in
     let jump = JumpBack (size_of test + (3 + size_of all)) ∷ [] in
     let part = all ++ jump in
     let n0 = size_append one bit in
@@ -313,13 +405,136 @@ turns_stand h condition body line index at =
     (placed_back (past part) part (placed_back test (if_met part) (placed_back one (while_met test all) at))))
 
 marked_in :
-    (h : Home) (body : Y.Stmts) (index : ℕ) → AreStanding h.block body index →
-    AreMarked h.block.call.surroundings.links h.block.environment body index
+    (h : Home) (body : Y.Stmts) (index : ℕ) → AreStandingWith h.words h.block body index →
+    AreMarkedWith h.words h.block.call.surroundings.links h.block.environment body index
 marked_in h body index at =
-    are_marked h.block.call.surroundings.links h.block.call.code index h.block.environment body at
+    marked_with h.words h.block.call.surroundings.links h.block.call.code index h.block.environment body at
 
 abbrev PlacedIn : Home → List Label → Type 0
 PlacedIn h labels = AreAround h.block h.own labels
+
+-- ---- loops that count
+
+counts_not : {q : Bool} {n : ℕ} → q ≡ true → q ≡ false → n ≡ 0
+counts_not c none = absurd (cc (sym none ∙ c))
+
+-- with fewer words
+fewer :
+    (h : Home) (m n : ℕ) → m ≤ n → HasFrame h.ready h.words n → HasFrame h.ready h.words m
+fewer h m n less sets c =
+    let q = sets c in
+    let room = q.1 in
+    (q.0, omega (arith, less, room))
+
+-- nothing waits behind the limit
+turn_free :
+    (h : Home) (c : h.scope.counts ≡ true) → HasFrame h.ready h.words 3 → (y : ℤ) (n : ℕ) → h.words + 2 ≤ n →
+    with_word h.words (word y) (h.ready.loops c).layer.waits n ≡ None
+turn_free h c sets y =
+    let l = h.ready.loops c in
+    free_above l.layer.waits l.behind h.words (word y) (h.words + 2) l.free (sets c).0 (omega arith)
+
+-- the block in a turn, and what stays set aside there
+abbrev in_turn : (h : Home) → h.scope.counts ≡ true → HasFrame h.ready h.words 3 → (y : ℤ) → Home
+in_turn h c sets y =
+    let l = h.ready.loops c in
+    let q = sets c in
+    let room = q.1 in
+    let most = l.few in
+    record {
+      words = h.words + 2;
+      scope = h.scope;
+      set = (omega (arith, room, most), λ none. counts_not c none);
+      valued = h.valued;
+      block = N.turning h.words l.layer l.others h.block y;
+      own = h.own;
+      most = h.most;
+      left' = h.left';
+      ready = ready_told h.ready c (with_word h.words (word y) l.layer.waits) (h.words + 2) (turn_free h c sets y);
+    }
+
+-- what is known of its statements
+abbrev TurnStands : (h : Home) → List Label → Y.Stmts → Type 0
+TurnStands h labels body =
+    (index : ℕ) → PlacedIn h (labels_in body ++ labels) → HasFrame h.ready h.words (statements_set body) →
+    AreStandingWith h.words h.block body index → EachDoesWith h.words h.block (labels_in body ++ labels) body index
+    h.left'
+
+abbrev Goes : (h : Home) → List Label → (index : ℕ) → Y.Stmt → Type 0
+Goes h labels index stmt =
+    StandingWith h.words h.block stmt index → DoesWith h.words h.block labels stmt index h.left'
+
+counts_by :
+    (h : Home) (labels : List Label) {k : Y.Counter} {v : Y.Value} {o : Option Y.Number} {n : Y.Number}
+    {w : Option Y.Bit} (x : IsCounting h.scope k v o n w) (body : Y.Stmts) (line index : ℕ) → PlacedIn h labels →
+    is_line line ≡ true → (c : h.scope.counts ≡ true) → count_needs v o ≤ h.block.registers →
+    HasFrame h.ready h.words (max 3 (2 + statements_set body)) → (sets : HasFrame h.ready h.words 3) →
+    ((y : ℤ) → TurnStands (in_turn h c sets y) labels body) →
+    Goes h labels index (N.count_of (counting_of x body line))
+counts_by h labels {v = v} {o = o} x body line index placed is c fits all sets each at =
+    let count = counting_of x body line in
+    let l = h.ready.loops c in
+    let q = all c in
+    let low = q.0 in
+    let room = q.1 in
+    let most' = l.few in
+    let need = count_needs v o in
+    let first : start_needs v ≡ number_needs x.first = ap start_needs x.start in
+    let last : limit_needs o ≡ number_needs x.last = ap limit_needs x.limit in
+    let three = h.words + 3 in
+    let few : MayBeSet h.scope three = (omega (arith, room, most'), λ none. counts_not c none) in
+    count_does h.words h.block count l.layer l.others labels index h.left' need h.most
+    (record {
+      act = act_of h line is;
+      begun = h.ready.begun;
+      turns = h.ready.turns;
+      newest = l.newest;
+      inside = omega (arith, room);
+      low = l.few;
+      free = (l.free h.words low, l.free (h.words + 2) (omega (arith, low)));
+      step = x.step;
+      some = omega arith;
+      registers = fits;
+      held = h.ready.held;
+      statement = at.linked;
+      paid = paid_for h (N.count_of count) index at.linked;
+    })
+    (let k' = N.setting_with h.block labels line h.most three in
+    does_more k' (number_needs x.first) need x.first (omega (arith, first))
+    (number_does h.scope k' x.first (knows_in h.ready three few labels line placed.includes) x.first_known))
+    (λ z wide. let k' = N.setting_with (N.starting h.words l.layer l.others h.block z) labels line h.most three in
+    let free = free_above l.layer.waits l.behind (h.words + 2) (word z) three l.free (omega (arith, low)) (omega arith)
+    in
+    does_more k' (number_needs x.last) need x.last (omega (arith, last))
+    (number_does h.scope k' x.last
+    (knows_in (ready_told h.ready c (with_word (h.words + 2) (word z) l.layer.waits) three free) three few labels line
+    placed.includes) x.last_known))
+    (λ y wide. let t = in_turn h c sets y in
+    number_counts (N.setting_with t.block labels line h.most (h.words + 2)) x.spot need t.ready.begun
+    (t.ready.variables x.spot x.known))
+    (λ y wide. let t = in_turn h c sets y in
+    (knows_in t.ready (h.words + 2) t.set labels line placed.includes).overflow x.overflows)
+    (λ y wide. let t = in_turn h c sets y in
+    let i = N.body_index h.words h.block count index in
+    let stands = turn_stands h.words h.block count index x.step at in
+    turn_does h.words t.block labels body i h.left'
+    (record { begun = t.ready.begun; turns = h.ready.turns; marked = marked_in t body i stands })
+    (each y i (placed_in t.words t.block t.own body i labels stands
+    (record { at = placed.at; includes = placed.includes }))
+    (frame_told h.ready c (with_word h.words (word y) l.layer.waits) (h.words + 2) (turn_free h c sets y) (h.words + 2)
+    (statements_set body) (omega arith) (omega (arith, room)))
+    stands))
+
+counted_does :
+    (h : Home) (labels : List Label) {k : Y.Counter} {v : Y.Value} {o : Option Y.Number} {n : Y.Number}
+    {w : Option Y.Bit} (x : IsCounting h.scope k v o n w) (body : Y.Stmts) (line index : ℕ) → PlacedIn h labels →
+    is_line line ≡ true → (c : h.scope.counts ≡ true) → count_needs v o ≤ h.block.registers →
+    HasFrame h.ready h.words (max 3 (2 + statements_set body)) → (sets : HasFrame h.ready h.words 3) →
+    ((y : ℤ) → TurnStands (in_turn h c sets y) labels body) →
+    Goes h labels index (Y.DoCount k v o n w body line)
+counted_does h labels x body line index placed is c fits all sets each =
+    subst (Goes h labels index) (sym (statement_is x body line))
+    (counts_by h labels x body line index placed is c fits all sets each)
 
 -- ---- all forms
 
@@ -327,42 +542,48 @@ mutual
   pub statement_does :
       (h : Home) (labels : List Label) (stmt : Y.Stmt) (index : ℕ) → PlacedIn h labels →
       is_statement h.scope h.valued labels stmt ≡ true → statement_needs stmt ≤ h.block.registers →
-      Standing h.block stmt index → Does h.block labels stmt index h.left'
-  statement_does h labels (Y.Null line) index placed is fits at =
+      HasFrame h.ready h.words (statement_sets stmt) →
+      StandingWith h.words h.block stmt index → DoesWith h.words h.block labels stmt index h.left'
+  statement_does h labels (Y.Null line) index placed is fits sets at =
       null_does h.block line index h.left' (act_of h line is) at.linked labels
-  statement_does h labels (Y.Assign target source line) index placed is fits at =
-      let a = and_parts (is_line line) (is_variable h.scope target && is_stored h.scope source) is in
-      let b = and_parts (is_variable h.scope target) (is_stored h.scope source) a.1 in
-      assigned_does h labels target source line index placed.includes a.0 b.0 b.1 fits at.linked
-  statement_does h labels (Y.If condition unit line) index placed is fits at =
+  statement_does h labels (Y.Assign target source line) index placed is fits sets at =
+      let a = and_parts (is_line line) (is_reference h.scope target && is_stored h.scope source) is in
+      let b = and_parts (is_reference h.scope target) (is_stored h.scope source) a.1 in
+      given_does h labels target source line index placed.includes a.0 b.0 b.1 fits at.linked
+  statement_does h labels (Y.If condition unit line) index placed is fits sets at =
       let inner = is_statement h.scope h.valued labels unit in
       let a = and_parts (is_line line) (is_test h.scope condition && inner) is in
       let b = and_parts (is_test h.scope condition) inner a.1 in
-      met_does h.block labels condition unit line index h.left' (test_needs condition) h.most
+      met_with h.words h.block labels condition unit line index h.left' (test_needs condition) h.most
       (has_test h (Y.If condition unit line) condition line index a.0 (omega (arith, fits)) at.linked)
-      (test_does h.scope (setting_of h.block labels line h.most) condition (knows h labels line placed.includes) b.0)
-      (statement_does h labels unit (behind_test h.block condition (behind_act line index)) placed b.1
-      (omega (arith, fits)) (unit_stands h condition unit line index at))
-  statement_does h labels (Y.IfElse condition unit otherwise line) index placed is fits at =
+      (test_does h.scope (setting_around h.words h.block labels line h.most) condition
+      (knows h labels line placed.includes) b.0)
+      (statement_does h labels unit (behind_test_with h.words h.block condition (behind_act line index)) placed b.1
+      (omega (arith, fits)) sets (unit_stands h condition unit line index at))
+  statement_does h labels (Y.IfElse condition unit otherwise line) index placed is fits sets at =
       let first = is_statement h.scope h.valued labels unit in
       let second = is_statement h.scope h.valued labels otherwise in
       let a = and_parts (is_line line) (is_test h.scope condition && (first && second)) is in
       let b = and_parts (is_test h.scope condition) (first && second) a.1 in
       let c = and_parts first second b.1 in
-      let chosen = behind_test h.block condition (behind_act line index) in
-      one_of_does h.block labels condition unit otherwise line index h.left' (test_needs condition) h.most
+      let chosen = behind_test_with h.words h.block condition (behind_act line index) in
+      one_of_with h.words h.block labels condition unit otherwise line index h.left' (test_needs condition) h.most
       (has_test h (Y.IfElse condition unit otherwise line) condition line index a.0 (omega (arith, fits)) at.linked)
-      (test_does h.scope (setting_of h.block labels line h.most) condition (knows h labels line placed.includes) b.0)
+      (test_does h.scope (setting_around h.words h.block labels line h.most) condition
+      (knows h labels line placed.includes) b.0)
       (statement_does h labels unit chosen placed c.0 (omega (arith, fits))
+      (fewer h (statement_sets unit) (max (statement_sets unit) (statement_sets otherwise)) (omega arith) sets)
       (first_stands h condition unit otherwise line index at))
-      (statement_does h labels otherwise (behind_choice h.block unit chosen) placed c.1 (omega (arith, fits))
+      (statement_does h labels otherwise (behind_choice_with h.words h.block unit chosen) placed c.1
+      (omega (arith, fits))
+      (fewer h (statement_sets otherwise) (max (statement_sets unit) (statement_sets otherwise)) (omega arith) sets)
       (second_stands h condition unit otherwise line index at))
-  statement_does h labels (Y.Do body line) index placed is fits at =
+  statement_does h labels (Y.Do body line) index placed is fits sets at =
       let inner = are_statements h.scope h.valued (labels_in body ++ labels) body in
       let a = and_parts (is_line line) inner is in
       let in' = group_stands h body line index at in
       let turns = h.ready.turns in
-      group_does h.block labels body line index h.left'
+      group_with h.words h.block labels body line index h.left'
       (record {
         act = act_of h line a.0;
         begun = h.ready.begun;
@@ -371,63 +592,76 @@ mutual
         turns = omega (arith, turns);
       })
       (statements_do h (labels_in body ++ labels) body (list_index line index)
-      (placed_in h.block h.own body (list_index line index) labels in' placed) a.1 fits in')
-  statement_does h labels (Y.DoWhile condition body line) index placed is fits at =
+      (placed_in h.words h.block h.own body (list_index line index) labels in' placed) a.1 fits sets in')
+  statement_does h labels (Y.DoWhile condition body line) index placed is fits sets at =
       let inner = are_statements h.scope h.valued (labels_in body ++ labels) body in
       let a = and_parts (is_line line) (is_test h.scope condition && inner) is in
       let b = and_parts (is_test h.scope condition) inner a.1 in
-      let i = body_index h.block condition line index in
+      let i = body_index_with h.words h.block condition line index in
       let in' = turns_stand h condition body line index at in
-      loop_does h.block labels condition body line index h.left' (test_needs condition) h.most
+      loop_with h.words h.block labels condition body line index h.left' (test_needs condition) h.most
       (has_test h (Y.DoWhile condition body line) condition line index a.0 (omega (arith, fits)) at.linked)
-      (test_does h.scope (setting_of h.block labels line h.most) condition (knows h labels line placed.includes) b.0)
+      (test_does h.scope (setting_around h.words h.block labels line h.most) condition
+      (knows h labels line placed.includes) b.0)
       (record { begun = h.ready.begun; turns = h.ready.turns; marked = marked_in h body i in' })
-      (statements_do h (labels_in body ++ labels) body i (placed_in h.block h.own body i labels in' placed) b.1
-      (omega (arith, fits)) in')
-  statement_does h labels (Y.CallProcedure (Y.Calling number level Y.NoArgument) line) index placed is fits at =
+      (statements_do h (labels_in body ++ labels) body i
+      (placed_in h.words h.block h.own body i labels in' placed) b.1
+      (omega (arith, fits)) sets in')
+  statement_does h labels (Y.CallProcedure (Y.Calling number level Y.NoArgument) line) index placed is fits sets at =
       let a = and_parts (is_line line) (h.scope.is_procedure level number) is in
       calls_does h labels number level line index placed.includes a.0 a.1 at.linked
   statement_does h labels (Y.CallProcedure (Y.Calling number level (Y.ArgumentThen first rest)) line) index placed is
-      fits at =
+      fits sets at =
       absurd (cc is)
-  statement_does h labels (Y.Return line) index placed is fits at =
+  statement_does h labels (Y.Return line) index placed is fits sets at =
       let a = and_parts (is_line line) (h.scope.own && not h.valued) is in
       let b = and_parts h.scope.own (not h.valued) a.1 in
       return_does h.block line index h.left' (act_of h line a.0)
       ((h.ready.home b.0).returns (not_true h.valued b.1)) at.linked labels
-  statement_does h labels (Y.ReturnValue type source line) index placed is fits at =
+  statement_does h labels (Y.ReturnValue type source line) index placed is fits sets at =
       let rest = is_fixed type && is_stored h.scope source in
       let a = and_parts (is_line line) (h.scope.own && (h.valued && rest)) is in
       let d = and_parts h.scope.own (h.valued && rest) a.1 in
       let b = and_parts h.valued rest d.1 in
       let c = and_parts (is_fixed type) (is_stored h.scope source) b.1 in
       returned_does h labels type source line index placed.includes a.0 d.0 b.0 c.0 c.1 fits at.linked
-  statement_does h labels (Y.Goto level label line) index placed is fits at =
+  statement_does h labels (Y.Goto level label line) index placed is fits sets at =
       let near = h.scope.own && ((level == h.scope.level) && is_among label labels) in
       let a = and_parts (is_line line) (near || h.scope.is_outer level label) is in
       gone_does h labels level label line index placed a.0 a.1 at.linked
-  statement_does h labels (Y.Stop line) index placed is fits at =
+  statement_does h labels (Y.Stop line) index placed is fits sets at =
       stop_does h.block line index h.left' (act_of h line is) at.linked labels
-  statement_does h labels (Y.AssignElements target source line) index placed is fits at = absurd (cc is)
-  statement_does h labels (Y.AssignAggregate target source line) index placed is fits at = absurd (cc is)
-  statement_does h labels (Y.AssignArea target source line) index placed is fits at = absurd (cc is)
-  statement_does h labels (Y.EmptyArea target line) index placed is fits at = absurd (cc is)
-  statement_does h labels (Y.DoOnce variable start condition body line) index placed is fits at = absurd (cc is)
-  statement_does h labels (Y.DoCount counter start limit step condition body line) index placed is fits at =
-      absurd (cc is)
-  statement_does h labels (Y.Begin block) index placed is fits at = absurd (cc is)
-  statement_does h labels (Y.OnSystem condition line) index placed is fits at = absurd (cc is)
-  statement_does h labels (Y.OnUnit condition unit line) index placed is fits at = absurd (cc is)
-  statement_does h labels (Y.Signal condition line) index placed is fits at = absurd (cc is)
-  statement_does h labels (Y.Revert condition line) index placed is fits at = absurd (cc is)
-  statement_does h labels (Y.Allocate all line) index placed is fits at = absurd (cc is)
-  statement_does h labels (Y.Free all line) index placed is fits at = absurd (cc is)
-  statement_does h labels (Y.Get skip pairs line) index placed is fits at = absurd (cc is)
-  statement_does h labels (Y.Put skip pairs line) index placed is fits at =
+  statement_does h labels (Y.AssignElements target source line) index placed is fits sets at = absurd (cc is)
+  statement_does h labels (Y.AssignAggregate target source line) index placed is fits sets at = absurd (cc is)
+  statement_does h labels (Y.AssignArea target source line) index placed is fits sets at = absurd (cc is)
+  statement_does h labels (Y.EmptyArea target line) index placed is fits sets at = absurd (cc is)
+  statement_does h labels (Y.DoOnce variable start condition body line) index placed is fits sets at = absurd (cc is)
+  statement_does h labels (Y.DoCount counter start limit step condition body line) index placed is fits sets at =
+      let inner = are_statements h.scope h.valued (labels_in body ++ labels) body in
+      let counts' = is_count h.scope counter start limit step condition in
+      let a = and_parts (is_line line) (h.scope.counts && (counts' && inner)) is in
+      let b = and_parts h.scope.counts (counts' && inner) a.1 in
+      let c = and_parts counts' inner b.1 in
+      let x = counting_is h.scope counter start limit step condition c.0 in
+      let three = fewer h 3 (max 3 (2 + statements_set body)) (omega arith) sets in
+      counted_does h labels x body line index placed a.0 b.0 (omega (arith, fits)) sets three
+      (λ y i placed' sets' at'.
+      statements_do (in_turn h b.0 three y) (labels_in body ++ labels) body i placed' c.1 (omega (arith, fits)) sets'
+      at') at
+  statement_does h labels (Y.Begin block) index placed is fits sets at = absurd (cc is)
+  statement_does h labels (Y.OnSystem condition line) index placed is fits sets at = absurd (cc is)
+  statement_does h labels (Y.OnUnit condition unit line) index placed is fits sets at = absurd (cc is)
+  statement_does h labels (Y.Signal condition line) index placed is fits sets at = absurd (cc is)
+  statement_does h labels (Y.Revert condition line) index placed is fits sets at = absurd (cc is)
+  statement_does h labels (Y.Allocate all line) index placed is fits sets at = absurd (cc is)
+  statement_does h labels (Y.Free all line) index placed is fits sets at = absurd (cc is)
+  statement_does h labels (Y.Get skip pairs line) index placed is fits sets at = absurd (cc is)
+  statement_does h labels (Y.Put skip pairs line) index placed is fits sets at =
       let a = and_parts (is_line line) (is_put h.scope skip pairs) is in
-      put_statement_does h.scope h.block labels skip pairs line index h.left' h.most a.1
+      put_statement_does h.words h.scope h.block labels skip pairs line index h.left' h.most a.1
       (record {
         act = act_of h line a.0;
+        may = h.set;
         registers = fits;
         held = h.ready.held;
         statement = at.linked;
@@ -438,48 +672,66 @@ mutual
   pub statements_do :
       (h : Home) (labels : List Label) (body : Y.Stmts) (index : ℕ) → PlacedIn h labels →
       are_statements h.scope h.valued labels body ≡ true → statements_need body ≤ h.block.registers →
-      AreStanding h.block body index → EachDoes h.block labels body index h.left'
-  statements_do h labels (Y.EndOfList own) index placed is fits at = tt
-  statements_do h labels (Y.StmtThen own first rest) index placed is fits at =
+      HasFrame h.ready h.words (statements_set body) → AreStandingWith h.words h.block body index →
+      EachDoesWith h.words h.block labels body index h.left'
+  statements_do h labels (Y.EndOfList own) index placed is fits sets at = tt
+  statements_do h labels (Y.StmtThen own first rest) index placed is fits sets at =
       let e = h.block.environment in
-      let one = stmt_code e none_taken first in
-      let more = stmts_code e none_taken rest in
+      let one = stmt_code e (set_aside h.words) first in
+      let more = stmts_code e (set_aside h.words) rest in
       let at' = placed_back (marked e.block own) (one ++ more) at in
       let first' = is_statement h.scope h.valued labels first in
       let a = and_parts first' (are_statements h.scope h.valued labels rest) is in (
         statement_does h labels first (index + size_of (marked e.block own)) placed a.0 (omega (arith, fits))
+            (fewer h (statement_sets first) (max (statement_sets first) (statements_set rest)) (omega arith) sets)
             (placed_front one more at'),
         statements_do h labels rest (index + size_of (marked e.block own) + size_of one) placed a.1
             (omega (arith, fits))
+            (fewer h (statements_set rest) (max (statement_sets first) (statements_set rest)) (omega arith) sets)
             (placed_back one more at'),
       )
 
 -- ---- whole bodies
 
+-- where no words are set aside
+abbrev home_of :
+    (s : Scope) → (valued : Bool) → (k : Block) → (own : List Label) → (most left' : ℕ) →
+    IsReady s valued k own most left' → Home
+home_of s valued k own most left' ready =
+    record {
+      words = 0;
+      scope = s;
+      set = (omega arith, λ none. refl);
+      valued = valued;
+      block = k;
+      own = own;
+      most = most;
+      left' = left';
+      ready = ready;
+    }
+
 pub form_does :
-    (s : Scope) (valued : Bool) (k : Block) (own labels : List Label) (stmt : Y.Stmt) (index most left' : ℕ) →
-    IsReady s valued k own most left' → AreAround k own labels → is_statement s valued labels stmt ≡ true →
-    statement_needs stmt ≤ k.registers → Standing k stmt index → Does k labels stmt index left'
-form_does s valued k own labels stmt index most left' ready placed is fits at =
-    let h : Home =
-    record { scope = s; valued = valued; block = k; own = own; most = most; left' = left'; ready = ready } in
-    statement_does h labels stmt index placed is fits at
+    (s : Scope) (valued : Bool) (k : Block) (own labels : List Label) (stmt : Y.Stmt) (index most left' : ℕ)
+    (r : IsReady s valued k own most left') → AreAround k own labels → is_statement s valued labels stmt ≡ true →
+    statement_needs stmt ≤ k.registers → HasFrame r 0 (statement_sets stmt) → Standing k stmt index →
+    Does k labels stmt index left'
+form_does s valued k own labels stmt index most left' ready placed is fits sets at =
+    statement_does (home_of s valued k own most left' ready) labels stmt index placed is fits sets at
 
 pub body_does :
-    (s : Scope) (valued : Bool) (k : Block) (body : Y.Stmts) (index most left' : ℕ) →
-    IsReady s valued k (labels_in body ++ []) most left' →
+    (s : Scope) (valued : Bool) (k : Block) (body : Y.Stmts) (index most left' : ℕ)
+    (r : IsReady s valued k (labels_in body ++ []) most left') →
     are_statements s valued (labels_in body ++ []) body ≡ true → statements_need body ≤ k.registers →
-    AreStanding k body index → EachDoes k (labels_in body ++ []) body index left'
-body_does s valued k body index most left' ready is fits at =
+    HasFrame r 0 (statements_set body) → AreStanding k body index →
+    EachDoes k (labels_in body ++ []) body index left'
+body_does s valued k body index most left' ready is fits sets at =
     let own = labels_in body ++ [] in
-    let h : Home =
-    record { scope = s; valued = valued; block = k; own = own; most = most; left' = left'; ready = ready } in
-    statements_do h own body index
+    statements_do (home_of s valued k own most left' ready) own body index
     (record { at = placed_with k body index [] at (λ label among. absurd (cc among)); includes = λ label e. e }) is
-    fits at
+    fits sets at
 
 pub body_marked :
     (k : Block) (body : Y.Stmts) (index : ℕ) → AreStanding k body index →
     AreMarked k.call.surroundings.links k.environment body index
 body_marked k body index at =
-    are_marked k.call.surroundings.links k.call.code index k.environment body at
+    marked_with 0 k.call.surroundings.links k.call.code index k.environment body at

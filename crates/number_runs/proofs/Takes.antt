@@ -1,7 +1,8 @@
--- What the temporaries of the class take: as many registers as its expressions need, and no words of the frame.
+-- What the temporaries of the class take: as many registers as its expressions need, and the words of the frame that
+-- loops set aside.
 use Rattle.std.proofs.Common.{◌≡◌, ℕ, suc, ◌+◌, ◌<◌, ◌≤◌, List, [], ◌∷◌, ◌++◌, true, refl, sym, ap, ◌∙◌, subst}
-use Rattle.std.proofs.Common.{arith}
-use Rattle.std.specs.Prelude.{◌&&◌, ◌==◌, Bool, max, Option, if◌then◌else◌}
+use Rattle.std.proofs.Common.{arith, None, Option, Some}
+use Rattle.std.specs.Prelude.{◌&&◌, ◌==◌, Bool, max, if◌then◌else◌}
 use Rattle.std.proofs.lemmas.Bool.{and_parts, lt-ltb}
 use Rattle.pli_typing.specs.TypedTree as Y
 use Rattle.pli_meaning.specs.Control.{Label}
@@ -14,15 +15,22 @@ use Rattle.pli_coding.specs.Statements.{block_held, block_takes, block_words, st
 use Rattle.pli_coding.specs.Storing.{assigned_takes}
 use Rattle.pli_coding.specs.Streams.{put_item_takes, put_items_take, put_takes}
 use Rattle.pli_coding.specs.Temporaries.{bit_takes, number_takes, numbers_take, reference_takes, stored_takes}
+use Rattle.program_runs.specs.Statements.{set_aside}
 use Rattle.expression_runs.specs.Variables.{Spot, whole}
-use Rattle.number_runs.specs.Numbers.{Scope, are_numbers, is_number, is_test, is_variable, number_needs, numbers_need}
-use Rattle.number_runs.specs.Numbers.{is_fixed, is_plain, may_calculate, test_needs}
+use Rattle.counter_runs.specs.Counts.{count_of}
+use Rattle.number_runs.specs.Counting.{count_needs, is_count, limit_needs, start_needs}
+use Rattle.number_runs.specs.Numbers.{Scope, are_numbers, is_element, is_fixed, is_number, is_reference, is_test}
+use Rattle.number_runs.specs.Numbers.{is_variable, may_calculate, number_needs, numbers_need, reference_needs}
+use Rattle.number_runs.specs.Numbers.{test_needs}
 use Rattle.number_runs.specs.Puts.{are_pairs, are_put_items, is_fixed_list, is_put, is_put_item, is_put_list, is_skip}
 use Rattle.number_runs.specs.Puts.{put_item_needs, put_items_need, put_needs, without_calls}
 use Rattle.number_runs.specs.Statements.{are_statements, is_line, is_statement, is_stored, statement_needs}
-use Rattle.number_runs.specs.Statements.{statements_need, stored_needs}
-use Rattle.number_runs.specs.Variables.{are_plain}
-use Rattle.number_runs.proofs.Variables.{plain_is, variable_is}
+use Rattle.number_runs.specs.Statements.{statement_sets, statements_need, statements_set, stored_needs}
+use Rattle.number_runs.specs.Variables.{are_plain, is_declared}
+use Rattle.number_runs.proofs.Arrays.{element_is}
+use Rattle.number_runs.proofs.Counters.{IsCounting, counting_is, counting_of, statement_is}
+use Rattle.number_runs.proofs.Declared.{of_declared}
+use Rattle.number_runs.proofs.Variables.{variable_is}
 
 -- as many registers more as are needed, at least, and no words
 pub record Takes (need : ℕ) (t taken : Taken) : Type 0 where
@@ -75,6 +83,15 @@ variable_takes_none s r t h =
     let v = variable_is s r h in
     subst (λ q. Takes 0 t (reference_takes t q)) (sym v.is) (whole_takes t v.spot)
 
+-- a subscript is computed, and waits
+subscript_takes : (n : ℕ) (t a : Taken) → t.registers < held_registers → Takes n t a →
+    Takes (max n 1) t (most_taken t (most_taken a (with_number t)))
+subscript_takes n t a less x =
+    let p = x.registers in
+    let u = x.words in
+    subst (λ t'. Takes (max n 1) t (most_taken t (most_taken a t'))) (sym (next_number t less))
+    (record { registers = omega (arith, p); words = omega (arith, u) })
+
 called_takes :
     (s : Scope) (c : Y.Call) (t : Taken) → is_number s (Y.NumberFrom c) ≡ true →
     Takes 0 t (number_takes t (Y.NumberFrom c))
@@ -97,7 +114,7 @@ mutual
       (s : Scope) (x : Y.Number) (t : Taken) → is_number s x ≡ true → Fits t (number_needs x) →
       Takes (number_needs x) t (number_takes t x)
   number_taken s (Y.NumberConstant n) t h fits = takes_none t
-  number_taken s (Y.NumberIn r) t h fits = variable_takes_none s r t h
+  number_taken s (Y.NumberIn r) t h fits = reference_taken s r t h fits
   number_taken s (Y.NumberFrom c) t h fits = called_takes s c t h
   number_taken s (Y.Signed sign x) t h fits =
       takes_signed (number_needs x) t (number_takes t x) (omega (arith, fits))
@@ -138,6 +155,23 @@ mutual
   number_taken s (Y.AllocationsOf v) t h fits = absurd (cc h)
   number_taken s Y.OnCode t h fits = absurd (cc h)
 
+  pub reference_taken :
+      (s : Scope) (r : Y.Reference) (t : Taken) → is_reference s r ≡ true → Fits t (reference_needs r) →
+      Takes (reference_needs r) t (reference_takes t r)
+  reference_taken s (Y.Referring v Y.NotLocated part Y.NoNumber) t h fits =
+      variable_takes_none s (Y.Referring v Y.NotLocated part Y.NoNumber) t h
+  reference_taken s (Y.Referring v Y.NotLocated part (Y.NumberThen subscript Y.NoNumber)) t h fits =
+      let a = and_parts (is_element s v part) (is_number s subscript) h in
+      let w = element_is s v part subscript a.0 in
+      let need = max (number_needs subscript) 1 in
+      subst (λ r. Takes need t (reference_takes t r)) (sym w.is)
+      (subscript_takes (number_needs subscript) t (number_takes t subscript) (omega (arith, fits))
+      (number_taken s subscript t a.1 (omega (arith, fits))))
+  reference_taken s (Y.Referring v Y.NotLocated part (Y.NumberThen first (Y.NumberThen second rest))) t h fits =
+      absurd (cc h)
+  reference_taken s (Y.Referring v (Y.LocatedBy p) part Y.NoNumber) t h fits = absurd (cc h)
+  reference_taken s (Y.Referring v (Y.LocatedBy p) part (Y.NumberThen first rest)) t h fits = absurd (cc h)
+
   numbers_taken :
       (s : Scope) (xs : Y.Numbers) (t : Taken) → are_numbers s xs ≡ true → Fits t (numbers_need xs) →
       Takes (numbers_need xs) t (numbers_take t xs)
@@ -173,193 +207,297 @@ test_taken s (Y.TextsCompared comparison left right) t h fits = absurd (cc h)
 test_taken s (Y.PointersCompared equal left right) t h fits = absurd (cc h)
 test_taken s (Y.OffsetsCompared equal left right) t h fits = absurd (cc h)
 
--- ---- statements, where nothing is taken yet
+-- ---- as many registers more at least, and so many words
+
+pub record Sets (need sets : ℕ) (t taken : Taken) : Type 0 where
+  pub registers : t.registers + need ≤ taken.registers
+  pub words : taken.words ≡ t.words + sets
+
+sets_none : (t : Taken) → Sets 0 0 t t
+sets_none t = record { registers = omega arith; words = omega arith }
+
+sets_no_words : (need : ℕ) (t taken : Taken) → Takes need t taken → Sets need 0 t taken
+sets_no_words need t taken x =
+    let p = x.registers in
+    let u = x.words in
+    record { registers = omega (arith, p); words = omega (arith, u) }
+
+sets_either :
+    (m n p q : ℕ) (t a b : Taken) → Sets m p t a → Sets n q t b → Sets (max m n) (max p q) t (most_taken a b)
+sets_either m n p q t a b x y =
+    let c = x.registers in
+    let d = y.registers in
+    let u = x.words in
+    let v = y.words in
+    record { registers = omega (arith, c, d); words = omega (arith, u, v) }
+
+-- behind what takes no words
+sets_behind : (m n q : ℕ) (t a b : Taken) → Takes m t a → Sets n q t b → Sets (max m n) q t (most_taken a b)
+sets_behind m n q t a b x y =
+    let c = x.registers in
+    let d = y.registers in
+    let u = x.words in
+    let v = y.words in
+    record { registers = omega (arith, c, d); words = omega (arith, u, v) }
+
+-- ---- statements, where only words are taken yet
 
 stored_taken :
-    (s : Scope) (x : Y.Stored) → is_stored s x ≡ true → stored_needs x ≤ held_registers →
-    Takes (stored_needs x) none_taken (stored_takes none_taken x)
-stored_taken s (Y.StoredNumber precision x) h fits =
+    (words : ℕ) (s : Scope) (x : Y.Stored) → is_stored s x ≡ true → stored_needs x ≤ held_registers →
+    Takes (stored_needs x) (set_aside words) (stored_takes (set_aside words) x)
+stored_taken words s (Y.StoredNumber precision x) h fits =
     let a = and_parts (precision == 31) (is_number s x) h in
-    let n = number_taken s x none_taken a.1 (omega (arith, fits)) in
+    let n = number_taken s x (set_aside words) a.1 (omega (arith, fits)) in
     let p = n.registers in
     let u = n.words in
     record { registers = omega (arith, p); words = omega (arith, u) }
-stored_taken s (Y.StoredText x) h fits = absurd (cc h)
-stored_taken s (Y.StoredBit x) h fits = absurd (cc h)
-stored_taken s (Y.StoredPointer x) h fits = absurd (cc h)
-stored_taken s (Y.StoredOffset x) h fits = absurd (cc h)
+stored_taken words s (Y.StoredText x) h fits = absurd (cc h)
+stored_taken words s (Y.StoredBit x) h fits = absurd (cc h)
+stored_taken words s (Y.StoredPointer x) h fits = absurd (cc h)
+stored_taken words s (Y.StoredOffset x) h fits = absurd (cc h)
 
 assigned_taken :
-    (s : Scope) (target : Y.Reference) (source : Y.Stored) → is_variable s target ≡ true → is_stored s source ≡ true →
-    stored_needs source ≤ held_registers →
-    Takes (stored_needs source) none_taken (assigned_takes none_taken target source)
-assigned_taken s target (Y.StoredNumber precision x) h g fits =
-    let a = variable_takes_none s target (with_number none_taken) h in
-    let b = stored_taken s (Y.StoredNumber precision x) g fits in
+    (words : ℕ) (s : Scope) (target : Y.Reference) (source : Y.Stored) → is_reference s target ≡ true →
+    is_stored s source ≡ true → max (stored_needs source) (suc (reference_needs target)) ≤ held_registers →
+    Takes (max (stored_needs source) (suc (reference_needs target))) (set_aside words)
+    (assigned_takes (set_aside words) target source)
+assigned_taken words s target (Y.StoredNumber precision x) h g fits =
+    let a = reference_taken s target (with_number (set_aside words)) h (omega (arith, fits)) in
+    let b = stored_taken words s (Y.StoredNumber precision x) g (omega (arith, fits)) in
     let p = b.registers in
+    let q = a.registers in
     let u = a.words in
     let v = b.words in
-    record { registers = omega (arith, p); words = omega (arith, u, v) }
-assigned_taken s target (Y.StoredText x) h g fits = absurd (cc g)
-assigned_taken s target (Y.StoredBit x) h g fits = absurd (cc g)
-assigned_taken s target (Y.StoredPointer x) h g fits = absurd (cc g)
-assigned_taken s target (Y.StoredOffset x) h g fits = absurd (cc g)
+    record { registers = omega (arith, p, q); words = omega (arith, u, v) }
+assigned_taken words s target (Y.StoredText x) h g fits = absurd (cc g)
+assigned_taken words s target (Y.StoredBit x) h g fits = absurd (cc g)
+assigned_taken words s target (Y.StoredPointer x) h g fits = absurd (cc g)
+assigned_taken words s target (Y.StoredOffset x) h g fits = absurd (cc g)
+
+-- start, limit and step are evaluated while three words are set aside, and the variable is assigned while two are
+counting_taken :
+    (words : ℕ) (s : Scope) (spot : Spot) (precision : ℕ) (first last n : Y.Number) (body : Y.Stmts) (line : ℕ) →
+    (is_number s first ≡ true) × (number_needs first ≤ held_registers) →
+    (is_number s last ≡ true) × (number_needs last ≤ held_registers) →
+    (is_number s n ≡ true) × (number_needs n ≤ 1) →
+    Sets (statements_need body) (statements_set body) (set_aside (words + 2)) (stmts_take (set_aside (words + 2)) body)
+    → Sets (max (max 1 (max (number_needs first) (number_needs last))) (statements_need body))
+    (max 3 (2 + statements_set body)) (set_aside words)
+    (stmt_takes (set_aside words)
+    (Y.DoCount (Y.NumberCounter 31 (whole spot)) (Y.NumberValue precision first) (Some last) n None body line))
+counting_taken words s spot precision first last n body line x y z inner =
+    let three = set_aside (words + 3) in
+    let xf = x.1 in
+    let yf = y.1 in
+    let zf = z.1 in
+    let a = number_taken s first three x.0 (omega (arith, xf)) in
+    let b = number_taken s last three y.0 (omega (arith, yf)) in
+    let c = number_taken s n three z.0 (omega (arith, zf)) in
+    let a0 = a.registers in
+    let a1 = a.words in
+    let b0 = b.registers in
+    let b1 = b.words in
+    let c1 = c.words in
+    let d0 = inner.registers in
+    let d1 = inner.words in
+    record { registers = omega (arith, a0, b0, d0); words = omega (arith, a1, b1, c1, d1) }
+
+count_taken :
+    (words : ℕ) (s : Scope) {k : Y.Counter} {v : Y.Value} {o : Option Y.Number} {n : Y.Number} {w : Option Y.Bit}
+    (x : IsCounting s k v o n w) (body : Y.Stmts) (line : ℕ) → count_needs v o ≤ held_registers →
+    Sets (statements_need body) (statements_set body) (set_aside (words + 2)) (stmts_take (set_aside (words + 2)) body)
+    → Sets (max (count_needs v o) (statements_need body)) (max 3 (2 + statements_set body)) (set_aside words)
+    (stmt_takes (set_aside words) (Y.DoCount k v o n w body line))
+count_taken words s {v = v} {o = o} {n = n} x body line fits inner =
+    let first : start_needs v ≡ number_needs x.first = ap start_needs x.start in
+    let last : limit_needs o ≡ number_needs x.last = ap limit_needs x.limit in
+    let needs : max 1 (max (number_needs x.first) (number_needs x.last)) ≡ count_needs v o =
+    omega (arith, first, last) in
+    subst (λ stmt. Sets (max (count_needs v o) (statements_need body)) (max 3 (2 + statements_set body))
+    (set_aside words) (stmt_takes (set_aside words) stmt)) (sym (statement_is x body line))
+    (subst (λ m. Sets (max m (statements_need body)) (max 3 (2 + statements_set body)) (set_aside words)
+    (stmt_takes (set_aside words) (count_of (counting_of x body line)))) needs
+    (counting_taken words s x.spot x.precision x.first x.last n body line
+    (x.first_known, omega (arith, fits, first)) (x.last_known, omega (arith, fits, last)) (x.step_known, x.step_few)
+    inner))
 
 put_item_taken :
-    (s : Scope) (i : Y.PutItem) → is_put_item s i ≡ true → put_item_needs i ≤ held_registers →
-    Takes (put_item_needs i) none_taken (put_item_takes none_taken i)
-put_item_taken s (Y.PutValue (Y.NumberValue precision x)) h fits =
-    takes_signed (number_needs x) none_taken (number_takes none_taken x) (omega arith)
-    (number_taken (without_calls s) x none_taken h (omega (arith, fits)))
-put_item_taken s (Y.PutValue (Y.TextValue x)) h fits = absurd (cc h)
-put_item_taken s (Y.PutValue (Y.BitValue x)) h fits = absurd (cc h)
-put_item_taken s (Y.PutValue (Y.PointerValue x)) h fits = absurd (cc h)
-put_item_taken s (Y.PutValue (Y.OffsetValue area x)) h fits = absurd (cc h)
-put_item_taken s (Y.PutValue Y.NullValue) h fits = absurd (cc h)
-put_item_taken s (Y.PutAggregate r) h fits = absurd (cc h)
+    (words : ℕ) (s : Scope) (i : Y.PutItem) → is_put_item s i ≡ true → put_item_needs i ≤ held_registers →
+    Takes (put_item_needs i) (set_aside words) (put_item_takes (set_aside words) i)
+put_item_taken words s (Y.PutValue (Y.NumberValue precision x)) h fits =
+    takes_signed (number_needs x) (set_aside words) (number_takes (set_aside words) x) (omega arith)
+    (number_taken (without_calls s) x (set_aside words) h (omega (arith, fits)))
+put_item_taken words s (Y.PutValue (Y.TextValue x)) h fits = absurd (cc h)
+put_item_taken words s (Y.PutValue (Y.BitValue x)) h fits = absurd (cc h)
+put_item_taken words s (Y.PutValue (Y.PointerValue x)) h fits = absurd (cc h)
+put_item_taken words s (Y.PutValue (Y.OffsetValue area x)) h fits = absurd (cc h)
+put_item_taken words s (Y.PutValue Y.NullValue) h fits = absurd (cc h)
+put_item_taken words s (Y.PutAggregate r) h fits = absurd (cc h)
 
 put_items_taken :
-    (s : Scope) (is : List Y.PutItem) → are_put_items s is ≡ true → put_items_need is ≤ held_registers →
-    Takes (put_items_need is) none_taken (put_items_take none_taken is)
-put_items_taken s [] h fits = takes_none none_taken
-put_items_taken s (i ∷ is) h fits =
+    (words : ℕ) (s : Scope) (is : List Y.PutItem) → are_put_items s is ≡ true → put_items_need is ≤ held_registers →
+    Takes (put_items_need is) (set_aside words) (put_items_take (set_aside words) is)
+put_items_taken words s [] h fits = takes_none (set_aside words)
+put_items_taken words s (i ∷ is) h fits =
     let a = and_parts (is_put_item s i) (are_put_items s is) h in
-    takes_either (put_item_needs i) (put_items_need is) none_taken (put_item_takes none_taken i)
-    (put_items_take none_taken is) (put_item_taken s i a.0 (omega (arith, fits)))
-    (put_items_taken s is a.1 (omega (arith, fits)))
+    takes_either (put_item_needs i) (put_items_need is) (set_aside words) (put_item_takes (set_aside words) i)
+    (put_items_take (set_aside words) is) (put_item_taken words s i a.0 (omega (arith, fits)))
+    (put_items_taken words s is a.1 (omega (arith, fits)))
 
 put_list_taken :
-    (s : Scope) (is : List Y.PutItem) → is_put_list s is ≡ true → put_items_need is ≤ held_registers →
-    Takes (put_items_need is) none_taken (put_items_take none_taken is)
-put_list_taken s [] h fits = absurd (cc h)
-put_list_taken s (i ∷ is) h fits = put_items_taken s (i ∷ is) h fits
+    (words : ℕ) (s : Scope) (is : List Y.PutItem) → is_put_list s is ≡ true → put_items_need is ≤ held_registers →
+    Takes (put_items_need is) (set_aside words) (put_items_take (set_aside words) is)
+put_list_taken words s [] h fits = absurd (cc h)
+put_list_taken words s (i ∷ is) h fits = put_items_taken words s (i ∷ is) h fits
 
 pairs_taken :
-    (s : Scope) (ps : List Y.PutPair) → are_pairs s ps ≡ true → put_needs ps ≤ held_registers →
-    Takes (put_needs ps) none_taken (put_takes none_taken ps)
-pairs_taken s [] h fits = takes_none none_taken
-pairs_taken s (p ∷ ps) h fits =
+    (words : ℕ) (s : Scope) (ps : List Y.PutPair) → are_pairs s ps ≡ true → put_needs ps ≤ held_registers →
+    Takes (put_needs ps) (set_aside words) (put_takes (set_aside words) ps)
+pairs_taken words s [] h fits = takes_none (set_aside words)
+pairs_taken words s (p ∷ ps) h fits =
     let a = and_parts (is_put_list s p.items && is_fixed_list p.formats) (are_pairs s ps) h in
     let b = and_parts (is_put_list s p.items) (is_fixed_list p.formats) a.0 in
-    takes_either (put_items_need p.items) (put_needs ps) none_taken (put_items_take none_taken p.items)
-    (put_takes none_taken ps) (put_list_taken s p.items b.0 (omega (arith, fits)))
-    (pairs_taken s ps a.1 (omega (arith, fits)))
+    takes_either (put_items_need p.items) (put_needs ps) (set_aside words) (put_items_take (set_aside words) p.items)
+    (put_takes (set_aside words) ps) (put_list_taken words s p.items b.0 (omega (arith, fits)))
+    (pairs_taken words s ps a.1 (omega (arith, fits)))
 
 put_taken :
-    (s : Scope) (skip : Option ℕ) (pairs : List Y.PutPair) → is_put s skip pairs ≡ true →
-    put_needs pairs ≤ held_registers → Takes (put_needs pairs) none_taken (put_takes none_taken pairs)
-put_taken s skip [] h fits = takes_none none_taken
-put_taken s skip (p ∷ ps) h fits =
+    (words : ℕ) (s : Scope) (skip : Option ℕ) (pairs : List Y.PutPair) → is_put s skip pairs ≡ true →
+    put_needs pairs ≤ held_registers → Takes (put_needs pairs) (set_aside words) (put_takes (set_aside words) pairs)
+put_taken words s skip [] h fits = takes_none (set_aside words)
+put_taken words s skip (p ∷ ps) h fits =
     let a = and_parts (is_skip skip) (s.puts && are_pairs s (p ∷ ps)) h in
-    pairs_taken s (p ∷ ps) (and_parts s.puts (are_pairs s (p ∷ ps)) a.1).1 fits
+    pairs_taken words s (p ∷ ps) (and_parts s.puts (are_pairs s (p ∷ ps)) a.1).1 fits
 
 mutual
   pub statement_taken :
-      (s : Scope) (valued : Bool) (labels : List Label) (x : Y.Stmt) → is_statement s valued labels x ≡ true →
-      statement_needs x ≤ held_registers → Takes (statement_needs x) none_taken (stmt_takes none_taken x)
-  statement_taken s valued labels (Y.Null line) h fits = takes_none none_taken
-  statement_taken s valued labels (Y.Assign target source line) h fits =
-      let a = and_parts (is_line line) (is_variable s target && is_stored s source) h in
-      let b = and_parts (is_variable s target) (is_stored s source) a.1 in
-      assigned_taken s target source b.0 b.1 fits
-  statement_taken s valued labels (Y.If condition unit line) h fits =
+      (words : ℕ) (s : Scope) (valued : Bool) (labels : List Label) (x : Y.Stmt) →
+      is_statement s valued labels x ≡ true → statement_needs x ≤ held_registers →
+      Sets (statement_needs x) (statement_sets x) (set_aside words) (stmt_takes (set_aside words) x)
+  statement_taken words s valued labels (Y.Null line) h fits = sets_none (set_aside words)
+  statement_taken words s valued labels (Y.Assign target source line) h fits =
+      let a = and_parts (is_line line) (is_reference s target && is_stored s source) h in
+      let b = and_parts (is_reference s target) (is_stored s source) a.1 in
+      sets_no_words (max (stored_needs source) (suc (reference_needs target))) (set_aside words)
+      (assigned_takes (set_aside words) target source) (assigned_taken words s target source b.0 b.1 fits)
+  statement_taken words s valued labels (Y.If condition unit line) h fits =
       let inner = is_statement s valued labels unit in
       let a = and_parts (is_line line) (is_test s condition && inner) h in
       let b = and_parts (is_test s condition) inner a.1 in
-      takes_either (test_needs condition) (statement_needs unit) none_taken (bit_takes none_taken condition)
-      (stmt_takes none_taken unit) (test_taken s condition none_taken b.0 (omega (arith, fits)))
-      (statement_taken s valued labels unit b.1 (omega (arith, fits)))
-  statement_taken s valued labels (Y.IfElse condition unit otherwise line) h fits =
+      sets_behind (test_needs condition) (statement_needs unit) (statement_sets unit) (set_aside words)
+      (bit_takes (set_aside words) condition)
+      (stmt_takes (set_aside words) unit) (test_taken s condition (set_aside words) b.0 (omega (arith, fits)))
+      (statement_taken words s valued labels unit b.1 (omega (arith, fits)))
+  statement_taken words s valued labels (Y.IfElse condition unit otherwise line) h fits =
       let first = is_statement s valued labels unit in
       let second = is_statement s valued labels otherwise in
       let a = and_parts (is_line line) (is_test s condition && (first && second)) h in
       let b = and_parts (is_test s condition) (first && second) a.1 in
       let c = and_parts first second b.1 in
-      takes_either (test_needs condition) (max (statement_needs unit) (statement_needs otherwise)) none_taken
-      (bit_takes none_taken condition) (most_taken (stmt_takes none_taken unit) (stmt_takes none_taken otherwise))
-      (test_taken s condition none_taken b.0 (omega (arith, fits)))
-      (takes_either (statement_needs unit) (statement_needs otherwise) none_taken (stmt_takes none_taken unit)
-      (stmt_takes none_taken otherwise)
-      (statement_taken s valued labels unit c.0 (omega (arith, fits)))
-      (statement_taken s valued labels otherwise c.1 (omega (arith, fits))))
-  statement_taken s valued labels (Y.Do body line) h fits =
+      sets_behind (test_needs condition) (max (statement_needs unit) (statement_needs otherwise))
+      (max (statement_sets unit) (statement_sets otherwise)) (set_aside words)
+      (bit_takes (set_aside words) condition) (most_taken (stmt_takes (set_aside words) unit) (stmt_takes
+      (set_aside words) otherwise)) (test_taken s condition (set_aside words) b.0 (omega (arith, fits)))
+      (sets_either (statement_needs unit) (statement_needs otherwise) (statement_sets unit) (statement_sets otherwise)
+      (set_aside words) (stmt_takes (set_aside words) unit)
+      (stmt_takes (set_aside words) otherwise)
+      (statement_taken words s valued labels unit c.0 (omega (arith, fits)))
+      (statement_taken words s valued labels otherwise c.1 (omega (arith, fits))))
+  statement_taken words s valued labels (Y.Do body line) h fits =
       let a = and_parts (is_line line) (are_statements s valued (labels_in body ++ labels) body) h in
-      statements_taken s valued (labels_in body ++ labels) body a.1 fits
-  statement_taken s valued labels (Y.DoWhile condition body line) h fits =
+      statements_taken words s valued (labels_in body ++ labels) body a.1 fits
+  statement_taken words s valued labels (Y.DoWhile condition body line) h fits =
       let inner = are_statements s valued (labels_in body ++ labels) body in
       let a = and_parts (is_line line) (is_test s condition && inner) h in
       let b = and_parts (is_test s condition) inner a.1 in
-      takes_either (test_needs condition) (statements_need body) none_taken (bit_takes none_taken condition)
-      (stmts_take none_taken body) (test_taken s condition none_taken b.0 (omega (arith, fits)))
-      (statements_taken s valued (labels_in body ++ labels) body b.1 (omega (arith, fits)))
-  statement_taken s valued labels (Y.CallProcedure (Y.Calling number level Y.NoArgument) line) h fits =
+      sets_behind (test_needs condition) (statements_need body) (statements_set body) (set_aside words)
+      (bit_takes (set_aside words) condition)
+      (stmts_take (set_aside words) body) (test_taken s condition (set_aside words) b.0 (omega (arith, fits)))
+      (statements_taken words s valued (labels_in body ++ labels) body b.1 (omega (arith, fits)))
+  statement_taken words s valued labels (Y.CallProcedure (Y.Calling number level Y.NoArgument) line) h fits =
       record { registers = omega arith; words = omega arith }
-  statement_taken s valued labels (Y.CallProcedure (Y.Calling number level (Y.ArgumentThen first rest)) line) h fits =
+  statement_taken words s valued labels (Y.CallProcedure (Y.Calling number level (Y.ArgumentThen first rest)) line) h
+      fits =
       absurd (cc h)
-  statement_taken s valued labels (Y.Return line) h fits = takes_none none_taken
-  statement_taken s valued labels (Y.ReturnValue type source line) h fits =
+  statement_taken words s valued labels (Y.Return line) h fits = sets_none (set_aside words)
+  statement_taken words s valued labels (Y.ReturnValue type source line) h fits =
       let rest = is_fixed type && is_stored s source in
       let a = and_parts (is_line line) (s.own && (valued && rest)) h in
       let c = and_parts s.own (valued && rest) a.1 in
       let b = and_parts valued rest c.1 in
-      stored_taken s source (and_parts (is_fixed type) (is_stored s source) b.1).1 fits
-  statement_taken s valued labels (Y.Goto level label line) h fits = takes_none none_taken
-  statement_taken s valued labels (Y.Stop line) h fits = takes_none none_taken
-  statement_taken s valued labels (Y.AssignElements target source line) h fits = absurd (cc h)
-  statement_taken s valued labels (Y.AssignAggregate target source line) h fits = absurd (cc h)
-  statement_taken s valued labels (Y.AssignArea target source line) h fits = absurd (cc h)
-  statement_taken s valued labels (Y.EmptyArea target line) h fits = absurd (cc h)
-  statement_taken s valued labels (Y.DoOnce variable start condition body line) h fits = absurd (cc h)
-  statement_taken s valued labels (Y.DoCount counter start limit step condition body line) h fits = absurd (cc h)
-  statement_taken s valued labels (Y.Begin block) h fits = absurd (cc h)
-  statement_taken s valued labels (Y.OnSystem condition line) h fits = absurd (cc h)
-  statement_taken s valued labels (Y.OnUnit condition unit line) h fits = absurd (cc h)
-  statement_taken s valued labels (Y.Signal condition line) h fits = absurd (cc h)
-  statement_taken s valued labels (Y.Revert condition line) h fits = absurd (cc h)
-  statement_taken s valued labels (Y.Allocate all line) h fits = absurd (cc h)
-  statement_taken s valued labels (Y.Free all line) h fits = absurd (cc h)
-  statement_taken s valued labels (Y.Get skip pairs line) h fits = absurd (cc h)
-  statement_taken s valued labels (Y.Put skip pairs line) h fits =
-      put_taken s skip pairs (and_parts (is_line line) (is_put s skip pairs) h).1 fits
+      sets_no_words (stored_needs source) (set_aside words) (stored_takes (set_aside words) source)
+      (stored_taken words s source (and_parts (is_fixed type) (is_stored s source) b.1).1 fits)
+  statement_taken words s valued labels (Y.Goto level label line) h fits = sets_none (set_aside words)
+  statement_taken words s valued labels (Y.Stop line) h fits = sets_none (set_aside words)
+  statement_taken words s valued labels (Y.AssignElements target source line) h fits = absurd (cc h)
+  statement_taken words s valued labels (Y.AssignAggregate target source line) h fits = absurd (cc h)
+  statement_taken words s valued labels (Y.AssignArea target source line) h fits = absurd (cc h)
+  statement_taken words s valued labels (Y.EmptyArea target line) h fits = absurd (cc h)
+  statement_taken words s valued labels (Y.DoOnce variable start condition body line) h fits = absurd (cc h)
+  statement_taken words s valued labels (Y.DoCount counter start limit step condition body line) h fits =
+      let inner = are_statements s valued (labels_in body ++ labels) body in
+      let counts' = is_count s counter start limit step condition in
+      let a = and_parts (is_line line) (s.counts && (counts' && inner)) h in
+      let b = and_parts s.counts (counts' && inner) a.1 in
+      let c = and_parts counts' inner b.1 in
+      count_taken words s (counting_is s counter start limit step condition c.0) body line (omega (arith, fits))
+      (statements_taken (words + 2) s valued (labels_in body ++ labels) body c.1 (omega (arith, fits)))
+  statement_taken words s valued labels (Y.Begin block) h fits = absurd (cc h)
+  statement_taken words s valued labels (Y.OnSystem condition line) h fits = absurd (cc h)
+  statement_taken words s valued labels (Y.OnUnit condition unit line) h fits = absurd (cc h)
+  statement_taken words s valued labels (Y.Signal condition line) h fits = absurd (cc h)
+  statement_taken words s valued labels (Y.Revert condition line) h fits = absurd (cc h)
+  statement_taken words s valued labels (Y.Allocate all line) h fits = absurd (cc h)
+  statement_taken words s valued labels (Y.Free all line) h fits = absurd (cc h)
+  statement_taken words s valued labels (Y.Get skip pairs line) h fits = absurd (cc h)
+  statement_taken words s valued labels (Y.Put skip pairs line) h fits =
+      sets_no_words (put_needs pairs) (set_aside words) (put_takes (set_aside words) pairs)
+      (put_taken words s skip pairs (and_parts (is_line line) (is_put s skip pairs) h).1 fits)
 
   pub statements_taken :
-      (s : Scope) (valued : Bool) (labels : List Label) (xs : Y.Stmts) → are_statements s valued labels xs ≡ true →
-      statements_need xs ≤ held_registers → Takes (statements_need xs) none_taken (stmts_take none_taken xs)
-  statements_taken s valued labels (Y.EndOfList own) h fits = takes_none none_taken
-  statements_taken s valued labels (Y.StmtThen own first rest) h fits =
+      (words : ℕ) (s : Scope) (valued : Bool) (labels : List Label) (xs : Y.Stmts) → are_statements s valued labels xs
+      ≡ true →
+      statements_need xs ≤ held_registers → Sets (statements_need xs) (statements_set xs) (set_aside words) (stmts_take
+      (set_aside words) xs)
+  statements_taken words s valued labels (Y.EndOfList own) h fits = sets_none (set_aside words)
+  statements_taken words s valued labels (Y.StmtThen own first rest) h fits =
       let a = and_parts (is_statement s valued labels first) (are_statements s valued labels rest) h in
-      takes_either (statement_needs first) (statements_need rest) none_taken (stmt_takes none_taken first)
-      (stmts_take none_taken rest) (statement_taken s valued labels first a.0 (omega (arith, fits)))
-      (statements_taken s valued labels rest a.1 (omega (arith, fits)))
+      sets_either (statement_needs first) (statements_need rest) (statement_sets first) (statements_set rest)
+      (set_aside words) (stmt_takes (set_aside words) first)
+      (stmts_take (set_aside words) rest) (statement_taken words s valued labels first a.0 (omega (arith, fits)))
+      (statements_taken words s valued labels rest a.1 (omega (arith, fits)))
 
 -- ---- blocks
 
 pub plain_takes : (ds : List Y.DeclaredVariable) → are_plain ds ≡ true → variables_take ds ≡ none_taken
 plain_takes [] h = refl
 plain_takes (d ∷ ds) h =
-    let a = and_parts (is_plain d) (are_plain ds) h in
-    ap (λ d'. most_taken (variable_takes d') (variables_take ds)) (plain_is d a.0)
+    let a = and_parts (is_declared d) (are_plain ds) h in
+    ap (λ t. most_taken t (variables_take ds))
+    (of_declared (λ d'. variable_takes d' ≡ none_taken) refl (λ b is. refl) d a.0)
     ∙ ap (λ t. most_taken none_taken t) (plain_takes ds a.1)
 
-pub block_taken :
+pub block_sets :
     (s : Scope) (valued : Bool) (program : Y.Program) (block : ℕ) (body : Y.Stmts) →
     are_plain (variables_of_block program block) ≡ true →
     are_statements s valued (labels_in body ++ []) body ≡ true → statements_need body ≤ held_registers →
-    Takes (statements_need body) none_taken (block_takes program block body)
-block_taken s valued program block body plain h fits =
-    subst (λ t. Takes (statements_need body) none_taken (most_taken t (stmts_take none_taken body)))
-    (sym (plain_takes (variables_of_block program block) plain))
-    (subst (λ n. Takes n none_taken (most_taken none_taken (stmts_take none_taken body))) (omega arith)
-    (takes_either 0 (statements_need body) none_taken none_taken (stmts_take none_taken body) (takes_none none_taken)
-    (statements_taken s valued (labels_in body ++ []) body h fits)))
+    Sets (statements_need body) (statements_set body) none_taken (block_takes program block body)
+block_sets s valued program block body plain h fits =
+    subst (λ t. Sets (statements_need body) (statements_set body) none_taken
+    (most_taken t (stmts_take none_taken body))) (sym (plain_takes (variables_of_block program block) plain))
+    (subst (λ n. Sets n (statements_set body) none_taken (most_taken none_taken (stmts_take none_taken body)))
+    (omega arith)
+    (sets_behind 0 (statements_need body) (statements_set body) none_taken none_taken (stmts_take none_taken body)
+    (takes_none none_taken) (statements_taken 0 s valued (labels_in body ++ []) body h fits)))
 
-pub words_none :
+pub words_set :
     (s : Scope) (valued : Bool) (e : Environment) (block : ℕ) (body : Y.Stmts) →
     are_plain (variables_of_block e.program block) ≡ true →
     are_statements s valued (labels_in body ++ []) body ≡ true → statements_need body ≤ held_registers →
-    block_words e block body ≡ 0
-words_none s valued e block body plain h fits =
-    (block_taken s valued e.program block body plain h fits).words
+    block_words e block body ≡ statements_set body
+words_set s valued e block body plain h fits =
+    let n = (block_sets s valued e.program block body plain h fits).words in
+    omega (arith, n)
 
 pub registers_held :
     (s : Scope) (valued : Bool) (e : Environment) (block : ℕ) (body : Y.Stmts) →
@@ -367,5 +505,5 @@ pub registers_held :
     are_statements s valued (labels_in body ++ []) body ≡ true → statements_need body ≤ held_registers →
     statements_need body ≤ block_held e block body
 registers_held s valued e block body plain h fits =
-    let n = (block_taken s valued e.program block body plain h fits).registers in
+    let n = (block_sets s valued e.program block body plain h fits).registers in
     omega (arith, n, fits)

@@ -9,12 +9,17 @@ use Rattle.number_runs.specs.Numbers.{is_plain, is_scalar, is_variable, is_word,
 
 -- ---- references
 
-automatic_is : (c : Y.StorageClass) → is_automatic c ≡ true → c ≡ Y.AutomaticClass
+pub automatic_is : (c : Y.StorageClass) → is_automatic c ≡ true → c ≡ Y.AutomaticClass
 automatic_is Y.AutomaticClass h = refl
 automatic_is Y.ParameterClass h = absurd (cc h)
 automatic_is Y.StaticClass h = absurd (cc h)
 automatic_is Y.BasedClass h = absurd (cc h)
 automatic_is Y.ControlledClass h = absurd (cc h)
+
+pub part_is : (part : Y.Part) → (part.first == 0) ≡ true → (part.count == 1) ≡ true → part ≡ whole_part
+part_is part first count =
+    ap (λ n. record part { first = n }) (eqb-true part.first 0 first)
+    ∙ ap (λ (n : ℕ). let p : Y.Part = record { first = 0; count = n } in p) (eqb-true part.count 1 count)
 
 -- all of a variable that is known
 pub record IsWhole (s : Scope) (r : Y.Reference) : Type 0 where
@@ -28,16 +33,11 @@ variable_is s (Y.Referring v Y.NotLocated part Y.NoNumber) h =
     let a = and_parts (is_automatic v.class) ((part.first == 0) && ((part.count == 1) && known)) h in
     let b = and_parts (part.first == 0) ((part.count == 1) && known) a.1 in
     let c = and_parts (part.count == 1) known b.1 in
-    let first = eqb-true part.first 0 b.0 in
-    let count = eqb-true part.count 1 c.0 in
-    let all : part ≡ whole_part =
-    ap (λ n. record part { first = n }) first ∙ ap (λ (n : ℕ). let p : Y.Part = record { first = 0; count = n } in p)
-    count in
     record {
       spot = spot_of v;
       is =
           ap (λ k. Y.Referring (record v { class = k }) Y.NotLocated part Y.NoNumber) (automatic_is v.class a.0)
-          ∙ ap (λ p. Y.Referring (variable_of (spot_of v)) Y.NotLocated p Y.NoNumber) all;
+          ∙ ap (λ p. Y.Referring (variable_of (spot_of v)) Y.NotLocated p Y.NoNumber) (part_is part b.0 c.0);
       known = c.1;
     }
 variable_is s (Y.Referring v Y.NotLocated part (Y.NumberThen first rest)) h = absurd (cc h)

@@ -1,18 +1,21 @@
--- Variables that are all FIXED BINARY(31): each is made where the frame ends, 32 bytes behind the one before it.
-use Rattle.std.proofs.Common.{◌≡◌, ℕ, zero, suc, ◌+◌, ◌*◌, ◌^◌, ◌<◌, ◌≤◌, List, [], ◌∷◌, ◌++◌, Option, None, Some, inl}
+-- Variables of a block, scalars and arrays: each is made where the frame ends, behind the one before it.
+use Rattle.std.proofs.Common.{◌≡◌, ℕ, zero, suc, ◌+◌, ◌<◌, ◌≤◌, List, [], ◌∷◌, ◌++◌, Option, None, Some, inl}
 use Rattle.std.proofs.Common.{inr, length, true, false, refl, sym, ap, ◌∙◌, subst, arith}
-use Rattle.std.specs.Prelude.{◌==◌, ◌%◌, Bool, if◌then◌else◌, min, slice_get}
+use Rattle.std.specs.Prelude.{◌==◌, ◌%◌, Bool, if◌then◌else◌, is_some, min, slice_get}
 use Rattle.std.proofs.lemmas.Bool.{and_parts, le-leb}
 use Rattle.rv_meaning.specs.declared.instr.Instr.{Instr}
 use Rattle.pli_typing.specs.TypedTree as Y
+use Rattle.pli_meaning.specs.Contents.{footprint_of}
 use Rattle.pli_meaning.specs.DeclaredShapes.{declared_variable, variables_of_block}
 use Rattle.pli_meaning.specs.Making.{living_at}
 use Rattle.pli_meaning.specs.StorageState.{Living, automatic_in_use, newest_height}
-use Rattle.pli_coding.specs.Entries.{automatic_made, constant_made, variables_made}
+use Rattle.pli_coding.specs.Assembly.{Code}
+use Rattle.pli_coding.specs.Entries.{adjustable_made, automatic_made, constant_made, variables_made}
 use Rattle.pli_coding.specs.Environments.{Environment}
 use Rattle.pli_coding.specs.Frames.{MemoryParts, automatic_place, fixed_size, frame_bytes, is_automatic, last_place}
 use Rattle.pli_coding.specs.Frames.{parameters_of_block, variable_place}
 use Rattle.pli_coding.specs.Locating.{table_number}
+use Rattle.storage_relation.proofs.Spelling.{spelled_length}
 use Rattle.activation_relation.specs.Layers.{Layer, Point}
 use Rattle.activation_relation.specs.Points.{Surroundings}
 use Rattle.block_runs.specs.Machines.{HasParts}
@@ -20,142 +23,164 @@ use Rattle.program_runs.specs.Calls.{Callee, begun_at, block_at}
 use Rattle.program_runs.specs.Procedures.{layer_for}
 use Rattle.program_runs.specs.Statements.{Block, IsAmong, IsBegun}
 use Rattle.program_runs.specs.Variables.{Declared, IsDeclared, generation_for}
-use Rattle.program_runs.proofs.VariableRows.{number_valued}
-use Rattle.expression_runs.specs.Variables.{IsNumber, Spot, number_declared, number_shape, variable_of}
+use Rattle.expression_runs.specs.Variables.{IsNumber, Spot, number_declared, variable_of}
+use Rattle.variable_runs.specs.Known.{IsKnown}
 use Rattle.variable_runs.specs.Lists.{Among, AreAll, AreDeclared, AreListed, AreThose, HaveWords, all_made}
 use Rattle.variable_runs.specs.Lists.{behind_made, layer_after, layer_behind, made_code}
 use Rattle.variable_runs.proofs.ListsAmong.{all_among}
 use Rattle.function_runs.specs.Functions.{function_block}
-use Rattle.pli_serving.specs.Templates.{shape_at}
 use Rattle.variable_runs.proofs.Known.{known_number, known_own}
 use Rattle.variable_runs.proofs.Lists.{next_layers}
-use Rattle.number_runs.specs.Numbers.{is_plain, is_plain_if}
-use Rattle.number_runs.specs.Variables.{HasWords, HaveRoom, IsOwnWord, are_plain, word_counts, word_made, words_from}
-use Rattle.number_runs.specs.Variables.{words_in}
+use Rattle.element_runs.specs.Arrays.{IsArray}
+use Rattle.number_runs.specs.Arrays.{array_bounds, bounds_if, is_array, is_array_if}
+use Rattle.number_runs.specs.Numbers.{is_plain_if}
+use Rattle.number_runs.specs.Variables.{AreTabled, HasWords, HaveRoom, IsOwnArray, IsOwnWord, IsTabled, are_plain}
+use Rattle.number_runs.specs.Variables.{bytes_of, is_declared, own_bounds, variable_bytes, words_from, words_in}
+use Rattle.number_runs.proofs.Arrays.{array_is, bounds_are}
+use Rattle.number_runs.proofs.Declared.{makeable, sized}
 use Rattle.number_runs.proofs.Variables.{plain_is}
+
+abbrev pub word_made : Environment → (place index : ℕ) → Y.DeclaredVariable → Declared
+word_made e place index d = record { index = index; declared = d; number = table_number e d; place = place }
 
 -- ---- where they are made
 
 pub one_declared :
-    (w : Surroundings) (p : Point) (φ : Layer) (φs : List Layer) (number place index n : ℕ) →
-    shape_at p.places.signatures number ≡ Some number_shape → number < 2 ^ 31 → HaveRoom w p φ φs place (suc n) →
-    IsDeclared w p (word_made number place index) φ φs
-one_declared w p φ φs number place index n shape small h =
+    (w : Surroundings) (p : Point) (φ : Layer) (φs : List Layer) (e : Environment) (place index more : ℕ)
+    (d : Y.DeclaredVariable) → is_declared d ≡ true → IsTabled e p.places.signatures d →
+    HaveRoom w p φ φs place (variable_bytes d + more) → IsDeclared w p (word_made e place index d) φ φs
+one_declared w p φ φs e place index more d is table h =
     let here = h.here in
     let even = h.even in
     let counted = h.counted in
     let fits = h.fits in
     let limit = h.limit in
+    let m = makeable d is in
+    let s = sized d is in
+    let frame = m.frame w.parts in
+    let whole' = s.even in
+    let holds = s.holds in
+    let counts = m.counts in
+    let spelled = spelled_length (generation_for (word_made e place index d)) m.values in
     record {
       newest = h.newest;
       here = h.here;
-      holds = omega (arith, counted);
-      size = omega (arith, counted);
-      fits = omega (arith, here, fits, counted);
-      even = omega (arith, here, even, counted);
+      holds = omega (arith, counted, frame, holds, spelled, counts);
+      size = omega (arith, counted, frame, holds);
+      fits = omega (arith, here, fits, counted, frame);
+      even = omega (arith, here, even, counted, frame, whole');
       low = h.low;
-      shape = shape;
-      number = small;
-      initial = refl;
-      none = refl;
-      plain = refl;
-      fixed = refl;
-      values = (tt, tt);
-      valued = number_valued;
-      limit = le-leb _ _ (omega (arith, limit));
+      shape = table.shape;
+      number = table.small;
+      initial = m.initial;
+      none = m.none;
+      plain = m.plain;
+      fixed = m.fixed;
+      values = m.values;
+      valued = m.valued;
+      limit = le-leb _ _ (omega (arith, limit, counts));
     }
 
 counts_more :
-    (l : Living) (ls : List Living) (n : ℕ) → n ≡ word_counts →
-    (if l.owner == 0 then automatic_in_use ls else n + automatic_in_use ls) ≤ automatic_in_use ls + word_counts
-counts_more l ls n e = split (l.owner == 0)
+    (l : Living) (ls : List Living) (n : ℕ) →
+    (if l.owner == 0 then automatic_in_use ls else n + automatic_in_use ls) ≤ automatic_in_use ls + n
+counts_more l ls n = split (l.owner == 0)
   where
     split :
         (q : Bool) →
-        (if q then automatic_in_use ls else n + automatic_in_use ls) ≤ automatic_in_use ls + word_counts
+        (if q then automatic_in_use ls else n + automatic_in_use ls) ≤ automatic_in_use ls + n
     split true = omega arith
-    split false = omega (arith, e)
+    split false = omega arith
 
 next_room :
-    (w : Surroundings) (p : Point) (φ : Layer) (φs : List Layer) (number place index n : ℕ) →
-    HaveRoom w p φ φs place (suc n) →
-    HaveRoom w (behind_made w.parts φ (word_made number place index) p)
-    (layer_behind w.parts (p.state.serials + 1) φ (word_made number place index)) φs (place + 32) n
-next_room w p φ φs number place index n h =
+    (w : Surroundings) (p : Point) (φ : Layer) (φs : List Layer) (e : Environment) (place index more : ℕ)
+    (d : Y.DeclaredVariable) → is_declared d ≡ true → HaveRoom w p φ φs place (variable_bytes d + more) →
+    HaveRoom w (behind_made w.parts φ (word_made e place index d) p)
+    (layer_behind w.parts (p.state.serials + 1) φ (word_made e place index d)) φs (place + variable_bytes d) more
+next_room w p φ φs e place index more d is h =
     let here = h.here in
     let even = h.even in
     let counted = h.counted in
     let fits = h.fits in
     let limit = h.limit in
-    let x = word_made number place index in
+    let x = word_made e place index d in
+    let m = makeable d is in
+    let frame = m.frame w.parts in
+    let whole' = (sized d is).even in
+    let counts = m.counts in
     let l = living_at (p.state.serials + 1) (newest_height p.state.activations) (generation_for x) in
-    let more = counts_more l p.state.living word_counts refl in
+    let now = counts_more l p.state.living (footprint_of (generation_for x)) in
     record {
       newest = next_layers w p x φ φs h.newest;
-      here = omega (arith, here, counted);
-      even = omega (arith, here, even, counted);
+      here = omega (arith, here, counted, frame);
+      even = omega (arith, here, even, counted, frame, whole');
       counted = omega (arith, counted);
-      fits = omega (arith, here, fits, counted);
+      fits = omega (arith, here, fits, counted, frame);
       low = h.low;
-      limit = omega (arith, limit, more);
+      limit = omega (arith, limit, now, counts);
     }
 
 words_declared :
-    (w : Surroundings) (p : Point) (φ : Layer) (φs : List Layer) (number place index : ℕ)
-    (ds : List Y.DeclaredVariable) →
-    (number < 2 ^ 31) × (0 < length ds → shape_at p.places.signatures number ≡ Some number_shape) →
-    HaveRoom w p φ φs place (length ds) → AreDeclared w p φ φs (words_from number place index ds)
-words_declared w p φ φs number place index [] is h = tt
-words_declared w p φ φs number place index (d ∷ ds) is h = (
-  inl (one_declared w p φ φs number place index (length ds) (is.1 (omega arith)) is.0 h),
-  words_declared w (behind_made w.parts φ (word_made number place index) p)
-      (layer_behind w.parts (p.state.serials + 1) φ (word_made number place index)) φs number (place + 32) (index + 1)
-      ds (is.0, λ some. is.1 (omega arith)) (next_room w p φ φs number place index (length ds) h),
-)
+    (w : Surroundings) (p : Point) (φ : Layer) (φs : List Layer) (e : Environment) (place index : ℕ)
+    (ds : List Y.DeclaredVariable) → are_plain ds ≡ true → AreTabled e p.places.signatures ds →
+    HaveRoom w p φ φs place (bytes_of ds) → AreDeclared w p φ φs (words_from e place index ds)
+words_declared w p φ φs e place index [] is tabled h = tt
+words_declared w p φ φs e place index (d ∷ ds) is tabled h =
+    let a = and_parts (is_declared d) (are_plain ds) is in (
+      inl (one_declared w p φ φs e place index (bytes_of ds) d a.0 tabled.0 h),
+      words_declared w (behind_made w.parts φ (word_made e place index d) p)
+          (layer_behind w.parts (p.state.serials + 1) φ (word_made e place index d)) φs e (place + variable_bytes d)
+          (index + 1) ds a.1 tabled.1 (next_room w p φ φs e place index (bytes_of ds) d a.0 h),
+    )
 
--- where they have been made, there is room for as many fewer
+-- where they have been made, there is room for what is left
 pub room_behind :
-    (w : Surroundings) (p : Point) (φ : Layer) (φs : List Layer) (number place index more : ℕ)
-    (ds : List Y.DeclaredVariable) → HaveRoom w p φ φs place (length ds + more) →
-    HaveRoom w (all_made w.parts φ (words_from number place index ds) p)
-    (layer_after w.parts (p.state.serials + 1) φ (words_from number place index ds)) φs (place + 32 * length ds) more
-room_behind w p φ φs number place index more [] h =
+    (w : Surroundings) (p : Point) (φ : Layer) (φs : List Layer) (e : Environment) (place index more : ℕ)
+    (ds : List Y.DeclaredVariable) → are_plain ds ≡ true → HaveRoom w p φ φs place (bytes_of ds + more) →
+    HaveRoom w (all_made w.parts φ (words_from e place index ds) p)
+    (layer_after w.parts (p.state.serials + 1) φ (words_from e place index ds)) φs (place + bytes_of ds) more
+room_behind w p φ φs e place index more [] is h =
     subst (λ n. HaveRoom w p φ φs n more) (omega arith)
     (subst (λ n. HaveRoom w p φ φs place n) (omega arith) h)
-room_behind w p φ φs number place index more (d ∷ ds) h =
-    let x = word_made number place index in
-    let all : suc (length ds) + more ≡ suc (length ds + more) = omega arith in
-    let at : place + 32 + 32 * length ds ≡ place + 32 * suc (length ds) = omega arith in
+room_behind w p φ φs e place index more (d ∷ ds) is h =
+    let a = and_parts (is_declared d) (are_plain ds) is in
+    let x = word_made e place index d in
+    let all : variable_bytes d + bytes_of ds + more ≡ variable_bytes d + (bytes_of ds + more) = omega arith in
+    let at : place + variable_bytes d + bytes_of ds ≡ place + (variable_bytes d + bytes_of ds) = omega arith in
     subst (λ n. HaveRoom w (all_made w.parts (layer_behind w.parts (p.state.serials + 1) φ x)
-    (words_from number (place + 32) (index + 1) ds) (behind_made w.parts φ x p))
+    (words_from e (place + variable_bytes d) (index + 1) ds) (behind_made w.parts φ x p))
     (layer_after w.parts (p.state.serials + 1 + 1) (layer_behind w.parts (p.state.serials + 1) φ x)
-    (words_from number (place + 32) (index + 1) ds)) φs n more) at
-    (room_behind w (behind_made w.parts φ x p) (layer_behind w.parts (p.state.serials + 1) φ x) φs number (place + 32)
-    (index + 1) more ds
-    (next_room w p φ φs number place index (length ds + more)
+    (words_from e (place + variable_bytes d) (index + 1) ds)) φs n more) at
+    (room_behind w (behind_made w.parts φ x p) (layer_behind w.parts (p.state.serials + 1) φ x) φs e
+    (place + variable_bytes d) (index + 1) more ds a.1
+    (next_room w p φ φs e place index (bytes_of ds + more) d a.0
     (subst (λ n. HaveRoom w p φ φs place n) all h)))
 
 -- they lie one behind the other at the end of the newest block's frame
 pub record AreLaid (w : Surroundings) (p : Point) (φ : Layer) (φs : List Layer) (xs : List Declared)
-    (count : ℕ) : Type 0
+    (bytes : ℕ) : Type 0
   where
     pub newest : (all_made w.parts φ xs p).control.layers ≡ layer_after w.parts (p.state.serials + 1) φ xs ∷ φs
-    pub top : (layer_after w.parts (p.state.serials + 1) φ xs).top ≡ φ.top + 32 * count
+    pub top : (layer_after w.parts (p.state.serials + 1) φ xs).top ≡ φ.top + bytes
     pub lower : (layer_after w.parts (p.state.serials + 1) φ xs).lower ≡ φ.lower
 
 pub words_laid :
-    (w : Surroundings) (p : Point) (φ : Layer) (φs : List Layer) (number place index : ℕ)
-    (ds : List Y.DeclaredVariable) → p.control.layers ≡ φ ∷ φs → φ.at + place ≡ φ.top → φ.top % 16 ≡ 0 →
-    place + 32 * length ds ≤ last_place → AreLaid w p φ φs (words_from number place index ds) (length ds)
-words_laid w p φ φs number place index [] newest here even counted =
+    (w : Surroundings) (p : Point) (φ : Layer) (φs : List Layer) (e : Environment) (place index : ℕ)
+    (ds : List Y.DeclaredVariable) → are_plain ds ≡ true → p.control.layers ≡ φ ∷ φs → φ.at + place ≡ φ.top →
+    φ.top % 16 ≡ 0 → place + bytes_of ds ≤ last_place → AreLaid w p φ φs (words_from e place index ds) (bytes_of ds)
+words_laid w p φ φs e place index [] is newest here even counted =
     record { newest = newest; top = omega arith; lower = refl }
-words_laid w p φ φs number place index (d ∷ ds) newest here even counted =
-    let x = word_made number place index in
-    let rest = words_laid w (behind_made w.parts φ x p) (layer_behind w.parts (p.state.serials + 1) φ x) φs number
-    (place + 32) (index + 1) ds (next_layers w p x φ φs newest) (omega (arith, here, counted))
-    (omega (arith, here, even, counted)) (omega (arith, counted)) in
+words_laid w p φ φs e place index (d ∷ ds) is newest here even counted =
+    let a = and_parts (is_declared d) (are_plain ds) is in
+    let x = word_made e place index d in
+    let frame = (makeable d a.0).frame w.parts in
+    let whole' = (sized d a.0).even in
+    let rest = words_laid w (behind_made w.parts φ x p) (layer_behind w.parts (p.state.serials + 1) φ x) φs e
+    (place + variable_bytes d) (index + 1) ds a.1 (next_layers w p x φ φs newest)
+    (omega (arith, here, counted, frame)) (omega (arith, here, even, counted, frame, whole'))
+    (omega (arith, counted)) in
     let top = rest.top in
-    record { newest = rest.newest; top = omega (arith, here, counted, top); lower = rest.lower }
+    record { newest = rest.newest; top = omega (arith, here, counted, top, frame); lower = rest.lower }
 
 pub room_fewer :
     (w : Surroundings) (p : Point) (φ : Layer) (φs : List Layer) (place m n : ℕ) → m ≤ n → HaveRoom w p φ φs place n →
@@ -177,76 +202,96 @@ room_fewer w p φ φs place m n less h =
 -- ---- what the program declares
 
 words_those :
-    (number place index : ℕ) (ds : List Y.DeclaredVariable) → are_plain ds ≡ true →
-    AreThose index (words_from number place index ds) ds
-words_those number place index [] h = tt
-words_those number place index (d ∷ ds) h =
-    let a = and_parts (is_plain d) (are_plain ds) h in
-    inl (refl, plain_is d a.0, words_those number (place + 32) (index + 1) ds a.1)
+    (e : Environment) (place index : ℕ) (ds : List Y.DeclaredVariable) → AreThose index (words_from e place index ds) ds
+words_those e place index [] = tt
+words_those e place index (d ∷ ds) =
+    inl (refl, refl, words_those e (place + variable_bytes d) (index + 1) ds)
 
 words_listed :
-    (e : Environment) (number place index : ℕ) (ds : List Y.DeclaredVariable) →
-    table_number e (number_declared []) ≡ number → AreListed e index (words_from number place index ds)
-words_listed e number place index [] is = tt
-words_listed e number place index (d ∷ ds) is = (
-  record { class = refl; evaluations = refl; late = omega arith; table = is },
-  words_listed e number (place + 32) (index + 1) ds is,
-)
+    (e : Environment) (place index : ℕ) (ds : List Y.DeclaredVariable) → are_plain ds ≡ true →
+    AreListed e index (words_from e place index ds)
+words_listed e place index [] is = tt
+words_listed e place index (d ∷ ds) is =
+    let a = and_parts (is_declared d) (are_plain ds) is in
+    let m = makeable d a.0 in (
+      record { class = m.class; evaluations = m.evaluations; late = omega arith; table = refl },
+      words_listed e (place + variable_bytes d) (index + 1) ds a.1,
+    )
 
 -- ---- their code
 
+-- what those before one take
+abbrev pub bytes_before : List Y.DeclaredVariable → (index : ℕ) → ℕ
+bytes_before [] index = 0
+bytes_before (d ∷ ds) zero = 0
+bytes_before (d ∷ ds) (suc index) = variable_bytes d + bytes_before ds index
+
 abbrev pub PlacesAre : (parts : MemoryParts) → (at : ℕ) → List Y.DeclaredVariable → Type 0
-PlacesAre parts at ds = (i : ℕ) → i < length ds → variable_place parts at ds i ≡ at + 32 * i
+PlacesAre parts at ds = (i : ℕ) → i < length ds → variable_place parts at ds i ≡ at + bytes_before ds i
 
 pub places_are :
     (parts : MemoryParts) (at : ℕ) (ds : List Y.DeclaredVariable) → are_plain ds ≡ true →
-    at + 32 * length ds ≤ last_place → PlacesAre parts at ds
+    at + bytes_of ds ≤ last_place → PlacesAre parts at ds
 places_are parts at [] h fits i less = absurd (omega (arith, less))
 places_are parts at (d ∷ ds) h fits zero less = omega arith
 places_are parts at (d ∷ ds) h fits (suc i) less =
-    let a = and_parts (is_plain d) (are_plain ds) h in
-    let next' : min last_place (at + frame_bytes parts d) ≡ at + 32 =
-    ap (λ d'. min last_place (at + frame_bytes parts d')) (plain_is d a.0) ∙ omega (arith, fits) in
-    let rest = places_are parts (at + 32) ds a.1 (omega (arith, fits)) i (omega (arith, less)) in
+    let a = and_parts (is_declared d) (are_plain ds) h in
+    let frame = (makeable d a.0).frame parts in
+    let next' : min last_place (at + frame_bytes parts d) ≡ at + variable_bytes d = omega (arith, fits, frame) in
+    let rest = places_are parts (at + variable_bytes d) ds a.1 (omega (arith, fits)) i (omega (arith, less)) in
     ap (λ n. variable_place parts n ds i) next' ∙ rest ∙ omega arith
 
+-- one that is AUTOMATIC and evaluates nothing
+one_code :
+    (e : Environment) (line place : ℕ) (d : Y.DeclaredVariable) (rest : Code) → is_declared d ≡ true →
+    (if is_automatic d.class then automatic_made e line place d else []) ++ rest ≡ constant_made e place d ++ rest
+one_code e line place d rest is =
+    let m = makeable d is in
+    ap (λ c. (if is_automatic c then automatic_made e line place d else []) ++ rest) m.class
+    ∙ ap (λ q. (if q then constant_made e place d else adjustable_made e line place d) ++ rest) m.constant
+
 pub words_code :
-    (e : Environment) (line number place index : ℕ) (ds : List Y.DeclaredVariable) → are_plain ds ≡ true →
-    ((i : ℕ) → i < length ds → automatic_place e.parts e.program e.block e.level (index + i) ≡ place + 32 * i) →
-    variables_made e line index ds ≡ made_code e (words_from number place index ds)
-words_code e line number place index [] h at = refl
-words_code e line number place index (d ∷ ds) h at =
-    let a = and_parts (is_plain d) (are_plain ds) h in
+    (e : Environment) (line place index : ℕ) (ds : List Y.DeclaredVariable) → are_plain ds ≡ true →
+    ((i : ℕ) → i < length ds →
+    automatic_place e.parts e.program e.block e.level (index + i) ≡ place + bytes_before ds i) →
+    variables_made e line index ds ≡ made_code e (words_from e place index ds)
+words_code e line place index [] h at = refl
+words_code e line place index (d ∷ ds) h at =
+    let a = and_parts (is_declared d) (are_plain ds) h in
     let rest = variables_made e line (suc index) ds in
     let here : automatic_place e.parts e.program e.block e.level index ≡ place =
     ap (λ n. automatic_place e.parts e.program e.block e.level n) (omega arith) ∙ at 0 (omega arith) ∙ omega arith in
     let n : suc index ≡ index + 1 = omega arith in
-    let more = words_code e line number (place + 32) (index + 1) ds a.1
+    let more = words_code e line (place + variable_bytes d) (index + 1) ds a.1
     (λ i less. ap (λ m. automatic_place e.parts e.program e.block e.level m) (omega arith)
     ∙ at (suc i) (omega (arith, less)) ∙ omega arith) in
-    ap (λ d'. (if is_automatic d'.class
-    then automatic_made e line (automatic_place e.parts e.program e.block e.level index) d'
-    else []) ++ rest) (plain_is d a.0)
-    ∙ ap (λ m. constant_made e m (number_declared []) ++ rest) here
-    ∙ ap (λ m. constant_made e place (number_declared []) ++ variables_made e line m ds) n
-    ∙ ap (λ code. constant_made e place (number_declared []) ++ code) more
+    one_code e line (automatic_place e.parts e.program e.block e.level index) d rest a.0
+    ∙ ap (λ m. constant_made e m d ++ rest) here
+    ∙ ap (λ m. constant_made e place d ++ variables_made e line m ds) n
+    ∙ ap (λ code. constant_made e place d ++ code) more
 
 -- ---- one among them
 
 words_among :
-    (number place index i : ℕ) (ds : List Y.DeclaredVariable) → i < length ds →
-    Among (word_made number (place + 32 * i) (index + i)) (words_from number place index ds)
-words_among number place index i [] less = absurd (omega (arith, less))
-words_among number place index zero (d ∷ ds) less =
-    let at : place + 32 * 0 ≡ place = omega arith in
+    (e : Environment) (place index i : ℕ) (ds : List Y.DeclaredVariable) (d : Y.DeclaredVariable) →
+    slice_get ds i ≡ Some d →
+    Among (word_made e (place + bytes_before ds i) (index + i) d) (words_from e place index ds)
+words_among e place index i [] d is = absurd (cc is)
+words_among e place index zero (u ∷ ds) d is =
+    let at : place + 0 ≡ place = omega arith in
     let n : index + 0 ≡ index = omega arith in
-    inl (ap (λ m. word_made number m (index + 0)) at ∙ ap (λ m. word_made number place m) n)
-words_among number place index (suc i) (d ∷ ds) less =
-    let at : place + 32 + 32 * i ≡ place + 32 * suc i = omega arith in
+    let same : u ≡ d = cc is in
+    inl (ap (λ m. word_made e m (index + 0) d) at ∙ ap (λ m. word_made e place m d) n
+    ∙ ap (λ v. word_made e place index v) (sym same))
+words_among e place index (suc i) (u ∷ ds) d is =
+    let at : place + variable_bytes u + bytes_before ds i ≡ place + (variable_bytes u + bytes_before ds i) =
+    omega arith in
     let n : index + 1 + i ≡ index + suc i = omega arith in
-    inr (subst (λ m. Among (word_made number m (index + suc i)) (words_from number (place + 32) (index + 1) ds)) at
-    (subst (λ m. Among (word_made number (place + 32 + 32 * i) m) (words_from number (place + 32) (index + 1) ds)) n
-    (words_among number (place + 32) (index + 1) i ds (omega (arith, less)))))
+    inr (subst (λ m. Among (word_made e m (index + suc i) d)
+    (words_from e (place + variable_bytes u) (index + 1) ds)) at
+    (subst (λ m. Among (word_made e (place + variable_bytes u + bytes_before ds i) m d)
+    (words_from e (place + variable_bytes u) (index + 1) ds)) n
+    (words_among e (place + variable_bytes u) (index + 1) i ds d is)))
 
 -- a variable that there is has an index below their number
 slice_less : {A : Type 0} (xs : List A) (i : ℕ) (x : A) → slice_get xs i ≡ Some x → i < length xs
@@ -261,6 +306,16 @@ found : (o : Option Y.DeclaredVariable) → is_plain_if o ≡ true → Found o
 found None h = absurd (cc h)
 found (Some d) h = record { is = ap (λ d'. Some d') (plain_is d h) }
 
+record FoundArray (o : Option Y.DeclaredVariable) : Type 0 where
+  declared : Y.DeclaredVariable
+  is : o ≡ Some declared
+  array : is_array declared ≡ true
+  bounds : bounds_if o ≡ array_bounds declared
+
+found_array : (o : Option Y.DeclaredVariable) → is_array_if o ≡ true → FoundArray o
+found_array None h = absurd (cc h)
+found_array (Some d) h = record { declared = d; is = refl; array = h; bounds = refl }
+
 -- ---- the laws
 
 pub all_words :
@@ -269,7 +324,6 @@ pub all_words :
 all_words w c p numbers h =
     let e = c.environment in
     let ds = variables_of_block e.program e.block in
-    let number = table_number e (number_declared []) in
     let first = fixed_size e.level 0 in
     let at = places_are e.parts first ds h.plain h.room.counted in
     let start : fixed_size e.level (length (parameters_of_block e.program e.block)) ≡ first =
@@ -280,38 +334,42 @@ all_words w c p numbers h =
           subst (λ us. AreThose 0 (words_in e) us)
           (ap (λ q. variables_of_block q e.block) (sym h.program)
           ∙ ap (λ n. variables_of_block c.around.program n) h.block)
-          (words_those number first 0 ds h.plain);
-      listed = words_listed e number first 0 ds refl;
+          (words_those e first 0 ds);
+      listed = words_listed e first 0 ds h.plain;
       code =
           h.code
-          ∙ words_code e c.procedure.head.line number first 0 ds h.plain
+          ∙ words_code e c.procedure.head.line first 0 ds h.plain
           (λ i less.
           ap (λ n. variable_place e.parts n ds (0 + i)) start
           ∙ ap (λ n. variable_place e.parts first ds n) (omega arith)
           ∙ at i less);
       made = h.made;
       parts = h.parts;
-      few = few_words number first 0 ds w.serials h.few;
+      few = few_words e first 0 ds w.serials h.few;
       declared =
-          words_declared w (begun_at w c p numbers) (layer_for w p numbers c.procedure c.calling) p.control.layers
-          number first 0 ds (h.small, h.shape) h.room;
+          words_declared w (begun_at w c p numbers) (layer_for w p numbers c.procedure c.calling) p.control.layers e
+          first 0 ds h.plain h.tabled h.room;
     }
   where
     few_words :
-        (number place index : ℕ) (ds : List Y.DeclaredVariable) (n : ℕ) → length ds ≤ n →
-        length (words_from number place index ds) ≤ n
-    few_words number place index [] n less = less
-    few_words number place index (d ∷ ds) zero less = absurd (omega (arith, less))
-    few_words number place index (d ∷ ds) (suc n) less =
-        let rest = few_words number (place + 32) (index + 1) ds n (omega (arith, less)) in
+        (e : Environment) (place index : ℕ) (ds : List Y.DeclaredVariable) (n : ℕ) → length ds ≤ n →
+        length (words_from e place index ds) ≤ n
+    few_words e place index [] n less = less
+    few_words e place index (d ∷ ds) zero less = absurd (omega (arith, less))
+    few_words e place index (d ∷ ds) (suc n) less =
+        let rest = few_words e (place + variable_bytes d) (index + 1) ds n (omega (arith, less)) in
         omega (arith, rest)
 
 -- its serials are those of no area
-none_worded : (serials number place index : ℕ) (ds : List Y.DeclaredVariable) →
-    HaveWords serials (words_from number place index ds)
-none_worded serials number place index [] = tt
-none_worded serials number place index (d ∷ ds) =
-    (λ e. absurd (cc e), none_worded (serials + 1) number (place + 32) (index + 1) ds)
+none_worded :
+    (e : Environment) (serials place index : ℕ) (ds : List Y.DeclaredVariable) → are_plain ds ≡ true →
+    HaveWords serials (words_from e place index ds)
+none_worded e serials place index [] h = tt
+none_worded e serials place index (d ∷ ds) h =
+    let a = and_parts (is_declared d) (are_plain ds) h in (
+      λ some. absurd (cc (sym some ∙ ap is_some (makeable d a.0).fixed)),
+      none_worded e (serials + 1) (place + variable_bytes d) (index + 1) ds a.1,
+    )
 
 pub words_anywhere :
     (k : Block) (c : Callee) (p : Point) (numbers : ℕ → ℕ) → IsBegun k → IsAmong k numbers p →
@@ -319,52 +377,55 @@ pub words_anywhere :
     AreAll k.call.surroundings c p numbers (words_in c.environment)
 words_anywhere k c p numbers b o h =
     all_among k c (words_in c.environment) p numbers numbers b o
-    (none_worded p.state.serials (table_number c.environment (number_declared [])) (fixed_size c.environment.level 0) 0
-    (variables_of_block c.environment.program c.environment.block))
+    (none_worded c.environment p.state.serials (fixed_size c.environment.level 0) 0
+    (variables_of_block c.environment.program c.environment.block) h.plain)
     (all_words k.call.surroundings c k.first numbers h)
 
-pub own_word :
-    (w : Surroundings) (code : List Instr) (c : Callee) (p q : Point) (numbers : ℕ → ℕ) (x : Spot) →
-    HasParts w.parts → HasWords w c q numbers × AreAll w c p numbers (words_in c.environment) → IsOwnWord c x →
-    IsBegun (block_at w code c p numbers) → IsNumber (block_at w code c p numbers) x
-own_word w code c p q numbers x parts known own b =
+-- each of them is known in the block
+own_known :
+    (w : Surroundings) (code : List Instr) (c : Callee) (p q : Point) (numbers : ℕ → ℕ) (x : Spot)
+    (d : Y.DeclaredVariable) → HasParts w.parts →
+    HasWords w c q numbers × AreAll w c p numbers (words_in c.environment) →
+    (x.block ≡ c.environment.block) × (x.level ≡ c.environment.level) →
+    declared_variable c.environment.program (variable_of x) ≡ Some d → IsBegun (block_at w code c p numbers) →
+    IsKnown (block_at w code c p numbers) x d
+own_known w code c p q numbers x d parts known own is b =
     let h = known.0 in
     let e = c.environment in
     let ds = variables_of_block e.program e.block in
-    let number = table_number e (number_declared []) in
     let first = fixed_size e.level 0 in
-    let there = found (declared_variable e.program (variable_of x)) own.plain in
-    let less = slice_less ds x.index (number_declared [])
-    (ap (λ n. slice_get (variables_of_block e.program n) x.index) (sym own.block) ∙ there.is) in
+    let there = ap (λ n. slice_get (variables_of_block e.program n) x.index) (sym own.0) ∙ is in
+    let less = slice_less ds x.index d there in
     let at = places_are e.parts first ds h.plain h.room.counted in
     let start : fixed_size e.level (length (parameters_of_block e.program e.block)) ≡ first =
     ap (λ (ns : List ℕ). fixed_size e.level (length ns)) h.bare in
-    known_number (block_at w code c p numbers) x []
-    (known_own w code c p numbers (words_in e) (word_made number (first + 32 * x.index) (0 + x.index)) x parts
-    known.1 (words_among number first 0 x.index ds less)
+    known_own w code c p numbers (words_in e) (word_made e (first + bytes_before ds x.index) (0 + x.index) d) x parts
+    known.1 (words_among e first 0 x.index ds d there)
     (record {
-      declared = there.is;
+      declared = is;
       index = omega arith;
-      level = own.level ∙ h.level;
+      level = own.1 ∙ h.level;
       own = h.level;
       place =
-          ap (λ n. automatic_place e.parts e.program n x.level x.index) own.block
-          ∙ ap (λ n. automatic_place e.parts e.program e.block n x.index) own.level
+          ap (λ n. automatic_place e.parts e.program n x.level x.index) own.0
+          ∙ ap (λ n. automatic_place e.parts e.program e.block n x.index) own.1
           ∙ ap (λ n. variable_place e.parts n ds x.index) start ∙ at x.index less;
     })
-    b)
+    b
 
 -- a function's block has the frame that a procedure's would have
-pub function_word :
-    (w : Surroundings) (code : List Instr) (c : Callee) (p q : Point) (numbers : ℕ → ℕ) (x : Spot) →
-    HasParts w.parts → HasWords w c q numbers × AreAll w c p numbers (words_in c.environment) → IsOwnWord c x →
-    IsBegun (function_block w code c p numbers) → IsNumber (function_block w code c p numbers) x
-function_word w code c p q numbers x parts known own b =
+function_known :
+    (w : Surroundings) (code : List Instr) (c : Callee) (p q : Point) (numbers : ℕ → ℕ) (x : Spot)
+    (d : Y.DeclaredVariable) → HasParts w.parts →
+    HasWords w c q numbers × AreAll w c p numbers (words_in c.environment) →
+    (x.block ≡ c.environment.block) × (x.level ≡ c.environment.level) →
+    declared_variable c.environment.program (variable_of x) ≡ Some d → IsBegun (function_block w code c p numbers) →
+    IsKnown (function_block w code c p numbers) x d
+function_known w code c p q numbers x d parts known own is b =
     let n =
-    own_word w code c p q numbers x parts known own
+    own_known w code c p q numbers x d parts known own is
     (record { activation = b.activation; resumes = b.resumes; acts = b.acts; remains = b.remains; outer = b.outer }) in
     record {
-      initial = n.initial;
       declared = n.declared;
       serial = n.serial;
       binding = n.binding;
@@ -377,3 +438,53 @@ function_word w code c p q numbers x parts known own b =
       low = n.low;
       inside = n.inside;
     }
+
+-- an array that is known has the bounds of its declaration
+array_known :
+    (k : Block) (x : Spot) (o : Option Y.DeclaredVariable) (f : FoundArray o) → IsKnown k x f.declared →
+    IsArray k x (bounds_if o)
+array_known k x o f known =
+    subst (λ b. IsArray k x b) (sym f.bounds)
+    (record {
+      initial = [];
+      known = subst (λ d. IsKnown k x d) (array_is f.declared f.array) known;
+      bounds = bounds_are f.declared f.array;
+    })
+
+pub own_word :
+    (w : Surroundings) (code : List Instr) (c : Callee) (p q : Point) (numbers : ℕ → ℕ) (x : Spot) →
+    HasParts w.parts → HasWords w c q numbers × AreAll w c p numbers (words_in c.environment) → IsOwnWord c x →
+    IsBegun (block_at w code c p numbers) → IsNumber (block_at w code c p numbers) x
+own_word w code c p q numbers x parts known own b =
+    let there = found (declared_variable c.environment.program (variable_of x)) own.plain in
+    known_number (block_at w code c p numbers) x []
+    (own_known w code c p q numbers x (number_declared []) parts known (own.block, own.level) there.is b)
+
+pub own_array :
+    (w : Surroundings) (code : List Instr) (c : Callee) (p q : Point) (numbers : ℕ → ℕ) (x : Spot) →
+    HasParts w.parts → HasWords w c q numbers × AreAll w c p numbers (words_in c.environment) → IsOwnArray c x →
+    IsBegun (block_at w code c p numbers) → IsArray (block_at w code c p numbers) x (own_bounds c x)
+own_array w code c p q numbers x parts known own b =
+    let o = declared_variable c.environment.program (variable_of x) in
+    let there = found_array o own.array in
+    array_known (block_at w code c p numbers) x o there
+    (own_known w code c p q numbers x there.declared parts known (own.block, own.level) there.is b)
+
+pub function_word :
+    (w : Surroundings) (code : List Instr) (c : Callee) (p q : Point) (numbers : ℕ → ℕ) (x : Spot) →
+    HasParts w.parts → HasWords w c q numbers × AreAll w c p numbers (words_in c.environment) → IsOwnWord c x →
+    IsBegun (function_block w code c p numbers) → IsNumber (function_block w code c p numbers) x
+function_word w code c p q numbers x parts known own b =
+    let there = found (declared_variable c.environment.program (variable_of x)) own.plain in
+    known_number (function_block w code c p numbers) x []
+    (function_known w code c p q numbers x (number_declared []) parts known (own.block, own.level) there.is b)
+
+pub function_array :
+    (w : Surroundings) (code : List Instr) (c : Callee) (p q : Point) (numbers : ℕ → ℕ) (x : Spot) →
+    HasParts w.parts → HasWords w c q numbers × AreAll w c p numbers (words_in c.environment) → IsOwnArray c x →
+    IsBegun (function_block w code c p numbers) → IsArray (function_block w code c p numbers) x (own_bounds c x)
+function_array w code c p q numbers x parts known own b =
+    let o = declared_variable c.environment.program (variable_of x) in
+    let there = found_array o own.array in
+    array_known (function_block w code c p numbers) x o there
+    (function_known w code c p q numbers x there.declared parts known (own.block, own.level) there.is b)

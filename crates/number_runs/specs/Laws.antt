@@ -1,23 +1,24 @@
 -- The laws of such blocks: each expression leaves what it means, and each statement does what it means.
-use Rattle.std.specs.Prelude.{ℕ, ◌+◌, ◌*◌, ◌≤◌, ◌≡◌, ◌++◌, Bool, true, List, []}
+use Rattle.std.specs.Prelude.{ℕ, ◌≤◌, ◌≡◌, ◌++◌, Bool, true, List, []}
 use Rattle.pli_typing.specs.TypedTree as Y
 use Rattle.pli_meaning.specs.Control.{Label}
 use Rattle.pli_meaning.specs.DeclaredShapes.{variables_of_block}
 use Rattle.pli_meaning.specs.Executing.{labels_in}
-use Rattle.pli_coding.specs.Assembly.{RaiseError}
 use Rattle.pli_coding.specs.Environments.{Environment}
-use Rattle.pli_coding.specs.Linking.{place_of}
 use Rattle.pli_coding.specs.Registers.{held_registers}
 use Rattle.pli_coding.specs.Statements.{block_held, block_words}
 use Rattle.program_runs.specs.Statements.{AreMarked, Block, Does, EachDoes, IsBegun}
 use Rattle.expression_runs.specs.Laws as L
 use Rattle.expression_runs.specs.Values.{Setting}
 use Rattle.expression_runs.specs.Variables.{IsNumber, Spot}
+use Rattle.element_runs.specs.Arrays.{IsArray}
 use Rattle.test_runs.specs.Tests.{Tests}
-use Rattle.number_runs.specs.Knowledge.{AreAround, AreStanding, IsReady, IsUnraised, KnowsLists, KnowsNumbers}
-use Rattle.number_runs.specs.Knowledge.{KnowsPuts, KnowsRaises, Standing}
-use Rattle.number_runs.specs.Numbers.{Scope, is_known, is_number, is_test, number_needs, test_needs}
-use Rattle.number_runs.specs.Statements.{are_statements, is_statement, statement_needs, statements_need}
+use Rattle.number_runs.specs.Knowledge.{AreAround, AreStanding, HasFrame, IsReady, IsUnraised, KnowsLists}
+use Rattle.number_runs.specs.Knowledge.{KnowsNumbers, KnowsPuts, KnowsRaises, Standing}
+use Rattle.number_runs.specs.Numbers.{Scope, bounds_known, is_array_known, is_known, is_number, is_test}
+use Rattle.number_runs.specs.Numbers.{number_needs, test_needs}
+use Rattle.number_runs.specs.Statements.{are_statements, is_statement, statement_needs, statement_sets}
+use Rattle.number_runs.specs.Statements.{statements_need, statements_set}
 use Rattle.number_runs.specs.Variables.{are_plain}
 
 pub record ExpressionsDo : Type 0 where
@@ -30,15 +31,17 @@ pub record ExpressionsDo : Type 0 where
 pub record BodiesDo : Type 0 where
   -- a statement does what it means, whatever lists of its block are around it
   pub statement :
-      (s : Scope) (valued : Bool) (k : Block) (own labels : List Label) (stmt : Y.Stmt) (index most left' : ℕ) →
-      IsReady s valued k own most left' → AreAround k own labels → is_statement s valued labels stmt ≡ true →
-      statement_needs stmt ≤ k.registers → Standing k stmt index → Does k labels stmt index left'
+      (s : Scope) (valued : Bool) (k : Block) (own labels : List Label) (stmt : Y.Stmt) (index most left' : ℕ)
+      (r : IsReady s valued k own most left') → AreAround k own labels → is_statement s valued labels stmt ≡ true →
+      statement_needs stmt ≤ k.registers → HasFrame r 0 (statement_sets stmt) → Standing k stmt index →
+      Does k labels stmt index left'
   -- so does each statement of a block's own list
   pub each :
-      (s : Scope) (valued : Bool) (k : Block) (body : Y.Stmts) (index most left' : ℕ) →
-      IsReady s valued k (labels_in body ++ []) most left' →
-      are_statements s valued (labels_in body ++ []) body ≡ true → statements_need body ≤ k.registers →
-      AreStanding k body index → EachDoes k (labels_in body ++ []) body index left'
+      (s : Scope) (valued : Bool) (k : Block) (body : Y.Stmts) (index most left' : ℕ)
+      (r : IsReady s valued k (labels_in body ++ []) most left') →
+      are_statements s valued (labels_in body ++ []) body ≡ true →
+      statements_need body ≤ k.registers → HasFrame r 0 (statements_set body) → AreStanding k body index →
+      EachDoes k (labels_in body ++ []) body index left'
   -- and its labels stand where its statements do
   pub marked :
       (k : Block) (body : Y.Stmts) (index : ℕ) → AreStanding k body index →
@@ -48,18 +51,19 @@ pub record BodiesDo : Type 0 where
       (s : Scope) (k : Block) (own : List Label) (most : ℕ) → IsUnraised k most → KnowsRaises s k own most
   -- there numbers may be written by the lists that are known
   pub written :
-      (s : Scope) (k : Block) (most : ℕ) → IsBegun k → (u : IsUnraised k most) →
-      place_of k.call.surroundings.links RaiseError ≡ 4 * (u.routines.at + 8) →
-      ((x : Spot) → is_known s x ≡ true → IsNumber k x) → KnowsLists k → KnowsPuts s k most
+      (s : Scope) (k : Block) (most : ℕ) → IsBegun k → IsUnraised k most →
+      ((x : Spot) → is_known s x ≡ true → IsNumber k x) →
+      (s.elements ≡ true → (x : Spot) → is_array_known s x ≡ true → IsArray k x (bounds_known s x)) →
+      KnowsLists k → KnowsPuts s k most
 
--- a block whose variables and statements are these, and whose temporaries fit registers: they take no words of its
--- frame, and no register that it doesn't save
+-- a block whose variables and statements are these, and whose temporaries fit registers: its frame has the words that
+-- loops set aside and no others, and they take no register that it doesn't save
 pub record TemporariesFit : Type 0 where
   pub words :
       (s : Scope) (valued : Bool) (e : Environment) (block : ℕ) (body : Y.Stmts) →
       are_plain (variables_of_block e.program block) ≡ true →
       are_statements s valued (labels_in body ++ []) body ≡ true → statements_need body ≤ held_registers →
-      block_words e block body ≡ 0
+      block_words e block body ≡ statements_set body
   pub registers :
       (s : Scope) (valued : Bool) (e : Environment) (block : ℕ) (body : Y.Stmts) →
       are_plain (variables_of_block e.program block) ≡ true →

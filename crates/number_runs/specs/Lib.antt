@@ -1,4 +1,6 @@
+pub mod Arrays
 pub mod Numbers
+pub mod Counting
 pub mod Puts
 pub mod Statements
 pub mod Knowledge

@@ -2,11 +2,13 @@
 use Rattle.std.specs.Prelude.{ℕ, suc, ◌^◌, ◌==◌, ◌&&◌, Bool, true, false, List, [], ◌∷◌, max, nat_lt, Option, None}
 use Rattle.std.specs.Prelude.{Some}
 use Rattle.std.specs.List.{list_any}
+use Rattle.pli_typing.specs.Signatures.{Bounds}
 use Rattle.pli_typing.specs.TypedTree as Y
 use Rattle.pli_meaning.specs.Control.{Label}
 use Rattle.pli_meaning.specs.DeclaredShapes.{declared_variable}
 use Rattle.pli_coding.specs.Environments.{BlockPlace}
 use Rattle.expression_runs.specs.Variables.{Spot, variable_of}
+use Rattle.number_runs.specs.Arrays.{bounds_if, is_array_if}
 
 -- ---- what an expression may name
 
@@ -19,11 +21,15 @@ pub record Scope : Type 0 where
   pub blocks : List BlockPlace
   pub is_function : (level number : ℕ) → Bool
   pub is_procedure : (level number : ℕ) → Bool
+  -- whether its loops may count
+  pub counts : Bool
   -- whether statements may write numbers by format lists
   pub puts : Bool
   -- whether expressions may raise FIXEDOVERFLOW, and ZERODIVIDE
   pub overflows : Bool
   pub divides : Bool
+  -- whether they may have elements of arrays, whose subscripts may raise ERROR
+  pub elements : Bool
   -- whether statements may return, and jump to labels of their own lists
   pub own : Bool
   -- the labels to which they may jump out, each of the block around at a level
@@ -85,6 +91,21 @@ is_variable s (Y.Referring v Y.NotLocated part Y.NoNumber) =
     is_automatic v.class && ((part.first == 0) && ((part.count == 1) && is_known s (spot_of v)))
 is_variable s _ = false
 
+-- ---- arrays
+
+-- one that is declared in one of these blocks, and its bounds
+abbrev pub is_array_known : Scope → Spot → Bool
+is_array_known s x = list_any (is_place x) s.blocks && is_array_if (declared_variable s.program (variable_of x))
+
+abbrev pub bounds_known : Scope → Spot → Bounds
+bounds_known s x = bounds_if (declared_variable s.program (variable_of x))
+
+-- an element of one
+abbrev pub is_element : Scope → Y.Variable → Y.Part → Bool
+is_element s v part =
+    s.elements
+    && (is_automatic v.class && ((part.first == 0) && ((part.count == 1) && is_array_known s (spot_of v))))
+
 -- ---- numbers
 
 -- what an operator may raise
@@ -95,7 +116,7 @@ may_calculate s _ = s.overflows
 abbrev mutual
   pub is_number : Scope → Y.Number → Bool
   is_number s (Y.NumberConstant n) = nat_lt n (2 ^ 31)
-  is_number s (Y.NumberIn r) = is_variable s r
+  is_number s (Y.NumberIn r) = is_reference s r
   is_number s (Y.NumberFrom (Y.Calling number level Y.NoArgument)) = s.is_function level number
   is_number s (Y.Signed sign x) = s.overflows && is_number s x
   is_number s (Y.Calculated operator left right) =
@@ -108,6 +129,12 @@ abbrev mutual
       (s.overflows && s.divides) && ((precision == 31) && (is_number s dividend && is_number s divisor))
   is_number s _ = false
 
+  -- a variable, or an element of an array
+  pub is_reference : Scope → Y.Reference → Bool
+  is_reference s (Y.Referring v Y.NotLocated part (Y.NumberThen subscript Y.NoNumber)) =
+      is_element s v part && is_number s subscript
+  is_reference s r = is_variable s r
+
   pub are_numbers : Scope → Y.Numbers → Bool
   are_numbers s Y.NoNumber = true
   are_numbers s (Y.NumberThen first rest) = is_number s first && are_numbers s rest
@@ -115,6 +142,7 @@ abbrev mutual
 -- how many registers its temporaries need
 abbrev mutual
   pub number_needs : Y.Number → ℕ
+  number_needs (Y.NumberIn r) = reference_needs r
   number_needs (Y.Signed sign x) = max (number_needs x) 1
   number_needs (Y.Calculated operator left right) = max (number_needs left) (suc (number_needs right))
   number_needs (Y.Absolute x) = max (number_needs x) 1
@@ -123,6 +151,14 @@ abbrev mutual
   number_needs (Y.Modulo dividend divisor) = max (number_needs dividend) (suc (number_needs divisor))
   number_needs (Y.Divided precision dividend divisor) = max (number_needs dividend) (suc (number_needs divisor))
   number_needs _ = 0
+
+  pub reference_needs : Y.Reference → ℕ
+  reference_needs (Y.Referring v locator part subscripts) = subscripts_need subscripts
+
+  -- all of them wait
+  pub subscripts_need : Y.Numbers → ℕ
+  subscripts_need Y.NoNumber = 0
+  subscripts_need (Y.NumberThen first rest) = max (number_needs first) (suc (subscripts_need rest))
 
   -- one at a time
   pub numbers_need : Y.Numbers → ℕ

@@ -12,7 +12,8 @@ abbrev pub has_format : T.Formats → Bool
 has_format T.NoFormat = false
 has_format (T.FormatThen place repetition first rest) = true
 
--- F items, and X, SKIP and COLUMN, each as often as the language lets it stand, and as wide or as far; and lists of these
+-- F items, and X, SKIP and COLUMN, each as often as the language lets it stand, and as wide or as far; and lists of
+-- these
 abbrev mutual
   pub is_format : T.Format → Bool
   is_format (T.FormatList formats) = has_format formats && are_formats formats

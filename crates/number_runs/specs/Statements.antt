@@ -1,17 +1,18 @@
 -- Statements over such numbers, as a class that is computed from typed trees.
-use Rattle.std.specs.Prelude.{ℕ, ◌^◌, ◌==◌, ◌&&◌, ◌||◌, ◌++◌, Bool, true, false, List, max, nat_lt, not}
+use Rattle.std.specs.Prelude.{ℕ, suc, ◌+◌, ◌^◌, ◌==◌, ◌&&◌, ◌||◌, ◌++◌, Bool, true, false, List, max, nat_lt, not}
 use Rattle.pli_typing.specs.TypedTree as Y
 use Rattle.pli_meaning.specs.Control.{Label, is_among}
 use Rattle.pli_meaning.specs.Executing.{labels_in}
-use Rattle.number_runs.specs.Numbers.{Scope, is_fixed, is_number, is_test, is_variable, number_needs}
-use Rattle.number_runs.specs.Numbers.{test_needs}
+use Rattle.number_runs.specs.Counting.{count_needs, is_count}
+use Rattle.number_runs.specs.Numbers.{Scope, is_fixed, is_number, is_reference, is_test, number_needs}
+use Rattle.number_runs.specs.Numbers.{reference_needs, test_needs}
 use Rattle.number_runs.specs.Puts.{is_put, put_needs}
 
 -- a line fits a register
 abbrev pub is_line : ℕ → Bool
 is_line line = nat_lt line (2 ^ 31)
 
--- a number on its way into a variable
+-- a number on its way into a variable, or into an element
 abbrev pub is_stored : Scope → Y.Stored → Bool
 is_stored s (Y.StoredNumber precision x) = (precision == 31) && is_number s x
 is_stored s _ = false
@@ -26,7 +27,7 @@ abbrev mutual
   pub is_statement : Scope → (valued : Bool) → List Label → Y.Stmt → Bool
   is_statement s valued labels (Y.Null line) = is_line line
   is_statement s valued labels (Y.Assign target source line) =
-      is_line line && (is_variable s target && is_stored s source)
+      is_line line && (is_reference s target && is_stored s source)
   is_statement s valued labels (Y.If condition unit line) =
       is_line line && (is_test s condition && is_statement s valued labels unit)
   is_statement s valued labels (Y.IfElse condition unit otherwise line) =
@@ -36,6 +37,10 @@ abbrev mutual
       is_line line && are_statements s valued (labels_in body ++ labels) body
   is_statement s valued labels (Y.DoWhile condition body line) =
       is_line line && (is_test s condition && are_statements s valued (labels_in body ++ labels) body)
+  is_statement s valued labels (Y.DoCount counter start limit step condition body line) =
+      is_line line
+      && (s.counts
+      && (is_count s counter start limit step condition && are_statements s valued (labels_in body ++ labels) body))
   is_statement s valued labels (Y.CallProcedure (Y.Calling number level Y.NoArgument) line) =
       is_line line && s.is_procedure level number
   is_statement s valued labels (Y.Return line) = is_line line && (s.own && not valued)
@@ -55,12 +60,15 @@ abbrev mutual
 -- how many registers their temporaries need
 abbrev mutual
   pub statement_needs : Y.Stmt → ℕ
-  statement_needs (Y.Assign target source line) = stored_needs source
+  -- the value waits while a subscript is computed
+  statement_needs (Y.Assign target source line) = max (stored_needs source) (suc (reference_needs target))
   statement_needs (Y.If condition unit line) = max (test_needs condition) (statement_needs unit)
   statement_needs (Y.IfElse condition unit otherwise line) =
       max (test_needs condition) (max (statement_needs unit) (statement_needs otherwise))
   statement_needs (Y.Do body line) = statements_need body
   statement_needs (Y.DoWhile condition body line) = max (test_needs condition) (statements_need body)
+  statement_needs (Y.DoCount counter start limit step condition body line) =
+      max (count_needs start limit) (statements_need body)
   statement_needs (Y.ReturnValue type source line) = stored_needs source
   statement_needs (Y.Put skip pairs line) = put_needs pairs
   statement_needs _ = 0
@@ -68,3 +76,17 @@ abbrev mutual
   pub statements_need : Y.Stmts → ℕ
   statements_need (Y.EndOfList own) = 0
   statements_need (Y.StmtThen own first rest) = max (statement_needs first) (statements_need rest)
+
+-- how many words of the frame their loops set aside: limit, step and start before the first turn, and two in each turn
+abbrev mutual
+  pub statement_sets : Y.Stmt → ℕ
+  statement_sets (Y.If condition unit line) = statement_sets unit
+  statement_sets (Y.IfElse condition unit otherwise line) = max (statement_sets unit) (statement_sets otherwise)
+  statement_sets (Y.Do body line) = statements_set body
+  statement_sets (Y.DoWhile condition body line) = statements_set body
+  statement_sets (Y.DoCount counter start limit step condition body line) = max 3 (2 + statements_set body)
+  statement_sets _ = 0
+
+  pub statements_set : Y.Stmts → ℕ
+  statements_set (Y.EndOfList own) = 0
+  statements_set (Y.StmtThen own first rest) = max (statement_sets first) (statements_set rest)

@@ -1,11 +1,13 @@
--- The variables of a procedure's block, all of them FIXED BINARY(31) scalars without INITIAL.
-use Rattle.std.specs.Prelude.{ℕ, ◌+◌, ◌*◌, ◌%◌, ◌^◌, ◌<◌, ◌≤◌, ◌≡◌, ◌&&◌, Bool, true, List, [], ◌∷◌, length, Some}
+-- The variables of a procedure's block: FIXED BINARY(31) scalars and arrays of one dimension, without INITIAL.
+use Rattle.std.specs.Prelude.{ℕ, ◌+◌, ◌%◌, ◌^◌, ◌<◌, ◌≤◌, ◌≡◌, ◌&&◌, ◌||◌, Bool, true, List, [], ◌∷◌, length, Some}
+use Rattle.std.specs.Prelude.{⊤}
 use Rattle.rv_meaning.specs.declared.instr.Instr.{Instr}
+use Rattle.pli_typing.specs.Signatures.{Bounds, data_size, footprint}
 use Rattle.pli_typing.specs.TypedTree as Y
-use Rattle.pli_meaning.specs.Contents.{footprint_of}
-use Rattle.pli_meaning.specs.DeclaredShapes.{declared_variable, variables_of_block}
+use Rattle.pli_meaning.specs.DeclaredShapes.{declared_variable, shape_of, variables_of_block}
 use Rattle.pli_meaning.specs.StorageState.{automatic_in_use, most_automatic}
 use Rattle.pli_serving.specs.Templates.{shape_at}
+use Rattle.pli_types.specs.Templates.{Template}
 use Rattle.pli_coding.specs.Entries.{variables_code}
 use Rattle.pli_coding.specs.Environments.{Environment}
 use Rattle.pli_coding.specs.Frames.{fixed_size, last_place, parameters_of_block}
@@ -16,50 +18,62 @@ use Rattle.block_runs.specs.Machines.{HasParts}
 use Rattle.program_runs.specs.Calls.{Callee, begun_at, block_at}
 use Rattle.program_runs.specs.Procedures.{layer_for}
 use Rattle.program_runs.specs.Statements.{Block, IsAmong, IsBegun}
-use Rattle.program_runs.specs.Variables.{Declared, generation_for}
-use Rattle.expression_runs.specs.Variables.{IsNumber, Spot, number_declared, number_shape, variable_of}
+use Rattle.program_runs.specs.Variables.{Declared}
+use Rattle.expression_runs.specs.Variables.{IsNumber, Spot, variable_of}
 use Rattle.variable_runs.specs.Lists.{AreAll, newest_all}
 use Rattle.function_runs.specs.Functions.{function_block}
+use Rattle.element_runs.specs.Arrays.{IsArray}
+use Rattle.number_runs.specs.Arrays.{bounds_if, is_array, is_array_if}
 use Rattle.number_runs.specs.Numbers.{is_plain, is_plain_if}
+
+-- a scalar, or an array
+abbrev pub is_declared : Y.DeclaredVariable → Bool
+is_declared d = is_plain d || is_array d
 
 abbrev pub are_plain : List Y.DeclaredVariable → Bool
 are_plain [] = true
-are_plain (d ∷ ds) = is_plain d && are_plain ds
+are_plain (d ∷ ds) = is_declared d && are_plain ds
 
 -- ---- as they are made
 
--- one of them, with the number of its signature, where its name stands in the frame, and its index
-abbrev pub word_made : (number place index : ℕ) → Declared
-word_made number place index =
-    record { index = index; declared = number_declared []; number = number; place = place }
+-- what one takes in a frame, its name and its data in whole multiples of 16, and what it counts for in AUTOMATIC
+-- storage
+abbrev pub variable_bytes : Y.DeclaredVariable → ℕ
+variable_bytes d = footprint (data_size (shape_of [] d).signature)
 
--- what one takes in a frame: its name, and 16 bytes for its data
-abbrev pub word_bytes : ℕ
-word_bytes = 32
+abbrev pub bytes_of : List Y.DeclaredVariable → ℕ
+bytes_of [] = 0
+bytes_of (d ∷ ds) = variable_bytes d + bytes_of ds
 
-abbrev pub words_from : (number place index : ℕ) → List Y.DeclaredVariable → List Declared
-words_from number place index [] = []
-words_from number place index (d ∷ ds) =
-    word_made number place index ∷ words_from number (place + word_bytes) (index + 1) ds
+-- each with the number of its signature, where its name stands in the frame, and its index
+abbrev pub words_from : Environment → (place index : ℕ) → List Y.DeclaredVariable → List Declared
+words_from e place index [] = []
+words_from e place index (d ∷ ds) =
+    record { index = index; declared = d; number = table_number e d; place = place }
+    ∷ words_from e (place + variable_bytes d) (index + 1) ds
 
 -- those of the block whose code has an environment
 abbrev pub words_in : Environment → List Declared
-words_in e =
-    words_from (table_number e (number_declared [])) (fixed_size e.level 0) 0 (variables_of_block e.program e.block)
+words_in e = words_from e (fixed_size e.level 0) 0 (variables_of_block e.program e.block)
 
--- what one counts for in AUTOMATIC storage
-abbrev pub word_counts : ℕ
-word_counts = footprint_of (generation_for (word_made 0 0 0))
-
--- so many can be made in the newest block, the first of them at a place of its frame
-pub record HaveRoom (w : Surroundings) (p : Point) (φ : Layer) (φs : List Layer) (place count : ℕ) : Type 0 where
+-- so many bytes can be made in the newest block, from a place of its frame on
+pub record HaveRoom (w : Surroundings) (p : Point) (φ : Layer) (φs : List Layer) (place bytes : ℕ) : Type 0 where
   pub newest : p.control.layers ≡ φ ∷ φs
   pub here : φ.at + place ≡ φ.top
   pub even : φ.top % 16 ≡ 0
-  pub counted : place + word_bytes * count ≤ last_place
-  pub fits : φ.top + word_bytes * count ≤ φ.lower
+  pub counted : place + bytes ≤ last_place
+  pub fits : φ.top + bytes ≤ φ.lower
   pub low : p.places.low ≤ w.parts.stack_start
-  pub limit : automatic_in_use p.state.living + word_counts * count ≤ most_automatic
+  pub limit : automatic_in_use p.state.living + bytes ≤ most_automatic
+
+-- the table has the signature of each
+pub record IsTabled (e : Environment) (signatures : List Template) (d : Y.DeclaredVariable) : Type 0 where
+  pub small : table_number e d < 2 ^ 31
+  pub shape : shape_at signatures (table_number e d) ≡ Some (shape_of [] d)
+
+abbrev pub AreTabled : Environment → List Template → List Y.DeclaredVariable → Type 0
+AreTabled e signatures [] = ⊤
+AreTabled e signatures (d ∷ ds) = IsTabled e signatures d × AreTabled e signatures ds
 
 -- ---- those of a procedure
 
@@ -74,20 +88,26 @@ pub record HasWords (w : Surroundings) (c : Callee) (p : Point) (numbers : ℕ �
   pub made : c.made ≡ newest_all w.parts (words_in c.environment)
   pub plain : are_plain (variables_of_block c.environment.program c.environment.block) ≡ true
   pub few : length (variables_of_block c.environment.program c.environment.block) ≤ w.serials
-  pub small : table_number c.environment (number_declared []) < 2 ^ 31
-  pub shape :
-      0 < length (variables_of_block c.environment.program c.environment.block) →
-      shape_at p.places.signatures (table_number c.environment (number_declared [])) ≡ Some number_shape
+  pub tabled :
+      AreTabled c.environment p.places.signatures (variables_of_block c.environment.program c.environment.block)
   pub room :
       HaveRoom w (begun_at w c p numbers) (layer_for w p numbers c.procedure c.calling) p.control.layers
       (fixed_size c.environment.level 0)
-      (length (variables_of_block c.environment.program c.environment.block))
+      (bytes_of (variables_of_block c.environment.program c.environment.block))
 
--- one of the block's variables
+-- one of the block's variables: a number, or an array
 pub record IsOwnWord (c : Callee) (x : Spot) : Type 0 where
   pub block : x.block ≡ c.environment.block
   pub level : x.level ≡ c.environment.level
   pub plain : is_plain_if (declared_variable c.environment.program (variable_of x)) ≡ true
+
+pub record IsOwnArray (c : Callee) (x : Spot) : Type 0 where
+  pub block : x.block ≡ c.environment.block
+  pub level : x.level ≡ c.environment.level
+  pub array : is_array_if (declared_variable c.environment.program (variable_of x)) ≡ true
+
+abbrev pub own_bounds : Callee → Spot → Bounds
+own_bounds c x = bounds_if (declared_variable c.environment.program (variable_of x))
 
 pub record WordsMade : Type 0 where
   -- the procedure makes them, if they have room
@@ -108,3 +128,12 @@ pub record WordsMade : Type 0 where
       (w : Surroundings) (code : List Instr) (c : Callee) (p q : Point) (numbers : ℕ → ℕ) (x : Spot) →
       HasParts w.parts → HasWords w c q numbers × AreAll w c p numbers (words_in c.environment) → IsOwnWord c x →
       IsBegun (function_block w code c p numbers) → IsNumber (function_block w code c p numbers) x
+  -- or an array of it
+  pub own_array :
+      (w : Surroundings) (code : List Instr) (c : Callee) (p q : Point) (numbers : ℕ → ℕ) (x : Spot) →
+      HasParts w.parts → HasWords w c q numbers × AreAll w c p numbers (words_in c.environment) → IsOwnArray c x →
+      IsBegun (block_at w code c p numbers) → IsArray (block_at w code c p numbers) x (own_bounds c x)
+  pub function_array :
+      (w : Surroundings) (code : List Instr) (c : Callee) (p q : Point) (numbers : ℕ → ℕ) (x : Spot) →
+      HasParts w.parts → HasWords w c q numbers × AreAll w c p numbers (words_in c.environment) → IsOwnArray c x →
+      IsBegun (function_block w code c p numbers) → IsArray (function_block w code c p numbers) x (own_bounds c x)

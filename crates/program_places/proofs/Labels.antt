@@ -13,7 +13,7 @@ use Rattle.pli_coding.specs.Environments.{Environment, Taken, none_taken}
 use Rattle.pli_coding.specs.Linking.{Links, marked_place}
 use Rattle.pli_coding.specs.Statements.{marked, stmt_code, stmts_code}
 use Rattle.code_marks.proofs.DataOnce.{same_bytes-equal}
-use Rattle.program_runs.specs.Statements.{AreMarked, StandAt}
+use Rattle.program_runs.specs.Statements.{AreMarked, AreMarkedWith, StandAt, set_aside}
 use Rattle.program_places.specs.Laws.{IsLabel}
 use Rattle.program_places.specs.Placed.{MarksStand, Placed}
 use Rattle.program_places.proofs.Marks.{placed_back, placed_front}
@@ -36,18 +36,24 @@ labels_stand links block i (l ∷ ls) m label among =
     (labels_stand links block i ls (subst (λ n. MarksStand links n (marked block ls)) same m.1))
     (or_cases (same_bytes label l) (is_among label ls) among)
 
+pub marked_with :
+    (words : ℕ) (links : Links) (code : List Instr) (i : ℕ) (e : Environment) (body : Y.Stmts) →
+    Placed links code i (stmts_code e (set_aside words) body) → AreMarkedWith words links e body i
+marked_with words links code i e (Y.EndOfList own) p = labels_stand links e.block i own p.marks
+marked_with words links code i e (Y.StmtThen own first rest) p =
+    let labels = marked e.block own in
+    let one = stmt_code e (set_aside words) first in
+    let more = stmts_code e (set_aside words) rest in (
+      labels_stand links e.block i own (placed_front labels (one ++ more) p).marks,
+      marked_with words links code (i + size_of labels + size_of one) e rest
+          (placed_back one more (placed_back labels (one ++ more) p)),
+    )
+
+-- where no words are set aside
 pub are_marked :
     (links : Links) (code : List Instr) (i : ℕ) (e : Environment) (body : Y.Stmts) →
     Placed links code i (stmts_code e none_taken body) → AreMarked links e body i
-are_marked links code i e (Y.EndOfList own) p = labels_stand links e.block i own p.marks
-are_marked links code i e (Y.StmtThen own first rest) p =
-    let labels = marked e.block own in
-    let one = stmt_code e none_taken first in
-    let more = stmts_code e none_taken rest in (
-      labels_stand links e.block i own (placed_front labels (one ++ more) p).marks,
-      are_marked links code (i + size_of labels + size_of one) e rest
-          (placed_back one more (placed_back labels (one ++ more) p)),
-    )
+are_marked links code i e body p = marked_with 0 links code i e body p
 
 -- ---- one label
 

@@ -21,7 +21,7 @@ use Rattle.program_runs.specs.Calls.{AreMade, IsCallee}
 use Rattle.program_runs.specs.Procedures.{HasRoom}
 use Rattle.program_runs.specs.Programs.{IsWhole, main_of}
 use Rattle.program_runs.specs.Starts.{IsStart, no_numbers, start_point, surroundings_of}
-use Rattle.program_runs.specs.Statements.{AreMarked}
+use Rattle.program_runs.specs.Statements.{AreMarkedWith, set_aside}
 use Rattle.expression_runs.specs.Raises.{Routines}
 use Rattle.function_runs.specs.Functions.{IsFunction}
 use Rattle.program_places.specs.Placed.{Placed}
@@ -52,10 +52,10 @@ pub record IsLabel (links : Links) (block : ℕ) (label : Label) : Type 0 where
   pub near : at ≤ most_code
 
 pub record ListsPlaced : Type 0 where
-  -- a list of statements, a group's, too, has its labels where its statements stand
+  -- a list of statements, a group's, too, has its labels where its statements stand, whatever words are set aside
   pub marked :
-      (links : Links) (code : List Instr) (i : ℕ) (e : Environment) (body : Y.Stmts) →
-      Placed links code i (stmts_code e none_taken body) → AreMarked links e body i
+      (words : ℕ) (links : Links) (code : List Instr) (i : ℕ) (e : Environment) (body : Y.Stmts) →
+      Placed links code i (stmts_code e (set_aside words) body) → AreMarkedWith words links e body i
   pub labels :
       (links : Links) (code : List Instr) (i : ℕ) (e : Environment) (t : Taken) (body : Y.Stmts) →
       Placed links code i (stmts_code e t body) → (label : Label) → is_among label (labels_in body) ≡ true →

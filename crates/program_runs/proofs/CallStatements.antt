@@ -1,4 +1,5 @@
 -- The statement CALL in the block that declares the procedure.
+use Rattle.std.proofs.Common.{◌<◌, ◌^◌}
 use Rattle.std.proofs.Common.{◌≡◌, ℕ, suc, ◌+◌, ◌≤◌, List, [], ◌∷◌, ◌++◌, length, Option, Some, true}
 use Rattle.std.proofs.Common.{refl, sym, ap, ◌∙◌, subst, arith}
 use Rattle.std.proofs.lemmas.Bool.{eq-eqb}
@@ -15,7 +16,6 @@ use Rattle.pli_meaning.specs.StorageState.{most_activations}
 use Rattle.pli_meaning.specs.World.{World, counted}
 use Rattle.pli_coding.specs.Allocating.{act_code}
 use Rattle.pli_coding.specs.Assembly.{size_of}
-use Rattle.pli_coding.specs.Environments.{none_taken}
 use Rattle.pli_coding.specs.Frames.{fixed_size}
 use Rattle.activation_relation.specs.Chains.{AreActive, HasParent, frame_at}
 use Rattle.activation_relation.specs.Frames.{frame_under, lower_end}
@@ -33,10 +33,11 @@ use Rattle.block_runs.specs.CallStatements.{CallStatement}
 use Rattle.block_runs.specs.Machines.{IsIn, AreIn, acted}
 use Rattle.block_runs.proofs.CallStatements.{comes_map, arguments_given, own_code, given_code, call_code_of}
 use Rattle.block_runs.proofs.PointActs.{act_comes}
-use Rattle.program_runs.specs.Calls.{AreMade, Callee, IsCall, called_at, block_at, body_index, call_of, labels_of}
-use Rattle.program_runs.specs.Calls.{left_over}
+use Rattle.program_runs.specs.Calls.{AreMade, Callee, IsCall, IsCallWith, called_at, block_at, body_index, call_of}
+use Rattle.program_runs.specs.Calls.{labels_of, left_over}
 use Rattle.program_runs.specs.Procedures.{HasRoom, beginning_for, block_of, frame_for}
-use Rattle.program_runs.specs.Statements.{Block, IsAmong, IsBegun, GoesOn, Does, EachDoes, size_in, statement_aims}
+use Rattle.program_runs.specs.Statements.{Block, Does, DoesWith, EachDoes, GoesOn, IsAmong, IsBegun, set_aside}
+use Rattle.program_runs.specs.Statements.{size_with, statement_aims}
 use Rattle.program_runs.proofs.Calls.{BodyComes, body_goes, procedure_comes}
 use Rattle.program_runs.proofs.NewestBlocks.{Newest, newest_ancestor, newest_at}
 use Rattle.program_runs.proofs.Statements.{acted_among, statement_closed}
@@ -44,8 +45,8 @@ use Rattle.program_runs.proofs.Statements.{acted_among, statement_closed}
 -- ---- the running block is the static parent
 
 parent_height :
-    {k : Block} {c : Callee} {line index more : ℕ} {p : Point} → IsCall k c line index more → Newest k p →
-    height_of (ancestor_at p.state k.environment.level) ≡ c.calling.parent
+    {words : ℕ} {k : Block} {c : Callee} {line index more : ℕ} {p : Point} → IsCallWith words k c line index more →
+    Newest k p → height_of (ancestor_at p.state k.environment.level) ≡ c.calling.parent
 parent_height {k} h n =
     let height = n.height in
     let parent = h.parent in
@@ -58,8 +59,8 @@ pub newest_frame_at :
 newest_frame_at φ φs n e = ap (λ q. cond q φ.at (frame_at φs n)) (eq-eqb n (suc (length φs)) e)
 
 parent_frame :
-    {k : Block} {c : Callee} {line index more : ℕ} {p : Point} → IsCall k c line index more → Newest k p →
-    frame_at p.control.layers c.calling.parent ≡ frame_under k.call.surroundings.parts p.control.layers
+    {words : ℕ} {k : Block} {c : Callee} {line index more : ℕ} {p : Point} → IsCallWith words k c line index more →
+    Newest k p → frame_at p.control.layers c.calling.parent ≡ frame_under k.call.surroundings.parts p.control.layers
 parent_frame {k} {c} h n =
     let parts = k.call.surroundings.parts in
     let many = n.many in
@@ -70,8 +71,8 @@ parent_frame {k} {c} h n =
 -- ---- at each of the block's points
 
 room_among :
-    {k : Block} {c : Callee} {line index more : ℕ} {numbers : ℕ → ℕ} {p : Point} → IsCall k c line index more →
-    IsAmong k numbers p → HasRoom k.call.surroundings p c.procedure c.calling
+    {words : ℕ} {k : Block} {c : Callee} {line index more : ℕ} {numbers : ℕ → ℕ} {p : Point} →
+    IsCallWith words k c line index more → IsAmong k numbers p → HasRoom k.call.surroundings p c.procedure c.calling
 room_among {k} {c} h o =
     let parts = k.call.surroundings.parts in
     let x = c.procedure in
@@ -85,8 +86,8 @@ room_among {k} {c} h o =
 
 -- what the call means
 called_means :
-    {k : Block} {c : Callee} {line index more : ℕ} {p : Point} → IsCall k c line index more → Newest k p →
-    V.called (at_line k.around line) (Y.Calling c.procedure.head.number k.environment.level Y.NoArgument)
+    {words : ℕ} {k : Block} {c : Callee} {line index more : ℕ} {p : Point} → IsCallWith words k c line index more →
+    Newest k p → V.called (at_line k.around line) (Y.Calling c.procedure.head.number k.environment.level Y.NoArgument)
     k.call.surroundings.acts p.state
     ≡ M.block_run c.around (block_of c.procedure) (begun (block_of c.procedure) c.calling.parent)
     k.call.surroundings.acts p.state
@@ -103,13 +104,14 @@ called_means {k} {c} {line} {more = more} {p = p} h n =
 
 -- ---- the statement
 
-abbrev pub statement_at : Block → Callee → (line index : ℕ) → Point → (numbers : ℕ → ℕ) → CallStatement
-statement_at k c line index p numbers =
+abbrev pub statement_with :
+    (words : ℕ) → Block → Callee → (line index : ℕ) → Point → (numbers : ℕ → ℕ) → CallStatement
+statement_with words k c line index p numbers =
     record {
       surroundings = k.call.surroundings;
       code = k.call.code;
       environment = k.environment;
-      taken = none_taken;
+      taken = set_aside words;
       around = k.around;
       line = line;
       index = index;
@@ -117,16 +119,20 @@ statement_at k c line index p numbers =
       entry = c.calling.entry;
     }
 
+abbrev pub statement_at : Block → Callee → (line index : ℕ) → Point → (numbers : ℕ → ℕ) → CallStatement
+statement_at k c line index p numbers = statement_with 0 k c line index p numbers
+
 abbrev behind_call : Option BasicValue → Meaning (Unit {0})
 behind_call r = give tt
 
 -- behind the call its block goes on
 behind_goes :
-    {k : Block} {c : Callee} {acts line index more wanted credits : ℕ} {numbers : ℕ → ℕ} {p : Point} {f : Family}
-    {r : Option BasicValue} {s : State} {v : _} (h : IsCall k c line index more) (o : IsAmong k numbers p) →
+    {words : ℕ} {k : Block} {c : Callee} {acts line index more wanted credits : ℕ} {numbers : ℕ → ℕ} {p : Point}
+    {f : Family}
+    {r : Option BasicValue} {s : State} {v : _} (h : IsCallWith words k c line index more) (o : IsAmong k numbers p) →
     acts ≤ p.state.world.acts →
     IsBehind (called_at k.call.surroundings k.call.code c p numbers) wanted credits f v r s →
-    GoesOn k acts (index + size_in k (call_of k c line)) wanted credits f v s
+    GoesOn k acts (index + size_with words k (call_of k c line)) wanted credits f v s
 behind_goes {k} {numbers = numbers} {p = p} h o since q =
     let w = k.call.surroundings in
     let more = q.later.acts in
@@ -148,38 +154,39 @@ behind_goes {k} {numbers = numbers} {p = p} h o since q =
     }
 
 call_goes :
-    (k : Block) (c : Callee) (labels : List Label) (acts line index left' more : ℕ) (h : IsCall k c line index more)
+    (words : ℕ) → words < 2 ^ 20 → (k : Block) (c : Callee) (labels : List Label) (acts line index left' more : ℕ)
+    (h : IsCallWith words k c line index more)
     (p : Point) (numbers : ℕ → ℕ) (wanted : ℕ) (f : Family) (o : IsAmong k numbers p) → IsBegun k →
     acts ≤ p.state.world.acts → AreMade k.call.surroundings k.call.code c p numbers →
     BodyComes k.call.surroundings k.call.code c p numbers →
     Linked k.call.surroundings.links k.call.code (index + size_of (act_code line))
-    (given_code (statement_at k c line index p numbers) ++ call_code_of (statement_at k c line index p numbers)) →
-    size_in k (call_of k c line)
+    (given_code (statement_with words k c line index p numbers) ++ call_code_of (statement_with words k c line index p
+    numbers)) → size_with words k (call_of k c line)
     ≡ size_of (act_code line)
-    + size_of (given_code (statement_at k c line index p numbers)
-    ++ call_code_of (statement_at k c line index p numbers)) →
+    + size_of (given_code (statement_with words k c line index p numbers)
+    ++ call_code_of (statement_with words k c line index p numbers)) →
     AreIn k.call.surroundings p numbers (index + size_of (act_code line)) f →
     Comes k.call.code 0 f (services_of p)
-    (before k.call.code (statement_aims k labels acts (index + size_in k (call_of k c line)) wanted left')
+    (before k.call.code (statement_aims k labels acts (index + size_with words k (call_of k c line)) wanted left')
     k.call.surroundings.acts behind_call)
     (M.block_run c.around (block_of c.procedure) (begun (block_of c.procedure) c.calling.parent)
     k.call.surroundings.acts p.state)
 unfolding give
-call_goes k c labels acts line index left' more h p numbers wanted f o b since made' body l size there =
+call_goes words low k c labels acts line index left' more h p numbers wanted f o b since made' body l size there =
     let w = k.call.surroundings in
-    let z = statement_at k c line index p numbers in
+    let z = statement_with words k c line index p numbers in
     let given' = given_code z in
     let call = call_code_of z in
     let n = size_append given' call in
     let inside = l.inside in
     let proc = h.callee.stands.inside in
     let at_call = h.call in
-    let aims = statement_aims k labels acts (index + size_in k (call_of k c line)) wanted left' in
+    let aims = statement_aims k labels acts (index + size_with words k (call_of k c line)) wanted left' in
     let flow = M.block_run c.around (block_of c.procedure) (begun (block_of c.procedure) c.calling.parent) w.acts
     p.state in
-    let closed = statement_closed k labels acts (index + size_in k (call_of k c line)) wanted left' in
+    let closed = statement_closed k labels acts (index + size_with words k (call_of k c line)) wanted left' in
     onward (before_closed w.acts behind_call closed)
-    (arguments_given z p numbers (index + size_of (act_code line)) 0 f o.stands o.image (omega arith, refl)
+    (arguments_given z p numbers (index + size_of (act_code line)) 0 f o.stands o.image (low, refl)
     (parent_frame h (newest_at b o)) (front_of given' call l) there)
     (λ g at.
     comes_map (behind_aims (called_at w k.call.code c p numbers) wanted)
@@ -193,18 +200,18 @@ call_goes k c labels acts line index left' more h p numbers wanted f o b since m
     (λ b. (at b).1)))
 
 -- if the procedure's body comes to its end
-pub call_comes :
-    (k : Block) (c : Callee) (line index left' more : ℕ) → IsCall k c line index more →
-    ((p : Point) (numbers : ℕ → ℕ) → IsAmong k numbers p →
+pub comes_with :
+    (words : ℕ) → words < 2 ^ 20 → (k : Block) (c : Callee) (line index left' more : ℕ) →
+    IsCallWith words k c line index more → ((p : Point) (numbers : ℕ → ℕ) → IsAmong k numbers p →
     AreMade k.call.surroundings k.call.code c p numbers) →
     ((p : Point) (numbers : ℕ → ℕ) → IsAmong k numbers p →
     BodyComes k.call.surroundings k.call.code c p numbers) → IsBegun k → (labels : List Label) →
-    Does k labels (call_of k c line) index left'
+    DoesWith words k labels (call_of k c line) index left'
 unfolding M.statement ◌>>=◌ ◌>>◌
-call_comes k c line index left' more h made' body b labels p numbers credits wanted f o paid there =
+comes_with words low k c line index left' more h made' body b labels p numbers credits wanted f o paid there =
     let w = k.call.surroundings in
     let p' = acted line p in
-    let z = statement_at k c line index p' numbers in
+    let z = statement_with words k c line index p' numbers in
     let one = act_code line in
     let given' = given_code z in
     let call = call_code_of z in
@@ -214,7 +221,7 @@ call_comes k c line index left' more h made' body b labels p numbers credits wan
     let tree = Y.Calling c.procedure.head.number k.environment.level Y.NoArgument in
     let tail : Unit {0} → Meaning (Unit {0}) = λ u. V.called (at_line k.around line) tree >> give tt in
     let acts = p.state.world.acts in
-    let closed = statement_closed k labels acts (index + size_in k (call_of k c line)) wanted left' in
+    let closed = statement_closed k labels acts (index + size_with words k (call_of k c line)) wanted left' in
     comes_on w.acts (act counted w.acts p.state) tail
     (act_comes (before_closed w.acts tail closed) line credits 0 f (o.stands, o.image)
     (h.line_fits, h.callee.acts, omega (arith, paid, n0, size)) (front_of one (given' ++ call) l) there
@@ -222,11 +229,39 @@ call_comes k c line index left' more h made' body b labels p numbers credits wan
     let o' = acted_among line o less in
     comes_on w.acts (V.called (at_line k.around line) tree w.acts p'.state) behind_call
     (subst (Comes k.call.code 0 g (services_of p')
-    (before k.call.code (statement_aims k labels acts (index + size_in k (call_of k c line)) wanted left') w.acts
-    behind_call))
+    (before k.call.code (statement_aims k labels acts (index + size_with words k (call_of k c line)) wanted left')
+    w.acts behind_call))
     (sym (called_means h (newest_at b o')))
-    (call_goes k c labels acts line index left' more h p' numbers wanted g o' b (omega arith) (made' p' numbers o')
-    (body p' numbers o') (back_of one (given' ++ call) l) (size ∙ n0) at))))
+    (call_goes words low k c labels acts line index left' more h p' numbers wanted g o' b (omega arith)
+    (made' p' numbers o') (body p' numbers o') (back_of one (given' ++ call) l) (size ∙ n0) at))))
+
+-- where no words are set aside
+pub call_comes :
+    (k : Block) (c : Callee) (line index left' more : ℕ) → IsCall k c line index more →
+    ((p : Point) (numbers : ℕ → ℕ) → IsAmong k numbers p →
+    AreMade k.call.surroundings k.call.code c p numbers) →
+    ((p : Point) (numbers : ℕ → ℕ) → IsAmong k numbers p →
+    BodyComes k.call.surroundings k.call.code c p numbers) → IsBegun k → (labels : List Label) →
+    Does k labels (call_of k c line) index left'
+call_comes k c line index left' more h made' body = comes_with 0 (omega arith) k c line index left' more h made' body
+
+pub call_with :
+    (words : ℕ) → words < 2 ^ 20 → (k : Block) (c : Callee) (line index left' more : ℕ) →
+    IsCallWith words k c line index more → ((p : Point) (numbers : ℕ → ℕ) → IsAmong k numbers p →
+    AreMade k.call.surroundings k.call.code c p numbers) →
+    ((p : Point) (numbers : ℕ → ℕ) → IsAmong k numbers p →
+    IsBegun (block_at k.call.surroundings k.call.code c p numbers) →
+    EachDoes (block_at k.call.surroundings k.call.code c p numbers) (labels_of c) c.procedure.body (body_index c)
+    left_over) → IsBegun k → (labels : List Label) → DoesWith words k labels (call_of k c line) index left'
+call_with words low k c line index left' more h made' each =
+    let enough = h.enough in
+    let turns = ap (λ (a : Around). a.turns) h.around in
+    comes_with words low k c line index left' more h made'
+    (λ p numbers o b o' f at.
+    let later = o.later.acts in
+    let same = ap (λ (u : World). u.acts) (made' p numbers o).world in
+    body_goes k.call.surroundings k.call.code c p numbers f h.callee b o' (each p numbers o b)
+    (omega (arith, enough, turns, later, same)) at)
 
 pub call_does :
     (k : Block) (c : Callee) (line index left' more : ℕ) → IsCall k c line index more →
@@ -236,12 +271,4 @@ pub call_does :
     IsBegun (block_at k.call.surroundings k.call.code c p numbers) →
     EachDoes (block_at k.call.surroundings k.call.code c p numbers) (labels_of c) c.procedure.body (body_index c)
     left_over) → IsBegun k → (labels : List Label) → Does k labels (call_of k c line) index left'
-call_does k c line index left' more h made' each =
-    let enough = h.enough in
-    let turns = ap (λ (a : Around). a.turns) h.around in
-    call_comes k c line index left' more h made'
-    (λ p numbers o b o' f at.
-    let later = o.later.acts in
-    let same = ap (λ (u : World). u.acts) (made' p numbers o).world in
-    body_goes k.call.surroundings k.call.code c p numbers f h.callee b o' (each p numbers o b)
-    (omega (arith, enough, turns, later, same)) at)
+call_does k c line index left' more h made' each = call_with 0 (omega arith) k c line index left' more h made' each

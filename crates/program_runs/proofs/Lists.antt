@@ -27,8 +27,8 @@ use Rattle.run_steps.specs.Reach.{Aims, Family, Comes, before, cost}
 use Rattle.run_steps.proofs.Reach.{comes_on, onward, reach_with}
 use Rattle.block_runs.specs.Machines.{AreIn}
 use Rattle.block_runs.proofs.CallStatements.{comes_map}
-use Rattle.program_runs.specs.Statements.{AreMarked, Block, EachDoes, GoesOn, IsAmong, IsBegun, JumpsOut, LandsAt}
-use Rattle.program_runs.specs.Statements.{own_height, statement_aims}
+use Rattle.program_runs.specs.Statements.{AreMarked, AreMarkedWith, Block, EachDoes, EachDoesWith, GoesOn, IsAmong}
+use Rattle.program_runs.specs.Statements.{IsBegun, JumpsOut, LandsAt, own_height, set_aside, statement_aims}
 use Rattle.program_runs.proofs.JumpsOut.{jumps_since, outs_low}
 use Rattle.program_runs.proofs.NewestBlocks.{newest_at, newest_own}
 use Rattle.program_runs.proofs.Statements.{goes_here, statement_closed}
@@ -88,24 +88,25 @@ comes_since {k} {labels} {acts} {more} {index} {wanted} {left'} {flow = flow} fe
 -- ---- statements, from the first on
 
 statements_do :
-    (k : Block) (labels : List Label) (body : Y.Stmts) (acts index left' c wanted : ℕ) (p : Point)
-    (numbers : ℕ → ℕ) (f : Family) → acts ≤ p.state.world.acts → EachDoes k labels body index left' →
+    (words : ℕ) (k : Block) (labels : List Label) (body : Y.Stmts) (acts index left' c wanted : ℕ) (p : Point)
+    (numbers : ℕ → ℕ) (f : Family) → acts ≤ p.state.world.acts → EachDoesWith words k labels body index left' →
     IsAmong k numbers p →
-    Linked k.call.surroundings.links k.call.code index (stmts_code k.environment none_taken body) →
-    (c ≤ wanted) × (c + size_of (stmts_code k.environment none_taken body) ≤ cost k.call.code) →
+    Linked k.call.surroundings.links k.call.code index (stmts_code k.environment (set_aside words) body) →
+    (c ≤ wanted) × (c + size_of (stmts_code k.environment (set_aside words) body) ≤ cost k.call.code) →
     AreIn k.call.surroundings p numbers index f →
     Comes k.call.code c f (services_of p)
-    (statement_aims k labels acts (index + size_of (stmts_code k.environment none_taken body)) wanted left')
+    (statement_aims k labels acts (index + size_of (stmts_code k.environment (set_aside words) body)) wanted left')
     (M.statements k.around body None k.call.surroundings.acts p.state)
 unfolding M.statements give choose ◌>>◌
-statements_do k labels (Y.EndOfList own) acts index left' c wanted p numbers f since each o l fits there =
+statements_do words k labels (Y.EndOfList own) acts index left' c wanted p numbers f since each o l fits there =
     let n = marked_size k.environment.block own in
     record { to = none_left k acts _ c wanted p numbers f since o fits.0 (moved_in k f (omega (arith, n)) there) }
-statements_do k labels (Y.StmtThen own first rest) acts index left' c wanted p numbers f since each o l fits there =
+statements_do words k labels (Y.StmtThen own first rest) acts index left' c wanted p numbers f since each o l fits
+    there =
     let w = k.call.surroundings in
     let marks = marked k.environment.block own in
-    let one = stmt_code k.environment none_taken first in
-    let more = stmts_code k.environment none_taken rest in
+    let one = stmt_code k.environment (set_aside words) first in
+    let more = stmts_code k.environment (set_aside words) rest in
     let n = marked_size k.environment.block own in
     let n0 = size_append marks (one ++ more) in
     let n1 = size_append one more in
@@ -126,8 +127,8 @@ statements_do k labels (Y.StmtThen own first rest) acts index left' c wanted p n
     subst (λ u. Comes k.call.code c' f' v' goal (M.statements k.around rest None w.acts u)) (sym q.state)
     (onward (statement_closed k labels acts (i + size_of one + size_of more) wanted left') q.reach
     (λ g at.
-    statements_do k labels rest acts (i + size_of one) left' 0 wanted q.point q.numbers g (omega (arith, since, later))
-    each.1 q.among l2 (omega arith, omega (arith, n0, n1, inside)) at)))
+    statements_do words k labels rest acts (i + size_of one) left' 0 wanted q.point q.numbers g
+    (omega (arith, since, later)) each.1 q.among l2 (omega arith, omega (arith, n0, n1, inside)) at)))
     (λ c' f' v' height label s q. jumps_since since q)
     (λ c' f' v' r s q. q)
     (each.0 p numbers c 0 f o (omega (arith, n0, n1, paid)) (moved_in k f (omega (arith, n)) there))))
@@ -147,33 +148,34 @@ or_else label (x ∷ xs) ys e f = by (same_bytes label x) e f (λ a b. or_else l
     by false e f rest = rest e f
 
 sought_do :
-    (k : Block) (labels : List Label) (label : Label) (body : Y.Stmts) (index left' wanted at : ℕ) (p : Point)
-    (numbers : ℕ → ℕ) (f : Family) → EachDoes k labels body index left' →
-    AreMarked k.call.surroundings.links k.environment body index → IsAmong k numbers p →
-    Linked k.call.surroundings.links k.call.code index (stmts_code k.environment none_taken body) →
+    (words : ℕ) (k : Block) (labels : List Label) (label : Label) (body : Y.Stmts) (index left' wanted at : ℕ)
+    (p : Point) (numbers : ℕ → ℕ) (f : Family) → EachDoesWith words k labels body index left' →
+    AreMarkedWith words k.call.surroundings.links k.environment body index → IsAmong k numbers p →
+    Linked k.call.surroundings.links k.call.code index (stmts_code k.environment (set_aside words) body) →
     is_among label (M.labels_in body) ≡ true →
     place_of k.call.surroundings.links (LabelPlace k.environment.block label) ≡ 4 * at →
     AreIn k.call.surroundings p numbers at f →
     Comes k.call.code 0 f (services_of p)
-    (statement_aims k labels p.state.world.acts (index + size_of (stmts_code k.environment none_taken body)) wanted
-    left')
+    (statement_aims k labels p.state.world.acts (index + size_of (stmts_code k.environment (set_aside words) body))
+    wanted left')
     (M.statements k.around body (Some label) k.call.surroundings.acts p.state)
 unfolding M.statements give choose ◌>>◌
-sought_do k labels label (Y.EndOfList own) index left' wanted at p numbers f each marks o l among place there =
+sought_do words k labels label (Y.EndOfList own) index left' wanted at p numbers f each marks o l among place there =
     let n = marked_size k.environment.block own in
     let here = marks label among in
     record {
       to = none_left k p.state.world.acts _ 0 wanted p numbers f (omega arith) o (omega arith)
           (moved_in k f (omega (arith, n, here, place)) there);
     }
-sought_do k labels label (Y.StmtThen own first rest) index left' wanted at p numbers f each marks o l among place
+sought_do words k labels label (Y.StmtThen own first rest) index left' wanted at p numbers f each marks o l among place
     there =
     by (is_among label own) refl
-    (λ among'. sought_do k labels label rest (index + size_of (marked k.environment.block own)
-    + size_of (stmt_code k.environment none_taken first)) left' wanted at p numbers f each.1 marks.1 o
-    (back_of (stmt_code k.environment none_taken first) (stmts_code k.environment none_taken rest)
+    (λ among'. sought_do words k labels label rest (index + size_of (marked k.environment.block own)
+    + size_of (stmt_code k.environment (set_aside words) first)) left' wanted at p numbers f each.1 marks.1 o
+    (back_of (stmt_code k.environment (set_aside words) first) (stmts_code k.environment (set_aside words) rest)
     (back_of (marked k.environment.block own)
-    (stmt_code k.environment none_taken first ++ stmts_code k.environment none_taken rest) l)) among' place there)
+    (stmt_code k.environment (set_aside words) first ++ stmts_code k.environment (set_aside words) rest) l)) among'
+    place there)
   where
     w : Surroundings
     w = k.call.surroundings
@@ -182,10 +184,10 @@ sought_do k labels label (Y.StmtThen own first rest) index left' wanted at p num
     marks' = marked k.environment.block own
 
     one : Code
-    one = stmt_code k.environment none_taken first
+    one = stmt_code k.environment (set_aside words) first
 
     more : Code
-    more = stmts_code k.environment none_taken rest
+    more = stmts_code k.environment (set_aside words) rest
 
     met : Flow (Unit {0})
     met = M.statements k.around (Y.StmtThen own first rest) None w.acts p.state
@@ -214,7 +216,7 @@ sought_do k labels label (Y.StmtThen own first rest) index left' wanted at p num
         let inside = l.inside in
         subst (λ q. Comes k.call.code 0 f (services_of p) (goal (index + size_of (marks' ++ (one ++ more))))
         (cond q met on)) (sym e)
-        (statements_do k labels (Y.StmtThen own first rest) p.state.world.acts index left' 0 wanted p numbers f
+        (statements_do words k labels (Y.StmtThen own first rest) p.state.world.acts index left' 0 wanted p numbers f
         (omega arith) each o l (omega arith, omega (arith, inside))
         (moved_in k f (omega (arith, here, place)) there))
     by false e later =
@@ -322,85 +324,104 @@ comes_caught own height Stuck next' b same goes o = absurd o.to
 -- ---- turns of a list
 
 -- what is known of a list wherever it runs
-pub record Listing (k : Block) (labels : List Label) (body : Y.Stmts) (index left' : ℕ) : Type 0 where
+pub record Listing (words : ℕ) (k : Block) (labels : List Label) (body : Y.Stmts) (index left' : ℕ) : Type 0 where
   pub begun : IsBegun k
-  pub each : EachDoes k (M.labels_in body ++ labels) body index left'
-  pub marks : AreMarked k.call.surroundings.links k.environment body index
-  pub linked : Linked k.call.surroundings.links k.call.code index (stmts_code k.environment none_taken body)
+  pub each : EachDoesWith words k (M.labels_in body ++ labels) body index left'
+  pub marks : AreMarkedWith words k.call.surroundings.links k.environment body index
+  pub linked : Linked k.call.surroundings.links k.call.code index (stmts_code k.environment (set_aside words) body)
 
-abbrev list_aims : Block → List Label → Y.Stmts → (acts index wanted left' : ℕ) → Aims (Unit {0})
-list_aims k labels body acts index wanted left' =
-    statement_aims k labels acts (index + size_of (stmts_code k.environment none_taken body)) wanted left'
+abbrev list_aims : (words : ℕ) → Block → List Label → Y.Stmts → (acts index wanted left' : ℕ) → Aims (Unit {0})
+list_aims words k labels body acts index wanted left' =
+    statement_aims k labels acts (index + size_of (stmts_code k.environment (set_aside words) body)) wanted left'
 
 -- where a turn jumps to another label, the next one is due
 jumped_on :
-    (n : ℕ) (k : Block) (labels : List Label) (body : Y.Stmts) (index left' wanted height : ℕ) (l : Label)
+    (n words : ℕ) (k : Block) (labels : List Label) (body : Y.Stmts) (index left' wanted height : ℕ) (l : Label)
     (acts : ℕ) → k.call.surroundings.acts < suc n + acts → (c' : ℕ) (f' : Family) (v' : Services) (s : State)
     (q : LandsAt k (M.labels_in body) acts c' f' v' height l s) →
     (k.call.surroundings.acts < n + q.point.state.world.acts → (g : Family) →
     AreIn k.call.surroundings q.point q.numbers q.index g →
     Comes k.call.code 0 g (services_of q.point)
-    (list_aims k labels body q.point.state.world.acts index wanted left')
+    (list_aims words k labels body q.point.state.world.acts index wanted left')
     (list_from n height (M.labels_in body) (M.statements k.around body) (Some l) k.call.surroundings.acts
     q.point.state)) →
-    Comes k.call.code c' f' v' (list_aims k labels body acts index wanted left')
+    Comes k.call.code c' f' v' (list_aims words k labels body acts index wanted left')
     (list_from n height (M.labels_in body) (M.statements k.around body) (Some l) k.call.surroundings.acts s)
-jumped_on n k labels body index left' wanted height l acts few c' f' v' s q rest =
+jumped_on n words k labels body index left' wanted height l acts few c' f' v' s q rest =
     let more = q.more in
-    subst (λ u. Comes k.call.code c' f' v' (list_aims k labels body acts index wanted left')
+    subst (λ u. Comes k.call.code c' f' v' (list_aims words k labels body acts index wanted left')
     (list_from n height (M.labels_in body) (M.statements k.around body) (Some l) k.call.surroundings.acts u))
     (sym q.state)
-    (onward (statement_closed k labels acts (index + size_of (stmts_code k.environment none_taken body)) wanted left')
-    q.reach (λ g at'. comes_since (omega (arith, more)) (rest (omega (arith, few, more)) g at')))
+    (onward (statement_closed k labels acts (index + size_of (stmts_code k.environment (set_aside words) body)) wanted
+    left') q.reach (λ g at'. comes_since (omega (arith, more)) (rest (omega (arith, few, more)) g at')))
 
 -- from a label, in so many turns
 turns_do :
-    (turns : ℕ) (k : Block) (labels : List Label) (body : Y.Stmts) (index left' wanted : ℕ) (height : ℕ)
-    (label : Label) (at : ℕ) (p : Point) (numbers : ℕ → ℕ) (f : Family) → Listing k labels body index left' →
+    (turns words : ℕ) (k : Block) (labels : List Label) (body : Y.Stmts) (index left' wanted : ℕ) (height : ℕ)
+    (label : Label) (at : ℕ) (p : Point) (numbers : ℕ → ℕ) (f : Family) → Listing words k labels body index left' →
     height ≡ own_height k → k.call.surroundings.acts < turns + p.state.world.acts → IsAmong k numbers p →
     is_among label (M.labels_in body) ≡ true →
     place_of k.call.surroundings.links (LabelPlace k.environment.block label) ≡ 4 * at →
     AreIn k.call.surroundings p numbers at f →
-    Comes k.call.code 0 f (services_of p) (list_aims k labels body p.state.world.acts index wanted left')
+    Comes k.call.code 0 f (services_of p) (list_aims words k labels body p.state.world.acts index wanted left')
     (list_from turns height (M.labels_in body) (M.statements k.around body) (Some label) k.call.surroundings.acts
     p.state)
 unfolding list_from
-turns_do zero k labels body index left' wanted height label at p numbers f x same few o among place there =
+turns_do zero words k labels body index left' wanted height label at p numbers f x same few o among place there =
     let allowed = o.stands.allowed in
     absurd (omega (arith, allowed, few))
-turns_do (suc n) k labels body index left' wanted height label at p numbers f x same few o among place there =
+turns_do (suc n) words k labels body index left' wanted height label at p numbers f x same few o among place there =
     comes_caught (M.labels_in body) height
     (M.statements k.around body (Some label) k.call.surroundings.acts p.state)
     (λ l. list_from n height (M.labels_in body) (M.statements k.around body) (Some l)) x.begun same
-    (λ l c' f' v' s q. jumped_on n k labels body index left' wanted height l p.state.world.acts few c' f' v' s q
-    (λ m g at'. turns_do n k labels body index left' wanted height l q.index q.point q.numbers g x same m q.among
+    (λ l c' f' v' s q. jumped_on n words k labels body index left' wanted height l p.state.world.acts few c' f' v' s q
+    (λ m g at'. turns_do n words k labels body index left' wanted height l q.index q.point q.numbers g x same m q.among
     q.carried q.place at'))
-    (sought_do k (M.labels_in body ++ labels) label body index left' wanted at p numbers f x.each x.marks o x.linked
-    among place there)
+    (sought_do words k (M.labels_in body ++ labels) label body index left' wanted at p numbers f x.each x.marks o
+    x.linked among place there)
 
 -- and from the start
 starts_do :
-    (turns : ℕ) (k : Block) (labels : List Label) (body : Y.Stmts) (index left' wanted c : ℕ) (height : ℕ)
-    (p : Point) (numbers : ℕ → ℕ) (f : Family) → Listing k labels body index left' →
+    (turns words : ℕ) (k : Block) (labels : List Label) (body : Y.Stmts) (index left' wanted c : ℕ) (height : ℕ)
+    (p : Point) (numbers : ℕ → ℕ) (f : Family) → Listing words k labels body index left' →
     height ≡ own_height k → k.call.surroundings.acts < turns + p.state.world.acts → IsAmong k numbers p →
-    (c ≤ wanted) × (c + size_of (stmts_code k.environment none_taken body) ≤ cost k.call.code) →
+    (c ≤ wanted) × (c + size_of (stmts_code k.environment (set_aside words) body) ≤ cost k.call.code) →
     AreIn k.call.surroundings p numbers index f →
-    Comes k.call.code c f (services_of p) (list_aims k labels body p.state.world.acts index wanted left')
+    Comes k.call.code c f (services_of p) (list_aims words k labels body p.state.world.acts index wanted left')
     (list_from turns height (M.labels_in body) (M.statements k.around body) None k.call.surroundings.acts p.state)
 unfolding list_from
-starts_do zero k labels body index left' wanted c height p numbers f x same few o fits there =
+starts_do zero words k labels body index left' wanted c height p numbers f x same few o fits there =
     let allowed = o.stands.allowed in
     absurd (omega (arith, allowed, few))
-starts_do (suc n) k labels body index left' wanted c height p numbers f x same few o fits there =
+starts_do (suc n) words k labels body index left' wanted c height p numbers f x same few o fits there =
     comes_caught (M.labels_in body) height
     (M.statements k.around body None k.call.surroundings.acts p.state)
     (λ l. list_from n height (M.labels_in body) (M.statements k.around body) (Some l)) x.begun same
-    (λ l c' f' v' s q. jumped_on n k labels body index left' wanted height l p.state.world.acts few c' f' v' s q
-    (λ m g at'. turns_do n k labels body index left' wanted height l q.index q.point q.numbers g x same m q.among
+    (λ l c' f' v' s q. jumped_on n words k labels body index left' wanted height l p.state.world.acts few c' f' v' s q
+    (λ m g at'. turns_do n words k labels body index left' wanted height l q.index q.point q.numbers g x same m q.among
     q.carried q.place at'))
-    (statements_do k (M.labels_in body ++ labels) body p.state.world.acts index left' c wanted p numbers f (omega arith)
-    x.each o x.linked fits there)
+    (statements_do words k (M.labels_in body ++ labels) body p.state.world.acts index left' c wanted p numbers f
+    (omega arith) x.each o x.linked fits there)
 
+pub list_with :
+    (words : ℕ) (k : Block) (labels : List Label) (body : Y.Stmts) (index left' : ℕ) (p : Point) (numbers : ℕ → ℕ)
+    (c wanted : ℕ) (f : Family) → IsBegun k →
+    k.call.surroundings.acts < k.around.turns + p.state.world.acts →
+    EachDoesWith words k (M.labels_in body ++ labels) body index left' →
+    AreMarkedWith words k.call.surroundings.links k.environment body index → IsAmong k numbers p →
+    Linked k.call.surroundings.links k.call.code index (stmts_code k.environment (set_aside words) body) →
+    (c ≤ wanted) × (c + size_of (stmts_code k.environment (set_aside words) body) ≤ cost k.call.code) →
+    AreIn k.call.surroundings p numbers index f →
+    Comes k.call.code c f (services_of p)
+    (statement_aims k labels p.state.world.acts (index + size_of (stmts_code k.environment (set_aside words) body))
+    wanted left')
+    (M.list k.around body k.call.surroundings.acts p.state)
+unfolding M.list M.list_with looked ◌>>=◌
+list_with words k labels body index left' p numbers c wanted f begun few each marks o l fits there =
+    starts_do k.around.turns words k labels body index left' wanted c (newest_height p.state.activations) p numbers f
+    (record { begun = begun; each = each; marks = marks; linked = l }) (newest_own (newest_at begun o)) few o fits there
+
+-- where no words are set aside
 pub list_does :
     (k : Block) (labels : List Label) (body : Y.Stmts) (index left' : ℕ) (p : Point) (numbers : ℕ → ℕ)
     (c wanted : ℕ) (f : Family) → IsBegun k →
@@ -414,7 +435,5 @@ pub list_does :
     (statement_aims k labels p.state.world.acts (index + size_of (stmts_code k.environment none_taken body)) wanted
     left')
     (M.list k.around body k.call.surroundings.acts p.state)
-unfolding M.list M.list_with looked ◌>>=◌
 list_does k labels body index left' p numbers c wanted f begun few each marks o l fits there =
-    starts_do k.around.turns k labels body index left' wanted c (newest_height p.state.activations) p numbers f
-    (record { begun = begun; each = each; marks = marks; linked = l }) (newest_own (newest_at begun o)) few o fits there
+    list_with 0 k labels body index left' p numbers c wanted f begun few each marks o l fits there

@@ -25,7 +25,7 @@ use Rattle.block_runs.specs.Bodies.{Called, behind_aims}
 use Rattle.block_runs.specs.Machines.{IsImage, IsIn, AreIn, acted}
 use Rattle.program_runs.specs.Procedures.{Procedure, Calling, IsCoded, HasRoom, beginning_for, block_of, begin_of}
 use Rattle.program_runs.specs.Procedures.{layer_for, procedure_code}
-use Rattle.program_runs.specs.Statements.{AreMarked, Block, IsAmong, IsBegun, Does, EachDoes}
+use Rattle.program_runs.specs.Statements.{AreMarked, Block, DoesWith, EachDoes, IsAmong, IsBegun, set_aside}
 
 -- ---- a procedure where it is called
 
@@ -155,14 +155,16 @@ NoneMade =
 abbrev pub call_of : Block → Callee → (line : ℕ) → Y.Stmt
 call_of k c line = Y.CallProcedure (Y.Calling c.procedure.head.number k.environment.level Y.NoArgument) line
 
-pub record IsCall (k : Block) (c : Callee) (line index more : ℕ) : Type 0 where
+-- while so many words are set aside
+pub record IsCallWith (words : ℕ) (k : Block) (c : Callee) (line index more : ℕ) : Type 0 where
   pub line_fits : line < 2 ^ 31
   pub callee : IsCallee k.call.surroundings k.call.code c
   pub room : HasRoom k.call.surroundings k.first c.procedure c.calling
   -- its code; the call is the last of it
   pub statement :
-      Linked k.call.surroundings.links k.call.code index (stmt_code k.environment none_taken (call_of k c line))
-  pub call : c.calling.call + 2 ≡ index + size_of (stmt_code k.environment none_taken (call_of k c line))
+      Linked k.call.surroundings.links k.call.code index
+      (stmt_code k.environment (set_aside words) (call_of k c line))
+  pub call : c.calling.call + 2 ≡ index + size_of (stmt_code k.environment (set_aside words) (call_of k c line))
   -- its static parent is the running block
   pub level : k.environment.level ≡ k.call.beginning.layer.level
   pub parent : c.calling.parent ≡ length k.call.point.state.activations + 1
@@ -177,13 +179,17 @@ pub record IsCall (k : Block) (c : Callee) (line index more : ℕ) : Type 0 wher
   -- in which there are turns enough for the acts that are left
   pub enough : k.call.surroundings.acts < suc more + k.first.state.world.acts
 
+abbrev pub IsCall : Block → Callee → (line index more : ℕ) → Type 0
+IsCall k c line index more = IsCallWith 0 k c line index more
+
 -- it does what it means if the procedure's statements do, wherever it is called
 abbrev pub CallsDo : Type 0
 CallsDo =
-    (k : Block) (c : Callee) (line index left' more : ℕ) → IsCall k c line index more →
+    (words : ℕ) → words < 2 ^ 20 → (k : Block) (c : Callee) (line index left' more : ℕ) →
+    IsCallWith words k c line index more →
     ((p : Point) (numbers : ℕ → ℕ) → IsAmong k numbers p →
     AreMade k.call.surroundings k.call.code c p numbers) →
     ((p : Point) (numbers : ℕ → ℕ) → IsAmong k numbers p →
     IsBegun (block_at k.call.surroundings k.call.code c p numbers) →
     EachDoes (block_at k.call.surroundings k.call.code c p numbers) (labels_of c) c.procedure.body (body_index c)
-    left_over) → IsBegun k → (labels : List Label) → Does k labels (call_of k c line) index left'
+    left_over) → IsBegun k → (labels : List Label) → DoesWith words k labels (call_of k c line) index left'

@@ -10,7 +10,7 @@ use Rattle.pli_meaning.specs.Raising.{Around}
 use Rattle.pli_meaning.specs.StorageState.{Activation, State}
 use Rattle.pli_serving.specs.ServiceState.{Entry, Services}
 use Rattle.pli_coding.specs.Assembly.{LabelPlace, ReturnPlace, size_of}
-use Rattle.pli_coding.specs.Environments.{BlockOwner, Environment, block_around, none_taken}
+use Rattle.pli_coding.specs.Environments.{BlockOwner, Environment, Taken, block_around, none_taken}
 use Rattle.pli_coding.specs.Linking.{Links, place_of}
 use Rattle.pli_coding.specs.Statements.{stmt_code, stmts_code, marked}
 use Rattle.activation_relation.specs.Entering.{Later}
@@ -220,35 +220,55 @@ statement_aims k labels acts index wanted left' =
       returned = λ c f v r s. ReturnsTo k left' c f v r s;
     }
 
-abbrev pub size_in : Block → Y.Stmt → ℕ
-size_in k stmt = size_of (stmt_code k.environment none_taken stmt)
+-- so many words of the frame are set aside around a statement, for loops that go on
+abbrev pub set_aside : (words : ℕ) → Taken
+set_aside words = record { registers = 0; words = words }
 
--- from any such point its code does what it means; a GOTO in it may name these labels
-abbrev pub Does : Block → List Label → Y.Stmt → (index left' : ℕ) → Type 0
-Does k labels stmt index left' =
+abbrev pub size_with : (words : ℕ) → Block → Y.Stmt → ℕ
+size_with words k stmt = size_of (stmt_code k.environment (set_aside words) stmt)
+
+abbrev pub size_in : Block → Y.Stmt → ℕ
+size_in k stmt = size_with 0 k stmt
+
+-- from any such point its code does what it means, while so many words are set aside; a GOTO in it may name these
+-- labels
+abbrev pub DoesWith : (words : ℕ) → Block → List Label → Y.Stmt → (index left' : ℕ) → Type 0
+DoesWith words k labels stmt index left' =
     (p : Point) (numbers : ℕ → ℕ) (credits wanted : ℕ) (f : Family) → IsAmong k numbers p →
-    credits + size_in k stmt ≤ cost k.call.code → AreIn k.call.surroundings p numbers index f →
+    credits + size_with words k stmt ≤ cost k.call.code → AreIn k.call.surroundings p numbers index f →
     Comes k.call.code credits f (services_of p)
-    (statement_aims k labels p.state.world.acts (index + size_in k stmt) wanted left')
+    (statement_aims k labels p.state.world.acts (index + size_with words k stmt) wanted left')
     (statement k.around stmt k.call.surroundings.acts p.state)
 
+-- where none are
+abbrev pub Does : Block → List Label → Y.Stmt → (index left' : ℕ) → Type 0
+Does k labels stmt index left' = DoesWith 0 k labels stmt index left'
+
 -- each statement of a list
+abbrev pub EachDoesWith : (words : ℕ) → Block → List Label → Y.Stmts → (index left' : ℕ) → Type 0
+EachDoesWith words k labels (Y.EndOfList own) index left' = ⊤
+EachDoesWith words k labels (Y.StmtThen own first rest) index left' =
+    DoesWith words k labels first (index + size_of (marked k.environment.block own)) left'
+    × EachDoesWith words k labels rest (index + size_of (marked k.environment.block own) + size_with words k first)
+    left'
+
 abbrev pub EachDoes : Block → List Label → Y.Stmts → (index left' : ℕ) → Type 0
-EachDoes k labels (Y.EndOfList own) index left' = ⊤
-EachDoes k labels (Y.StmtThen own first rest) index left' =
-    Does k labels first (index + size_of (marked k.environment.block own)) left'
-    × EachDoes k labels rest (index + size_of (marked k.environment.block own) + size_in k first) left'
+EachDoes k labels body index left' = EachDoesWith 0 k labels body index left'
 
 -- each label of a list stands where its statement does
 abbrev pub StandAt : Links → (block : ℕ) → List Label → (index : ℕ) → Type 0
 StandAt links block labels index =
     (label : Label) → is_among label labels ≡ true → place_of links (LabelPlace block label) ≡ 4 * index
 
-abbrev pub AreMarked : Links → Environment → Y.Stmts → (index : ℕ) → Type 0
-AreMarked links e (Y.EndOfList own) index = StandAt links e.block own index
-AreMarked links e (Y.StmtThen own first rest) index =
+abbrev pub AreMarkedWith : (words : ℕ) → Links → Environment → Y.Stmts → (index : ℕ) → Type 0
+AreMarkedWith words links e (Y.EndOfList own) index = StandAt links e.block own index
+AreMarkedWith words links e (Y.StmtThen own first rest) index =
     StandAt links e.block own index
-    × AreMarked links e rest (index + size_of (marked e.block own) + size_of (stmt_code e none_taken first))
+    × AreMarkedWith words links e rest
+    (index + size_of (marked e.block own) + size_of (stmt_code e (set_aside words) first))
+
+abbrev pub AreMarked : Links → Environment → Y.Stmts → (index : ℕ) → Type 0
+AreMarked links e body index = AreMarkedWith 0 links e body index
 
 -- ---- the laws
 
@@ -305,15 +325,15 @@ pub record StatementsDo : Type 0 where
 -- enough, since each jump makes an act.
 abbrev pub ListsDo : Type 0
 ListsDo =
-    (k : Block) (labels : List Label) (body : Y.Stmts) (index left' : ℕ) (p : Point) (numbers : ℕ → ℕ)
+    (words : ℕ) (k : Block) (labels : List Label) (body : Y.Stmts) (index left' : ℕ) (p : Point) (numbers : ℕ → ℕ)
     (credits wanted : ℕ) (f : Family) → IsBegun k →
     k.call.surroundings.acts < k.around.turns + p.state.world.acts →
-    EachDoes k (labels_in body ++ labels) body index left' →
-    AreMarked k.call.surroundings.links k.environment body index → IsAmong k numbers p →
-    Linked k.call.surroundings.links k.call.code index (stmts_code k.environment none_taken body) →
-    (credits ≤ wanted) × (credits + size_of (stmts_code k.environment none_taken body) ≤ cost k.call.code) →
+    EachDoesWith words k (labels_in body ++ labels) body index left' →
+    AreMarkedWith words k.call.surroundings.links k.environment body index → IsAmong k numbers p →
+    Linked k.call.surroundings.links k.call.code index (stmts_code k.environment (set_aside words) body) →
+    (credits ≤ wanted) × (credits + size_of (stmts_code k.environment (set_aside words) body) ≤ cost k.call.code) →
     AreIn k.call.surroundings p numbers index f →
     Comes k.call.code credits f (services_of p)
-    (statement_aims k labels p.state.world.acts (index + size_of (stmts_code k.environment none_taken body)) wanted
-    left')
+    (statement_aims k labels p.state.world.acts (index + size_of (stmts_code k.environment (set_aside words) body))
+    wanted left')
     (list k.around body k.call.surroundings.acts p.state)

@@ -8,7 +8,6 @@ use Rattle.pli_meaning.specs.Raising.{at_line}
 use Rattle.pli_meaning.specs.World.{counted}
 use Rattle.pli_coding.specs.Allocating.{act_code}
 use Rattle.pli_coding.specs.Assembly.{JumpAhead, size_of}
-use Rattle.pli_coding.specs.Environments.{none_taken}
 use Rattle.pli_coding.specs.Expressions.{bit_code}
 use Rattle.pli_coding.specs.Statements.{if_met, one_of, stmt_code}
 use Rattle.run_steps.specs.Owing.{owing}
@@ -22,31 +21,32 @@ use Rattle.block_runs.specs.Machines.{IsIn, acted}
 use Rattle.block_runs.proofs.CallStatements.{comes_map}
 use Rattle.block_runs.proofs.PointActs.{act_comes}
 use Rattle.block_runs.proofs.PointGrounds.{in_known, known_in, point_frame}
-use Rattle.program_runs.specs.Statements.{Block, Does, size_in, statement_aims}
+use Rattle.program_runs.specs.Statements.{Block, Does, DoesWith, set_aside, size_with, statement_aims}
 use Rattle.program_runs.proofs.JumpsOut.{jumps_repaid, jumps_since, returns_repaid}
 use Rattle.program_runs.proofs.Statements.{acted_among, goes_here, statement_closed}
-use Rattle.expression_runs.specs.Assignments.{setting_of}
+use Rattle.expression_runs.specs.Assignments.{setting_around, setting_of}
 use Rattle.expression_runs.specs.Values.{behind}
-use Rattle.test_runs.specs.Choices.{HasTest, behind_act, behind_choice, behind_test}
+use Rattle.test_runs.specs.Choices.{HasTest, HasTestWith, behind_act, behind_choice, behind_choice_with}
+use Rattle.test_runs.specs.Choices.{behind_test, behind_test_with}
 use Rattle.test_runs.specs.Tests.{Tests, bit_aims}
 use Rattle.test_runs.proofs.Chosen.{chosen_does, met_size, none_owed, owed_from, past}
 
-pub met_does :
-    (k : Block) (labels : List Label) (condition : Y.Bit) (unit : Y.Stmt) (line index left' need most : ℕ) →
-    HasTest k (Y.If condition unit line) line index need most →
-    Tests (setting_of k labels line most) need condition →
-    Does k labels unit (behind_test k condition (behind_act line index)) left' →
-    Does k labels (Y.If condition unit line) index left'
+pub met_with :
+    (words : ℕ) (k : Block) (labels : List Label) (condition : Y.Bit) (unit : Y.Stmt) (line index left' need most : ℕ) →
+    HasTestWith words k (Y.If condition unit line) line index need most →
+    Tests (setting_around words k labels line most) need condition →
+    DoesWith words k labels unit (behind_test_with words k condition (behind_act line index)) left' →
+    DoesWith words k labels (Y.If condition unit line) index left'
 unfolding M.statement ◌>>=◌ ◌>>◌
-met_does k labels condition unit line index left' need most h tests does p numbers c wanted f o paid there =
+met_with words k labels condition unit line index left' need most h tests does p numbers c wanted f o paid there =
     let w = k.call.surroundings in
     let code = k.call.code in
     let e = k.environment in
     let stmt = Y.If condition unit line in
     let around' = at_line k.around line in
     let one = act_code line in
-    let test = bit_code e none_taken condition in
-    let part = stmt_code e none_taken unit in
+    let test = bit_code e (set_aside words) condition in
+    let part = stmt_code e (set_aside words) unit in
     let n0 = size_append one (test ++ if_met part) in
     let n1 = size_append test (if_met part) in
     let n2 = met_size part in
@@ -56,7 +56,7 @@ met_does k labels condition unit line index left' need most h tests does p numbe
     let lc = back_of test (if_met part) l1 in
     let debt = size_of test + (3 + size_of part) in
     let acts = p.state.world.acts in
-    let end = index + size_in k stmt in
+    let end = index + size_with words k stmt in
     let aims = statement_aims k labels acts end wanted left' in
     let owed = owing code debt aims in
     let closed = owing_closed code debt aims in
@@ -93,25 +93,26 @@ met_does k labels condition unit line index left' need most h tests does p numbe
     (tests p' numbers 0 0 (index + size_of one) g o' refl (omega (arith, room), h.held) lt
     (omega (arith, all, n0, n1, n2)) at)))))
 
-pub one_of_does :
-    (k : Block) (labels : List Label) (condition : Y.Bit) (unit otherwise : Y.Stmt) (line index left' need most : ℕ) →
-    HasTest k (Y.IfElse condition unit otherwise line) line index need most →
-    Tests (setting_of k labels line most) need condition →
-    Does k labels unit (behind_test k condition (behind_act line index)) left' →
-    Does k labels otherwise (behind_choice k unit (behind_test k condition (behind_act line index))) left' →
-    Does k labels (Y.IfElse condition unit otherwise line) index left'
+pub one_of_with :
+    (words : ℕ) (k : Block) (labels : List Label) (condition : Y.Bit) (unit otherwise : Y.Stmt)
+    (line index left' need most : ℕ) →
+    HasTestWith words k (Y.IfElse condition unit otherwise line) line index need most →
+    Tests (setting_around words k labels line most) need condition →
+    DoesWith words k labels unit (behind_test_with words k condition (behind_act line index)) left' →
+    DoesWith words k labels otherwise (behind_choice_with words k unit (behind_test_with words k condition
+    (behind_act line index))) left' → DoesWith words k labels (Y.IfElse condition unit otherwise line) index left'
 unfolding M.statement ◌>>=◌ ◌>>◌
-one_of_does k labels condition unit otherwise line index left' need most h tests does other p numbers c wanted f o paid
-    there =
+one_of_with words k labels condition unit otherwise line index left' need most h tests does other p numbers c wanted f o
+    paid there =
     let w = k.call.surroundings in
     let code = k.call.code in
     let e = k.environment in
     let stmt = Y.IfElse condition unit otherwise line in
     let around' = at_line k.around line in
     let one = act_code line in
-    let test = bit_code e none_taken condition in
-    let first = stmt_code e none_taken unit in
-    let second = stmt_code e none_taken otherwise in
+    let test = bit_code e (set_aside words) condition in
+    let first = stmt_code e (set_aside words) unit in
+    let second = stmt_code e (set_aside words) otherwise in
     let jump = JumpAhead (size_of second) ∷ [] in
     let part = first ++ jump in
     let both = one_of first second in
@@ -129,7 +130,7 @@ one_of_does k labels condition unit otherwise line index left' need most h tests
     let lj = back_of first jump (back_of (past part) part lc) in
     let debt = size_of test + (3 + size_of part + size_of second) in
     let acts = p.state.world.acts in
-    let end = index + size_in k stmt in
+    let end = index + size_with words k stmt in
     let aims = statement_aims k labels acts end wanted left' in
     let owed = owing code debt aims in
     let closed = owing_closed code debt aims in
@@ -158,7 +159,7 @@ one_of_does k labels condition unit otherwise line index left' need most h tests
     (λ g3 at3.
     comes_map
     (statement_aims k labels q.point.state.world.acts
-    (behind_test k condition (behind_act line index) + size_in k unit) 0 left') owed
+    (behind_test_with words k condition (behind_act line index) + size_with words k unit) 0 left') owed
     (M.statement k.around unit w.acts q.point.state)
     (λ c3 f3 v3 r s3 q3.
     let since3 = q3.since in
@@ -186,3 +187,24 @@ one_of_does k labels condition unit otherwise line index left' need most h tests
     (λ c' f' v' r s q. absurd q)
     (tests p' numbers 0 0 (index + size_of one) g o' refl (omega (arith, room), h.held) lt
     (omega (arith, all, n0, n1, n2, n3)) at)))))
+
+-- ---- where no words are set aside
+
+pub met_does :
+    (k : Block) (labels : List Label) (condition : Y.Bit) (unit : Y.Stmt) (line index left' need most : ℕ) →
+    HasTest k (Y.If condition unit line) line index need most →
+    Tests (setting_of k labels line most) need condition →
+    Does k labels unit (behind_test k condition (behind_act line index)) left' →
+    Does k labels (Y.If condition unit line) index left'
+met_does k labels condition unit line index left' need most h tests does =
+    met_with 0 k labels condition unit line index left' need most h tests does
+
+pub one_of_does :
+    (k : Block) (labels : List Label) (condition : Y.Bit) (unit otherwise : Y.Stmt) (line index left' need most : ℕ) →
+    HasTest k (Y.IfElse condition unit otherwise line) line index need most →
+    Tests (setting_of k labels line most) need condition →
+    Does k labels unit (behind_test k condition (behind_act line index)) left' →
+    Does k labels otherwise (behind_choice k unit (behind_test k condition (behind_act line index))) left' →
+    Does k labels (Y.IfElse condition unit otherwise line) index left'
+one_of_does k labels condition unit otherwise line index left' need most h tests does other =
+    one_of_with 0 k labels condition unit otherwise line index left' need most h tests does other

@@ -25,13 +25,18 @@ use Rattle.program_places.proofs.Starts.{main_found}
 use Rattle.program_runs.specs.Calls.{left_over}
 use Rattle.program_runs.specs.Statements.{Does, IsBegun}
 use Rattle.program_runs.proofs.Statements.{none_does}
+use Rattle.expression_runs.specs.Assignments.{setting_around}
 use Rattle.expression_runs.specs.Values.{OverflowComes}
 use Rattle.expression_runs.proofs.Raises.{overflow_ends}
 use Rattle.operator_runs.specs.Divisors.{ZeroDivideComes}
 use Rattle.operator_runs.proofs.Divisors.{zero_divide_ends}
 use Rattle.number_runs.specs.Knowledge.{AreStanding, Includes, IsReady, Standing}
+use Rattle.element_runs.specs.Subscripts.{SubscriptComes}
+use Rattle.element_runs.proofs.Outside.{subscripts_end}
+use Rattle.number_runs.specs.Numbers.{bounds_known}
 use Rattle.number_runs.specs.Statements.{is_statement, statement_needs, statements_need}
 use Rattle.number_runs.proofs.Statements.{form_does}
+use Rattle.number_headlines.proofs.Puts.{error_routine}
 use Rattle.unit_runs.specs.Bodies.{BodyDoes}
 use Rattle.unit_runs.specs.Changing.{AllDo, IsPast, Past, StandsIn, StepDoes, after}
 use Rattle.unit_runs.specs.Establishing.{IsOn, OnUnit, on_of}
@@ -39,10 +44,12 @@ use Rattle.unit_runs.proofs.Changing.{begun_after, changing_ends}
 use Rattle.unit_runs.proofs.OwnRaises.{past_numbers}
 use Rattle.unit_numbers.specs.Programs.{are_steps, is_step, is_step_with}
 use Rattle.unit_numbers.specs.Units.{own_scope, unit_in}
+use Rattle.unit_numbers.proofs.Arrays.{past_array}
 use Rattle.unit_numbers.proofs.Calls.{main_calls}
 use Rattle.unit_numbers.proofs.Established.{InForce, IsUnitOf, error_system, in_force, list_placed, start_of}
 use Rattle.unit_numbers.proofs.Established.{unit_stands}
-use Rattle.unit_numbers.proofs.Mains.{Main, block_for, list_of, main_held, main_number, most_for, own_known, placed}
+use Rattle.unit_numbers.proofs.Mains.{Main, block_for, list_of, main_array, main_held, main_number, most_for}
+use Rattle.unit_numbers.proofs.Mains.{own_known, placed}
 use Rattle.unit_numbers.proofs.Raises.{divide_with, overflow_with, past_setting}
 use Rattle.unit_numbers.proofs.Spread.{all_means, all_code}
 use Rattle.unit_numbers.proofs.Takes.{unit_found}
@@ -88,6 +95,22 @@ divisor_known once {program} m input more past labels line few b includes known 
 divisor_known once m input more past labels line few b includes known (inr n) =
     divide_with once m input more past labels line few b includes known n
 
+subscript_known :
+    MarkedOnce → {program : Y.Program} (m : Main program) (input : List ℕ) (more : ℕ) (past : Past)
+    (labels : List Label) (line : ℕ) → suc more + 1 < 2 ^ 64 →
+    IsPast (block_for m input (suc more)) (list_of m) (start_of m) past →
+    SubscriptComes (past_setting m input (suc more) past labels line)
+subscript_known once {program} m input more past labels line few known =
+    let routines = raise_routines once program m.loadable in
+    let inside = routines.linked.inside in
+    subscripts_end (past_setting m input (suc more) past labels line) (record {
+      routines = routines;
+      place = error_routine once program m.loadable;
+      error = error_system once m input (suc more) past known;
+      acts = few;
+      most = omega (arith, inside);
+    })
+
 -- ---- its statements
 
 main_ready :
@@ -108,16 +131,26 @@ main_ready once {program} m input more past few b known =
       turns = omega (arith, first);
       held = omega arith;
       raises = record {
-        overflow = λ may labels line includes.
-            overflow_known once m input more past labels line few b includes known
-            (in_force once m input (suc more) past known C.FixedOverflow);
-        divisor = λ may labels line includes.
-            divisor_known once m input more past labels line few b includes known
-            (in_force once m input (suc more) past known C.ZeroDivide);
+        overflow = λ may words set labels line includes.
+            subst (λ w. OverflowComes (setting_around w (after k past) labels line (most_for program)))
+            (sym (set.1 refl))
+            (overflow_known once m input more past labels line few b includes known
+            (in_force once m input (suc more) past known C.FixedOverflow));
+        divisor = λ may words set labels line includes.
+            subst (λ w. ZeroDivideComes (setting_around w (after k past) labels line (most_for program)))
+            (sym (set.1 refl))
+            (divisor_known once m input more past labels line few b includes known
+            (in_force once m input (suc more) past known C.ZeroDivide));
+        subscript = λ may words set labels line includes.
+            subst (λ w. SubscriptComes (setting_around w (after k past) labels line (most_for program)))
+            (sym (set.1 refl)) (subscript_known once m input more past labels line few known);
       };
       variables = λ x h. past_numbers k past x (main_number m input (suc more) x (own_known m input (suc more) x h) b);
+      arrays = λ may x h. past_array k past x (bounds_known (own_scope program m.head) x)
+          (main_array m input (suc more) x h b);
       calls = main_calls once m input more past few b known;
       puts = λ e. absurd (cc e);
+      loops = λ e. absurd (cc e);
       jumps = λ labels level label line index includes h. absurd (cc h);
       room = omega arith;
       home = λ may. record {
@@ -159,7 +192,7 @@ main_does once {program} m input (suc more) few b stmt index is fits at past kno
           none_taken (list_of m) (list_placed once m input (suc more)) label among;
       includes = λ label among. among;
     })
-    is (omega (arith, fits, held)) at
+    is (omega (arith, fits, held)) (λ e. absurd (cc e)) at
 
 -- ---- the list
 

@@ -9,9 +9,7 @@ use Rattle.pli_meaning.specs.Control.{Label}
 use Rattle.pli_meaning.specs.DeclaredShapes.{declared_variable, head_of, procedure_numbered, variables_of_block}
 use Rattle.pli_meaning.specs.Executing.{entered, labels_in}
 use Rattle.pli_meaning.specs.StorageState.{Activation, ancestor, automatic_in_use, height_of, most_activations}
-use Rattle.pli_serving.specs.Templates.{shape_at}
 use Rattle.pli_coding.specs.Frames.{fixed_size, parameters_in}
-use Rattle.pli_coding.specs.SignatureTable.{number_in_table, table_of}
 use Rattle.pli_coding.specs.Images.{linked_code, place_of_head}
 use Rattle.pli_coding.specs.Registers.{held_registers}
 use Rattle.activation_relation.specs.Chains.{HasParent}
@@ -28,14 +26,15 @@ use Rattle.expression_runs.specs.Variables.{Spot, variable_of}
 use Rattle.variable_runs.specs.Lists.{AreAll}
 use Rattle.variable_runs.proofs.Lists.{all_procedure}
 use Rattle.number_runs.specs.Knowledge.{Includes}
-use Rattle.number_runs.specs.Numbers.{has_none, is_known, is_place, is_plain_if}
-use Rattle.number_runs.specs.Statements.{are_statements, statements_need}
-use Rattle.number_runs.specs.Variables.{HasWords, words_in}
-use Rattle.number_runs.proofs.Takes.{words_none}
+use Rattle.number_runs.specs.Arrays.{is_array_if}
+use Rattle.number_runs.specs.Numbers.{has_none, is_array_known, is_known, is_place, is_plain_if}
+use Rattle.number_runs.specs.Statements.{are_statements, statements_need, statements_set}
+use Rattle.number_runs.specs.Variables.{AreTabled, HasWords, words_in}
+use Rattle.number_runs.proofs.Uncounted.{words_none}
 use Rattle.number_runs.proofs.Words.{words_anywhere}
-use Rattle.number_headlines.specs.Programs.{body_of, has_result, is_body}
+use Rattle.number_headlines.specs.Programs.{body_of, has_result, is_body, most_waiting}
 use Rattle.number_headlines.proofs.Mains.{made_for, procedure_is, result_of}
-use Rattle.number_headlines.proofs.Tables.{block_plain, has_table, word_signature}
+use Rattle.number_headlines.proofs.Tables.{block_plain, has_table}
 use Rattle.unit_runs.specs.Changing.{IsPast, Past}
 use Rattle.unit_runs.proofs.Changing.{begun_after}
 use Rattle.unit_runs.proofs.OwnRaises.{past_like}
@@ -88,7 +87,9 @@ inner_is {program} m valued number h = by (procedure_numbered number program.pro
         let b = and_parts (has_result valued p.result) ((head.level == 1) && last) a.1 in
         let c = and_parts (head.level == 1) last b.1 in
         let d = and_parts (are_statements s valued (labels_in body ++ []) body)
-        (nat_le (statements_need body) held_registers) c.1 in
+        (nat_le (statements_need body) held_registers && nat_le (statements_set body) most_waiting) c.1 in
+        let f = and_parts (nat_le (statements_need body) held_registers) (nat_le (statements_set body) most_waiting) d.1
+        in
         let n = number_found number p program.procedures e in
         record {
           head = head;
@@ -99,7 +100,7 @@ inner_is {program} m valued number h = by (procedure_numbered number program.pro
           numbered = n;
           level = eqb-true head.level 1 c.0;
           statements = d.0;
-          fits = leb-true (statements_need body) held_registers d.1;
+          fits = leb-true (statements_need body) held_registers f.0;
         }
 
 -- ---- what is called
@@ -123,8 +124,8 @@ pub no_inner_words :
     (procedure_for program i.head i.body).words ≡ 0
 no_inner_words {program} m {valued} i =
     let plain = block_plain program.variables i.head.number m.plain in
-    words_none (called_scope program m.head i.head) valued (environment_for program i.head) i.head.number i.body
-    plain.0 i.statements i.fits
+    words_none (called_scope program m.head i.head) valued (environment_for program i.head) i.head.number i.body refl
+    plain.plain i.statements i.fits
 
 pub inner_room :
     {program : Y.Program} (m : Main program) {valued : Bool} {number : ℕ} (i : Inner m valued number)
@@ -178,8 +179,7 @@ inner_words {program} m {valued} i input acts past more call end numbers =
     let living = ap (λ ls. automatic_in_use ls) (past_living past k0.first) in
     let kind = (known program i.head i.body (result_of valued) m.loadable.well_formed i.is).kind in
     let plain = block_plain program.variables i.head.number m.plain in
-    let few = plain.1 in
-    let table = has_table program i.head.number m.plain in
+    let few = plain.room in
     let same = made_same (main_layer m input acts) (words_in (environment_for program m.head)) (main_begun m input acts)
     in
     record {
@@ -191,12 +191,11 @@ inner_words {program} m {valued} i input acts past more call end numbers =
       parts = refl;
       bare = ap parameters_in i.is;
       made = refl;
-      plain = plain.0;
-      few = few;
-      small = table.small;
-      shape = λ some. ap (λ t. shape_at t
-          (number_in_table word_signature
-          (table_of program))) (past'.signatures ∙ same.signatures) ∙ table.shape some;
+      plain = plain.plain;
+      few = plain.few;
+      tabled =
+          subst (λ t. AreTabled (environment_for program i.head) t (variables_of_block program i.head.number))
+          (sym (past'.signatures ∙ same.signatures)) (has_table program i.head m.plain);
       room = record {
         newest = refl;
         here = refl;
@@ -258,27 +257,32 @@ visit_made {program} m i v more past h =
 
 -- ---- the variables that it may name
 
+-- its own, and those of the main procedure
+abbrev pub IsOfBoth :
+    {program : Y.Program} → (m : Main program) → {valued : Bool} → {number : ℕ} → Inner m valued number → Spot → Type 0
+IsOfBoth m i x =
+    ((x.block ≡ i.head.number) × (x.level ≡ i.head.level)) ⊎ ((x.block ≡ m.head.number) × (x.level ≡ m.head.level))
+
 pub record Named {program : Y.Program} (m : Main program) {valued : Bool} {number : ℕ} (i : Inner m valued number)
     (x : Spot) : Type 0
   where
     pub plain : is_plain_if (declared_variable program (variable_of x)) ≡ true
-    pub of :
-        ((x.block ≡ i.head.number) × (x.level ≡ i.head.level)) ⊎ ((x.block ≡ m.head.number) × (x.level ≡ m.head.level))
+    pub of : IsOfBoth m i x
 
-pub named_is :
+pub record NamedArray {program : Y.Program} (m : Main program) {valued : Bool} {number : ℕ} (i : Inner m valued number)
+    (x : Spot) : Type 0
+  where
+    pub array : is_array_if (declared_variable program (variable_of x)) ≡ true
+    pub of : IsOfBoth m i x
+
+of_both :
     {program : Y.Program} (m : Main program) {valued : Bool} {number : ℕ} (i : Inner m valued number) (x : Spot) →
-    is_known (called_scope program m.head i.head) x ≡ true → Named m i x
-named_is {program} m i x h =
-    let plain = is_plain_if (declared_variable program (variable_of x)) in
-    let own = is_place x (place_of_head i.head) in
-    let outer = is_place x (place_of_head m.head) in
-    let a = and_parts (own || (outer || false)) plain h in
-    record { plain = a.1; of = by own outer refl refl a.0 }
+    (is_place x (place_of_head i.head) || (is_place x (place_of_head m.head) || false)) ≡ true → IsOfBoth m i x
+of_both m i x h = by (is_place x (place_of_head i.head)) (is_place x (place_of_head m.head)) refl refl h
   where
     by :
         (q r : Bool) → q ≡ is_place x (place_of_head i.head) → r ≡ is_place x (place_of_head m.head) →
-        (q || (r || false)) ≡ true →
-        ((x.block ≡ i.head.number) × (x.level ≡ i.head.level)) ⊎ ((x.block ≡ m.head.number) × (x.level ≡ m.head.level))
+        (q || (r || false)) ≡ true → IsOfBoth m i x
     by true r e f g =
         let b = and_parts (x.block == i.head.number) (x.level == i.head.level) (sym e) in
         inl (eqb-true x.block i.head.number b.0, eqb-true x.level i.head.level b.1)
@@ -286,3 +290,19 @@ named_is {program} m i x h =
         let b = and_parts (x.block == m.head.number) (x.level == m.head.level) (sym f) in
         inr (eqb-true x.block m.head.number b.0, eqb-true x.level m.head.level b.1)
     by false false e f g = absurd (cc g)
+
+pub named_is :
+    {program : Y.Program} (m : Main program) {valued : Bool} {number : ℕ} (i : Inner m valued number) (x : Spot) →
+    is_known (called_scope program m.head i.head) x ≡ true → Named m i x
+named_is {program} m i x h =
+    let there = is_place x (place_of_head i.head) || (is_place x (place_of_head m.head) || false) in
+    let a = and_parts there (is_plain_if (declared_variable program (variable_of x))) h in
+    record { plain = a.1; of = of_both m i x a.0 }
+
+pub named_array :
+    {program : Y.Program} (m : Main program) {valued : Bool} {number : ℕ} (i : Inner m valued number) (x : Spot) →
+    is_array_known (called_scope program m.head i.head) x ≡ true → NamedArray m i x
+named_array {program} m i x h =
+    let there = is_place x (place_of_head i.head) || (is_place x (place_of_head m.head) || false) in
+    let a = and_parts there (is_array_if (declared_variable program (variable_of x))) h in
+    record { array = a.1; of = of_both m i x a.0 }

@@ -35,9 +35,9 @@ use Rattle.program_places.proofs.Procedures.{body_placed, raise_routines}
 use Rattle.program_runs.specs.Calls.{left_over}
 use Rattle.program_runs.specs.Procedures.{block_of}
 use Rattle.program_runs.specs.Starts.{no_numbers}
-use Rattle.program_runs.specs.Statements.{AreMarked, Block, Does, EachDoes, IsAmong, IsBegun}
+use Rattle.program_runs.specs.Statements.{AreMarked, Block, Does, DoesWith, EachDoes, IsAmong, IsBegun, set_aside}
 use Rattle.program_runs.proofs.CallStatements.{statement_at}
-use Rattle.expression_runs.specs.Assignments.{setting_of}
+use Rattle.expression_runs.specs.Assignments.{setting_around, setting_of}
 use Rattle.expression_runs.specs.Laws as L
 use Rattle.expression_runs.specs.Values.{OverflowComes, Setting}
 use Rattle.expression_runs.proofs.Raises.{overflow_ends}
@@ -49,9 +49,12 @@ use Rattle.jump_runs.proofs.FunctionLists.{each_ends, system_ends}
 use Rattle.jump_runs.proofs.Functions.{jump_function_does}
 use Rattle.text_runs.proofs.Points.{alone_does}
 use Rattle.number_runs.specs.Knowledge.{Includes, IsHome, IsReady, KnowsCalls, KnowsRaises, call_number, call_statement}
+use Rattle.element_runs.specs.Subscripts.{SubscriptComes}
+use Rattle.element_runs.proofs.Outside.{subscripts_end}
 use Rattle.number_runs.proofs.Statements.{body_does}
 use Rattle.number_runs.proofs.Takes.{registers_held}
 use Rattle.number_headlines.proofs.Mains.{result_of}
+use Rattle.number_headlines.proofs.Puts.{error_routine}
 use Rattle.number_headlines.proofs.Tables.{block_plain}
 use Rattle.unit_runs.specs.Changing.{IsPast, Past}
 use Rattle.unit_runs.proofs.Changing.{begun_after}
@@ -64,7 +67,8 @@ use Rattle.unit_numbers.proofs.Established.{InForce, error_system, in_force}
 use Rattle.unit_numbers.proofs.Past.{main_past}
 use Rattle.unit_numbers.proofs.Mains.{Main, block_for, list_of, most_for, run_for, start_for, surroundings_for}
 use Rattle.unit_numbers.proofs.Raises.{entry_low}
-use Rattle.unit_numbers.proofs.Visits.{visit_block, visit_divides, visit_number, visit_overflow, visit_system}
+use Rattle.unit_numbers.proofs.Visits.{visit_array, visit_block, visit_divides, visit_number, visit_overflow}
+use Rattle.unit_numbers.proofs.Visits.{visit_system}
 
 -- ---- raises in what is called
 
@@ -135,20 +139,45 @@ called_divides once m i v zero past entry function labels line h b (inr n) =
 called_divides once m i v (suc more) past entry function labels line h b (inr n) =
     visit_divides once m i v more past entry function labels line h n b
 
+called_subscript :
+    MarkedOnce → {program : Y.Program} (m : Main program) {valued : Bool} {number : ℕ} (i : Inner m valued number)
+    (v : Visit) (more : ℕ) (past : Past) (entry : Entry) (function : Option Function) (labels : List Label)
+    (line : ℕ) → IsVisit m v more past → SubscriptComes (visit_setting m i v more past entry function labels line)
+called_subscript once {program} m i v more past entry function labels line h =
+    let routines = raise_routines once program m.loadable in
+    let inside = routines.linked.inside in
+    subscripts_end (visit_setting m i v more past entry function labels line)
+    (record {
+      routines = routines;
+      place = error_routine once program m.loadable;
+      error = visit_system m i v more past entry function h C.Error
+          (error_system once m v.input (suc more) past h.known);
+      acts = h.few;
+      most = omega (arith, inside);
+    })
+
 called_raises :
     MarkedOnce → {program : Y.Program} (m : Main program) {valued : Bool} {number : ℕ} (i : Inner m valued number)
     (v : Visit) (more : ℕ) (past : Past) (entry : Entry) (function : Option Function) (own : List Label) →
     IsVisit m v more past → IsBegun (visit_block m i v more past entry function) →
     KnowsRaises (called_scope program m.head i.head) (visit_block m i v more past entry function) own
     (most_for program)
-called_raises once m i v more past entry function own h b =
+called_raises once {program} m i v more past entry function own h b =
     record {
-      overflow = λ may labels line includes.
-          called_overflow once m i v more past entry function labels line h b
-          (in_force once m v.input (suc more) past h.known C.FixedOverflow);
-      divisor = λ may labels line includes.
-          called_divides once m i v more past entry function labels line h b
-          (in_force once m v.input (suc more) past h.known C.ZeroDivide);
+      overflow = λ may words set labels line includes.
+          subst (λ w. OverflowComes (setting_around w (visit_block m i v more past entry function) labels line
+          (most_for program))) (sym (set.1 refl))
+          (called_overflow once m i v more past entry function labels line h b
+          (in_force once m v.input (suc more) past h.known C.FixedOverflow));
+      divisor = λ may words set labels line includes.
+          subst (λ w. ZeroDivideComes (setting_around w (visit_block m i v more past entry function) labels line
+          (most_for program))) (sym (set.1 refl))
+          (called_divides once m i v more past entry function labels line h b
+          (in_force once m v.input (suc more) past h.known C.ZeroDivide));
+      subscript = λ may words set labels line includes.
+          subst (λ w. SubscriptComes (setting_around w (visit_block m i v more past entry function) labels line
+          (most_for program))) (sym (set.1 refl))
+          (called_subscript once m i v more past entry function labels line h);
     }
 
 -- ---- its statements
@@ -169,11 +198,13 @@ called_ready once m i v more past entry function h b home =
       held = omega arith;
       raises = called_raises once m i v more past entry function (labels_in i.body ++ []) h b;
       variables = λ x known. visit_number m i v more past entry function h b x known;
+      arrays = λ may x known. visit_array m i v more past entry function h b x known;
       calls = record {
-        functions = λ labels line level n includes call. absurd (cc call);
-        procedures = λ labels level n line index includes call. absurd (cc call);
+        functions = λ words set labels line level n includes call. absurd (cc call);
+        procedures = λ words set labels level n line index includes call. absurd (cc call);
       };
       puts = λ e. absurd (cc e);
+      loops = λ e. absurd (cc e);
       jumps = λ labels level label line index includes out. absurd (cc out);
       room = omega arith;
       home = λ may. home;
@@ -191,8 +222,8 @@ called_each once {program} m {valued} i v more past entry function h b home =
     let s = called_scope program m.head i.head in
     body_does s valued (visit_block m i v more past entry function) i.body (body_for program i.head i.body)
     (most_for program) left_over (called_ready once m i v more past entry function h b home) i.statements
-    (registers_held s valued (environment_for program i.head) i.head.number i.body plain.0 i.statements i.fits)
-    (body_placed once program i.head i.body (result_of valued) m.loadable i.is)
+    (registers_held s valued (environment_for program i.head) i.head.number i.body plain.plain i.statements i.fits)
+    (λ e. absurd (cc e)) (body_placed once program i.head i.body (result_of valued) m.loadable i.is)
 
 called_marked :
     MarkedOnce → {program : Y.Program} (m : Main program) {valued : Bool} {number : ℕ} (i : Inner m valued number) →
@@ -447,15 +478,20 @@ pub main_calls :
 main_calls once {program} m input more past few b known =
     let k = main_past m input (suc more) past in
     record {
-      functions = λ labels line level n includes h.
+      functions = λ words set labels line level n includes h.
           let a = and_parts (level == m.head.level) (may_call program m.head true n) h in
-          subst (λ at. L.Does (setting_of k labels line (most_for program)) 0 (call_number at n))
-              (sym (eqb-true level m.head.level a.0))
-              (function_called once m input more past few b known labels includes line n a.1);
-      procedures = λ labels level n line index includes h less.
+          subst (λ w. L.Does (setting_around w k labels line (most_for program)) 0 (call_number level n))
+          (sym (set.1 refl))
+          (subst (λ at. L.Does (setting_of k labels line (most_for program)) 0 (call_number at n))
+          (sym (eqb-true level m.head.level a.0))
+          (function_called once m input more past few b known labels includes line n a.1));
+      procedures = λ words set labels level n line index includes h less.
           let a = and_parts (level == m.head.level) (may_call program m.head false n) h in
-          subst (λ at. Linked (links_for program) (linked_code (code_for program)) index
-              (stmt_code (environment_for program m.head) none_taken (call_statement at n line)) →
-              Does k labels (call_statement at n line) index left_over) (sym (eqb-true level m.head.level a.0))
-              (λ l. procedure_called once m input more past few b known labels includes n line index a.1 less l);
+          subst (λ w. Linked (links_for program) (linked_code (code_for program)) index
+          (stmt_code (environment_for program m.head) (set_aside w) (call_statement level n line)) →
+          DoesWith w k labels (call_statement level n line) index left_over) (sym (set.1 refl))
+          (subst (λ at. Linked (links_for program) (linked_code (code_for program)) index
+          (stmt_code (environment_for program m.head) none_taken (call_statement at n line)) →
+          Does k labels (call_statement at n line) index left_over) (sym (eqb-true level m.head.level a.0))
+          (λ l. procedure_called once m input more past few b known labels includes n line index a.1 less l));
     }

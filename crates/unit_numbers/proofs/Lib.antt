@@ -1,3 +1,4 @@
+pub mod Arrays
 pub mod Takes
 pub mod Places
 pub mod Mains

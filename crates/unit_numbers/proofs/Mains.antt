@@ -10,9 +10,9 @@ use Rattle.pli_meaning.specs.DeclaredShapes.{declared_variable, head_of, variabl
 use Rattle.pli_meaning.specs.Executing.{labels_in}
 use Rattle.pli_meaning.specs.Making.{with_binding}
 use Rattle.pli_meaning.specs.StorageState.{Activation, Binding, OnUnit}
+use Rattle.pli_coding.specs.Environments.{BlockPlace}
 use Rattle.pli_coding.specs.Frames.{fixed_size, parameters_in}
 use Rattle.pli_coding.specs.Images.{linked_code, place_of_head}
-use Rattle.pli_coding.specs.Locating.{table_number}
 use Rattle.pli_coding.specs.Registers.{held_registers}
 use Rattle.pli_coding.specs.Environments.{none_taken}
 use Rattle.pli_coding.specs.Statements.{block_held, stmts_take}
@@ -30,14 +30,16 @@ use Rattle.program_runs.specs.Programs.{main_of}
 use Rattle.program_runs.specs.Starts.{image_parts, no_numbers, start_point, surroundings_of}
 use Rattle.program_runs.specs.Statements.{Block, IsBegun}
 use Rattle.program_runs.specs.Variables.{Declared, generation_for}
-use Rattle.expression_runs.specs.Variables.{IsNumber, Spot, number_declared, variable_of}
+use Rattle.expression_runs.specs.Variables.{IsNumber, Spot, variable_of}
 use Rattle.variable_runs.specs.Lists.{AreAll, all_made, behind_made, layer_after, layer_behind}
 use Rattle.well_formed_trees.specs.WellFormed.{HasMain}
-use Rattle.number_runs.specs.Numbers.{has_none, is_known, is_place, is_plain_if}
+use Rattle.element_runs.specs.Arrays.{IsArray}
+use Rattle.number_runs.specs.Arrays.{is_array_if}
+use Rattle.number_runs.specs.Numbers.{bounds_known, has_none, is_array_known, is_known, is_place, is_plain_if}
 use Rattle.number_runs.specs.Statements.{statements_need}
-use Rattle.number_runs.specs.Variables.{HasWords, HaveRoom, IsOwnWord, words_in}
+use Rattle.number_runs.specs.Variables.{HasWords, HaveRoom, IsOwnArray, IsOwnWord, bytes_of, words_in}
 use Rattle.number_runs.proofs.Takes.{Takes}
-use Rattle.number_runs.proofs.Words.{all_words, own_word, room_behind, room_fewer}
+use Rattle.number_runs.proofs.Words.{all_words, own_array, own_word, room_behind, room_fewer}
 use Rattle.number_headlines.specs.Programs.{are_all_plain, body_of, has_result, most_words}
 use Rattle.number_headlines.proofs.Mains.{made_for, procedure_is, spare}
 use Rattle.number_headlines.proofs.Tables.{block_plain, has_table}
@@ -133,7 +135,7 @@ no_words : {program : Y.Program} (m : Main program) → (procedure_for program m
 no_words {program} m =
     let plain = block_plain program.variables m.head.number m.plain in
     (behind_variables (own_scope program m.head) program m.head.number (statements_need (list_of m)) m.body
-    plain.0 (list_takes m)).words
+    plain.plain (list_takes m)).words
 
 -- it saves as many registers as they take
 pub main_held :
@@ -142,7 +144,7 @@ pub main_held :
 main_held {program} m =
     let plain = block_plain program.variables m.head.number m.plain in
     let s = own_scope program m.head in
-    let n = (behind_variables s program m.head.number (statements_need (list_of m)) m.body plain.0
+    let n = (behind_variables s program m.head.number (statements_need (list_of m)) m.body plain.plain
     (list_takes m)).registers in
     let fits = m.fits in
     omega (arith, n, fits)
@@ -181,11 +183,11 @@ pub main_spare :
     {program : Y.Program} (m : Main program) (input : List ℕ) (acts : ℕ) →
     HaveRoom (surroundings_for m input acts) (main_begun m input acts)
     (main_layer m input acts) [] (fixed_size m.head.level 0)
-    (length (variables_of_block program m.head.number) + spare)
+    (bytes_of (variables_of_block program m.head.number) + spare)
 main_spare {program} m input acts =
     let words = no_words m in
     let level = level_of m in
-    let few = (block_plain program.variables m.head.number m.plain).1 in
+    let few = (block_plain program.variables m.head.number m.plain).room in
     let code = m.loadable.fits in
     record {
       newest = refl;
@@ -206,8 +208,7 @@ main_words {program} m input acts =
     let found = main_found program (placed m) m.main in
     let kind = (known program m.head m.body None m.loadable.well_formed found).kind in
     let plain = block_plain program.variables m.head.number m.plain in
-    let table = has_table program m.head.number m.plain in
-    let n = length (variables_of_block program m.head.number) in
+    let n = bytes_of (variables_of_block program m.head.number) in
     record {
       kind = kind;
       code = refl;
@@ -217,10 +218,9 @@ main_words {program} m input acts =
       parts = refl;
       bare = ap parameters_in found;
       made = refl;
-      plain = plain.0;
-      few = plain.1;
-      small = table.small;
-      shape = table.shape;
+      plain = plain.plain;
+      few = plain.few;
+      tabled = has_table program m.head m.plain;
       room = room_fewer (surroundings_for m input acts) (main_begun m input acts)
           (main_layer m input acts) [] (fixed_size m.head.level 0) n (n + spare) (omega arith)
           (main_spare m input acts);
@@ -242,6 +242,15 @@ block_for {program} m input acts =
     (main_for m input acts)
     (start_for m input acts) no_numbers
 
+in_place : (x : Spot) (b : BlockPlace) → (is_place x b || false) ≡ true → (x.block ≡ b.number) × (x.level ≡ b.level)
+in_place x b h =
+    let c = and_parts (x.block == b.number) (x.level == b.level) (one (is_place x b) h) in
+    (eqb-true x.block b.number c.0, eqb-true x.level b.level c.1)
+  where
+    one : (q : Bool) → (q || false) ≡ true → q ≡ true
+    one true e = refl
+    one false e = absurd (cc e)
+
 pub own_known :
     {program : Y.Program} (m : Main program) (input : List ℕ) (acts : ℕ) (x : Spot) →
     is_known (own_scope program m.head) x ≡ true →
@@ -249,17 +258,18 @@ pub own_known :
 own_known {program} m input acts x h =
     let plain = is_plain_if (declared_variable program (variable_of x)) in
     let a = and_parts (is_place x (place_of_head m.head) || false) plain h in
-    let b = and_parts (x.block == m.head.number) (x.level == m.head.level)
-    (one (is_place x (place_of_head m.head)) a.0) in
-    record {
-      block = eqb-true x.block m.head.number b.0;
-      level = eqb-true x.level m.head.level b.1;
-      plain = a.1;
-    }
-  where
-    one : (q : Bool) → (q || false) ≡ true → q ≡ true
-    one true e = refl
-    one false e = absurd (cc e)
+    let b = in_place x (place_of_head m.head) a.0 in
+    record { block = b.0; level = b.1; plain = a.1 }
+
+own_array_known :
+    {program : Y.Program} (m : Main program) (input : List ℕ) (acts : ℕ) (x : Spot) →
+    is_array_known (own_scope program m.head) x ≡ true →
+    IsOwnArray (main_for m input acts) x
+own_array_known {program} m input acts x h =
+    let array = is_array_if (declared_variable program (variable_of x)) in
+    let a = and_parts (is_place x (place_of_head m.head) || false) array h in
+    let b = in_place x (place_of_head m.head) a.0 in
+    record { block = b.0; level = b.1; array = a.1 }
 
 abbrev pub most_for : Y.Program → ℕ
 most_for program = length (linked_code (code_for program)) + 2
@@ -272,6 +282,22 @@ main_number {program} m input acts x own b =
     own_word (surroundings_for m input acts) (linked_code (code_for program)) (main_for m input acts)
     (start_for m input acts) (start_for m input acts) no_numbers x
     (record { high = omega arith; inside = omega arith }) (main_words m input acts, main_all m input acts) own b
+
+-- and each array an array of it
+pub own_main_array :
+    {program : Y.Program} (m : Main program) (input : List ℕ) (acts : ℕ) (x : Spot) →
+    IsOwnArray (main_for m input acts) x → IsBegun (block_for m input acts) →
+    IsArray (block_for m input acts) x (bounds_known (own_scope program m.head) x)
+own_main_array {program} m input acts x own b =
+    own_array (surroundings_for m input acts) (linked_code (code_for program)) (main_for m input acts)
+    (start_for m input acts) (start_for m input acts) no_numbers x
+    (record { high = omega arith; inside = omega arith }) (main_words m input acts, main_all m input acts) own b
+
+pub main_array :
+    {program : Y.Program} (m : Main program) (input : List ℕ) (acts : ℕ) (x : Spot) →
+    is_array_known (own_scope program m.head) x ≡ true → IsBegun (block_for m input acts) →
+    IsArray (block_for m input acts) x (bounds_known (own_scope program m.head) x)
+main_array m input acts x h b = own_main_array m input acts x (own_array_known m input acts x h) b
 
 -- ---- where units are raised in it
 
@@ -318,8 +344,9 @@ pub free :
     (all_made image_parts (main_layer m input acts) (words_in (environment_for program m.head))
     (main_begun m input acts))
     (layer_behind_all m input acts) []
-    (fixed_size m.head.level 0 + 32 * length (variables_of_block program m.head.number)) spare
+    (fixed_size m.head.level 0 + bytes_of (variables_of_block program m.head.number)) spare
 free {program} m input acts =
     room_behind (surroundings_for m input acts) (main_begun m input acts) (main_layer m input acts) []
-    (table_number (environment_for program m.head) (number_declared [])) (fixed_size m.head.level 0) 0 spare
-    (variables_of_block program m.head.number) (main_spare m input acts)
+    (environment_for program m.head) (fixed_size m.head.level 0) 0 spare
+    (variables_of_block program m.head.number) (block_plain program.variables m.head.number m.plain).plain
+    (main_spare m input acts)

@@ -21,9 +21,8 @@ use Rattle.program_places.specs.Programs.{environment_for}
 use Rattle.program_runs.specs.Starts.{image_parts}
 use Rattle.program_runs.specs.Variables.{Declared}
 use Rattle.variable_runs.specs.Lists.{all_made, behind_made, layer_behind}
-use Rattle.number_runs.specs.Numbers.{is_plain}
-use Rattle.number_runs.specs.Variables.{are_plain}
-use Rattle.number_runs.proofs.Variables.{plain_is}
+use Rattle.number_runs.specs.Variables.{are_plain, bytes_of, is_declared, variable_bytes}
+use Rattle.number_runs.proofs.Declared.{makeable}
 use Rattle.number_headlines.proofs.Tables.{block_plain}
 use Rattle.unit_numbers.proofs.Mains.{Main, alone, block_for, free, list_of, main_spare, main_words}
 use Rattle.unit_numbers.proofs.Spread.{all_labels}
@@ -55,13 +54,13 @@ made_stacks φ (x ∷ xs) p =
 
 end_place :
     (parts : MemoryParts) (at : ℕ) (ds : List Y.DeclaredVariable) → are_plain ds ≡ true →
-    at + 32 * length ds ≤ last_place → variable_place parts at ds (length ds) ≡ at + 32 * length ds
+    at + bytes_of ds ≤ last_place → variable_place parts at ds (length ds) ≡ at + bytes_of ds
 end_place parts at [] h fits = omega arith
 end_place parts at (d ∷ ds) h fits =
-    let a = and_parts (is_plain d) (are_plain ds) h in
-    let next' : min last_place (at + frame_bytes parts d) ≡ at + 32 =
-    ap (λ d'. min last_place (at + frame_bytes parts d')) (plain_is d a.0) ∙ omega (arith, fits) in
-    let rest = end_place parts (at + 32) ds a.1 (omega (arith, fits)) in
+    let a = and_parts (is_declared d) (are_plain ds) h in
+    let frame = (makeable d a.0).frame parts in
+    let next' : min last_place (at + frame_bytes parts d) ≡ at + variable_bytes d = omega (arith, fits, frame) in
+    let rest = end_place parts (at + variable_bytes d) ds a.1 (omega (arith, fits)) in
     ap (λ n. variable_place parts n ds (length ds)) next' ∙ rest ∙ omega arith
 
 pub main_top :
@@ -77,10 +76,10 @@ main_top {program} m input acts =
     let frame = ap (λ ls. frame_under image_parts ls) f.newest in
     let here = f.here in
     let counted = (main_spare m input acts).counted in
-    let plain = (block_plain program.variables m.head.number m.plain).0 in
+    let plain = (block_plain program.variables m.head.number m.plain).plain in
     let start : fixed_size m.head.level (length (parameters_of_block program m.head.number)) ≡ first =
     ap (λ (ns : List ℕ). fixed_size m.head.level (length ns)) (main_words m input acts).bare in
-    let end : frame_end image_parts program m.head.number m.head.level ≡ first + 32 * length ds =
+    let end : frame_end image_parts program m.head.number m.head.level ≡ first + bytes_of ds =
     ap (λ n. variable_place image_parts n ds (length ds)) start
     ∙ end_place image_parts first ds plain (omega (arith, counted)) in
     omega (arith, top, frame, here, end)

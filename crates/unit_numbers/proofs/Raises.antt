@@ -37,7 +37,7 @@ use Rattle.program_places.proofs.Procedures.{raise_routines}
 use Rattle.program_runs.specs.Calls.{left_over}
 use Rattle.program_runs.specs.Starts.{image_parts}
 use Rattle.program_runs.specs.Statements.{Block, Does, IsBegun, Outer, as_outer, outer_block, own_height}
-use Rattle.expression_runs.specs.Assignments.{setting_of}
+use Rattle.expression_runs.specs.Assignments.{setting_around, setting_of}
 use Rattle.expression_runs.specs.Values.{OverflowComes, Setting}
 use Rattle.expression_runs.specs.Variables.{IsNumber, Spot}
 use Rattle.expression_runs.proofs.Raises.{overflow_ends}
@@ -48,7 +48,8 @@ use Rattle.number_runs.specs.Numbers.{is_known}
 use Rattle.number_runs.specs.Statements.{statements_need}
 use Rattle.number_runs.specs.Variables.{words_in}
 use Rattle.number_runs.proofs.Statements.{body_does}
-use Rattle.number_runs.proofs.Takes.{Takes, statements_taken}
+use Rattle.number_runs.proofs.Takes.{Takes}
+use Rattle.number_runs.proofs.Uncounted.{statements_take}
 use Rattle.number_headlines.proofs.Tables.{block_plain}
 use Rattle.unit_runs.specs.Changing.{IsOwnRaise, IsPast, Past, after, past_point}
 use Rattle.unit_runs.specs.Establishing.{OnUnit, unit_index, unit_of}
@@ -85,8 +86,8 @@ pub taken_by :
 taken_by {program} m x u =
     let s = unit_scope program m.head (list_of m) in
     let plain = block_plain program.variables x.head.number m.plain in
-    unit_taken s program x.head x.head.kind (statements_need x.body) x.body plain.0
-    (statements_taken s false (labels_in x.body ++ []) x.body u.statements u.fits)
+    unit_taken s program x.head x.head.kind (statements_need x.body) x.body plain.plain
+    (statements_take s false (labels_in x.body ++ []) x.body refl u.statements u.fits)
 
 -- procedures stand behind the start and the routines of raises
 pub entry_low :
@@ -287,8 +288,8 @@ scene_raises once {program} m z s r is own =
     let inside = routines.linked.inside in
     let error = s.system r is C.Error (error_system once m z.input z.acts z.past s.known) in
     record {
-      overflow = λ may labels line includes. overflow_ends
-          (setting_of (scene_inner m z r) labels line (most_for program))
+      overflow = λ may words set labels line includes. overflow_ends
+          (setting_around words (scene_inner m z r) labels line (most_for program))
           (record {
             routines = routines;
             overflow = s.system r is C.FixedOverflow
@@ -297,8 +298,8 @@ scene_raises once {program} m z s r is own =
             acts = s.few;
             most = omega (arith, inside);
           });
-      divisor = λ may labels line includes. zero_divide_ends
-          (setting_of (scene_inner m z r) labels line (most_for program))
+      divisor = λ may words set labels line includes. zero_divide_ends
+          (setting_around words (scene_inner m z r) labels line (most_for program))
           (record {
             routines = routines;
             divisor = s.system r is C.ZeroDivide
@@ -307,6 +308,7 @@ scene_raises once {program} m z s r is own =
             acts = s.few;
             most = omega (arith, inside);
           });
+      subscript = λ may words set labels line includes. absurd (cc may);
     }
 
 scene_ready :
@@ -325,11 +327,13 @@ scene_ready once {program} m z s r is made b =
       held = omega arith;
       raises = scene_raises once m z s r is (labels_in z.unit.body ++ []);
       variables = λ v known. s.numbers r is made b v known;
+      arrays = λ may v known. absurd (cc may);
       calls = record {
-        functions = λ ls at level n inside call. absurd (cc call);
-        procedures = λ ls level n at index inside call. absurd (cc call);
+        functions = λ words set ls at level n inside call. absurd (cc call);
+        procedures = λ words set ls level n at index inside call. absurd (cc call);
       };
       puts = λ e. absurd (cc e);
+      loops = λ e. absurd (cc e);
       jumps = λ ls level label at index inside out less.
           let a = and_parts (level == m.head.level) (is_among label (labels_in (list_of m))) out in
           subst (λ n. Linked (links_for program) (linked_code (code_for program)) index
@@ -357,6 +361,7 @@ scene_does once {program} m z s r is =
       λ b.
           body_does (unit_scope program m.head (list_of m)) false (scene_inner m z r) x.body (list_index y)
           (most_for program) left_over (scene_ready once m z s r is made b) u.statements (omega (arith, n, fits))
+          (λ e. absurd (cc e))
           (unit_list_placed (links_for program) (linked_code (code_for program)) z.index e x
           (around_for program z.more) (λ q. q) s.placed.placed),
     )

@@ -12,7 +12,8 @@ use Rattle.unit_runs.specs.Establishing.{OnUnit, on_of}
 use Rattle.number_runs.specs.Numbers.{Scope}
 use Rattle.number_runs.specs.Statements.{statement_needs, statements_need}
 use Rattle.number_runs.specs.Variables.{are_plain}
-use Rattle.number_runs.proofs.Takes.{Takes, block_taken, statement_taken}
+use Rattle.number_runs.proofs.Takes.{Takes}
+use Rattle.number_runs.proofs.Uncounted.{block_taken, statement_takes}
 use Rattle.unit_numbers.specs.Programs.{are_steps, is_step, is_step_with}
 use Rattle.unit_numbers.specs.Units.{own_scope, unit_in}
 
@@ -61,7 +62,7 @@ step_taken program main all stmt h fits = by (unit_in stmt) refl h
     by :
         (o : Option OnUnit) → unit_in stmt ≡ o → is_step_with program main all o stmt ≡ true →
         Takes (statement_needs stmt) none_taken (stmt_takes none_taken stmt)
-    by None e is = statement_taken (own_scope program main) false (labels_in all) stmt is fits
+    by None e is = statement_takes (own_scope program main) false (labels_in all) stmt refl is fits
     by (Some x) e is =
         subst (λ f. Takes (statement_needs f) none_taken (stmt_takes none_taken f)) (sym (unit_found stmt x e))
         (record { registers = omega arith; words = refl })
@@ -92,7 +93,7 @@ pub behind_variables :
     are_plain (variables_of_block program block) ≡ true → Takes need none_taken (stmts_take none_taken body) →
     Takes need none_taken (block_takes program block body)
 behind_variables s program block need body plain x =
-    let n = block_taken s false program block empty plain refl (omega arith) in
+    let n = block_taken (record s { counts = false }) false program block empty refl plain refl (omega arith) in
     let p = x.registers in
     let u = x.words in
     let v = n.words in

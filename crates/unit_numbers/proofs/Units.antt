@@ -14,8 +14,8 @@ use Rattle.pli_coding.specs.Registers.{held_registers}
 use Rattle.pli_coding.specs.Statements.{unit_environment, unit_variables}
 use Rattle.unit_runs.specs.Establishing.{OnUnit}
 use Rattle.number_runs.specs.Numbers.{has_none}
-use Rattle.number_runs.specs.Statements.{are_statements, is_line, statements_need}
-use Rattle.number_headlines.specs.Programs.{is_body}
+use Rattle.number_runs.specs.Statements.{are_statements, is_line, statements_need, statements_set}
+use Rattle.number_headlines.specs.Programs.{is_body, most_waiting}
 use Rattle.unit_numbers.specs.Units.{is_bare, is_of_numbers, is_unit, unit_scope}
 
 abbrev pub IsBare : Y.Program → Y.BlockHead → Type 0
@@ -76,7 +76,9 @@ unit_is program main all x h =
     let d = and_parts (x.head.level == 1) four c.1 in
     let e = and_parts (nat_le main.number x.head.number) five d.1 in
     let f = and_parts bare (is_body s false x.body) e.1 in
-    let g = and_parts (are_statements s false (labels_in x.body ++ []) x.body) fits f.1 in
+    let g = and_parts (are_statements s false (labels_in x.body ++ []) x.body)
+    (fits && nat_le (statements_set x.body) most_waiting) f.1 in
+    let l = and_parts fits (nat_le (statements_set x.body) most_waiting) g.1 in
     record {
       condition = condition_is x.condition a.0;
       line = ltb-true x.line (2 ^ 31) b.0;
@@ -85,7 +87,7 @@ unit_is program main all x h =
       later = leb-true main.number x.head.number e.0;
       bare = bare_is program x.head x.head.kind refl f.0;
       statements = g.0;
-      fits = leb-true (statements_need x.body) held_registers g.1;
+      fits = leb-true (statements_need x.body) held_registers l.0;
     }
 
 -- it makes no variables

@@ -6,6 +6,7 @@ use Rattle.std.specs.Prelude.{◌==◌, ◌%◌, Bool, cond, drop, nat_lt}
 use Rattle.std.proofs.lemmas.Bool.{eq-eqb}
 use Rattle.pli_language.specs.declared.condition.Condition.{Condition}
 use Rattle.pli_language.specs.declared.condition.Condition.TheVariants as C
+use Rattle.pli_typing.specs.Signatures.{Bounds}
 use Rattle.pli_typing.specs.TypedTree as Y
 use Rattle.pli_meaning.specs.Control.{Label}
 use Rattle.pli_meaning.specs.DeclaredShapes.{variables_of_block}
@@ -19,32 +20,34 @@ use Rattle.pli_meaning.specs.StorageState.{Activation, Binding, BlockUnit, OnUni
 use Rattle.pli_meaning.specs.StorageState.{height_of, most_activations}
 use Rattle.pli_coding.specs.Frames.{fixed_size, temporary_bytes}
 use Rattle.pli_coding.specs.Images.{linked_code}
-use Rattle.pli_coding.specs.Locating.{table_number}
 use Rattle.code_marks.specs.CodeMarks.{MarkedOnce}
 use Rattle.storage_relation.proofs.Holders.{eqb-other, eqb-refl}
 use Rattle.activation_relation.specs.Chains.{HasParent}
 use Rattle.activation_relation.specs.Frames.{lower_end, upper_top}
 use Rattle.activation_relation.specs.Layers.{Layer, Point}
+use Rattle.activation_relation.specs.Points.{Surroundings}
 use Rattle.activation_relation.specs.ServiceLaws.{IsSystem}
 use Rattle.block_runs.specs.Bodies.{Function}
 use Rattle.block_runs.specs.Machines.{acted}
 use Rattle.program_places.specs.Programs.{body_for, code_for, environment_for}
 use Rattle.program_places.proofs.Procedures.{raise_routines}
-use Rattle.program_runs.specs.Calls.{begun_at}
+use Rattle.program_runs.specs.Calls.{begun_at, block_at}
 use Rattle.program_runs.specs.Procedures.{layer_for}
 use Rattle.program_runs.specs.Starts.{image_parts}
 use Rattle.program_runs.specs.Statements.{Block, IsBegun, Outer, as_outer, outer_block, own_height}
 use Rattle.program_runs.specs.Variables.{Declared, generation_for}
 use Rattle.expression_runs.specs.Assignments.{setting_of}
 use Rattle.expression_runs.specs.Values.{OverflowComes, Setting}
-use Rattle.expression_runs.specs.Variables.{IsNumber, Spot, number_declared}
+use Rattle.expression_runs.specs.Variables.{IsNumber, Spot}
 use Rattle.operator_runs.specs.Divisors.{ZeroDivideComes}
 use Rattle.jump_runs.specs.Calls.{block_in}
 use Rattle.jump_runs.proofs.Numbers.{alone, called_number, number_leaving}
 use Rattle.variable_runs.specs.Lists.{all_made, behind_made, layer_behind}
-use Rattle.number_runs.specs.Numbers.{is_known}
-use Rattle.number_runs.specs.Variables.{words_in}
-use Rattle.number_runs.proofs.Words.{AreLaid, own_word, words_laid}
+use Rattle.element_runs.specs.Arrays.{IsArray}
+use Rattle.element_runs.proofs.Outer.{outer_array, procedure_known}
+use Rattle.number_runs.specs.Numbers.{bounds_known, is_array_known, is_known}
+use Rattle.number_runs.specs.Variables.{bytes_of, words_in}
+use Rattle.number_runs.proofs.Words.{AreLaid, own_array, own_word, words_laid}
 use Rattle.number_headlines.proofs.Tables.{block_plain}
 use Rattle.unit_runs.specs.Changing.{Past}
 use Rattle.unit_runs.specs.Establishing as T
@@ -52,11 +55,13 @@ use Rattle.unit_runs.specs.Raised.{AreMade, IsRaiseOf, IsRaised, Raise, Standing
 use Rattle.unit_runs.proofs.FurtherVariables.{further_number}
 use Rattle.unit_runs.proofs.OwnRaises.{past_like, past_numbers}
 use Rattle.unit_numbers.specs.Calls.{called_scope}
-use Rattle.unit_numbers.proofs.Called.{Inner, IsVisit, Visit, named_is, no_inner_words}
+use Rattle.unit_numbers.proofs.Arrays.{array_leaving, past_array}
+use Rattle.unit_numbers.proofs.Called.{Inner, IsOfBoth, IsVisit, NamedArray, Visit, named_array, named_is}
+use Rattle.unit_numbers.proofs.Called.{no_inner_words}
 use Rattle.unit_numbers.proofs.Called.{Named, inner_words, visit_all, visit_begun, visit_callee, visit_made}
 use Rattle.unit_numbers.proofs.Mains as N
 use Rattle.unit_numbers.proofs.Mains.{Main, block_for, free, level_of, list_of, main_number, most_for, own_known}
-use Rattle.unit_numbers.proofs.Mains.{surroundings_for}
+use Rattle.unit_numbers.proofs.Mains.{own_main_array, surroundings_for}
 use Rattle.unit_numbers.proofs.Raises.{IsScene, Scene, divide_at, overflow_at, own_raise, scene_setting, scene_unit}
 use Rattle.unit_numbers.proofs.Raises.{taken_by, unit_at}
 use Rattle.unit_numbers.proofs.Established.{Newest}
@@ -191,6 +196,90 @@ visit_number {program} m i v more past entry function h b x known =
         (main_number m v.input (suc more) x (record { block = is.0; level = is.1; plain = n.plain }) h.begun))
         v.point v.numbers h.among (visit_made m i v more past h) b'
 
+same_array :
+    {program : Y.Program} (m : Main program) {valued : Bool} {number : ℕ} (i : Inner m valued number) (v : Visit)
+    (more : ℕ) (past : Past) (entry : Entry) (function : Option Function) (x : Spot) (b : Bounds) →
+    IsArray (visit_procedure m i v more past) x b → IsArray (visit_block m i v more past entry function) x b
+same_array m i v more past entry function x b is =
+    outer_array (visit_procedure m i v more past) (visit_block m i v more past entry function) x b
+    (λ d n. record {
+      declared = n.declared;
+      serial = n.serial;
+      binding = n.binding;
+      living = n.living;
+      lives = n.lives;
+      shape = n.shape;
+      base = n.base;
+      frame = n.frame;
+      at = n.at;
+      low = n.low;
+      inside = n.inside;
+    })
+    is
+
+pub visit_array :
+    {program : Y.Program} (m : Main program) {valued : Bool} {number : ℕ} (i : Inner m valued number) (v : Visit)
+    (more : ℕ) (past : Past) (entry : Entry) (function : Option Function) → IsVisit m v more past →
+    IsBegun (visit_block m i v more past entry function) → (x : Spot) →
+    is_array_known (called_scope program m.head i.head) x ≡ true →
+    IsArray (visit_block m i v more past entry function) x (bounds_known (called_scope program m.head i.head) x)
+visit_array {program} m i v more past entry function h b x known =
+    same_array m i v more past entry function x bounds (by named named.of)
+  where
+    named : NamedArray m i x
+    named = named_array m i x known
+
+    bounds : Bounds
+    bounds = bounds_known (called_scope program m.head i.head) x
+
+    level : i.head.level ≡ 1
+    level = i.level
+
+    outer : m.head.level ≡ 0
+    outer = level_of m
+
+    main : Block
+    main = main_past m v.input (suc more) past
+
+    w : Surroundings
+    w = surroundings_for m v.input (suc more)
+
+    inner : Block
+    inner = block_at w (linked_code (code_for program)) (visit_callee m i v more) v.point v.numbers
+
+    b' : IsBegun inner
+    b' = alone (visit_procedure m i v more past) (as_outer main v.labels ∷ [])
+        (same_begun m i v more past entry function b)
+
+    by : NamedArray m i x → IsOfBoth m i x → IsArray (visit_procedure m i v more past) x bounds
+    by n (inl is) =
+        array_leaving inner (as_outer main v.labels ∷ []) x bounds
+        (own_array w (linked_code (code_for program)) (visit_callee m i v more)
+        v.point main.first v.numbers x (record { high = omega arith; inside = omega arith }) (
+          inner_words m i v.input (suc more) past more v.call v.end v.numbers,
+          visit_all m i v more past h,
+        )
+        (record { block = is.0; level = is.1; array = n.array }) b')
+    by n (inr is) =
+        let at = is.1 in
+        array_leaving inner (as_outer main v.labels ∷ []) x bounds
+        (outer_array main inner x bounds
+        (λ d known.
+        procedure_known main (visit_callee m i v more) x d
+        (record {
+          begun = visit_begun m v more past h;
+          level = refl;
+          parent = refl;
+          inner = refl;
+          further = omega (arith, at, level, outer);
+          few = omega (arith, level);
+          program = refl;
+          parts = refl;
+        })
+        known v.point v.numbers h.among (visit_made m i v more past h) b')
+        (past_array (block_for m v.input (suc more)) past x bounds
+        (own_main_array m v.input (suc more) x (record { block = is.0; level = is.1; array = n.array }) h.begun)))
+
 -- ---- its activation, over that of the main procedure
 
 abbrev visited : (level height : ℕ) → List Binding → Activation
@@ -306,7 +395,7 @@ visit_laid :
     (layer_for (surroundings_for m v.input (suc more)) v.point v.numbers (visit_callee m i v more).procedure
     (visit_callee m i v more).calling)
     v.point.control.layers (words_in (environment_for program i.head))
-    (length (variables_of_block program i.head.number))
+    (bytes_of (variables_of_block program i.head.number))
 visit_laid {program} m i v more past h =
     let w = surroundings_for m v.input (suc more) in
     let c = visit_callee m i v more in
@@ -318,10 +407,11 @@ visit_laid {program} m i v more past h =
     let top = ap (λ ls. upper_top image_parts ls) f.newest in
     let top' = (past_like k0 past).top in
     let there = ap (λ ls. upper_top image_parts ls) h.among.later.layers in
-    let few = (block_plain program.variables i.head.number m.plain).1 in
+    let block = block_plain program.variables i.head.number m.plain in
+    let few = block.room in
     words_laid w (begun_at w c v.point v.numbers) (layer_for w v.point v.numbers c.procedure c.calling)
-    v.point.control.layers (table_number (environment_for program i.head) (number_declared []))
-    (fixed_size i.head.level 0) 0 (variables_of_block program i.head.number) refl refl
+    v.point.control.layers (environment_for program i.head) (fixed_size i.head.level 0) 0
+    (variables_of_block program i.head.number) block.plain refl refl
     (omega (arith, words, level, even, top, top', there)) (omega (arith, level, few))
 
 -- a unit of the main procedure finds room above it
@@ -344,7 +434,7 @@ visit_room {program} m i v more past entry function h words level none one =
     let low' = past_lower past k0.first in
     let there = ap (λ ls. upper_top image_parts ls) h.among.later.layers in
     let under = ap (λ ls. lower_end image_parts ls) h.among.later.layers in
-    let few = (block_plain program.variables i.head.number m.plain).1 in
+    let few = (block_plain program.variables i.head.number m.plain).room in
     let laid = visit_laid m i v more past h in
     let newest' = ap (λ ls. upper_top image_parts ls) laid.newest in
     let lowest = ap (λ ls. lower_end image_parts ls) laid.newest in

@@ -16,9 +16,11 @@ called_scope program main head =
       blocks = place_of_head head ∷ place_of_head main ∷ [];
       is_function = λ level n. false;
       is_procedure = λ level n. false;
+      counts = false;
       puts = false;
       overflows = true;
       divides = true;
+      elements = true;
       own = true;
       is_outer = λ level label. false;
     }

@@ -23,9 +23,11 @@ own_scope program main =
       blocks = place_of_head main ∷ [];
       is_function = λ level n. (level == main.level) && may_call program main true n;
       is_procedure = λ level n. (level == main.level) && may_call program main false n;
+      counts = false;
       puts = false;
       overflows = true;
       divides = true;
+      elements = true;
       own = true;
       is_outer = λ level label. false;
     }
@@ -63,9 +65,11 @@ unit_scope program main body =
       blocks = place_of_head main ∷ [];
       is_function = λ level n. false;
       is_procedure = λ level n. false;
+      counts = false;
       puts = false;
       overflows = not (has_unit C.FixedOverflow body);
       divides = not (has_unit C.ZeroDivide body);
+      elements = false;
       own = false;
       is_outer = λ level label. (level == main.level) && is_among label (labels_in body);
     }

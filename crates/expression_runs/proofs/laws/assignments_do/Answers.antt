@@ -1,5 +1,5 @@
-use Rattle.expression_runs.proofs.Assignments.{assign_does}
+use Rattle.expression_runs.proofs.Assignments.{assign_with}
 use Rattle.expression_runs.proofs.laws.assignments_do.Goals as goal
 
 pub returns : goal.returns
-returns c = assign_does
+returns c = assign_with

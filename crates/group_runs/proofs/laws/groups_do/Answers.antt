@@ -1,5 +1,5 @@
-use Rattle.group_runs.proofs.Groups.{group_does}
+use Rattle.group_runs.proofs.Groups.{group_with}
 use Rattle.group_runs.proofs.laws.groups_do.Goals as goal
 
 pub returns : goal.returns
-returns c = group_does
+returns c = group_with

@@ -1,5 +1,5 @@
-use Rattle.number_runs.proofs.Takes.{registers_held, words_none}
+use Rattle.number_runs.proofs.Takes.{registers_held, words_set}
 use Rattle.number_runs.proofs.laws.temporaries_fit.Goals as goal
 
 pub returns : goal.returns
-returns c = record { words = words_none; registers = registers_held }
+returns c = record { words = words_set; registers = registers_held }

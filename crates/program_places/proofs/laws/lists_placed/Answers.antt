@@ -1,5 +1,5 @@
-use Rattle.program_places.proofs.Labels.{are_marked, label_of}
+use Rattle.program_places.proofs.Labels.{label_of, marked_with}
 use Rattle.program_places.proofs.laws.lists_placed.Goals as goal
 
 pub returns : goal.returns
-returns c = record { marked = are_marked; labels = label_of }
+returns c = record { marked = marked_with; labels = label_of }

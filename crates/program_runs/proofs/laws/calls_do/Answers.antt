@@ -1,5 +1,5 @@
-use Rattle.program_runs.proofs.CallStatements.{call_does}
+use Rattle.program_runs.proofs.CallStatements.{call_with}
 use Rattle.program_runs.proofs.laws.calls_do.Goals as goal
 
 pub returns : goal.returns
-returns c = call_does
+returns c = call_with

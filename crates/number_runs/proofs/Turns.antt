@@ -1,0 +1,144 @@
+-- A block while limits wait in words of its frame: it is as ready as it was, and the statements of a turn stand there.
+use Rattle.std.proofs.Common.{◌≡◌, ℕ, ◌+◌, ◌<◌, ◌≤◌, List, [], ◌∷◌, ◌++◌, Bool, true, None, Option, Some}
+use Rattle.std.proofs.Common.{refl, ap, ◌∙◌, subst, arith}
+use Rattle.std.specs.Prelude.{cond}
+use Rattle.pli_typing.specs.TypedTree as Y
+use Rattle.pli_meaning.specs.Control.{Label}
+use Rattle.pli_coding.specs.Allocating.{act_code}
+use Rattle.pli_coding.specs.Assembly.{JumpBack}
+use Rattle.pli_coding.specs.Expressions.{number_code}
+use Rattle.pli_coding.specs.Statements.{limit_tested, turns_code, words_back, words_behind_limit}
+use Rattle.run_steps.proofs.Linking.{size_append}
+use Rattle.storage_relation.proofs.Holders.{eqb-other}
+use Rattle.activation_relation.specs.FrameLaws.{with_waits}
+use Rattle.activation_relation.specs.Layers.{Layer}
+use Rattle.program_places.specs.Placed.{Placed}
+use Rattle.program_places.proofs.Marks.{placed_back, placed_front}
+use Rattle.program_runs.specs.Statements.{Block, IsBegun, set_aside}
+use Rattle.expression_runs.specs.Values.{in_registers}
+use Rattle.counter_runs.specs.Counts.{Counting, IsStep, body_index, count_of, turn_in}
+use Rattle.counter_runs.specs.Words.{telling, with_word}
+use Rattle.counter_runs.proofs.Known.{array_told, number_told}
+use Rattle.counter_runs.proofs.Limits.{limit_size}
+use Rattle.counter_runs.proofs.Turns.{coded, starts_code}
+use Rattle.counter_runs.proofs.Words.{begun_telling}
+use Rattle.number_runs.specs.Knowledge.{AreStandingWith, HasFrame, IsHome, IsReady, StandingWith}
+use Rattle.number_runs.specs.Numbers.{Scope, bounds_known}
+
+-- ---- words in which nothing waits
+
+pub free_behind :
+    (waits : ℕ → Option ℕ) (n given m : ℕ) → ((i : ℕ) → n ≤ i → waits i ≡ None) → n < m → (i : ℕ) → m ≤ i →
+    with_word n given waits i ≡ None
+free_behind waits n given m free less i more =
+    ap (λ q. cond q (Some given) (waits i)) (eqb-other i n (omega (arith, less, more))) ∙ free i
+    (omega (arith, less, more))
+
+pub free_above :
+    (waits : ℕ → Option ℕ) (b n given m : ℕ) → ((i : ℕ) → b ≤ i → waits i ≡ None) → b ≤ n → n < m → (i : ℕ) →
+    m ≤ i → with_word n given waits i ≡ None
+free_above waits b n given m free low less i more =
+    free_behind waits n given m (λ j at. free j (omega (arith, low, at))) less i more
+
+-- ---- the block
+
+home_told :
+    {s : Scope} {valued : Bool} {k : Block} {left' : ℕ} (φ : Layer) (φs : List Layer) (waits : ℕ → Option ℕ) →
+    IsBegun (telling waits φ φs k) → IsHome s valued k left' → IsHome s valued (telling waits φ φs k) left'
+home_told φ φs waits b h =
+    record {
+      level = h.level;
+      own = h.own;
+      block = h.block;
+      returns = λ e. let o = h.returns e in record {
+        owner = o.owner;
+        end = o.end;
+        near = o.near;
+        enough = o.enough;
+        function = o.function;
+        begun = b;
+        kind = o.kind;
+        registers = o.registers;
+      };
+      values = λ e. let v = h.values e in record {
+        owner = v.owner;
+        end = v.end;
+        near = v.near;
+        enough = v.enough;
+        function = v.function;
+        kind = v.kind;
+        saved = v.saved;
+      };
+    }
+
+pub ready_told :
+    {s : Scope} {valued : Bool} {k : Block} {labels : List Label} {most left' : ℕ}
+    (r : IsReady s valued k labels most left') (c : s.counts ≡ true) (waits : ℕ → Option ℕ) (behind : ℕ) →
+    ((n : ℕ) → behind ≤ n → waits n ≡ None) →
+    IsReady s valued (telling waits (r.loops c).layer (r.loops c).others k) labels most left'
+ready_told {s} {k = k} r c waits behind free =
+    let l = r.loops c in
+    let b = begun_telling k l.layer l.others waits l.newest r.begun in
+    record {
+      begun = b;
+      acts = r.acts;
+      turns = r.turns;
+      held = r.held;
+      raises = l.raises waits;
+      variables = λ x is. number_told k l.layer l.others waits l.newest x (r.variables x is);
+      arrays = λ may x is. array_told k l.layer l.others waits l.newest x (bounds_known s x) (r.arrays may x is);
+      calls = l.calls waits;
+      jumps = l.jumps waits;
+      puts = l.puts waits;
+      loops = λ c'. record {
+        layer = with_waits waits l.layer;
+        others = l.others;
+        newest = refl;
+        few = l.few;
+        behind = behind;
+        free = free;
+        raises = l.raises;
+        calls = l.calls;
+        jumps = l.jumps;
+        puts = l.puts;
+      };
+      room = r.room;
+      home = λ may. home_told l.layer l.others waits b (r.home may);
+    }
+
+-- in which its frame has as many words left as it had
+pub frame_told :
+    {s : Scope} {valued : Bool} {k : Block} {labels : List Label} {most left' : ℕ}
+    (r : IsReady s valued k labels most left') (c : s.counts ≡ true) (waits : ℕ → Option ℕ) (behind : ℕ)
+    (free : (n : ℕ) → behind ≤ n → waits n ≡ None) (words count : ℕ) → behind ≤ words →
+    words + count ≤ (r.loops c).layer.words →
+    HasFrame (ready_told r c waits behind free) words count
+unfolding ready_told
+frame_told r c waits behind free words count low room c' = (low, room)
+
+-- ---- the statements of a turn
+
+pub turn_stands :
+    (words : ℕ) (k : Block) (c : Counting) (index : ℕ) → IsStep c.step c.by → StandingWith words k (count_of c) index →
+    AreStandingWith (words + 2) k c.body (body_index words k c index)
+turn_stands words k c index step at =
+    let u = turn_in words k c in
+    let one = act_code c.line in
+    let starts = starts_code words k c in
+    let turns = turns_code u in
+    let read' = number_code k.environment (in_registers (words + 2) 0) (Y.NumberIn c.counter) in
+    let far = words_behind_limit u in
+    let limit' = read' ++ limit_tested (set_aside words) (Some c.by) far in
+    let last = u.stepped ++ JumpBack (words_back u) ∷ [] in
+    let n0 = size_append one starts in
+    let n1 = size_append read' (limit_tested (set_aside words) (Some c.by) far) in
+    let n2 = size_append read' (limit_tested (set_aside words) (Some c.by) 0) in
+    let n3 = limit_size words c.by far in
+    let n4 = limit_size words c.by 0 in
+    subst (λ i. Placed k.call.surroundings.links k.call.code i u.body) (omega (arith, n0, n1, n2, n3, n4))
+    (placed_front u.body last
+    (placed_back limit' (u.body ++ last)
+    (placed_back u.begun (limit' ++ (u.body ++ last))
+    (placed_back starts turns
+    (placed_back one (starts ++ turns)
+    (subst (Placed k.call.surroundings.links k.call.code index) (coded words k c step) at))))))

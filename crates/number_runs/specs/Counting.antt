@@ -1,0 +1,44 @@
+-- DO with a FIXED BINARY(31) variable that counts up to a limit, by a step that is a constant: its parts, as a class
+-- that is computed from typed trees.
+use Rattle.std.specs.Prelude.{ℕ, ◌^◌, ◌==◌, ◌&&◌, Bool, false, max, nat_lt, Option, None, Some}
+use Rattle.pli_typing.specs.TypedTree as Y
+use Rattle.number_runs.specs.Numbers.{Scope, is_number, is_variable, number_needs}
+
+abbrev pub is_counter : Scope → Y.Counter → Bool
+is_counter s (Y.NumberCounter precision r) = (precision == 31) && is_variable s r
+is_counter s (Y.TextCounter r) = false
+
+abbrev pub is_start : Scope → Y.Value → Bool
+is_start s (Y.NumberValue precision x) = is_number s x
+is_start s _ = false
+
+-- there is one
+abbrev pub is_limit : Scope → Option Y.Number → Bool
+is_limit s None = false
+is_limit s (Some x) = is_number s x
+
+-- a constant of the code, of either sign
+abbrev pub is_step : Y.Number → Bool
+is_step (Y.NumberConstant n) = nat_lt n (2 ^ 31)
+is_step (Y.Signed Y.Negative (Y.NumberConstant n)) = nat_lt n (2 ^ 31)
+is_step _ = false
+
+-- without WHILE; a step may pass the precision of the variable
+abbrev pub is_count : Scope → Y.Counter → Y.Value → Option Y.Number → Y.Number → Option Y.Bit → Bool
+is_count s counter start limit step None =
+    s.overflows && (is_counter s counter && (is_start s start && (is_limit s limit && is_step step)))
+is_count s counter start limit step (Some x) = false
+
+-- ---- how many registers its temporaries need
+
+abbrev pub start_needs : Y.Value → ℕ
+start_needs (Y.NumberValue precision x) = number_needs x
+start_needs _ = 0
+
+abbrev pub limit_needs : Option Y.Number → ℕ
+limit_needs None = 0
+limit_needs (Some x) = number_needs x
+
+-- one more where the step overflows
+abbrev pub count_needs : Y.Value → Option Y.Number → ℕ
+count_needs start limit = max 1 (max (start_needs start) (limit_needs limit))
