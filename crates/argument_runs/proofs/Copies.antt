@@ -2,7 +2,7 @@
 use Rattle.std.proofs.Common.{◌≡◌, inl, inr, ℕ, ◌+◌, ◌-◌, ◌%◌, ◌^◌, ◌<◌, ◌≤◌, List, [], ◌∷◌, ◌++◌, length, Option}
 use Rattle.std.proofs.Common.{Some, None, Bool, true, false, refl, sym, ap, ◌∙◌, subst, arith}
 use Rattle.std.proofs.lemmas.Bool.Decides.{nat_tests}
-use Rattle.std.specs.Prelude.{cond, if◌then◌else◌, pos, ◌==◌}
+use Rattle.std.specs.Prelude.{cond, if◌then◌else◌, pos, ◌==◌, nat_le}
 use Rattle.rv_meaning.specs.declared.instr.BranchTest.TheVariants as Test
 use Rattle.rv_meaning.specs.declared.instr.Instr.{Instr}
 use Rattle.rv_meaning.specs.declared.instr.Instr.TheVariants as I
@@ -16,7 +16,8 @@ use Rattle.area_keeper.proofs.Agreement.{length_with_part}
 use Rattle.pli_typing.specs.TypedTree as Y
 use Rattle.pli_meaning.specs.BasicValues.{VariableName}
 use Rattle.pli_meaning.specs.Making.{with_binding}
-use Rattle.pli_meaning.specs.StorageState.{Activation, Binding}
+use Rattle.pli_meaning.specs.Contents.{footprint_of}
+use Rattle.pli_meaning.specs.StorageState.{Activation, Binding, automatic_in_use, most_automatic}
 use Rattle.pli_serving.specs.Answers.{Done}
 use Rattle.pli_serving.specs.Bytes.{name_bytes, number_bytes}
 use Rattle.pli_serving.specs.Values.{generation_bytes}
@@ -64,20 +65,20 @@ use Rattle.argument_runs.specs.ListBeginnings.{KeepsList}
 use Rattle.argument_runs.specs.Lists.{given_waits, layered, list_under, named_waits}
 use Rattle.argument_runs.proofs.CopyCode.{asking_code, coded, filling_code, flag_code, making_code}
 use Rattle.argument_runs.proofs.CopyMemory.{named_found, named_words, part_again, parts_apart}
-use Rattle.argument_runs.proofs.CopyPoints.{Around, bounded, copied_answer, copied_holding, copied_stands}
+use Rattle.argument_runs.proofs.CopyPoints.{Around, asked_is, bounded, copied_answer, copied_holding, copied_stands}
 use Rattle.argument_runs.proofs.CopyPoints.{copy_memory, given_layer, laid_here, layers_of, owned_here, zero_bytes}
 
 -- ---- before the call: the value, the signature's number and the mark stand in the list, and the lower stack has grown
 
-abbrev asked_waits : (given signature : ℕ) → ℕ → Option ℕ
+abbrev pub asked_waits : (given signature : ℕ) → ℕ → Option ℕ
 asked_waits given signature n =
     if n == 5 then Some given else (if n == 1 then Some signature else (if n == 0 then Some 1 else None))
 
-abbrev asked_layers : Layer → Layer → List Layer → Copy → List Layer
+abbrev pub asked_layers : Layer → Layer → List Layer → Copy → List Layer
 asked_layers ψ φ φs x =
     lowered (ψ.lower - 16) ψ ∷ with_waits (asked_waits (word x.value) x.number) φ ∷ φs
 
-abbrev asked : Layer → Layer → List Layer → Copy → Point → Point
+abbrev pub asked : Layer → Layer → List Layer → Copy → Point → Point
 asked ψ φ φs x p = layered (asked_layers ψ φ φs x) p
 
 abbrev asked_memory : Layer → Layer → Copy → List ℕ → List ℕ
@@ -390,13 +391,13 @@ filled p ψ φ x m before low room =
 
 -- ---- the code
 
-abbrev flag_regs : (list : ℕ) → Base → List (ℕ × ℕ)
+abbrev pub flag_regs : (list : ℕ) → Base → List (ℕ × ℕ)
 flag_regs list b = (29, 1) ∷ (30, b.at + list) ∷ []
 
-abbrev given_regs : (list : ℕ) → Copy → Base → List (ℕ × ℕ)
+abbrev pub given_regs : (list : ℕ) → Copy → Base → List (ℕ × ℕ)
 given_regs list x b = (11, x.number) ∷ flag_regs list b
 
-abbrev asking_regs : (list : ℕ) → Layer → Copy → Base → List (ℕ × ℕ)
+abbrev pub asking_regs : (list : ℕ) → Layer → Copy → Base → List (ℕ × ℕ)
 asking_regs list ψ x b =
     (17, 7) ∷ (14, 2) ∷ (13, ψ.lower - 16) ∷ (12, 0) ∷ (11, x.number) ∷ (10, list) ∷ (29, word x.value)
     ∷ (6, ψ.lower - 16) ∷ []
@@ -436,7 +437,7 @@ less_sixteen x y n e f some few = omega (arith, e, f, some, few)
 address_is : (b : Base) (x n : ℕ) → x ≡ n → n < 2 ^ 24 → sum b.at x ≡ b.at + n
 address_is b x n e few = let v = b.valid.1 in omega (arith, e, few, v)
 
-flag_comes :
+pub flag_comes :
     {w : Surroundings} {code : List Instr} {p : Point} {ψ φ : Layer} {φs : List Layer} {x : Copy} {numbers : ℕ → ℕ}
     {i : ℕ} (k : Around w code p ψ φ φs x) (h : IsFrame (frame_under w.parts p.control.layers)) (c : ℕ) (f : Family) →
     Linked w.links code i flag_code →
@@ -472,7 +473,7 @@ flag_comes {w} {code} {p} {ψ} {φ} {φs} {x} {numbers} k h c f l there =
       },
     ))
 
-asking_comes :
+pub asking_comes :
     {w : Surroundings} {code : List Instr} {p : Point} {ψ φ : Layer} {φs : List Layer} {x : Copy} {numbers : ℕ → ℕ}
     {i : ℕ} (k : Around w code p ψ φ φs x) (h : IsFrame (frame_under w.parts p.control.layers)) (h' : IsFrame ψ.at)
     (c : ℕ) (f : Family) → Linked w.links code i asking_code →
@@ -583,14 +584,15 @@ asking_comes {w} {code} {p} {ψ} {φ} {φs} {x} {numbers} k h h' c f l there =
 
 call_comes :
     {w : Surroundings} {code : List Instr} {p : Point} {ψ φ : Layer} {φs : List Layer} {x : Copy} {numbers : ℕ → ℕ}
-    {i : ℕ} (k : Around w code p ψ φ φs x) (h' : IsFrame ψ.at) (c : ℕ) (f : Family) →
-    Linked w.links code i (Plain I.Ecall ∷ []) →
+    {i : ℕ} (k : Around w code p ψ φ φs x) (h' : IsFrame ψ.at) →
+    nat_le (automatic_in_use p.state.living + footprint_of (copy_generation x)) most_automatic ≡ true → (c : ℕ)
+    (f : Family) → Linked w.links code i (Plain I.Ecall ∷ []) →
     ((b : Base) → At b i (Known (point_ground w (asked ψ φ φs x p) h') (services_of (asked ψ φ φs x p)) numbers (λ n. 0)
     (asking_regs (list_under φ.at) ψ x) b) (f b)) →
     Reach code c f (services_of (asked ψ φ φs x p)) (c + 1) (services_of (copied ψ φ φs x p))
     (λ b y. At b (i + 1) (Known (zero_ground w p ψ φ φs x h') (services_of (copied ψ φ φs x p)) numbers (λ n. 0)
     (filling_regs ψ x) b) y)
-call_comes {w} {code} {p} {ψ} {φ} {φs} {x} {numbers} {i} k h' c f l there =
+call_comes {w} {code} {p} {ψ} {φ} {φs} {x} {numbers} {i} k h' few c f l there =
     let q = asked ψ φ φs x p in
     let v = services_of q in
     let v' = services_of (copied ψ φ φs x p) in
@@ -609,7 +611,7 @@ call_comes {w} {code} {p} {ψ} {φ} {φs} {x} {numbers} {i} k h' c f l there =
           (λ call x0 x1 x2 x3 x4. U.make_served call x0 x1 x2 x3 x4) o.body.services o.regs.0 o.regs.1.1.1.1.1.0
           o.regs.1.1.1.1.0 o.regs.1.1.1.0 o.regs.1.1.0 o.regs.1.0 (λ call y. refl)
           ∙ ap (λ u. U.make_served (call_at code u m) L x.number 0 (ψ.lower - 16) 2) same
-          ∙ copied_answer m m k o.body.bytes (old_now m o.body.memory.storage) (omega (arith, small'));
+          ∙ copied_answer m m k few o.body.bytes (old_now m o.body.memory.storage) (omega (arith, small'));
     } in
     call_done c f v v' (λ b. copy_memory p ψ φ zero_bytes (f b).machine.memory) (λ b. L) (λ b. x.number)
     (λ b y. Known (zero_ground w p ψ φ φs x h') v' numbers (λ n. 0) (filling_regs ψ x) b y) (omega arith) calling
@@ -713,7 +715,7 @@ pub copies_come :
     (services_of (copied ψ φ φs x p))
     (λ b y. IsIn w (copied ψ φ φs x p) numbers (index + size_of (arguments_copied e parameters)) b y)
 copies_come {w} {code} {p} {numbers} {ψ} {φ} {φs} {x} {e} {parameters} {d} c index f known is by l there =
-    let k : Around w code p ψ φ φs x = record { stands = known.0; image = known.1; is = is } in
+    let k : Around w code p ψ φ φs x = record { stands = known.0; image = known.1; is = asked_is is } in
     let c' = coded e parameters d x by in
     let size = ap (λ u. size_of u) c' in
     let h = point_frame known.0 known.1 in
@@ -745,7 +747,7 @@ copies_come {w} {code} {p} {numbers} {ψ} {φ} {φs} {x} {e} {parameters} {d} c 
         regs = (o.holds.regs.0 ∙ word_is x.number is.number, o.holds.regs.1);
       };
     }) in
-    let r5 = call_comes k h' (c + 1 + 1 + size_of num + size_of asking_code) (reached r4)
+    let r5 = call_comes k h' is.limit (c + 1 + 1 + size_of num + size_of asking_code) (reached r4)
     (first_of (Plain I.Ecall) filling_code l4) (reached_holds r4) in
     let r6 = filling_comes k h' (c + 1 + 1 + size_of num + size_of asking_code + 1) (reached r5)
     (rest_of (Plain I.Ecall) filling_code l4) (reached_holds r5) in

@@ -85,11 +85,6 @@ pub record Here (g : Option Function) (y : CopyCall) : Type 0 where
   pub place :
       place_of y.surroundings.links (ProcedureEntry y.callee.procedure.head.number) ≡ 4 * y.callee.calling.entry
   pub copied : IsCopied y.callee.environment (0 ∷ []) y.callee.declared (copy_in y)
-  pub variables :
-      (k : ℕ) (s : State) →
-      M.block_variables_made (at_line y.callee.around y.callee.procedure.head.line) y.callee.procedure.head
-      y.callee.procedure.head.kind k s
-      ≡ Normal tt s
   pub behind : Code
   pub begins :
       Linked y.surroundings.links y.code y.callee.calling.entry
@@ -343,15 +338,23 @@ run_means around head body entry k s kind few =
 abbrev pub behind_list : Around → Y.Stmts → (is_function : Bool) → Meaning (Unit {0})
 behind_list around body q = M.list around body >> M.end_reached around q
 
+-- beside its parameter it declares nothing
+abbrev pub MakesNone : CopyCall → Type 0
+MakesNone y =
+    (k : ℕ) (s : State) →
+    M.block_variables_made (at_line y.callee.around y.callee.procedure.head.line) y.callee.procedure.head
+    y.callee.procedure.head.kind k s
+    ≡ Normal tt s
+
 pub body_means :
-    {g : Option Function} {y : CopyCall} → Here g y →
+    {g : Option Function} {y : CopyCall} → Here g y → MakesNone y →
     M.block_body (at_line y.callee.around y.callee.procedure.head.line) y.callee.procedure.head
     y.callee.procedure.body (entry_of g y) y.surroundings.acts (entered_point (giving_of g y)).state
     ≡ flow_on y.surroundings.acts
     (M.entry_act y.callee.procedure.head.kind y.surroundings.acts (copied_point g y).state)
     (λ q. behind_list (at_line y.callee.around y.callee.procedure.head.line) y.callee.procedure.body (is_value g))
 unfolding M.block_body K.parameters_bound K.parameter_bound give ◌>>=◌ ◌>>◌
-body_means {g} {y} h =
+body_means {g} {y} h none =
     let head = y.callee.procedure.head in
     let body = y.callee.procedure.body in
     let around = at_line y.callee.around head.line in
@@ -363,7 +366,7 @@ body_means {g} {y} h =
     (λ q. M.block_variables_made around head head.kind >> rest q))
     (copied_means y.surroundings (entered_point (giving_of g y)) (listed_layer y) y.layer y.others (copy_in y) k
     (is_copy h))
-    ∙ ap (λ flow. flow_on k flow rest) (h.variables k s)
+    ∙ ap (λ flow. flow_on k flow rest) (none k s)
 
 -- ---- a procedure's statements, from behind the act of its entry
 
@@ -452,7 +455,8 @@ copy_runs {y} credits wanted f h callee body_comes paid there gives =
     wanted f (is_giving h)
     (λ g at.
     subst (λ flow. Comes y.code c0 g (services_of start) (body_aims k left_over) flow)
-    (sym (body_means h ∙ entry_means around' x.head.kind x.body w.acts (copied_point None y).state callee.kind))
+    (sym (body_means h callee.variables
+    ∙ entry_means around' x.head.kind x.body w.acts (copied_point None y).state callee.kind))
     (onward closed
     (copies_come c0 (copies_index c) g (entered_known h) (is_copy h) h.copied
     (front_of copies h.behind (back_of (listing_of x) (copies ++ h.behind) h.begins)) at)

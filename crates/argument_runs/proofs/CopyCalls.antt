@@ -131,7 +131,6 @@ here_among {k} {c} {φ = φ} {φs = φs} {numbers = numbers} {p = p} z wide h o 
       calls = h.callee.calls;
       place = h.callee.place;
       copied = h.callee.copied z;
-      variables = h.callee.variables;
       behind = behind_copy y;
       begins = h.callee.stands;
       ending = linked_at c.calling.end (end_of x) (omega (arith, e)) l2;
@@ -224,7 +223,7 @@ coded k c source line =
 abbrev pub forgotten : Layer → List Layer → Point → Point
 forgotten φ φs q = with_list (λ n. None) φ φs q
 
-frames_forgotten :
+pub frames_forgotten :
     (parts : MemoryParts) (base : ℕ) (m : List ℕ) (as' : List Activation) (φ : Layer) (φs : List Layer) →
     FramesStand parts base m as' (φ ∷ φs) → FramesStand parts base m as' (with_waits (λ n. None) φ ∷ φs)
 frames_forgotten parts base m [] φ φs h = absurd h

@@ -201,7 +201,7 @@ copy_function_runs {y} credits wanted f h callee body_comes paid there gives =
     f (is_giving h)
     (λ g at.
     subst (λ flow. Comes y.code c0 g (services_of start) (body_aims k left_over) flow)
-    (sym (body_means h
+    (sym (body_means h callee.variables
     ∙ ap (λ flow. flow_on w.acts flow next') (entry_acts x.head.kind w.acts (copied_point g0 y).state callee.kind)))
     (onward closed
     (copies_come c0 (copies_index c) g (entered_known h) (is_copy h) h.copied
@@ -298,7 +298,6 @@ here_with {k} {c} {φ = φ} {φs = φs} {numbers = numbers} {p = p} call z wide 
       calls = calls;
       place = f.place;
       copied = f.copied z;
-      variables = f.variables;
       behind = behind_copy y;
       begins = f.stands;
       ending = linked_at c.calling.end (function_end x) (omega (arith, e)) (rest_of mark (function_end x) l2);

@@ -1,5 +1,5 @@
 -- The point where the copy of an argument has been made: all that holds there, and what service 7 answers.
-use Rattle.std.proofs.Common.{◌≡◌, ℕ, zero, suc, ◌+◌, ◌-◌, ◌*◌, ◌^◌, ◌<◌, ◌≤◌, List, [], ◌∷◌, length, map, Bool}
+use Rattle.std.proofs.Common.{◌≡◌, ℕ, zero, suc, ◌+◌, ◌-◌, ◌*◌, ◌%◌, ◌^◌, ◌<◌, ◌≤◌, List, [], ◌∷◌, length, map, Bool}
 use Rattle.std.proofs.Common.{true, false}
 use Rattle.std.proofs.Common.{Option, Some, None, inl, inr, refl, sym, ap, ◌∙◌, subst, arith}
 use Rattle.std.proofs.lemmas.Bool.{le-leb, lt-ltb}
@@ -11,12 +11,12 @@ use Rattle.rv_meaning.specs.Words.{word}
 use Rattle.area_keeper.specs.KeptAreas.{with_part}
 use Rattle.pli_typing.specs.Signatures.{Fixed, data_size}
 use Rattle.pli_meaning.specs.BasicValues.{VariableName}
-use Rattle.pli_meaning.specs.Contents.{Generation, fresh}
+use Rattle.pli_meaning.specs.Contents.{Generation, footprint_of, fresh}
 use Rattle.pli_meaning.specs.Control.{Normal, choose, finish, looked, stored, ◌>>=◌}
 use Rattle.pli_meaning.specs.Making as K
 use Rattle.pli_meaning.specs.Making.{living_at, plain, with_variable}
 use Rattle.pli_meaning.specs.Numbers.{is_of_precision}
-use Rattle.pli_meaning.specs.StorageState.{Activation, most_automatic, newest_height}
+use Rattle.pli_meaning.specs.StorageState.{Activation, automatic_in_use, most_automatic, newest_height}
 use Rattle.pli_meaning.specs.declared.outcome.End.TheVariants as E
 use Rattle.pli_meaning.specs.declared.outcome.Limit.TheVariants as L
 use Rattle.pli_serving.specs.ActsAndEnds.{run_ended}
@@ -27,6 +27,7 @@ use Rattle.pli_serving.specs.InitialValues.{initial_values, none_initial}
 use Rattle.pli_serving.specs.Making as G
 use Rattle.pli_serving.specs.Outcomes.{bad_unless, or_bad}
 use Rattle.pli_serving.specs.ServiceState as S
+use Rattle.pli_serving.specs.Templates.{shape_at}
 use Rattle.pli_serving.specs.Values.{generation_bytes}
 use Rattle.storage_relation.specs.Changes.{IsMaking, Making, made}
 use Rattle.storage_relation.specs.Served.{Holds, served_living}
@@ -54,11 +55,41 @@ use Rattle.argument_runs.proofs.GivenLists.{active_with, laid_with}
 
 -- ---- around it
 
+-- all that is asked of the point but that the copy passes no limit on what is AUTOMATIC
+pub record IsAsked (w : Surroundings) (p : Point) (ψ φ : Layer) (φs : List Layer) (x : Copy) : Type 0 where
+  pub newest : p.control.layers ≡ ψ ∷ with_waits (given_waits (word x.value)) φ ∷ φs
+  pub list : ψ.list ≡ Some (list_under φ.at)
+  pub words : 6 ≤ φ.words
+  pub wide : is_of_precision 31 x.value ≡ true
+  pub fits : ψ.top + 16 ≤ ψ.lower
+  pub even : ψ.lower % 16 ≡ 0
+  pub low : p.places.low ≤ w.parts.stack_start
+  pub shape : shape_at p.places.signatures x.number ≡ Some (plain (Fixed 31))
+  pub number : x.number < 2 ^ 31
+  pub serial : p.state.serials + 1 < 2 ^ 64
+
+pub asked_is :
+    {w : Surroundings} {p : Point} {ψ φ : Layer} {φs : List Layer} {x : Copy} → IsCopy w p ψ φ φs x →
+    IsAsked w p ψ φ φs x
+asked_is h =
+    record {
+      newest = h.newest;
+      list = h.list;
+      words = h.words;
+      wide = h.wide;
+      fits = h.fits;
+      even = h.even;
+      low = h.low;
+      shape = h.shape;
+      number = h.number;
+      serial = h.serial;
+    }
+
 pub record Around (w : Surroundings) (code : List Instr) (p : Point) (ψ φ : Layer) (φs : List Layer) (x : Copy) :
     Type 0 where
   pub stands : Stands w p
   pub image : IsImage w code p
-  pub is : IsCopy w p ψ φ φs x
+  pub is : IsAsked w p ψ φ φs x
 
 -- the caller's layer, with the value
 abbrev pub given_layer : Layer → Copy → Layer
@@ -197,7 +228,7 @@ pub copied_stands :
     Stands w p × IsImage w code p → IsCopy w p ψ φ φs x →
     Stands w (copied ψ φ φs x p) × IsImage w code (copied ψ φ φs x p)
 copied_stands w code p ψ φ φs x known is =
-    let k : Around w code p ψ φ φs x = record { stands = known.0; image = known.1; is = is } in
+    let k : Around w code p ψ φ φs x = record { stands = known.0; image = known.1; is = asked_is is } in
     let waits = named_waits (p.state.serials + 1) x.number in (
       variable_stands w (layered (ψ ∷ with_waits waits φ ∷ φs) p) (copy_made_of ψ x) ψ (with_waits waits φ ∷ φs)
           (below_stands waits k) (fits_block waits k),
@@ -322,7 +353,7 @@ owner_is {w} {p = p} {ψ = ψ} {φ = φ} {φs = φs} {x = x} k =
 owner_some : (height : ℕ) → 0 < height → G.owner_of 2 height ≡ Some height
 owner_some height some = ap (λ q. cond q (Some height) None) (lt-ltb 0 height some)
 
-owner_given : (p : Point) (ψ : Layer) (φs : List Layer) → p.control.layers ≡ ψ ∷ φs →
+pub owner_given : (p : Point) (ψ : Layer) (φs : List Layer) → p.control.layers ≡ ψ ∷ φs →
     G.owner_of 2 (S.height (services_of p)) ≡ Some (S.height (services_of p))
 owner_given p ψ φs e =
     let n = ap (λ ls. length (map activation_of ls)) e in
@@ -355,15 +386,17 @@ limit_kept :
 limit_kept true used e = refl
 limit_kept false used e = grind (arith, e, nat_tests)
 
-abbrev zero_generation : Generation
+abbrev pub zero_generation : Generation
 zero_generation = fresh (plain (Fixed 31)) (pos 0) (none_initial (plain (Fixed 31)).signature.leaves)
 
 pub copied_answer :
     {w : Surroundings} {code : List Instr} {p : Point} {ψ φ : Layer} {φs : List Layer} {x : Copy} (m m' : List ℕ) →
-    Around w code p ψ φ φs x → length m' ≡ memory_size → Holds (now p m') → 4 * length code ≤ 2 ^ 22 →
+    Around w code p ψ φ φs x →
+    nat_le (automatic_in_use p.state.living + footprint_of (copy_generation x)) most_automatic ≡ true →
+    length m' ≡ memory_size → Holds (now p m') → 4 * length code ≤ 2 ^ 22 →
     U.make_served (call_at code (services_of p) m) (list_under φ.at) x.number 0 (ψ.lower - 16) 2
     ≡ Done (services_of (copied ψ φ φs x p)) (copy_memory p ψ φ zero_bytes m) (list_under φ.at) x.number
-copied_answer {w} {code} {p} {ψ} {φ} {φs} {x} m m' k bytes h small' =
+copied_answer {w} {code} {p} {ψ} {φ} {φs} {x} m m' k few bytes h small' =
     let v = services_of p in
     let c = call_at code v m in
     let g = zero_generation in
@@ -378,7 +411,7 @@ copied_answer {w} {code} {p} {ψ} {φ} {φs} {x} m m' k bytes h small' =
     let room = o.room in
     let fits = k.is.fits in
     let limit : G.passes_limit v owner g ≡ false =
-    limit_same (now p m') h owner g ∙ limit_kept (owner == 0) _ k.is.limit in
+    limit_same (now p m') h owner g ∙ limit_kept (owner == 0) _ few in
     let t1 : nat_le (4 * length code) place ≡ true = le-leb _ _ (omega (arith, low, above, fits, small')) in
     let t2 : nat_le (place + data_size shape.signature) memory_size ≡ true =
     le-leb _ _ (omega (arith, fits, room)) in

@@ -95,7 +95,7 @@ with_list_stands w code p φ φs waits h newest =
 
 -- ---- the stores
 
-list_place : (at : ℕ) → IsFrame at → PlaceFrom at (negsuc 23) (list_under at)
+pub list_place : (at : ℕ) → IsFrame at → PlaceFrom at (negsuc 23) (list_under at)
 list_place at h =
     let whole = h.whole in
     let high = h.high in
@@ -108,7 +108,7 @@ list_place at h =
       above_code = omega (arith, high);
     }
 
-copy_place : (at : ℕ) → IsFrame at → PlaceFrom at (negsuc 3) (at - 4)
+pub copy_place : (at : ℕ) → IsFrame at → PlaceFrom at (negsuc 3) (at - 4)
 copy_place at h =
     let whole = h.whole in
     let high = h.high in
@@ -164,7 +164,7 @@ given_found φ given n v m few room e = first (n == 5) refl
     first false f =
         last (n == 0) refl (sym (ap (λ q. cond q (Some given) (cond (n == 0) (Some 1) None)) f) ∙ e)
 
-stands_given :
+pub stands_given :
     (w : Surroundings) (p : Point) (φ : Layer) (φs : List Layer) (given : ℕ) (b : Base) (m : List ℕ) →
     Stands w p × IsFrame φ.at → p.control.layers ≡ φ ∷ φs → (6 ≤ φ.words) × (given < 2 ^ 32) →
     length m ≡ memory_size → StandsIn w p b m →

@@ -72,7 +72,7 @@ pub record IsDeep (w : Surroundings) (code : List Instr) (p : Point) (numbers : 
 
 -- ---- its frame is made
 
-abbrev begun_at : (w : Surroundings) (p : Point) (x : Beginning) → Family → Begun
+abbrev pub begun_at : (w : Surroundings) (p : Point) (x : Beginning) → Family → Begun
 begun_at w p x f =
     record {
       surroundings = w;
@@ -124,7 +124,7 @@ are_words {w} {p = p} {x = x} q b =
       base_fits = omega (arith, v, high, last, lower);
     }
 
-new_point_frame :
+pub new_point_frame :
     {w : Surroundings} {code : List Instr} {p : Point} {numbers : ℕ → ℕ} {x : Beginning} (f : Family) →
     IsDeep w code p numbers x → ((b : Base) → IsCalled p x b (f b)) →
     IsFrame (frame_under w.parts (begun_point x p).control.layers)
@@ -146,7 +146,7 @@ memory_new {w} {p = p} {x = x} f q b m o =
     (q.next.laid, are_words q b, omega (arith, high, last, lower, bytes), q.waits, q.list, q.told) in
     subst (StandsIn w (begun_point x p) b) (sym e) (record { storage = r.0; frames = r.1 })
 
-frame_comes :
+pub frame_comes :
     {w : Surroundings} {code : List Instr} {p : Point} {numbers : ℕ → ℕ} {x : Beginning} (c index : ℕ) (f : Family)
     (q : IsDeep w code p numbers x) (at : (b : Base) → IsCalled p x b (f b)) →
     Linked w.links code index (frame_code (begun_at w p x f)) → ((b : Base) → IsIn w p numbers index b (f b)) →
@@ -200,7 +200,7 @@ enter_front = move u5 a1 ∷ move a3 a2 ∷ (load_word a1 frame_register own_off
 abbrev enter_regs : (at texts : ℕ) → Base → List (ℕ × ℕ)
 enter_regs at texts b = (10, 0) ∷ (11, at) ∷ (13, texts) ∷ []
 
-moved_word : (x n : ℕ) → x ≡ n → n < 2 ^ 32 → sum x (word (pos 0)) ≡ n
+pub moved_word : (x n : ℕ) → x ≡ n → n < 2 ^ 32 → sum x (word (pos 0)) ≡ n
 moved_word x n e few = omega (arith, e, few)
 
 front_comes :
@@ -272,7 +272,7 @@ asked_comes {w} {p = p} {numbers = numbers} {x = x} c f g q at l l' there =
 
 -- ---- and ends the run, or the run pauses before
 
-one_more : (n : ℕ) → n + 1 ≡ suc n
+pub one_more : (n : ℕ) → n + 1 ≡ suc n
 one_more n = omega arith
 
 answer_ends :

@@ -94,7 +94,7 @@ over_then r o =
 
 -- ---- what service 7 answers
 
-limit_passed :
+pub limit_passed :
     (q : Bool) (used : ℕ) → q ≡ false → nat_le used most_automatic ≡ false →
     cond q false (nat_lt most_automatic used) ≡ true
 limit_passed true used e few = absurd (cc e)

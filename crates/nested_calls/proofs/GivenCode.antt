@@ -3,7 +3,7 @@ use Rattle.std.proofs.Common.{◌≡◌, ℕ, ◌+◌, ◌*◌, ◌^◌, ◌<◌
 use Rattle.std.proofs.Common.{arith}
 use Rattle.std.specs.Prelude.{pos}
 use Rattle.rv_meaning.specs.declared.instr.Instr.{Instr}
-use Rattle.rv_meaning.specs.Machine.{memory_size}
+use Rattle.rv_meaning.specs.Machine.{memory_size, value}
 use Rattle.rv_meaning.specs.Words.{word, sum}
 use Rattle.pli_coding.specs.Assembly.{size_of}
 use Rattle.pli_coding.specs.Frames.{display, words_place}
@@ -32,27 +32,27 @@ use Rattle.block_runs.proofs.Places.{IsFrame}
 use Rattle.block_runs.proofs.PointGrounds.{in_known, known_in, point_frame, point_ground}
 use Rattle.nested_calls.specs.Nested.{given_code, parent_code}
 
--- what is known of registers there: the frame of the static parent, and that no text is given
-abbrev calling_regs : (base : ℕ) → Base → List (ℕ × ℕ)
-calling_regs base b = (10, b.at + base) ∷ (12, 0) ∷ []
+-- what is known of registers there: the frame of the static parent, that no text is given, and where the list stands
+abbrev calling_regs : (base : ℕ) → (list : Base → ℕ) → Base → List (ℕ × ℕ)
+calling_regs base list b = (10, b.at + base) ∷ (12, 0) ∷ (11, list b) ∷ []
 
 moved : (b : Base) (at x : ℕ) → at < memory_size → x ≡ b.at + at → sum x (word (pos 0)) ≡ b.at + at
 moved b at x room e = let v = b.valid.1 in omega (arith, e, room, v)
 
 parent_given :
-    (own : Bool) (level base : ℕ) {w : Surroundings} {code : List Instr} {p : Point} {numbers : ℕ → ℕ} {i : ℕ}
-    (c : ℕ) (f : Family) (h : IsFrame (frame_under w.parts p.control.layers)) →
+    (own : Bool) (level base : ℕ) (list : Base → ℕ) {w : Surroundings} {code : List Instr} {p : Point}
+    {numbers : ℕ → ℕ} {i : ℕ} (c : ℕ) (f : Family) (h : IsFrame (frame_under w.parts p.control.layers)) →
     Reaches own level (point_ground w p h) base → base < memory_size → Linked w.links code i (parent_code own level) →
     ((b : Base) →
-    At b i (Known (point_ground w p h) (services_of p) numbers (λ n. 0) (λ b'. (12, 0) ∷ []) b) (f b)) →
+    At b i (Known (point_ground w p h) (services_of p) numbers (λ n. 0) (λ b'. (12, 0) ∷ (11, list b') ∷ []) b) (f b)) →
     Reach code c f (services_of p) (c + size_of (parent_code own level)) (services_of p)
     (λ b y. At b (i + size_of (parent_code own level))
-    (Known (point_ground w p h) (services_of p) numbers (λ n. 0) (calling_regs base) b) y)
-parent_given true level base {w} {p = p} {numbers = numbers} c f h reaches room l there =
+    (Known (point_ground w p h) (services_of p) numbers (λ n. 0) (calling_regs base list) b) y)
+parent_given true level base list {w} {p = p} {numbers = numbers} c f h reaches room l there =
     let v = services_of p in
     let at = frame_under w.parts p.control.layers in
     straight c f v v
-    (λ b y. Known (point_ground w p h) v numbers (λ n. 0) (calling_regs base) b y)
+    (λ b y. Known (point_ground w p h) v numbers (λ n. 0) (calling_regs base list) b y)
     l (omega arith) (λ b. (there b).pc)
     (λ b. let o = (there b).holds in record {
       body = record {
@@ -63,10 +63,10 @@ parent_given true level base {w} {p = p} {numbers = numbers} c f h reaches room 
       };
       regs = (
         moved b base ((f b).machine.registers 8) room (frame_is o.body ∙ ap (λ n. b.at + n) reaches),
-        (o.regs.0, tt),
+        (o.regs.0, (o.regs.1.0, tt)),
       );
     })
-parent_given false level base {w} {p = p} {numbers = numbers} c f h reaches room l there =
+parent_given false level base list {w} {p = p} {numbers = numbers} c f h reaches room l there =
     let v = services_of p in
     let at = frame_under w.parts p.control.layers in
     let g = point_ground w p h in
@@ -79,7 +79,7 @@ parent_given false level base {w} {p = p} {numbers = numbers} c f h reaches room
     (record { reserved_stay = λ y u. refl; known_stay = λ b y u k. k; set = λ y u. refl })
     (front_of first last l) there in
     let r2 = straight (c + size_of first) (reached r1) v v
-    (λ b y. Known g v numbers (λ n. 0) (calling_regs base) b y)
+    (λ b y. Known g v numbers (λ n. 0) (calling_regs base list) b y)
     (back_of first last l) (omega arith) (λ b. (reached_holds r1 b).pc)
     (λ b. let o = (reached_holds r1 b).holds in record {
       body = record {
@@ -88,7 +88,7 @@ parent_given false level base {w} {p = p} {numbers = numbers} c f h reaches room
         bytes = o.body.bytes;
         memory = o.body.memory;
       };
-      regs = (moved b base ((reached r1 b).machine.registers 10) room o.regs.0, (o.regs.1.0, tt));
+      regs = (moved b base ((reached r1 b).machine.registers 10) room o.regs.0, (o.regs.1.0, (o.regs.1.1.0, tt)));
     }) in
     reach_moved (omega (arith, n)) (omega (arith, n)) (reach_then r1 r2)
 
@@ -99,7 +99,8 @@ pub given :
     (base < memory_size) × (base ≡ frame_at p.control.layers x.entry.parent) →
     Linked w.links code i (given_code own words level) → AreIn w p numbers i f →
     Reach code c f (services_of p) (c + size_of (given_code own words level)) (services_of p)
-    (λ b y. IsIn w p numbers (i + size_of (given_code own words level)) b y × IsCalling p x b y)
+    (λ b y. IsIn w p numbers (i + size_of (given_code own words level)) b y × IsCalling p x b y
+    × (value y.machine a1 ≡ sum (b.at + frame_under w.parts p.control.layers) (word (words_place words 0))))
 given own words level base {w} {p = p} {numbers = numbers} x i c f stands image few reaches is l there =
     let h = point_frame stands image in
     let at = frame_under w.parts p.control.layers in
@@ -121,10 +122,10 @@ given own words level base {w} {p = p} {numbers = numbers} x i c f stands image 
     let r2 = constant_piece (c + size_of first) (reached r1) a2 (pos 0) (omega arith)
     (record { reserved_stay = λ y u. refl; known_stay = λ b y u o. o; set = λ y u. refl })
     (front_of second last l1) (reached_holds r1) in
-    let r3 = parent_given own level base (c + size_of first + size_of second) (reached r2) h reaches is.0
+    let r3 = parent_given own level base (λ b. sum (b.at + at) (word z)) (c + size_of first + size_of second) (reached r2) h reaches is.0
     (back_of second last l1)
     (λ b. let o = reached_holds r2 b in
-    record { pc = o.pc; holds = record { body = o.holds.body; regs = (o.holds.regs.0 ∙ refl, tt) } }) in
+    record { pc = o.pc; holds = record { body = o.holds.body; regs = (o.holds.regs.0 ∙ refl, (o.holds.regs.1.0, tt)) } }) in
     reach_map _ (reach_moved (omega (arith, n0, n1)) (omega (arith, n0, n1)) (reach_then r1 (reach_then r2 r3)))
     (λ b y o. (
       in_known h image.parts o,
@@ -132,4 +133,5 @@ given own words level base {w} {p = p} {numbers = numbers} x i c f stands image 
         parent = λ some. o.holds.regs.0 ∙ ap (λ n. b.at + n) is.1;
         texts = o.holds.regs.1.0 ∙ sym few.1;
       },
+      o.holds.regs.1.1.0,
     ))

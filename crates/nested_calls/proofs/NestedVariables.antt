@@ -45,7 +45,7 @@ ancestor_above a as' n other =
     ∙ ap (λ q. cond q (Some a) (ancestor as' a.parent n)) other
 
 -- its own level has itself
-ancestor_itself :
+pub ancestor_itself :
     (a : Activation) (as' : List Activation) (n : ℕ) → a.level ≡ n → ancestor (a ∷ as') a.height n ≡ Some a
 ancestor_itself a as' n e =
     ap (λ q. cond q (cond (a.level == n) (Some a) (ancestor as' a.parent n)) (ancestor as' a.height n))
@@ -61,18 +61,22 @@ ancestor_under a as' height n other =
 
 -- ---- a block over one from which it is called, declared by an ancestor of that
 
-record Over (k inner : Block) (level : ℕ) (p : Point) : Type 0 where
-  activation : Activation
-  layer : Layer
-  active : inner.first.state.activations ≡ activation ∷ p.state.activations
-  layers : inner.first.control.layers ≡ layer ∷ p.control.layers
-  height : activation.height ≡ suc (length p.state.activations)
-  inside : activation.level ≡ suc level
-  parent : activation.parent ≡ parent_at k level
-  remains : Remains p inner.first
-  code : inner.environment.level ≡ suc level
-  layer_level : inner.call.beginning.layer.level ≡ suc level
-  few : suc level < most_levels
+-- below its own layer stand the frames that stood there
+pub record Over (k inner : Block) (level : ℕ) (p : Point) : Type 0 where
+  pub activation : Activation
+  pub layer : Layer
+  pub below : List Layer
+  pub active : inner.first.state.activations ≡ activation ∷ p.state.activations
+  pub layers : inner.first.control.layers ≡ layer ∷ below
+  pub frames : (n : ℕ) → frame_at below n ≡ frame_at p.control.layers n
+  pub many : length below ≡ length p.control.layers
+  pub height : activation.height ≡ suc (length p.state.activations)
+  pub inside : activation.level ≡ suc level
+  pub parent : activation.parent ≡ parent_at k level
+  pub remains : Remains p inner.first
+  pub code : inner.environment.level ≡ suc level
+  pub layer_level : inner.call.beginning.layer.level ≡ suc level
+  pub few : suc level < most_levels
 
 same_ancestor :
     {k inner : Block} {level : ℕ} {numbers : ℕ → ℕ} {p : Point} (n : ℕ) → Over k inner level p → IsNested k →
@@ -93,7 +97,7 @@ own_one {p = p} n i e =
     ap (λ xs. ancestor xs (newest_height xs) n) i.active
     ∙ ancestor_itself i.activation p.state.activations n (i.inside ∙ sym e)
 
-over_nested :
+pub over_nested :
     {k inner : Block} {level : ℕ} {numbers : ℕ → ℕ} {p : Point} → Over k inner level p → IsNested k →
     IsAmong k numbers p → level ≤ k.environment.level → IsNested inner
 over_nested {k} {inner} {level} {p = p} i nest o within =
@@ -231,7 +235,8 @@ over_stays {k} {inner} {level} {p = p} n serial base living i nest b o within le
     frame =
         below.1
         ∙ ap (λ ls. frame_at ls (parent_at k n)) (sym o.later.layers)
-        ∙ sym (frame_below i.layer φs (parent_at k n) (omega (arith, high)))
+        ∙ sym (i.frames (parent_at k n))
+        ∙ sym (frame_below i.layer i.below (parent_at k n) (let many = i.many in omega (arith, high, many)))
         ∙ ap (λ ls. frame_at ls (parent_at k n)) (sym i.layers)
         ∙ ap (λ a. frame_at inner.first.control.layers (height_of a)) (sym same)
 
@@ -241,7 +246,7 @@ same_place :
 same_place e f x program parts =
     ap (λ y. place_of (record e { program = y }) x) program ∙ ap (λ y. place_of (record f { parts = y }) x) parts
 
-over_number :
+pub over_number :
     {k inner : Block} {level : ℕ} {numbers : ℕ → ℕ} {p : Point} (x : Spot) → Over k inner level p → IsNested k →
     IsBegun k → IsAmong k numbers p → level ≤ k.environment.level → x.level ≤ level →
     inner.environment.program ≡ k.environment.program → inner.environment.parts ≡ k.environment.parts → IsNumber k x →
@@ -307,8 +312,11 @@ procedure_over k c level h p numbers o made b =
     record {
       activation = a;
       layer = φ;
+      below = p.control.layers;
       active = made.activations;
       layers = made.layers;
+      frames = λ n. refl;
+      many = refl;
       height = active.0.height;
       inside = active.0.level ∙ h.inner;
       parent = made.parent ∙ h.parent;
@@ -334,8 +342,11 @@ function_over k c level h p numbers o made b =
     record {
       activation = a;
       layer = φ;
+      below = p.control.layers;
       active = made.activations;
       layers = made.layers;
+      frames = λ n. refl;
+      many = refl;
       height = active.0.height;
       inside = active.0.level ∙ h.inner;
       parent = made.parent ∙ h.parent;

@@ -1,0 +1,10 @@
+pub mod DeepLists
+pub mod GivenBlocks
+pub mod GivenCode
+pub mod GivenCalls
+pub mod GivenFunctions
+pub mod DeepCalls
+pub mod GivenKnown
+pub mod FullCopies
+pub mod FullCalls
+pub mod FullBeside

@@ -1,0 +1,4 @@
+pub mod Given
+pub mod GivenCalls
+pub mod GivenFunctions
+pub mod GivenKnown
