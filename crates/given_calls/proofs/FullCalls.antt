@@ -32,6 +32,7 @@ use Rattle.activation_relation.specs.Frames.{lower_end}
 use Rattle.activation_relation.specs.Layers.{Point, services_of}
 use Rattle.activation_relation.proofs.Returning.{in_use_later}
 use Rattle.activation_relation.proofs.Serials.{few_small}
+use Rattle.activation_relation.proofs.Remaining.{shapes_remain}
 use Rattle.run_steps.proofs.Jumps.{back_of, front_of}
 use Rattle.run_steps.proofs.Linking.{size_append}
 use Rattle.run_steps.specs.Reach.{Comes, before}
@@ -165,7 +166,7 @@ around_among g {k} {u} {p = p} z wide h o l =
         fits = room_there z h o;
         even = subst (λ ls. lower_end w.parts ls % 16 ≡ 0) s.newest s.even;
         low = subst (λ n. n ≤ w.parts.stack_start) (sym o.later.remains.low) s.low;
-        shape = o.later.remains.signatures u.callee.number (plain (Fixed 31)) s.shape;
+        shape = shapes_remain o.later.remains u.callee.number (plain (Fixed 31)) s.shape;
         number = s.number;
         serial = few_small w p o.stands o.few h.small;
       };

@@ -34,7 +34,7 @@ use Rattle.activation_relation.specs.FrameLaws.{with_waits}
 use Rattle.activation_relation.specs.Frames.{lower_end}
 use Rattle.activation_relation.specs.Layers.{Point, services_of}
 use Rattle.activation_relation.specs.Remaining.{Remains}
-use Rattle.activation_relation.proofs.Remaining.{remains_then}
+use Rattle.activation_relation.proofs.Remaining.{remains_then, shapes_remain}
 use Rattle.activation_relation.proofs.Returning.{in_use_later}
 use Rattle.run_steps.specs.Engine.{Base}
 use Rattle.run_steps.specs.Items.{Linked}
@@ -93,7 +93,7 @@ room_among {k} {u} {p = p} h none o =
       parent = is_parent u.level x.head.level c.calling.parent h.nested o h.around_it h.inner h.parent;
       idle = o.later.waiting ∙ r.idle;
       low = subst (λ n. n ≤ w.parts.stack_start) (sym o.later.remains.low) r.low;
-      shape = o.later.remains.signatures c.number (plain (Fixed 31)) r.shape;
+      shape = shapes_remain o.later.remains c.number (plain (Fixed 31)) r.shape;
       number = r.number;
       limit = subst (λ n. nat_le (n + footprint_of (copy_generation (copy_for c (pos 0)))) most_automatic ≡ true)
           (sym (in_use_later w k.first p h.begun.resumes.stands o.stands o.later)) none.limit;

@@ -19,7 +19,7 @@ use Rattle.activation_relation.specs.Landing.{resumed, with_units}
 use Rattle.activation_relation.specs.Layers.{Layer, Point, services_of}
 use Rattle.activation_relation.specs.Points.{Stands}
 use Rattle.activation_relation.specs.Remaining.{LivesOn, Remains}
-use Rattle.activation_relation.proofs.Remaining.{remains_acted, remains_same, remains_then}
+use Rattle.activation_relation.proofs.Remaining.{remains_acted, remains_same, remains_then, shapes_remain}
 use Rattle.activation_relation.proofs.Serials.{few_small}
 use Rattle.run_steps.proofs.Reach.{reach_with, stay}
 use Rattle.block_runs.specs.Bodies.{Function}
@@ -186,7 +186,7 @@ given_parameter g k u more p numbers z x h none stands own =
       words = room.words;
       small = (let less = few_small w p o.stands o.few d.small in omega (arith, less));
       number = room.number;
-      numbered = to.signatures u.callee.number _ room.shape;
+      numbered = shapes_remain to u.callee.number _ room.shape;
       low = subst (λ n. 2 ^ 22 ≤ n) (sym there) (omega (arith, high, low, above, fits, same, same'));
       inside = subst (λ n. n + 4 ≤ 15 * 2 ^ 20) (sym there) (omega (arith, last, end, same));
     }
@@ -220,7 +220,14 @@ none_beside g y empty each means =
       };
       parent = refl;
       bound = refl;
-      changed = record { units = φ.units; waits = φ.waits; told = φ.told; top = φ.top; carried = φ.carried };
+      changed = record {
+        units = φ.units;
+        waits = φ.waits;
+        told = φ.told;
+        top = φ.top;
+        lower = φ.lower;
+        carried = φ.carried;
+      };
       layers = refl;
       own = [];
       activations = refl;
