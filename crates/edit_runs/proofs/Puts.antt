@@ -374,7 +374,8 @@ opened [] h = absurd (cc h)
 opened (x ∷ xs) h = record { first = x; more = xs; is = refl }
 
 abbrev puts_of :
-    (words : ℕ) → Block → List Label → Pair → (line need most : ℕ) → (first : FormatItem) → (more : List FormatItem) → Puts
+    (words : ℕ) → Block → List Label → Pair → (line need most : ℕ) → (first : FormatItem) →
+    (more : List FormatItem) → Puts
 puts_of words k labels x line need most first more =
     record {
       words = words;

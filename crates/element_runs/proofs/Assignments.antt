@@ -370,7 +370,8 @@ assign_with words k labels x b s source line index left' first second most h out
           (onward closed q.1.reach
           (λ g2 at2.
           let h2 = point_frame q.1.among.stands q.1.among.image in
-          puts_does (setting_around words k labels line most) x b h.array owed z q.0 second s outside h.begun subscript closed q1
+          puts_does (setting_around words k labels line most) x b h.array owed z q.0 second s outside h.begun subscript
+          closed q1
           q.1.numbers 0 y.wanted y.index g2
           (λ c3 f3 v3 height label s3 j i0 f0 v0 from. jumps_repaid debt from (jumps_since (omega (arith, since)) j))
           h2 q.1.among q.1.line (omega (arith, room2), h.held)

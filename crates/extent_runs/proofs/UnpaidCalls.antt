@@ -40,7 +40,8 @@ use Rattle.extent_runs.proofs.MakingProcedures.{unpaid_runs}
 -- behind the call its block goes on
 behind_goes :
     {k : Block} {c : Callee} {acts level line index more wanted credits : ℕ} {numbers : ℕ → ℕ} {p : Point} {f : Family}
-    {r : Option BasicValue} {s : State} {v : _} (h : IsNestedCall 0 k c level line index more) (o : IsAmong k numbers p) →
+    {r : Option BasicValue} {s : State} {v : _} (h : IsNestedCall 0 k c level line index more)
+    (o : IsAmong k numbers p) →
     acts ≤ p.state.world.acts →
     IsBehind (called_at k.call.surroundings k.call.code c p numbers) wanted credits f v r s →
     GoesOn k acts (index + size_in k (call_at c level line)) wanted credits f v s

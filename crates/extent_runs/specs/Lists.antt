@@ -1,5 +1,5 @@
--- The list of an extent's places in static data: a block that has its bytes finds it at each of its points. So from both
--- bounds in registers on the variable is made.
+-- The list of an extent's places in static data: a block that has its bytes finds it at each of its points. So from
+-- both bounds in registers on the variable is made.
 use Rattle.std.specs.Prelude.{ℕ, ◌+◌, ◌^◌, ◌<◌, ◌≡◌, List, [], ◌∷◌, ◌++◌, length, ⊤}
 use Rattle.rv_meaning.specs.Machine.{value}
 use Rattle.rv_meaning.specs.Memory.{bytes_of_words}

@@ -122,10 +122,14 @@ given own words level base {w} {p = p} {numbers = numbers} x i c f stands image 
     let r2 = constant_piece (c + size_of first) (reached r1) a2 (pos 0) (omega arith)
     (record { reserved_stay = λ y u. refl; known_stay = λ b y u o. o; set = λ y u. refl })
     (front_of second last l1) (reached_holds r1) in
-    let r3 = parent_given own level base (λ b. sum (b.at + at) (word z)) (c + size_of first + size_of second) (reached r2) h reaches is.0
+    let r3 = parent_given own level base (λ b. sum (b.at + at) (word z)) (c + size_of first + size_of second)
+    (reached r2) h reaches is.0
     (back_of second last l1)
     (λ b. let o = reached_holds r2 b in
-    record { pc = o.pc; holds = record { body = o.holds.body; regs = (o.holds.regs.0 ∙ refl, (o.holds.regs.1.0, tt)) } }) in
+    record {
+      pc = o.pc;
+      holds = record { body = o.holds.body; regs = (o.holds.regs.0 ∙ refl, (o.holds.regs.1.0, tt)) };
+    }) in
     reach_map _ (reach_moved (omega (arith, n0, n1)) (omega (arith, n0, n1)) (reach_then r1 (reach_then r2 r3)))
     (λ b y o. (
       in_known h image.parts o,

@@ -195,7 +195,8 @@ behind_call r = give tt
 -- behind the call its block goes on
 behind_goes :
     {words : ℕ} {k : Block} {c : Callee} {acts level line index more wanted credits : ℕ} {numbers : ℕ → ℕ}
-    {p : Point} {f : Family} {r : Option BasicValue} {s : State} {v : _} (h : IsNestedCall words k c level line index more)
+    {p : Point} {f : Family} {r : Option BasicValue} {s : State} {v : _}
+    (h : IsNestedCall words k c level line index more)
     (o : IsAmong k numbers p) →
     acts ≤ p.state.world.acts →
     IsBehind (called_at k.call.surroundings k.call.code c p numbers) wanted credits f v r s →

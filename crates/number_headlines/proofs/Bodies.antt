@@ -122,11 +122,11 @@ unraised_of once {program} m input acts valued more a blocks few h =
 raises_of :
     MarkedOnce → {program : Y.Program} (m : Main program) (input : List ℕ) (acts : ℕ) (valued : Bool) (more : ℕ)
     (a : Running) (blocks : ℕ) → acts + 1 < 2 ^ 64 → IsRunning m input acts valued more a blocks →
-    KnowsRaises (scope_of program m.called a.head) (block_of_run program input acts valued more a) (labels_in a.body ++ [])
-    (most_for program)
+    KnowsRaises (scope_of program m.called a.head) (block_of_run program input acts valued more a)
+    (labels_in a.body ++ []) (most_for program)
 raises_of once {program} m input acts valued more a blocks few h =
-    none_raised (scope_of program m.called a.head) (block_of_run program input acts valued more a) (labels_in a.body ++ [])
-    (most_for program) (unraised_of once m input acts valued more a blocks few h)
+    none_raised (scope_of program m.called a.head) (block_of_run program input acts valued more a)
+    (labels_in a.body ++ []) (most_for program) (unraised_of once m input acts valued more a blocks few h)
 
 -- numbers are written by the lists of the program
 puts_of :

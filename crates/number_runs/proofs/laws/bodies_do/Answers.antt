@@ -3,4 +3,11 @@ use Rattle.number_runs.proofs.Puts.{puts_known}
 use Rattle.number_runs.proofs.laws.bodies_do.Goals as goal
 
 pub returns : goal.returns
-returns c = record { statement = form_does; each = body_does; marked = body_marked; unraised = none_raised; written = puts_known }
+returns c =
+    record {
+      statement = form_does;
+      each = body_does;
+      marked = body_marked;
+      unraised = none_raised;
+      written = puts_known;
+    }
