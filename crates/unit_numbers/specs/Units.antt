@@ -74,6 +74,17 @@ unit_scope program main body =
       is_outer = λ level label. (level == main.level) && is_among label (labels_in body);
     }
 
+-- statements of the main procedure that write numbers by format lists may name and call what its others may; they raise
+-- what its units may, and so no condition for which that list has a unit: none runs while a place in a format list is in
+-- use
+abbrev pub written_scope : Y.Program → (main : Y.BlockHead) → Y.Stmts → Scope
+written_scope program main body =
+    record (own_scope program main) {
+      puts = true;
+      overflows = (unit_scope program main body).overflows;
+      divides = (unit_scope program main body).divides;
+    }
+
 -- a single statement, or a BEGIN block that declares nothing
 abbrev pub is_bare : Y.Program → Y.BlockHead → Y.BlockKind → Bool
 is_bare program head Y.SimpleUnit = true
