@@ -87,9 +87,19 @@ unit_scalar = record {
 main_number : IsNumberScalar in_main (whole mend_spot)
 main_number = record { precision = 31; scalar = main_scalar }
 
-mend_format : IsFormatList Putting mend_formats
+unit_number : IsNumberScalar in_the_unit (whole mend_spot)
+unit_number = record { precision = 31; scalar = unit_scalar }
+
+mend_format : IsFormatList Putting (mend_formats 5 10)
 unfolding formats_move_data format_moves_data
 mend_format = record {
+  formats_are = ((omega arith, omega arith), ((omega arith, omega arith), tt));
+  moves_data = refl;
+}
+
+unit_format : IsFormatList Putting (mend_formats 4 11)
+unfolding formats_move_data format_moves_data
+unit_format = record {
   formats_are = ((omega arith, omega arith), ((omega arith, omega arith), tt));
   moves_data = refl;
 }
@@ -115,10 +125,22 @@ mend_sound = record {
         (
           (
             (
-              record { type = Y.FixedLeaf 31; scalar = unit_scalar; fits = refl },
-              ((unit_is, (tt, (tt, tt))), (((omega arith, omega arith), omega arith), omega arith)),
+              tt,
+              (
+                (
+                  (unit_format, (((omega arith, omega arith), (unit_number, (unit_is, (tt, (tt, tt))))), tt)),
+                  tt,
+                ),
+                omega arith,
+              ),
             ),
-            tt,
+            (
+              (
+                record { type = Y.FixedLeaf 31; scalar = unit_scalar; fits = refl },
+                ((unit_is, (tt, (tt, tt))), (((omega arith, omega arith), omega arith), omega arith)),
+              ),
+              tt,
+            ),
           ),
           omega arith,
         ),
@@ -165,7 +187,7 @@ mend_sound = record {
       ),
     ),
   );
-  labels = ((refl, tt), (tt, ((tt, (tt, tt)), (tt, (tt, (tt, tt))))));
+  labels = ((refl, tt), (tt, ((tt, (tt, (tt, tt))), (tt, (tt, (tt, tt))))));
   parameters = tt;
   apart = tt;
   result = tt;
@@ -262,8 +284,8 @@ unfolding F.give F.◌>>=◌ F.◌>>◌ F.looked F.stored F.act F.finish F.retur
 flows = tt
 
 unfoldable values : Unit {0}
-unfolding V.number V.bit V.designated V.located V.numbers V.variable_designated V.part_designated V.stored_value R.or_error
-    R.demanded R.value_of R.raised R.unit_run R.error R.error_unit_run P.element_stored M.assigned
+unfolding V.number V.bit V.designated V.located V.numbers V.variable_designated V.part_designated V.stored_value
+    R.or_error R.demanded R.value_of R.raised R.unit_run R.error R.error_unit_run P.element_stored M.assigned
     V.computational
 values = tt
 
@@ -282,11 +304,12 @@ statements = tt
 
 pub mend_ends :
     (input : List ℕ) →
-    M.meaning mend_program input 24
+    M.meaning mend_program input 26
     ≡ Some (record {
-      acts = 24;
+      acts = 26;
       output =
           10 ∷ 50 ∷ 49 ∷ 52 ∷ 55 ∷ 52 ∷ 56 ∷ 51 ∷ 54 ∷ 52 ∷ 55
+          ∷ 32 ∷ 50 ∷ 49 ∷ 52 ∷ 55 ∷ 52 ∷ 56 ∷ 51 ∷ 54 ∷ 52 ∷ 55
           ∷ 10 ∷ 32 ∷ 32 ∷ 32 ∷ 32 ∷ 32 ∷ 32 ∷ 32 ∷ 32 ∷ 45 ∷ 49
           ∷ 10 ∷ 32 ∷ 32 ∷ 32 ∷ 32 ∷ 32 ∷ 32 ∷ 32 ∷ 32 ∷ 32 ∷ 49 ∷ 10
           ∷ [];

@@ -1,20 +1,24 @@
--- The main procedure's statements that write numbers by format lists: they raise nothing for which it has a unit, so
--- what is known around them is known while a place in a format list is in use, too.
-use Rattle.std.proofs.Common.{◌≡◌, ℕ, suc, ◌+◌, ◌^◌, ◌<◌, List, [], ◌∷◌, false, refl, ◌∙◌, arith}
+-- Statements that write numbers by format lists, of the main procedure and of its units: they raise nothing for which
+-- it has a unit, so what is known around them is known while a place in a format list is in use, too.
+use Rattle.std.proofs.Common.{◌≡◌, ℕ, suc, ◌+◌, ◌*◌, ◌^◌, ◌<◌, List, [], ◌∷◌, true, false, refl}
+use Rattle.std.proofs.Common.{◌∙◌, arith}
 use Rattle.pli_language.specs.declared.condition.Condition.TheVariants as C
 use Rattle.pli_typing.specs.Signatures.{Bounds}
 use Rattle.pli_typing.specs.TypedTree as Y
 use Rattle.pli_meaning.specs.Executing.{labels_in}
+use Rattle.pli_meaning.specs.StorageState.{force}
 use Rattle.pli_serving.specs.ServiceState.{EditPlace}
-use Rattle.pli_coding.specs.Images.{linked_code}
+use Rattle.pli_coding.specs.Assembly.{RaiseError}
+use Rattle.pli_coding.specs.Linking.{place_of}
 use Rattle.code_marks.specs.CodeMarks.{MarkedOnce}
 use Rattle.activation_relation.specs.Layers.{Point}
-use Rattle.program_places.specs.Programs.{code_for}
+use Rattle.activation_relation.specs.ServiceLaws.{IsSystem}
 use Rattle.program_places.proofs.Procedures.{raise_routines}
 use Rattle.program_runs.specs.Calls.{left_over}
 use Rattle.program_runs.specs.Statements.{Block, IsBegun}
 use Rattle.expression_runs.specs.Assignments.{setting_around}
-use Rattle.expression_runs.specs.Variables.{Spot}
+use Rattle.expression_runs.specs.Raises.{Routines}
+use Rattle.expression_runs.specs.Variables.{IsNumber, Spot}
 use Rattle.expression_runs.proofs.Raises.{overflow_ends}
 use Rattle.operator_runs.proofs.Divisors.{zero_divide_ends}
 use Rattle.element_runs.specs.Arrays.{IsArray}
@@ -24,8 +28,8 @@ use Rattle.edit_runs.specs.Edits.{placing, within}
 use Rattle.edit_runs.proofs.Places.{begun_placed, number_placed}
 use Rattle.block_headlines.specs.Constants.{IsOf}
 use Rattle.block_headlines.proofs.Constants.{main_of_program}
-use Rattle.number_runs.specs.Knowledge.{IsReady, KnowsPuts}
-use Rattle.number_runs.specs.Numbers.{bounds_known}
+use Rattle.number_runs.specs.Knowledge.{IsReady, KnowsLists, KnowsPuts}
+use Rattle.number_runs.specs.Numbers.{Scope, bounds_known, is_array_known, is_known}
 use Rattle.number_headlines.proofs.Puts.{error_routine, lists_known}
 use Rattle.unit_runs.specs.Changing.{IsPast, Past, after, past_point}
 use Rattle.unit_numbers.specs.Units.{own_scope, written_scope}
@@ -39,7 +43,7 @@ past_constants [] p = refl
 past_constants (e ∷ past) p = past_constants past p
 
 -- what the program tells of its static data is told there, whatever units it has by then
-main_told :
+pub main_told :
     {program : Y.Program} (m : Main program) (input : List ℕ) (acts : ℕ) (past : Past) →
     IsBegun (block_for m input acts) → IsOf program (after (block_for m input acts) past)
 main_told {program} m input acts past b =
@@ -72,60 +76,63 @@ array_placed k place x b is =
       bounds = is.bounds;
     }
 
--- what is raised there ends the run
-written_known :
-    MarkedOnce → {program : Y.Program} (m : Main program) (input : List ℕ) (more : ℕ) (past : Past) →
-    suc more + 1 < 2 ^ 64 → IsBegun (block_for m input (suc more)) →
-    IsPast (block_for m input (suc more)) (list_of m) (start_of m) past →
-    IsReady (own_scope program m.head) false (after (block_for m input (suc more)) past) (labels_in (list_of m))
-    (most_for program) left_over →
-    KnowsPuts (written_scope program m.head (list_of m)) (after (block_for m input (suc more)) past) (most_for program)
-written_known once {program} m input more past few b known ready =
-    let s = written_scope program m.head (list_of m) in
-    let k = after (block_for m input (suc more)) past in
-    let routines = raise_routines once program m.loadable in
-    let inside = routines.linked.inside in
-    let error = error_system once m input (suc more) past known in
-    let place' = error_routine once program m.loadable in
+-- a block in which what a scope lets expressions raise ends the run
+pub record IsSettled (s : Scope) (k : Block) (most : ℕ) : Type 0 where
+  pub begun : IsBegun k
+  pub routines : Routines k.call.surroundings.links k.call.code
+  pub place : place_of k.call.surroundings.links RaiseError ≡ 4 * (routines.at + 8)
+  pub overflow : s.overflows ≡ true → IsSystem (force k.first.state.activations C.FixedOverflow)
+  pub divisor : s.divides ≡ true → IsSystem (force k.first.state.activations C.ZeroDivide)
+  pub error : IsSystem (force k.first.state.activations C.Error)
+  pub acts : k.call.surroundings.acts + 1 < 2 ^ 64
+  pub few : 18 < most
+  pub variables : (x : Spot) → is_known s x ≡ true → IsNumber k x
+  pub arrays : s.elements ≡ true → (x : Spot) → is_array_known s x ≡ true → IsArray k x (bounds_known s x)
+  pub lists : KnowsLists k
+
+-- there numbers may be written
+pub settled_writes : (s : Scope) (k : Block) (most : ℕ) → IsSettled s k most → KnowsPuts s k most
+settled_writes s k most h =
+    let few = h.few in
     record {
       numbers = λ words may place labels line.
-          let h = within place (setting_around words k labels line (most_for program)) in
+          let w = within place (setting_around words k labels line most) in
           record {
-            begun = begun_placed k place ready.begun;
-            overflow = λ raises. overflow_ends h (record {
-              routines = routines;
-              overflow = none_system once m input (suc more) past known C.FixedOverflow raises;
-              error = error;
-              acts = few;
-              most = omega (arith, inside);
+            begun = begun_placed k place h.begun;
+            overflow = λ raises. overflow_ends w (record {
+              routines = h.routines;
+              overflow = h.overflow raises;
+              error = h.error;
+              acts = h.acts;
+              most = h.few;
             });
-            divisor = λ raises. zero_divide_ends h (record {
-              routines = routines;
-              divisor = none_system once m input (suc more) past known C.ZeroDivide raises;
-              error = error;
-              acts = few;
-              most = omega (arith, inside);
+            divisor = λ raises. zero_divide_ends w (record {
+              routines = h.routines;
+              divisor = h.divisor raises;
+              error = h.error;
+              acts = h.acts;
+              most = h.few;
             });
-            subscript = λ raises. subscripts_end h (record {
-              routines = routines;
-              place = place';
-              error = error;
-              acts = few;
-              most = omega (arith, inside);
+            subscript = λ raises. subscripts_end w (record {
+              routines = h.routines;
+              place = h.place;
+              error = h.error;
+              acts = h.acts;
+              most = h.few;
             });
-            variables = λ x is. number_placed k place x (ready.variables x is);
-            arrays = λ raises x is. array_placed k place x (bounds_known s x) (ready.arrays raises x is);
+            variables = λ x is. number_placed k place x (h.variables x is);
+            arrays = λ raises x is. array_placed k place x (bounds_known s x) (h.arrays raises x is);
             functions = λ level n is. absurd (cc is);
           };
       error = λ words may place labels line.
-          error_ends (List ℕ) (within place (setting_around words k labels line (most_for program))) (record {
-            routines = routines;
-            raises = place';
-            error = error;
-            acts = few;
-            most = omega (arith, inside);
+          error_ends (List ℕ) (within place (setting_around words k labels line most)) (record {
+            routines = h.routines;
+            raises = h.place;
+            error = h.error;
+            acts = h.acts;
+            most = omega (arith, few);
           });
-      lists = lists_known program k m.memory (main_told m input (suc more) past b);
+      lists = h.lists;
     }
 
 -- ---- the statements
@@ -142,6 +149,10 @@ pub written_ready :
 written_ready once {program} m input more past few b known ready =
     let raises = ready.raises in
     let calls = ready.calls in
+    let s = written_scope program m.head (list_of m) in
+    let k = after (block_for m input (suc more)) past in
+    let routines = raise_routines once program m.loadable in
+    let inside = routines.linked.inside in
     record {
       begun = ready.begun;
       acts = ready.acts;
@@ -155,7 +166,21 @@ written_ready once {program} m input more past few b known ready =
       variables = ready.variables;
       arrays = ready.arrays;
       calls = record { functions = calls.functions; procedures = calls.procedures };
-      puts = λ may. written_known once m input more past few b known ready;
+      puts = λ may.
+          settled_writes s k (most_for program)
+          (record {
+            begun = ready.begun;
+            routines = routines;
+            place = error_routine once program m.loadable;
+            overflow = none_system once m input (suc more) past known C.FixedOverflow;
+            divisor = none_system once m input (suc more) past known C.ZeroDivide;
+            error = error_system once m input (suc more) past known;
+            acts = few;
+            few = omega (arith, inside);
+            variables = ready.variables;
+            arrays = ready.arrays;
+            lists = lists_known program k m.memory (main_told m input (suc more) past b);
+          });
       loops = λ e. absurd (cc e);
       jumps = ready.jumps;
       room = ready.room;

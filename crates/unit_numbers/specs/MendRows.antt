@@ -1,5 +1,5 @@
--- A worked row: a program of the class that writes a number again and again, which a unit sets behind an overflow.
-use Rattle.std.specs.Prelude.{ℕ, ◌≡◌, List, [], ◌∷◌, Some, None}
+-- A worked row: a program of the class that writes a number again and again, as does a unit that sets it.
+use Rattle.std.specs.Prelude.{ℕ, ◌≡◌, List, [], ◌∷◌, Option, Some, None}
 use Rattle.pli_language.specs.declared.condition.Condition.TheVariants as C
 use Rattle.pli_language.specs.Tree as T
 use Rattle.pli_typing.specs.TypedTree as Y
@@ -12,8 +12,8 @@ use Rattle.expression_runs.specs.Assignments.{assignment}
 use Rattle.expression_runs.specs.Variables.{Spot, number_declared, whole}
 use Rattle.pli_headline.specs.Headline.{Headline, parts}
 
--- DECLARE X FIXED BINARY(31); X = 2147483647; ON FIXEDOVERFLOW BEGIN; X = 1; END; NEXT: PUT SKIP EDIT (X) (F(10));
--- X = X + X - X + 2; IF X < 2 THEN GOTO NEXT;
+-- DECLARE X FIXED BINARY(31); X = 2147483647; ON FIXEDOVERFLOW BEGIN; PUT EDIT (X) (F(11)); X = 1; END;
+-- NEXT: PUT SKIP EDIT (X) (F(10)); X = X + X - X + 2; IF X < 2 THEN GOTO NEXT;
 
 abbrev pub mend_spot : Spot
 mend_spot = record { block = 1; level = 0; index = 0 }
@@ -27,16 +27,19 @@ mend_label = 78 ∷ 69 ∷ 88 ∷ 84 ∷ []
 abbrev pub mend_unit : Y.BlockHead
 mend_unit = record { kind = Y.UnitBlock; number = 2; level = 1; line = 4 }
 
+abbrev pub mend_formats : (line width : ℕ) → T.Formats
+mend_formats line width =
+    T.FormatThen (record { line = line; column = 30 }) 1 (T.FixedFormat width) T.NoFormat
+
+abbrev pub mend_put : (skip : Option ℕ) → (line width : ℕ) → Y.Stmt
+mend_put skip line width =
+    Y.Put skip
+    (record { items = Y.PutValue (Y.NumberValue 31 mend_value) ∷ []; formats = mend_formats line width } ∷ []) line
+
 abbrev pub mend_set : Y.Stmts
-mend_set = Y.StmtThen [] (assignment mend_spot (Y.NumberConstant 1) 4) (Y.EndOfList [])
-
-abbrev pub mend_formats : T.Formats
-mend_formats = T.FormatThen (record { line = 5; column = 30 }) 1 (T.FixedFormat 10) T.NoFormat
-
-abbrev pub mend_put : Y.Stmt
-mend_put =
-    Y.Put (Some 1)
-    (record { items = Y.PutValue (Y.NumberValue 31 mend_value) ∷ []; formats = mend_formats } ∷ []) 5
+mend_set =
+    Y.StmtThen [] (mend_put None 4 11)
+    (Y.StmtThen [] (assignment mend_spot (Y.NumberConstant 1) 4) (Y.EndOfList []))
 
 abbrev pub mend_sum : Y.Number
 mend_sum =
@@ -48,7 +51,7 @@ abbrev pub mend_body : Y.Stmts
 mend_body =
     Y.StmtThen [] (assignment mend_spot (Y.NumberConstant 2147483647) 3)
     (Y.StmtThen [] (Y.OnUnit C.FixedOverflow (Y.BlockOf mend_unit mend_set) 4)
-    (Y.StmtThen (mend_label ∷ []) mend_put
+    (Y.StmtThen (mend_label ∷ []) (mend_put (Some 1) 5 10)
     (Y.StmtThen [] (assignment mend_spot mend_sum 6)
     (Y.StmtThen []
     (Y.If (Y.NumbersCompared Y.IsLess mend_value (Y.NumberConstant 2)) (Y.Goto 0 mend_label 7) 7)
@@ -66,14 +69,15 @@ mend_program =
 
 pub record MendKept : Type 0 where
   pub headline : Headline mend_program (picture_of parts mend_program) (table_of mend_program)
-  -- three lines, and FIXEDOVERFLOW behind the first of them
+  -- three lines: FIXEDOVERFLOW is raised where the first is written, and its unit goes on with that
   pub ends :
       (input : List ℕ) →
-      meaning mend_program input 24
+      meaning mend_program input 26
       ≡ Some (record {
-        acts = 24;
+        acts = 26;
         output =
             10 ∷ 50 ∷ 49 ∷ 52 ∷ 55 ∷ 52 ∷ 56 ∷ 51 ∷ 54 ∷ 52 ∷ 55
+            ∷ 32 ∷ 50 ∷ 49 ∷ 52 ∷ 55 ∷ 52 ∷ 56 ∷ 51 ∷ 54 ∷ 52 ∷ 55
             ∷ 10 ∷ 32 ∷ 32 ∷ 32 ∷ 32 ∷ 32 ∷ 32 ∷ 32 ∷ 32 ∷ 45 ∷ 49
             ∷ 10 ∷ 32 ∷ 32 ∷ 32 ∷ 32 ∷ 32 ∷ 32 ∷ 32 ∷ 32 ∷ 32 ∷ 49 ∷ 10
             ∷ [];

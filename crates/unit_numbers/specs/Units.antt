@@ -55,8 +55,8 @@ is_of_numbers C.FixedOverflow = true
 is_of_numbers C.ZeroDivide = true
 is_of_numbers _ = false
 
--- those of a unit in it may name them, too, and jump to the labels of the main procedure's list; they call nothing and
--- don't return, and raise no condition for which that list has a unit
+-- those of a unit in it may name them, too, write numbers, and jump to the labels of the main procedure's list; they
+-- call nothing and don't return, and raise no condition for which that list has a unit
 abbrev pub unit_scope : Y.Program → (main : Y.BlockHead) → Y.Stmts → Scope
 unit_scope program main body =
     record {
@@ -66,7 +66,7 @@ unit_scope program main body =
       is_function = λ level n. false;
       is_procedure = λ level n. false;
       counts = false;
-      puts = false;
+      puts = true;
       overflows = not (has_unit C.FixedOverflow body);
       divides = not (has_unit C.ZeroDivide body);
       elements = false;
@@ -75,8 +75,7 @@ unit_scope program main body =
     }
 
 -- statements of the main procedure that write numbers by format lists may name and call what its others may; they raise
--- what its units may, and so no condition for which that list has a unit: none runs while a place in a format list is in
--- use
+-- what its units may, and so no condition for which that list has a unit: none runs while a place in a list is in use
 abbrev pub written_scope : Y.Program → (main : Y.BlockHead) → Y.Stmts → Scope
 written_scope program main body =
     record (own_scope program main) {
