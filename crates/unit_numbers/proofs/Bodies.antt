@@ -1,8 +1,8 @@
 -- The list of the main procedure comes to its end: each of its statements does what it means, whatever units it has by
 -- then.
-use Rattle.std.proofs.Common.{◌≡◌, inl, inr, ℕ, zero, suc, ◌+◌, ◌^◌, ◌<◌, ◌≤◌, List, [], ◌∷◌, ◌++◌, Option}
+use Rattle.std.proofs.Common.{◌≡◌, ◌⊎◌, inl, inr, ℕ, zero, suc, ◌+◌, ◌^◌, ◌<◌, ◌≤◌, List, [], ◌∷◌, ◌++◌, Option}
 use Rattle.std.proofs.Common.{Some, None, true, false, refl, sym, ap, subst, arith}
-use Rattle.std.proofs.lemmas.Bool.{and_parts}
+use Rattle.std.proofs.lemmas.Bool.{and_parts, or_cases}
 use Rattle.pli_language.specs.declared.condition.Condition.TheVariants as C
 use Rattle.pli_typing.specs.TypedTree as Y
 use Rattle.pli_meaning.specs.Control.{Label}
@@ -23,17 +23,17 @@ use Rattle.program_places.proofs.Marks.{placed_back, placed_front}
 use Rattle.program_places.proofs.Procedures.{raise_routines}
 use Rattle.program_places.proofs.Starts.{main_found}
 use Rattle.program_runs.specs.Calls.{left_over}
-use Rattle.program_runs.specs.Statements.{Does, IsBegun}
+use Rattle.program_runs.specs.Statements.{Block, Does, IsBegun}
 use Rattle.program_runs.proofs.Statements.{none_does}
 use Rattle.expression_runs.specs.Assignments.{setting_around}
 use Rattle.expression_runs.specs.Values.{OverflowComes}
 use Rattle.expression_runs.proofs.Raises.{overflow_ends}
 use Rattle.operator_runs.specs.Divisors.{ZeroDivideComes}
 use Rattle.operator_runs.proofs.Divisors.{zero_divide_ends}
-use Rattle.number_runs.specs.Knowledge.{AreStanding, Includes, IsReady, Standing}
+use Rattle.number_runs.specs.Knowledge.{AreAround, AreStanding, Includes, IsReady, Standing}
 use Rattle.element_runs.specs.Subscripts.{SubscriptComes}
 use Rattle.element_runs.proofs.Outside.{subscripts_end}
-use Rattle.number_runs.specs.Numbers.{bounds_known}
+use Rattle.number_runs.specs.Numbers.{Scope, bounds_known}
 use Rattle.number_runs.specs.Statements.{is_statement, statement_needs, statements_need}
 use Rattle.number_runs.proofs.Statements.{form_does}
 use Rattle.number_headlines.proofs.Puts.{error_routine}
@@ -42,14 +42,15 @@ use Rattle.unit_runs.specs.Changing.{AllDo, IsPast, Past, StandsIn, StepDoes, af
 use Rattle.unit_runs.specs.Establishing.{IsOn, OnUnit, on_of}
 use Rattle.unit_runs.proofs.Changing.{begun_after, changing_ends}
 use Rattle.unit_runs.proofs.OwnRaises.{past_numbers}
-use Rattle.unit_numbers.specs.Programs.{are_steps, is_step, is_step_with}
-use Rattle.unit_numbers.specs.Units.{own_scope, unit_in}
+use Rattle.unit_numbers.specs.Programs.{are_steps, is_plain_step, is_step, is_step_with}
+use Rattle.unit_numbers.specs.Units.{own_scope, unit_in, written_scope}
 use Rattle.unit_numbers.proofs.Arrays.{past_array}
 use Rattle.unit_numbers.proofs.Calls.{main_calls}
 use Rattle.unit_numbers.proofs.Established.{InForce, IsUnitOf, error_system, in_force, list_placed, start_of}
 use Rattle.unit_numbers.proofs.Established.{unit_stands}
 use Rattle.unit_numbers.proofs.Mains.{Main, block_for, list_of, main_array, main_held, main_number, most_for}
 use Rattle.unit_numbers.proofs.Mains.{own_known, placed}
+use Rattle.unit_numbers.proofs.Puts.{written_ready}
 use Rattle.unit_numbers.proofs.Raises.{divide_with, overflow_with, past_setting}
 use Rattle.unit_numbers.proofs.Spread.{all_means, all_code}
 use Rattle.unit_numbers.proofs.Takes.{unit_found}
@@ -174,7 +175,7 @@ main_ready once {program} m input more past few b known =
 main_does :
     MarkedOnce → {program : Y.Program} (m : Main program) (input : List ℕ) (acts : ℕ) → acts + 1 < 2 ^ 64 →
     IsBegun (block_for m input acts) → (stmt : Y.Stmt) (index : ℕ) →
-    is_statement (own_scope program m.head) false (labels_in (list_of m)) stmt ≡ true →
+    is_plain_step program m.head (list_of m) stmt ≡ true →
     statement_needs stmt ≤ statements_need (list_of m) → Standing (block_for m input acts) stmt index → (past : Past) →
     IsPast (block_for m input acts) (list_of m) (start_of m) past →
     Does (after (block_for m input acts) past) (labels_in (list_of m)) stmt index left_over
@@ -183,16 +184,43 @@ main_does once m input zero few b stmt index is fits at past known =
     none_does (after k past) (labels_in (list_of m)) stmt index left_over
     (begun_after k (list_of m) (start_of m) past b known) refl
 main_does once {program} m input (suc more) few b stmt index is fits at past known =
-    let held = main_held m in
-    form_does (own_scope program m.head) false (after (block_for m input (suc more)) past) (labels_in (list_of m))
-    (labels_in (list_of m)) stmt index (most_for program) left_over (main_ready once m input more past few b known)
-    (record {
+    by (or_cases (is_statement own false labels stmt) (is_statement written false labels stmt) is)
+  where
+    labels : List Label
+    labels = labels_in (list_of m)
+
+    own : Scope
+    own = own_scope program m.head
+
+    written : Scope
+    written = written_scope program m.head (list_of m)
+
+    k : Block
+    k = after (block_for m input (suc more)) past
+
+    ready : IsReady own false k labels (most_for program) left_over
+    ready = main_ready once m input more past few b known
+
+    around : AreAround k labels labels
+    around = record {
       at = λ label among.
           label_of (links_for program) (linked_code (code_for program)) (start_of m) (environment_for program m.head)
           none_taken (list_of m) (list_placed once m input (suc more)) label among;
       includes = λ label among. among;
-    })
-    is (omega (arith, fits, held)) (λ e. absurd (cc e)) at
+    }
+
+    enough : statement_needs stmt ≤ k.registers
+    enough = let held = main_held m in omega (arith, fits, held)
+
+    by :
+        (is_statement own false labels stmt ≡ true) ⊎ (is_statement written false labels stmt ≡ true) →
+        Does k labels stmt index left_over
+    by (inl h) =
+        form_does own false k labels labels stmt index (most_for program) left_over ready around h enough
+        (λ e. absurd (cc e)) at
+    by (inr h) =
+        form_does written false k labels labels stmt index (most_for program) left_over
+        (written_ready once m input more past few b known ready) around h enough (λ e. absurd (cc e)) at
 
 -- ---- the list
 

@@ -63,5 +63,5 @@ pub unit_headline_kept :
 unit_headline_kept once tables kept program h fits =
     let a = and_parts (are_all_plain program.variables) (has_unit_main program program.procedures) h.units in
     let load : IsLoadable program = record { well_formed = h.well_formed; fits = fits.code_fits } in
-    let m = main_is program program.procedures refl a.0 load a.1 in
+    let m = main_is program program.procedures refl a.0 load fits a.1 in
     kept program (layout_for m) (units_run once tables m fits)

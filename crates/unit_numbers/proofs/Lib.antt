@@ -7,6 +7,7 @@ pub mod Units
 pub mod Outer
 pub mod Past
 pub mod Established
+pub mod Puts
 pub mod Divides
 pub mod Raises
 pub mod Called
@@ -17,4 +18,5 @@ pub mod Kept
 pub mod Rows
 pub mod GuardRows
 pub mod GroupRows
+pub mod MendRows
 pub mod Spread

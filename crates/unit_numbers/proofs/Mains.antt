@@ -12,7 +12,7 @@ use Rattle.pli_meaning.specs.Making.{with_binding}
 use Rattle.pli_meaning.specs.StorageState.{Activation, Binding, OnUnit}
 use Rattle.pli_coding.specs.Environments.{BlockPlace}
 use Rattle.pli_coding.specs.Frames.{fixed_size, parameters_in}
-use Rattle.pli_coding.specs.Images.{linked_code, place_of_head}
+use Rattle.pli_coding.specs.Images.{linked_code, picture_of, place_of_head}
 use Rattle.pli_coding.specs.Registers.{held_registers}
 use Rattle.pli_coding.specs.Environments.{none_taken}
 use Rattle.pli_coding.specs.Statements.{block_held, stmts_take}
@@ -31,6 +31,7 @@ use Rattle.program_runs.specs.Starts.{image_parts, no_numbers, start_point, surr
 use Rattle.program_runs.specs.Statements.{Block, IsBegun}
 use Rattle.program_runs.specs.Variables.{Declared, generation_for}
 use Rattle.expression_runs.specs.Variables.{IsNumber, Spot, variable_of}
+use Rattle.pli_headline.specs.Headline.{FitsMemory, parts}
 use Rattle.variable_runs.specs.Lists.{AreAll, all_made, behind_made, layer_after, layer_behind}
 use Rattle.well_formed_trees.specs.WellFormed.{HasMain}
 use Rattle.element_runs.specs.Arrays.{IsArray}
@@ -58,6 +59,7 @@ pub record Main (program : Y.Program) : Type 0 where
   pub main : IsMain program (record { head = head; body = body; others = others })
   pub plain : are_all_plain program.variables ≡ true
   pub loadable : IsLoadable program
+  pub memory : FitsMemory (picture_of parts program)
   pub steps : are_steps program head (spread_all body) (spread_all body) ≡ true
   pub apart : are_apart (spread_all body) ≡ true
   pub fits : statements_need (spread_all body) ≤ held_registers
@@ -72,9 +74,10 @@ placed m = record { head = m.head; body = m.body; others = m.others }
 
 pub main_is :
     (program : Y.Program) (ps : List Y.Procedure) → program.procedures ≡ ps →
-    are_all_plain program.variables ≡ true → IsLoadable program → has_unit_main program ps ≡ true → Main program
-main_is program [] e plain load h = absurd (cc h)
-main_is program (p ∷ ps) e plain load h =
+    are_all_plain program.variables ≡ true → IsLoadable program → FitsMemory (picture_of parts program) →
+    has_unit_main program ps ≡ true → Main program
+main_is program [] e plain load memory h = absurd (cc h)
+main_is program (p ∷ ps) e plain load memory h =
     let head = head_of p.block in
     let body = body_of p.block in
     let list' = spread_all body in
@@ -91,6 +94,7 @@ main_is program (p ∷ ps) e plain load h =
       main = e ∙ ap (λ x. x ∷ ps) (procedure_is false p a.0 b.0);
       plain = plain;
       loadable = load;
+      memory = memory;
       steps = c.0;
       apart = d.0;
       fits = leb-true (statements_need list') held_registers d.1;

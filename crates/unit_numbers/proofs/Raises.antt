@@ -50,6 +50,9 @@ use Rattle.number_runs.specs.Variables.{words_in}
 use Rattle.number_runs.proofs.Statements.{body_does}
 use Rattle.number_runs.proofs.Takes.{Takes}
 use Rattle.number_runs.proofs.Uncounted.{statements_take}
+use Rattle.block_headlines.specs.Constants.{IsOf}
+use Rattle.block_headlines.proofs.Constants.{called_of_program}
+use Rattle.number_headlines.proofs.Puts.{error_routine, lists_known}
 use Rattle.number_headlines.proofs.Tables.{block_plain}
 use Rattle.unit_runs.specs.Changing.{IsOwnRaise, IsPast, Past, after, past_point}
 use Rattle.unit_runs.specs.Establishing.{OnUnit, unit_index, unit_of}
@@ -67,6 +70,7 @@ use Rattle.unit_numbers.proofs.Divides.{divide_returns}
 use Rattle.unit_numbers.proofs.Established.{IsUnitOf, Newest, error_system, list_placed, none_system}
 use Rattle.unit_numbers.proofs.Past.{alone_parent, main_alone, main_past, past_lower}
 use Rattle.unit_numbers.proofs.Places.{one_place}
+use Rattle.unit_numbers.proofs.Puts.{main_told, settled_writes}
 use Rattle.unit_numbers.proofs.Takes.{unit_taken}
 use Rattle.unit_numbers.proofs.Units.{Unit', none_coded, unit_is}
 
@@ -202,6 +206,8 @@ pub record IsScene {program : Y.Program} (m : Main program) (z : Scene) : Type 0
   pub includes : Includes (labels_in (list_of m)) z.carried
   pub placed : IsUnitOf m z.input z.acts z.unit z.index
   pub raised : IsRaised (scene_setting m z) (scene_unit m z) z.more
+  -- what the program tells of its static data is told there
+  pub told : IsOf program (scene_block m z)
   pub behind : ℕ
   pub there :
       drop behind (as_outer (scene_block m z) z.labels ∷ z.outers) ≡ as_outer (scene_main m z) z.carried ∷ []
@@ -320,6 +326,8 @@ scene_ready :
 scene_ready once {program} m z s r is made b =
     let enough = s.raised.enough in
     let later = is.later in
+    let routines = raise_routines once program m.loadable in
+    let inside = routines.linked.inside in
     record {
       begun = b;
       acts = s.few;
@@ -332,7 +340,26 @@ scene_ready once {program} m z s r is made b =
         functions = λ words set ls at level n inside call. absurd (cc call);
         procedures = λ words set ls level n at index inside call. absurd (cc call);
       };
-      puts = λ e. absurd (cc e);
+      puts = λ may.
+          settled_writes (unit_scope program m.head (list_of m)) (scene_inner m z r) (most_for program)
+          (record {
+            begun = b;
+            routines = routines;
+            place = error_routine once program m.loadable;
+            overflow = λ may.
+                s.system r is C.FixedOverflow
+                (none_system once m z.input z.acts z.past s.known C.FixedOverflow may);
+            divisor = λ may.
+                s.system r is C.ZeroDivide (none_system once m z.input z.acts z.past s.known C.ZeroDivide may);
+            error = s.system r is C.Error (error_system once m z.input z.acts z.past s.known);
+            acts = s.few;
+            few = omega (arith, inside);
+            variables = λ v known. s.numbers r is made b v known;
+            arrays = λ may v known. absurd (cc may);
+            lists = lists_known program (scene_inner m z r) m.memory
+                (called_of_program program (scene_block m z) (scene_inner m z r) r.numbers s.told is.among refl refl
+                b);
+          });
       loops = λ e. absurd (cc e);
       jumps = λ ls level label at index inside out less.
           let a = and_parts (level == m.head.level) (is_among label (labels_in (list_of m))) out in
@@ -470,6 +497,7 @@ own_is once {program} m input more past labels line few b includes known n =
       includes = includes;
       placed = n.placed;
       raised = h.0;
+      told = main_told m input (suc more) past b;
       behind = 0;
       there = refl;
       numbers = λ r is made b' v named.

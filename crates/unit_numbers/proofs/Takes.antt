@@ -1,8 +1,9 @@
 -- What the temporaries of the main procedure and of its units take: registers, and no words of their frames.
-use Rattle.std.proofs.Common.{◌≡◌, ℕ, ◌≤◌, List, [], Option, Some, None, true, false}
+use Rattle.std.proofs.Common.{◌≡◌, ◌⊎◌, inl, inr, ℕ, ◌≤◌, List, [], Option, Some, None, true, false}
 use Rattle.std.proofs.Common.{refl, sym, ap, subst, arith}
-use Rattle.std.proofs.lemmas.Bool.{and_parts}
+use Rattle.std.proofs.lemmas.Bool.{and_parts, or_cases}
 use Rattle.pli_typing.specs.TypedTree as Y
+use Rattle.pli_meaning.specs.Control.{Label}
 use Rattle.pli_meaning.specs.Executing.{labels_in}
 use Rattle.pli_meaning.specs.DeclaredShapes.{variables_of_block}
 use Rattle.pli_coding.specs.Environments.{none_taken}
@@ -10,12 +11,12 @@ use Rattle.pli_coding.specs.Registers.{held_registers}
 use Rattle.pli_coding.specs.Statements.{block_takes, stmt_takes, stmts_take, unit_takes}
 use Rattle.unit_runs.specs.Establishing.{OnUnit, on_of}
 use Rattle.number_runs.specs.Numbers.{Scope}
-use Rattle.number_runs.specs.Statements.{statement_needs, statements_need}
+use Rattle.number_runs.specs.Statements.{is_statement, statement_needs, statements_need}
 use Rattle.number_runs.specs.Variables.{are_plain}
 use Rattle.number_runs.proofs.Takes.{Takes}
 use Rattle.number_runs.proofs.Uncounted.{block_taken, statement_takes}
 use Rattle.unit_numbers.specs.Programs.{are_steps, is_step, is_step_with}
-use Rattle.unit_numbers.specs.Units.{own_scope, unit_in}
+use Rattle.unit_numbers.specs.Units.{own_scope, unit_in, written_scope}
 
 -- ---- an ON among the statements
 
@@ -59,10 +60,25 @@ step_taken :
     Takes (statement_needs stmt) none_taken (stmt_takes none_taken stmt)
 step_taken program main all stmt h fits = by (unit_in stmt) refl h
   where
+    labels : List Label
+    labels = labels_in all
+
+    own : Scope
+    own = own_scope program main
+
+    written : Scope
+    written = written_scope program main all
+
+    plain :
+        (is_statement own false labels stmt ≡ true) ⊎ (is_statement written false labels stmt ≡ true) →
+        Takes (statement_needs stmt) none_taken (stmt_takes none_taken stmt)
+    plain (inl is) = statement_takes own false labels stmt refl is fits
+    plain (inr is) = statement_takes written false labels stmt refl is fits
+
     by :
         (o : Option OnUnit) → unit_in stmt ≡ o → is_step_with program main all o stmt ≡ true →
         Takes (statement_needs stmt) none_taken (stmt_takes none_taken stmt)
-    by None e is = statement_takes (own_scope program main) false (labels_in all) stmt refl is fits
+    by None e is = plain (or_cases (is_statement own false labels stmt) (is_statement written false labels stmt) is)
     by (Some x) e is =
         subst (λ f. Takes (statement_needs f) none_taken (stmt_takes none_taken f)) (sym (unit_found stmt x e))
         (record { registers = omega arith; words = refl })

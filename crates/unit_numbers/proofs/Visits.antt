@@ -62,6 +62,8 @@ use Rattle.unit_numbers.proofs.Called.{Named, inner_words, visit_all, visit_begu
 use Rattle.unit_numbers.proofs.Mains as N
 use Rattle.unit_numbers.proofs.Mains.{Main, block_for, free, level_of, list_of, main_number, most_for, own_known}
 use Rattle.unit_numbers.proofs.Mains.{own_main_array, surroundings_for}
+use Rattle.block_headlines.proofs.Constants.{called_of_program}
+use Rattle.unit_numbers.proofs.Puts.{main_told}
 use Rattle.unit_numbers.proofs.Raises.{IsScene, Scene, divide_at, overflow_at, own_raise, scene_setting, scene_unit}
 use Rattle.unit_numbers.proofs.Raises.{taken_by, unit_at}
 use Rattle.unit_numbers.proofs.Established.{Newest}
@@ -526,6 +528,8 @@ visit_is once {program} m i v more past entry function labels line h n b =
       includes = h.includes;
       placed = n.placed;
       raised = raised.0;
+      told = called_of_program program main (visit_block m i v (suc more) past entry function) v.numbers
+          (main_told m v.input acts past h.begun) h.among refl refl b;
       behind = 1;
       there = refl;
       numbers = λ r is made b' s named.

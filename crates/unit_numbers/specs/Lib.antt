@@ -5,4 +5,5 @@ pub mod Headlines
 pub mod Rows
 pub mod GuardRows
 pub mod GroupRows
+pub mod MendRows
 pub mod Groups

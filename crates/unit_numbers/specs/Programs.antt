@@ -10,14 +10,20 @@ use Rattle.number_runs.specs.Numbers.{has_none}
 use Rattle.number_runs.specs.Statements.{is_statement, statements_need}
 use Rattle.number_headlines.specs.Programs.{are_all_plain, body_of, has_result}
 use Rattle.unit_numbers.specs.Groups.{spread_all}
-use Rattle.unit_numbers.specs.Units.{is_unit, own_scope, unit_in}
+use Rattle.unit_numbers.specs.Units.{is_unit, own_scope, unit_in, written_scope}
 
 -- ---- the list of the main procedure: ON stands anywhere in it, and in no list inside it but those of groups that
 -- stand for their statements
 
+-- a statement of a list that is no ON: one that writes numbers raises nothing for which the list has a unit
+abbrev pub is_plain_step : Y.Program → (main : Y.BlockHead) → (all : Y.Stmts) → Y.Stmt → Bool
+is_plain_step program main all stmt =
+    is_statement (own_scope program main) false (labels_in all) stmt
+    || is_statement (written_scope program main all) false (labels_in all) stmt
+
 -- a statement of a list
 abbrev pub is_step_with : Y.Program → (main : Y.BlockHead) → (all : Y.Stmts) → Option OnUnit → Y.Stmt → Bool
-is_step_with program main all None stmt = is_statement (own_scope program main) false (labels_in all) stmt
+is_step_with program main all None stmt = is_plain_step program main all stmt
 is_step_with program main all (Some x) stmt = is_unit program main all x
 
 abbrev pub is_step : Y.Program → (main : Y.BlockHead) → (all : Y.Stmts) → Y.Stmt → Bool

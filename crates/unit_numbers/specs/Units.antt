@@ -55,8 +55,8 @@ is_of_numbers C.FixedOverflow = true
 is_of_numbers C.ZeroDivide = true
 is_of_numbers _ = false
 
--- those of a unit in it may name them, too, and jump to the labels of the main procedure's list; they call nothing and
--- don't return, and raise no condition for which that list has a unit
+-- those of a unit in it may name them, too, write numbers, and jump to the labels of the main procedure's list; they
+-- call nothing and don't return, and raise no condition for which that list has a unit
 abbrev pub unit_scope : Y.Program → (main : Y.BlockHead) → Y.Stmts → Scope
 unit_scope program main body =
     record {
@@ -66,12 +66,22 @@ unit_scope program main body =
       is_function = λ level n. false;
       is_procedure = λ level n. false;
       counts = false;
-      puts = false;
+      puts = true;
       overflows = not (has_unit C.FixedOverflow body);
       divides = not (has_unit C.ZeroDivide body);
       elements = false;
       own = false;
       is_outer = λ level label. (level == main.level) && is_among label (labels_in body);
+    }
+
+-- statements of the main procedure that write numbers by format lists may name and call what its others may; they raise
+-- what its units may, and so no condition for which that list has a unit: none runs while a place in a list is in use
+abbrev pub written_scope : Y.Program → (main : Y.BlockHead) → Y.Stmts → Scope
+written_scope program main body =
+    record (own_scope program main) {
+      puts = true;
+      overflows = (unit_scope program main body).overflows;
+      divides = (unit_scope program main body).divides;
     }
 
 -- a single statement, or a BEGIN block that declares nothing

@@ -3,6 +3,7 @@
 ghost use Rattle.unit_numbers.specs.GroupRows.{GroupKept};
 ghost use Rattle.unit_numbers.specs.GuardRows.{GuardKept};
 ghost use Rattle.unit_numbers.specs.Headlines.{UnitNumberHeadlinesKept};
+ghost use Rattle.unit_numbers.specs.MendRows.{MendKept};
 ghost use Rattle.unit_numbers.specs.Rows.{HealKept};
 
 use block_headlines::laws::unit_headlines_kept;
@@ -35,6 +36,13 @@ pub fn guard_kept()
 /// A worked row: ON in a group in a group, whose unit is raised behind it.
 pub fn group_kept()
     ensures { GroupKept }
+{
+    unit_number_headlines_kept();
+}
+
+/// A worked row: a number that is written again and again, and overflows on its way, where a unit sets it.
+pub fn mend_kept()
+    ensures { MendKept }
 {
     unit_number_headlines_kept();
 }
