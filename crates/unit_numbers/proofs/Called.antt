@@ -2,7 +2,7 @@
 use Rattle.std.proofs.Common.{◌≡◌, ℕ, suc, ◌+◌, ◌*◌, ◌^◌, ◌<◌, ◌≤◌, List, [], ◌∷◌, ◌++◌, Option, None, Some}
 use Rattle.std.proofs.Common.{true, false, length, refl, sym, ap, ◌∙◌, subst, arith, inl, inr, ◌⊎◌}
 use Rattle.std.specs.Prelude.{◌&&◌, ◌==◌, ◌||◌, Bool, cond, nat_le, nat_lt}
-use Rattle.std.proofs.lemmas.Bool.{and_parts, eqb-true, leb-true}
+use Rattle.std.proofs.lemmas.Bool.{and_parts, eqb-true, leb-true, or_cases}
 use Rattle.std.proofs.lemmas.Option.{same_Some}
 use Rattle.pli_typing.specs.TypedTree as Y
 use Rattle.pli_meaning.specs.Control.{Label}
@@ -38,7 +38,7 @@ use Rattle.number_headlines.proofs.Tables.{block_plain, has_table}
 use Rattle.unit_runs.specs.Changing.{IsPast, Past}
 use Rattle.unit_runs.proofs.Changing.{begun_after}
 use Rattle.unit_runs.proofs.OwnRaises.{past_like}
-use Rattle.unit_numbers.specs.Calls.{called_scope, is_called_if, may_call}
+use Rattle.unit_numbers.specs.Calls.{called_scope, is_called_body, is_called_if, may_call}
 use Rattle.unit_numbers.proofs.Mains.{Main, block_for, free, level_of, list_of, main_begun, main_layer}
 use Rattle.unit_numbers.proofs.Mains.{surroundings_for}
 use Rattle.unit_numbers.proofs.Past.{alone_parent, made_same, main_alone, main_past, past_living, past_lower, past_same}
@@ -51,7 +51,9 @@ pub record Inner {program : Y.Program} (m : Main program) (valued : Bool) (numbe
   pub is : IsProcedure program head body (result_of valued)
   pub numbered : head.number ≡ number
   pub level : head.level ≡ 1
-  pub statements : are_statements (called_scope program m.head head) valued (labels_in body ++ []) body ≡ true
+  -- whether it writes numbers, and so raises nothing that has a unit
+  pub writes : Bool
+  pub statements : are_statements (called_scope program m.head head writes) valued (labels_in body ++ []) body ≡ true
   pub fits : statements_need body ≤ held_registers
 
 number_found :
@@ -69,6 +71,11 @@ number_found number p (q ∷ qs) e = by ((head_of q.block).number == number) ref
         ∙ eqb-true (head_of q.block).number number e
     by false e f rest = rest f
 
+-- of either of two
+chosen : {P : Type 0} → {A : Type 0} → {B : Type 0} → (A → P) → (B → P) → A ⊎ B → P
+chosen f g (inl x) = f x
+chosen f g (inr y) = g y
+
 pub inner_is :
     {program : Y.Program} (m : Main program) (valued : Bool) (number : ℕ) →
     may_call program m.head valued number ≡ true → Inner m valued number
@@ -81,13 +88,18 @@ inner_is {program} m valued number h = by (procedure_numbered number program.pro
     by (Some p) e h =
         let head = head_of p.block in
         let body = body_of p.block in
-        let s = called_scope program m.head head in
-        let last = is_body s valued body in
+        let last = is_called_body program m.head head valued body in
+        let none = is_body (called_scope program m.head head false) valued body in
+        let some = is_body (called_scope program m.head head true) valued body in
         let a = and_parts (has_none p.parameters) (has_result valued p.result && ((head.level == 1) && last)) h in
         let b = and_parts (has_result valued p.result) ((head.level == 1) && last) a.1 in
         let c = and_parts (head.level == 1) last b.1 in
+        let found : (writes : Bool) → is_body (called_scope program m.head head writes) valued body ≡ true →
+        Inner m valued number =
+        λ writes is.
+        let s = called_scope program m.head head writes in
         let d = and_parts (are_statements s valued (labels_in body ++ []) body)
-        (nat_le (statements_need body) held_registers && nat_le (statements_set body) most_waiting) c.1 in
+        (nat_le (statements_need body) held_registers && nat_le (statements_set body) most_waiting) is in
         let f = and_parts (nat_le (statements_need body) held_registers) (nat_le (statements_set body) most_waiting) d.1
         in
         let n = number_found number p program.procedures e in
@@ -99,9 +111,11 @@ inner_is {program} m valued number h = by (procedure_numbered number program.pro
               ∙ ap (λ q. Some q) (procedure_is valued p a.0 b.0);
           numbered = n;
           level = eqb-true head.level 1 c.0;
+          writes = writes;
           statements = d.0;
           fits = leb-true (statements_need body) held_registers f.0;
-        }
+        } in
+        chosen (found false) (found true) (or_cases none some c.1)
 
 -- ---- what is called
 
@@ -124,8 +138,8 @@ pub no_inner_words :
     (procedure_for program i.head i.body).words ≡ 0
 no_inner_words {program} m {valued} i =
     let plain = block_plain program.variables i.head.number m.plain in
-    words_none (called_scope program m.head i.head) valued (environment_for program i.head) i.head.number i.body refl
-    plain.plain i.statements i.fits
+    words_none (called_scope program m.head i.head i.writes) valued (environment_for program i.head) i.head.number
+    i.body refl plain.plain i.statements i.fits
 
 pub inner_room :
     {program : Y.Program} (m : Main program) {valued : Bool} {number : ℕ} (i : Inner m valued number)
@@ -293,7 +307,7 @@ of_both m i x h = by (is_place x (place_of_head i.head)) (is_place x (place_of_h
 
 pub named_is :
     {program : Y.Program} (m : Main program) {valued : Bool} {number : ℕ} (i : Inner m valued number) (x : Spot) →
-    is_known (called_scope program m.head i.head) x ≡ true → Named m i x
+    is_known (called_scope program m.head i.head i.writes) x ≡ true → Named m i x
 named_is {program} m i x h =
     let there = is_place x (place_of_head i.head) || (is_place x (place_of_head m.head) || false) in
     let a = and_parts there (is_plain_if (declared_variable program (variable_of x))) h in
@@ -301,7 +315,7 @@ named_is {program} m i x h =
 
 pub named_array :
     {program : Y.Program} (m : Main program) {valued : Bool} {number : ℕ} (i : Inner m valued number) (x : Spot) →
-    is_array_known (called_scope program m.head i.head) x ≡ true → NamedArray m i x
+    is_array_known (called_scope program m.head i.head i.writes) x ≡ true → NamedArray m i x
 named_array {program} m i x h =
     let there = is_place x (place_of_head i.head) || (is_place x (place_of_head m.head) || false) in
     let a = and_parts there (is_array_if (declared_variable program (variable_of x))) h in

@@ -1,8 +1,8 @@
 -- Calls of procedures and functions of level 1 by the main procedure, whatever units it has by then: raises in them
 -- come to its units.
 use Rattle.std.proofs.Common.{◌≡◌, ℕ, zero, suc, ◌+◌, ◌^◌, ◌<◌, List, [], ◌∷◌, ◌++◌, Option, Some, None}
-use Rattle.std.proofs.Common.{true, false, inl, inr, refl, sym, ap, subst, arith}
-use Rattle.std.specs.Prelude.{Bool, ◌==◌}
+use Rattle.std.proofs.Common.{true, false, inl, inr, refl, sym, ap, ◌∙◌, subst, arith}
+use Rattle.std.specs.Prelude.{Bool, not, ◌==◌}
 use Rattle.std.proofs.lemmas.Bool.{and_parts, eqb-true}
 use Rattle.pli_language.specs.declared.condition.Condition.TheVariants as C
 use Rattle.pli_typing.specs.Signatures.{Fixed}
@@ -54,7 +54,7 @@ use Rattle.element_runs.proofs.Outside.{subscripts_end}
 use Rattle.number_runs.proofs.Statements.{body_does}
 use Rattle.number_runs.proofs.Takes.{registers_held}
 use Rattle.number_headlines.proofs.Mains.{result_of}
-use Rattle.number_headlines.proofs.Puts.{error_routine}
+use Rattle.number_headlines.proofs.Puts.{error_routine, lists_known}
 use Rattle.number_headlines.proofs.Tables.{block_plain}
 use Rattle.unit_runs.specs.Changing.{IsPast, Past}
 use Rattle.unit_runs.proofs.Changing.{begun_after}
@@ -66,9 +66,10 @@ use Rattle.unit_numbers.proofs.Called.{visit_begun, visit_callee, visit_made}
 use Rattle.unit_numbers.proofs.Established.{InForce, error_system, in_force}
 use Rattle.unit_numbers.proofs.Past.{main_past}
 use Rattle.unit_numbers.proofs.Mains.{Main, block_for, list_of, most_for, run_for, start_for, surroundings_for}
+use Rattle.unit_numbers.proofs.Puts.{settled_writes}
 use Rattle.unit_numbers.proofs.Raises.{entry_low}
 use Rattle.unit_numbers.proofs.Visits.{visit_array, visit_block, visit_divides, visit_number, visit_overflow}
-use Rattle.unit_numbers.proofs.Visits.{visit_system}
+use Rattle.unit_numbers.proofs.Visits.{visit_system, visit_told}
 
 -- ---- raises in what is called
 
@@ -160,7 +161,7 @@ called_raises :
     MarkedOnce → {program : Y.Program} (m : Main program) {valued : Bool} {number : ℕ} (i : Inner m valued number)
     (v : Visit) (more : ℕ) (past : Past) (entry : Entry) (function : Option Function) (own : List Label) →
     IsVisit m v more past → IsBegun (visit_block m i v more past entry function) →
-    KnowsRaises (called_scope program m.head i.head) (visit_block m i v more past entry function) own
+    KnowsRaises (called_scope program m.head i.head i.writes) (visit_block m i v more past entry function) own
     (most_for program)
 called_raises once {program} m i v more past entry function own h b =
     record {
@@ -186,11 +187,14 @@ called_ready :
     MarkedOnce → {program : Y.Program} (m : Main program) {valued : Bool} {number : ℕ} (i : Inner m valued number)
     (v : Visit) (more : ℕ) (past : Past) (entry : Entry) (function : Option Function) → IsVisit m v more past →
     IsBegun (visit_block m i v more past entry function) →
-    IsHome (called_scope program m.head i.head) valued (visit_block m i v more past entry function) left_over →
-    IsReady (called_scope program m.head i.head) valued (visit_block m i v more past entry function)
+    IsHome (called_scope program m.head i.head i.writes) valued (visit_block m i v more past entry function) left_over →
+    IsReady (called_scope program m.head i.head i.writes) valued (visit_block m i v more past entry function)
     (labels_in i.body ++ []) (most_for program) left_over
-called_ready once m i v more past entry function h b home =
+called_ready once {program} m i v more past entry function h b home =
     let first = b.acts in
+    let k = visit_block m i v more past entry function in
+    let routines = raise_routines once program m.loadable in
+    let inside = routines.linked.inside in
     record {
       begun = b;
       acts = h.few;
@@ -203,7 +207,22 @@ called_ready once m i v more past entry function h b home =
         functions = λ words set labels line level n includes call. absurd (cc call);
         procedures = λ words set labels level n line index includes call. absurd (cc call);
       };
-      puts = λ e. absurd (cc e);
+      puts = λ may.
+          settled_writes (called_scope program m.head i.head i.writes) k (most_for program)
+          (record {
+            begun = b;
+            routines = routines;
+            place = error_routine once program m.loadable;
+            overflow = λ none. absurd (cc (sym none ∙ ap not may));
+            divisor = λ none. absurd (cc (sym none ∙ ap not may));
+            error = visit_system m i v more past entry function h C.Error
+                (error_system once m v.input (suc more) past h.known);
+            acts = h.few;
+            few = omega (arith, inside);
+            variables = λ x known. visit_number m i v more past entry function h b x known;
+            arrays = λ may x known. visit_array m i v more past entry function h b x known;
+            lists = lists_known program k m.memory (visit_told m i v more past entry function h b);
+          });
       loops = λ e. absurd (cc e);
       jumps = λ labels level label line index includes out. absurd (cc out);
       room = omega arith;
@@ -214,12 +233,12 @@ called_each :
     MarkedOnce → {program : Y.Program} (m : Main program) {valued : Bool} {number : ℕ} (i : Inner m valued number)
     (v : Visit) (more : ℕ) (past : Past) (entry : Entry) (function : Option Function) → IsVisit m v more past →
     IsBegun (visit_block m i v more past entry function) →
-    IsHome (called_scope program m.head i.head) valued (visit_block m i v more past entry function) left_over →
+    IsHome (called_scope program m.head i.head i.writes) valued (visit_block m i v more past entry function) left_over →
     EachDoes (visit_block m i v more past entry function) (labels_in i.body ++ []) i.body
     (body_for program i.head i.body) left_over
 called_each once {program} m {valued} i v more past entry function h b home =
     let plain = block_plain program.variables i.head.number m.plain in
-    let s = called_scope program m.head i.head in
+    let s = called_scope program m.head i.head i.writes in
     body_does s valued (visit_block m i v more past entry function) i.body (body_for program i.head i.body)
     (most_for program) left_over (called_ready once m i v more past entry function h b home) i.statements
     (registers_held s valued (environment_for program i.head) i.head.number i.body plain.plain i.statements i.fits)
@@ -257,7 +276,7 @@ procedure_home :
     MarkedOnce → {program : Y.Program} (m : Main program) {number : ℕ} (i : Inner m false number) (input : List ℕ)
     (labels : List Label) (call : ℕ) (p : Point) (numbers : ℕ → ℕ) (more : ℕ) (past : Past) →
     IsBegun (procedure_block m i (procedure_visit m i input labels call p numbers) more past) →
-    IsHome (called_scope program m.head i.head) false
+    IsHome (called_scope program m.head i.head i.writes) false
     (procedure_block m i (procedure_visit m i input labels call p numbers) more past) left_over
 procedure_home once {program} m i input labels call p numbers more past b =
     let end = end_is once program i.head i.body m.loadable i.is in
@@ -383,7 +402,7 @@ function_block m i v more past =
 function_home :
     MarkedOnce → {program : Y.Program} (m : Main program) {number : ℕ} (i : Inner m true number) (input : List ℕ)
     (labels : List Label) (call : ℕ) (p : Point) (numbers : ℕ → ℕ) (more : ℕ) (past : Past) →
-    IsHome (called_scope program m.head i.head) true
+    IsHome (called_scope program m.head i.head i.writes) true
     (function_block m i (function_visit m i input labels call p numbers) more past) left_over
 function_home once {program} m i input labels call p numbers more past =
     let level = i.level in

@@ -62,6 +62,7 @@ use Rattle.unit_numbers.proofs.Called.{Named, inner_words, visit_all, visit_begu
 use Rattle.unit_numbers.proofs.Mains as N
 use Rattle.unit_numbers.proofs.Mains.{Main, block_for, free, level_of, list_of, main_number, most_for, own_known}
 use Rattle.unit_numbers.proofs.Mains.{own_main_array, surroundings_for}
+use Rattle.block_headlines.specs.Constants.{IsOf}
 use Rattle.block_headlines.proofs.Constants.{called_of_program}
 use Rattle.unit_numbers.proofs.Puts.{main_told}
 use Rattle.unit_numbers.proofs.Raises.{IsScene, Scene, divide_at, overflow_at, own_raise, scene_setting, scene_unit}
@@ -114,6 +115,15 @@ abbrev visit_procedure :
 visit_procedure m i v more past =
     block_in (main_past m v.input (suc more) past) v.labels (visit_callee m i v more) v.point v.numbers
 
+-- what the program tells of its static data is told there
+pub visit_told :
+    {program : Y.Program} (m : Main program) {valued : Bool} {number : ℕ} (i : Inner m valued number) (v : Visit)
+    (more : ℕ) (past : Past) (entry : Entry) (function : Option Function) → IsVisit m v more past →
+    IsBegun (visit_block m i v more past entry function) → IsOf program (visit_block m i v more past entry function)
+visit_told {program} m i v more past entry function h b =
+    called_of_program program (main_past m v.input (suc more) past) (visit_block m i v more past entry function)
+    v.numbers (main_told m v.input (suc more) past h.begun) h.among refl refl b
+
 same_begun :
     {program : Y.Program} (m : Main program) {valued : Bool} {number : ℕ} (i : Inner m valued number) (v : Visit)
     (more : ℕ) (past : Past) (entry : Entry) (function : Option Function) →
@@ -147,7 +157,7 @@ pub visit_number :
     {program : Y.Program} (m : Main program) {valued : Bool} {number : ℕ} (i : Inner m valued number) (v : Visit)
     (more : ℕ) (past : Past) (entry : Entry) (function : Option Function) → IsVisit m v more past →
     IsBegun (visit_block m i v more past entry function) → (x : Spot) →
-    is_known (called_scope program m.head i.head) x ≡ true →
+    is_known (called_scope program m.head i.head i.writes) x ≡ true →
     IsNumber (visit_block m i v more past entry function) x
 visit_number {program} m i v more past entry function h b x known =
     same_number m i v more past entry function x (by named named.of)
@@ -223,8 +233,9 @@ pub visit_array :
     {program : Y.Program} (m : Main program) {valued : Bool} {number : ℕ} (i : Inner m valued number) (v : Visit)
     (more : ℕ) (past : Past) (entry : Entry) (function : Option Function) → IsVisit m v more past →
     IsBegun (visit_block m i v more past entry function) → (x : Spot) →
-    is_array_known (called_scope program m.head i.head) x ≡ true →
-    IsArray (visit_block m i v more past entry function) x (bounds_known (called_scope program m.head i.head) x)
+    is_array_known (called_scope program m.head i.head i.writes) x ≡ true →
+    IsArray (visit_block m i v more past entry function) x
+    (bounds_known (called_scope program m.head i.head i.writes) x)
 visit_array {program} m i v more past entry function h b x known =
     same_array m i v more past entry function x bounds (by named named.of)
   where
@@ -232,7 +243,7 @@ visit_array {program} m i v more past entry function h b x known =
     named = named_array m i x known
 
     bounds : Bounds
-    bounds = bounds_known (called_scope program m.head i.head) x
+    bounds = bounds_known (called_scope program m.head i.head i.writes) x
 
     level : i.head.level ≡ 1
     level = i.level
@@ -528,8 +539,7 @@ visit_is once {program} m i v more past entry function labels line h n b =
       includes = h.includes;
       placed = n.placed;
       raised = raised.0;
-      told = called_of_program program main (visit_block m i v (suc more) past entry function) v.numbers
-          (main_told m v.input acts past h.begun) h.among refl refl b;
+      told = visit_told m i v (suc more) past entry function h b;
       behind = 1;
       there = refl;
       numbers = λ r is made b' s named.
