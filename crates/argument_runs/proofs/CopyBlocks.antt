@@ -336,7 +336,7 @@ run_means around head body entry k s kind few =
 
 -- behind the copy, as it does without one
 abbrev pub behind_list : Around → Y.Stmts → (is_function : Bool) → Meaning (Unit {0})
-behind_list around body q = M.list around body >> M.end_reached around q
+behind_list around body q = M.block_list around body q
 
 -- beside its parameter it declares nothing
 abbrev pub MakesNone : CopyCall → Type 0

@@ -11,6 +11,7 @@ use Rattle.pli_typing.specs.Signatures.{Fixed}
 use Rattle.pli_typing.specs.TypedTree as Y
 use Rattle.pli_meaning.specs.BasicValues.{BasicBit, BasicNumber, BasicOffset, BasicPointer, BasicText, BasicValue}
 use Rattle.pli_meaning.specs.Contents.{footprint_of}
+use Rattle.pli_meaning.specs.Codes.{no_value_code}
 use Rattle.pli_meaning.specs.Control.{Meaning, act, flow_on, give, looked, ◌>>=◌, ◌>>◌}
 use Rattle.pli_meaning.specs.DeclaredShapes.{procedure_numbered}
 use Rattle.pli_meaning.specs.Evaluating as V
@@ -20,7 +21,7 @@ use Rattle.pli_meaning.specs.Executing.{begun, labels_in}
 use Rattle.pli_meaning.specs.Making.{plain}
 use Rattle.pli_meaning.specs.Numbers.{checked, is_of_precision}
 use Rattle.pli_meaning.specs.Raising as R
-use Rattle.pli_meaning.specs.Raising.{Around, Entry, PassedValue, at_line}
+use Rattle.pli_meaning.specs.Raising.{Around, Entry, PassedValue, at_line, error}
 use Rattle.pli_meaning.specs.StorageState.{State, ancestor, ancestor_at, force, height_of, most_activations}
 use Rattle.pli_meaning.specs.StorageState.{most_automatic, newest_height}
 use Rattle.pli_meaning.specs.World.{counted}
@@ -64,6 +65,7 @@ use Rattle.program_runs.specs.Statements.{EachDoes, IsAmong, IsBegun, statement_
 use Rattle.program_runs.proofs.Calls.{body_closed}
 use Rattle.program_runs.proofs.CallStatements.{newest_frame_at}
 use Rattle.program_runs.proofs.JumpsOut.{no_jump}
+use Rattle.program_runs.proofs.ListEnds.{list_comes}
 use Rattle.program_runs.proofs.Lists.{list_does}
 use Rattle.program_runs.proofs.NewestBlocks.{newest_ancestor, newest_at}
 use Rattle.expression_runs.specs.Laws as L
@@ -110,7 +112,6 @@ function_goes :
     (body_aims (called_of (Some number_function) y) left_over)
     (behind_list (at_line y.callee.around y.callee.procedure.head.line) y.callee.procedure.body true
     y.surroundings.acts (copy_block (Some number_function) y).first.state)
-unfolding ◌>>◌ M.end_reached
 function_goes y h f b o each only few there =
     let k = copy_block (Some number_function) y in
     let w = y.surroundings in
@@ -132,13 +133,14 @@ function_goes y h f b o each only few there =
     let proc = h.routines.linked.inside in
     let flow = M.list k.around x.body w.acts k.first.state in
     let acts = k.first.state.world.acts in
-    let next' : Unit {0} → Meaning (Unit {0}) = λ u. M.end_reached k.around true in
+    let next' : Unit {0} → Meaning (Unit {0}) = λ u. error k.around no_value_code in
     let aims = body_aims k.call left_over in
-    comes_on w.acts flow next'
+    list_comes k.around x.body w.acts k.first.state (λ height label s q. absurd q)
+    (comes_on w.acts flow next'
     (comes_map (statement_aims k [] acts (body_index c + size_of body) left_over left_over)
     (before code aims w.acts next') flow
     (λ c' f' v' r s q.
-    subst (λ u. Comes code c' f' v' aims (M.end_reached k.around true w.acts u)) (sym q.state)
+    subst (λ u. Comes code c' f' v' aims (error k.around no_value_code w.acts u)) (sym q.state)
     (onward (body_closed k.call left_over) q.reach
     (λ g at.
     value_lacks (body_closed k.call left_over) h.routines k.around left_over g
@@ -148,7 +150,7 @@ function_goes y h f b o each only few there =
     (λ c' f' v' height label s q. no_jump refl q)
     (λ c' f' v' r s q. q.to)
     (list_does k [] x.body (body_index c) left_over k.first y.numbers 0 left_over f b few each h.labels o l2
-    (omega arith, omega (arith, inside)) there))
+    (omega arith, omega (arith, inside)) there)))
 
 -- what is asked of its body: from its first statement it comes to the block's end
 abbrev pub FunctionComes : CopyCall → Type 0

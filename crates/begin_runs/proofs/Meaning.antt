@@ -28,12 +28,11 @@ list_of around head body =
 
 entry_none :
     (around : Around) (kind : Y.BlockKind) (body : Y.Stmts) (k : ℕ) (s : State) → kind ≡ Y.BeginBlock →
-    flow_on k (M.entry_act kind k s) (λ q. M.list around body >> M.end_reached around false)
+    flow_on k (M.entry_act kind k s) (λ q. M.block_list around body false)
     ≡ M.list around body k s
-unfolding ◌>>◌ M.entry_act M.end_reached give
+unfolding M.entry_act M.block_list give
 entry_none around kind body k s e =
-    ap (λ x. flow_on k (M.entry_act x k s) (λ q. M.list around body >> M.end_reached around false)) e
-    ∙ on_nothing k (M.list around body k s) (λ q. M.end_reached around false) (λ s'. refl)
+    ap (λ x. flow_on k (M.entry_act x k s) (λ q. M.block_list around body false)) e
 
 body_means :
     (around : Around) (head : Y.BlockHead) (body : Y.Stmts) (parent k : ℕ) (s : State) → head.kind ≡ Y.BeginBlock →
@@ -43,7 +42,7 @@ unfolding M.block_body K.parameters_bound give ◌>>◌
 body_means around head body parent k s kind =
     let around' = at_line around head.line in
     on_same k (M.block_variables_made around' head head.kind k s)
-    (λ q. M.entry_act head.kind >> (M.list around' body >> M.end_reached around' false)) (λ q. M.list around' body)
+    (λ q. M.entry_act head.kind >> M.block_list around' body false) (λ q. M.list around' body)
     (λ s'. entry_none around' head.kind body k s' kind)
 
 run_means :

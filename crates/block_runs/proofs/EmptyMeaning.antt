@@ -68,13 +68,12 @@ on_nothing k (Paused s) next h = refl
 on_nothing k Stuck next h = refl
 
 abbrev behind_act : Around → Meaning (Unit {0})
-behind_act around = M.list around (Y.EndOfList []) >> M.end_reached around false
+behind_act around = M.block_list around (Y.EndOfList []) false
 
 behind_none :
     (around : Around) (turns k : ℕ) (s : State) → around.turns ≡ suc turns → behind_act around k s ≡ Normal tt s
-unfolding ◌>>◌ M.end_reached give
-behind_none around turns k s e =
-    ap (λ flow. flow_on k flow (λ q. M.end_reached around false)) (list_none around turns k s e)
+unfolding M.block_list
+behind_none around turns k s e = list_none around turns k s e
 
 body_acts :
     (around : Around) (head : Y.BlockHead) (parent turns k : ℕ) (s : State) → around.turns ≡ suc turns →

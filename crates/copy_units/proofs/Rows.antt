@@ -721,7 +721,7 @@ unfolding V.called V.arguments V.argument V.all_passed_last V.passed_last V.proc
 calls = tt
 
 unfoldable statements : Unit {0}
-unfolding M.statement M.statements M.list M.list_with M.block_variables_made M.entry_act M.end_reached M.block_body
+unfolding M.statement M.statements M.list M.list_with M.block_variables_made M.entry_act M.block_list M.block_body
     M.established_by
 statements = tt
 

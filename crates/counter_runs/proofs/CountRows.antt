@@ -457,7 +457,7 @@ makings = tt
 
 unfoldable statements : Unit {0}
 unfolding M.statement M.turn_due M.within_limit M.condition_met M.counter_number M.counter_value M.counter_started
-    M.stepped M.limit_of M.statements M.list M.list_with M.block_variables_made M.entry_act M.end_reached M.block_body
+    M.stepped M.limit_of M.statements M.list M.list_with M.block_variables_made M.entry_act M.block_list M.block_body
 statements = tt
 
 pub count_ends :

@@ -37,7 +37,7 @@ unfolding K.variables_made K.automatic_made K.extents K.variable_made K.paramete
 makings = tt
 
 unfoldable statements : Unit {0}
-unfolding M.statement M.statements M.list M.list_with M.block_variables_made M.entry_act M.end_reached M.block_body
+unfolding M.statement M.statements M.list M.list_with M.block_variables_made M.entry_act M.block_list M.block_body
 statements = tt
 
 pub shown_written :

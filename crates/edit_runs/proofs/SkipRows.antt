@@ -376,7 +376,7 @@ unfolding T.put T.control_put T.pairs_put
 writings = tt
 
 unfoldable statements : Unit {0}
-unfolding M.statement M.statements M.list M.list_with M.block_variables_made M.entry_act M.end_reached M.block_body
+unfolding M.statement M.statements M.list M.list_with M.block_variables_made M.entry_act M.block_list M.block_body
 statements = tt
 
 pub ruled_ends :

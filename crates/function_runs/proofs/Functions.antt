@@ -8,12 +8,13 @@ use Rattle.pli_typing.specs.TypedTree as Y
 use Rattle.pli_meaning.specs.BasicValues.{BasicValue}
 use Rattle.pli_meaning.specs.declared.outcome.End.TheVariants as N
 use Rattle.pli_meaning.specs.declared.outcome.Limit.TheVariants as L
+use Rattle.pli_meaning.specs.Codes.{no_value_code}
 use Rattle.pli_meaning.specs.Control.{Flow, Meaning, act, choose, finish, flow_on, give, leaving, left, looked, stored}
 use Rattle.pli_meaning.specs.Control.{◌>>=◌, ◌>>◌}
 use Rattle.pli_meaning.specs.Executing as M
 use Rattle.pli_meaning.specs.Executing.{with_activation}
 use Rattle.pli_meaning.specs.Making as K
-use Rattle.pli_meaning.specs.Raising.{Around, at_line}
+use Rattle.pli_meaning.specs.Raising.{Around, at_line, error}
 use Rattle.pli_meaning.specs.StorageState.{State, force, most_activations, newest_ended}
 use Rattle.pli_meaning.specs.World.{World, counted}
 use Rattle.pli_coding.specs.Allocating.{act_code}
@@ -46,6 +47,7 @@ use Rattle.program_runs.specs.Procedures.{HasRoom, begin_of, block_of}
 use Rattle.program_runs.specs.Statements.{EachDoes, GoesOn, IsAmong, IsBegun, statement_aims}
 use Rattle.program_runs.proofs.Calls.{body_closed, on_same}
 use Rattle.program_runs.proofs.JumpsOut.{no_jump}
+use Rattle.program_runs.proofs.ListEnds.{list_comes}
 use Rattle.program_runs.proofs.Lists.{list_does}
 use Rattle.function_runs.specs.Functions.{IsFunction, function_at, function_block, function_code, function_end}
 use Rattle.function_runs.specs.Functions.{function_entry, function_tail}
@@ -55,7 +57,7 @@ use Rattle.function_runs.proofs.NoValues.{value_lacks}
 -- ---- what its block means
 
 abbrev behind_act : Around → Y.Stmts → Meaning (Unit {0})
-behind_act around body = M.list around body >> M.end_reached around true
+behind_act around body = M.block_list around body true
 
 abbrev behind_variables : Around → Y.Stmts → Meaning (Unit {0})
 behind_variables around body = act counted >> behind_act around body
@@ -160,7 +162,6 @@ body_goes :
     (body_aims (function_at w code c p numbers) left_over)
     (behind_act (at_line c.around c.procedure.head.line) c.procedure.body w.acts
     (function_block w code c p numbers).first.state)
-unfolding ◌>>◌ M.end_reached
 body_goes w code c p numbers f h b o each only few there =
     let k = function_block w code c p numbers in
     let x = c.procedure in
@@ -178,13 +179,14 @@ body_goes w code c p numbers f h b o each only few there =
     let proc = h.routines.linked.inside in
     let flow = M.list k.around x.body w.acts k.first.state in
     let acts = k.first.state.world.acts in
-    let next' : Unit {0} → Meaning (Unit {0}) = λ u. M.end_reached k.around true in
+    let next' : Unit {0} → Meaning (Unit {0}) = λ u. error k.around no_value_code in
     let aims = body_aims k.call left_over in
-    comes_on w.acts flow next'
+    list_comes k.around x.body w.acts k.first.state (λ height label s q. absurd q)
+    (comes_on w.acts flow next'
     (comes_map (statement_aims k [] acts (body_index c + size_of body) left_over left_over)
     (before code aims w.acts next') flow
     (λ c' f' v' r s q.
-    subst (λ u. Comes code c' f' v' aims (M.end_reached k.around true w.acts u)) (sym q.state)
+    subst (λ u. Comes code c' f' v' aims (error k.around no_value_code w.acts u)) (sym q.state)
     (onward (body_closed k.call left_over) q.reach
     (λ g at.
     value_lacks (body_closed k.call left_over) h.routines k.around left_over g
@@ -194,7 +196,7 @@ body_goes w code c p numbers f h b o each only few there =
     (λ c' f' v' height label s q. no_jump refl q)
     (λ c' f' v' r s q. q.to)
     (list_does k [] x.body (body_index c) left_over k.first numbers 0 left_over f b few each h.labels o l2
-    (omega arith, omega (arith, inside)) there))
+    (omega arith, omega (arith, inside)) there)))
 
 pub function_runs :
     (w : Surroundings) (code : List Instr) (c : Callee) (p : Point) (numbers : ℕ → ℕ) (credits wanted : ℕ)

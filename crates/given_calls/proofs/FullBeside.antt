@@ -61,7 +61,7 @@ beside_means {g} {y} h m kind =
     let k = y.surroundings.acts in
     let none : Unit {0} → Meaning (Unit {0}) = λ q. K.parameters_bound [] [] in
     let rest : Unit {0} → Meaning (Unit {0}) = λ q. M.entry_act head.kind
-    >> (M.list around body >> M.end_reached around (entry_of g y).is_function) in
+    >> (M.block_list around body (entry_of g y).is_function) in
     run_means y.callee.around head body (entry_of g y) k y.point.state kind h.room.shallow
     ∙ ap (λ flow. left true newest_ended (flow_on k (flow_on k flow none)
     (λ q. M.block_variables_made around head head.kind >> rest q)))

@@ -219,7 +219,7 @@ body_means g y k many =
     let s = (entered_point (giving_of g y)).state in
     let none : Unit {0} → Meaning (Unit {0}) = λ q. K.parameters_bound [] [] in
     let rest : Unit {0} → Meaning (Unit {0}) = λ q. M.block_variables_made around head head.kind
-    >> (M.entry_act head.kind >> (M.list around body >> M.end_reached around (entry_of g y).is_function)) in
+    >> (M.entry_act head.kind >> (M.block_list around body (entry_of g y).is_function)) in
     ap (λ flow. flow_on k (flow_on k flow none) rest) (passed_means y s k many)
     ∙ ap (λ flow. flow_on k flow rest) (finish_on (E.Limit W.Automatic) k s none)
     ∙ finish_on (E.Limit W.Automatic) k s rest

@@ -232,8 +232,8 @@ given_runs {g} {y} {made} {tail} credits wanted f h body_comes paid there gives 
 
 end_nothing :
     (around : Around) (body : Y.Stmts) (k : ℕ) (s : State) → behind_list around body false k s ≡ M.list around body k s
-unfolding ◌>>◌ M.end_reached give
-end_nothing around body k s = on_nothing k (M.list around body k s) (λ q. M.end_reached around false) (λ s'. refl)
+unfolding M.block_list
+end_nothing around body k s = refl
 
 pub procedure_goes :
     (y : CopyCall) (made : Point → Point) (callee : IsGiven y.surroundings y.code y.callee) →

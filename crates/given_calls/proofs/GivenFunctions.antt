@@ -9,6 +9,7 @@ use Rattle.pli_language.specs.declared.condition.Condition.TheVariants as C
 use Rattle.pli_typing.specs.Signatures.{Fixed}
 use Rattle.pli_typing.specs.TypedTree as Y
 use Rattle.pli_meaning.specs.BasicValues.{BasicBit, BasicNumber, BasicOffset, BasicPointer, BasicText, BasicValue}
+use Rattle.pli_meaning.specs.Codes.{no_value_code}
 use Rattle.pli_meaning.specs.Control.{Meaning, give, ◌>>=◌, ◌>>◌}
 use Rattle.pli_meaning.specs.DeclaredShapes.{procedure_numbered}
 use Rattle.pli_meaning.specs.Evaluating as V
@@ -17,7 +18,7 @@ use Rattle.pli_meaning.specs.Executing as M
 use Rattle.pli_meaning.specs.Executing.{begun, labels_in}
 use Rattle.pli_meaning.specs.Numbers.{checked, is_of_precision}
 use Rattle.pli_meaning.specs.Raising as R
-use Rattle.pli_meaning.specs.Raising.{Around, PassedValue}
+use Rattle.pli_meaning.specs.Raising.{Around, PassedValue, error}
 use Rattle.pli_meaning.specs.StorageState.{State, force}
 use Rattle.pli_meaning.specs.World.{World}
 use Rattle.pli_serving.specs.ServiceState.{Services}
@@ -51,6 +52,7 @@ use Rattle.program_runs.specs.Procedures.{block_of}
 use Rattle.program_runs.specs.Statements.{Block, EachDoes, IsAmong, IsBegun, statement_aims}
 use Rattle.program_runs.proofs.Calls.{body_closed}
 use Rattle.program_runs.proofs.JumpsOut.{no_jump}
+use Rattle.program_runs.proofs.ListEnds.{list_comes}
 use Rattle.program_runs.proofs.Lists.{list_does}
 use Rattle.expression_runs.specs.Laws as L
 use Rattle.expression_runs.specs.Values.{HasWord, Setting, Stretch, behind, in_registers, number_aims}
@@ -85,7 +87,6 @@ function_goes :
     IsSystem (force (given_block (Some number_function) y made).first.state.activations C.Error) →
     y.surroundings.acts < y.callee.around.turns + (given_block (Some number_function) y made).first.state.world.acts →
     BodyComes (Some number_function) y made
-unfolding ◌>>◌ M.end_reached
 function_goes y made h each only few b o f there =
     let k = given_block (Some number_function) y made in
     let w = y.surroundings in
@@ -107,13 +108,14 @@ function_goes y made h each only few b o f there =
     let proc = h.routines.linked.inside in
     let flow = M.list k.around x.body w.acts k.first.state in
     let acts = k.first.state.world.acts in
-    let next' : Unit {0} → Meaning (Unit {0}) = λ u. M.end_reached k.around true in
+    let next' : Unit {0} → Meaning (Unit {0}) = λ u. error k.around no_value_code in
     let aims = body_aims k.call left_over in
-    comes_on w.acts flow next'
+    list_comes k.around x.body w.acts k.first.state (λ height label s q. absurd q)
+    (comes_on w.acts flow next'
     (comes_map (statement_aims k [] acts (body_index c + size_of body) left_over left_over)
     (before code aims w.acts next') flow
     (λ c' f' v' r s q.
-    subst (λ u. Comes code c' f' v' aims (M.end_reached k.around true w.acts u)) (sym q.state)
+    subst (λ u. Comes code c' f' v' aims (error k.around no_value_code w.acts u)) (sym q.state)
     (onward (body_closed k.call left_over) q.reach
     (λ g at.
     value_lacks (body_closed k.call left_over) h.routines k.around left_over g
@@ -123,7 +125,7 @@ function_goes y made h each only few b o f there =
     (λ c' f' v' height label s q. no_jump refl q)
     (λ c' f' v' r s q. q.to)
     (list_does k [] x.body (body_index c) left_over k.first y.numbers 0 left_over f b few (each b) h.labels o l3
-    (omega arith, omega (arith, inside)) there))
+    (omega arith, omega (arith, inside)) there)))
 
 -- ---- where it is called
 

@@ -75,7 +75,7 @@ use Rattle.jump_runs.proofs.Exits.{calls_hand, exit_closed}
 -- ---- what its block means
 
 abbrev behind_act : Around → Y.Stmts → Meaning (Unit {0})
-behind_act around body = M.list around body >> M.end_reached around true
+behind_act around body = M.block_list around body true
 
 abbrev behind_variables : Around → Y.Stmts → Meaning (Unit {0})
 behind_variables around body = act counted >> behind_act around body

@@ -3,8 +3,9 @@
 use Rattle.std.specs.Prelude.{ℕ, ◌+◌, ◌*◌, ◌^◌, ◌<◌, ◌≤◌, ◌≡◌, ⊤, true, false, List, [], ◌∷◌, ◌++◌}
 use Rattle.pli_language.specs.declared.condition.Condition.TheVariants as C
 use Rattle.pli_typing.specs.TypedTree as Y
-use Rattle.pli_meaning.specs.Control.{◌>>◌}
-use Rattle.pli_meaning.specs.Executing.{end_reached, labels_in, list}
+use Rattle.pli_meaning.specs.Codes.{no_value_code}
+use Rattle.pli_meaning.specs.Executing.{block_list, labels_in}
+use Rattle.pli_meaning.specs.Raising.{error}
 use Rattle.pli_meaning.specs.StorageState.{ancestor_at, force}
 use Rattle.pli_serving.specs.ServiceState.{Entry}
 use Rattle.pli_coding.specs.Assembly.{RaiseError, size_of}
@@ -66,14 +67,14 @@ abbrev pub EndDoes : Block → (index : ℕ) → Type 0
 EndDoes k index =
     (p : Point) (numbers : ℕ → ℕ) (f : Family) → IsAmong k numbers p → AreIn k.call.surroundings p numbers index f →
     Comes k.call.code 0 f (services_of p) (exit_aims k p.state.world.acts left_over)
-    (end_reached k.around true k.call.surroundings.acts p.state)
+    (error k.around no_value_code k.call.surroundings.acts p.state)
 
 -- from its first statement the function comes to its end, or jumps out
 abbrev pub FunctionDoes : Block → Y.Stmts → (index : ℕ) → Type 0
 FunctionDoes k body index =
     (f : Family) → AreIn k.call.surroundings k.first k.call.numbers index f →
     Comes k.call.code 0 f (services_of k.first) (exit_aims k k.call.point.state.world.acts left_over)
-    ((list k.around body >> end_reached k.around true) k.call.surroundings.acts k.first.state)
+    (block_list k.around body true k.call.surroundings.acts k.first.state)
 
 -- no ON of the list is for ERROR
 abbrev pub IsResumedOn : Y.Stmt → Type 0

@@ -17,7 +17,7 @@ lost : M.meaning function_left [] 20 ≡ None
 unfolding F.give F.stuck F.◌>>=◌ F.◌>>◌ F.looked F.stored F.act F.finish F.returns F.jumps F.choose F.given F.list_from
     F.repeated_while F.leaving R.error_unit_run R.error V.all_passed_last V.procedure_entered V.returned V.bit V.called
     V.arguments V.argument V.stored_value K.variables_made K.parameters_bound M.list_with M.established_by M.statement
-    M.statements M.list M.block_variables_made M.entry_act M.end_reached M.block_body M.block_run M.entered M.run
+    M.statements M.list M.block_variables_made M.entry_act M.block_list M.block_body M.block_run M.entered M.run
     M.meaning
 lost = refl
 

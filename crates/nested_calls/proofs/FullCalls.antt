@@ -98,7 +98,7 @@ full_means around head body parent valued k s s' end kind few made =
     let inner = with_activation head entry s in
     let around' = at_line around head.line in
     let next : Unit {0} → Meaning (Unit {0}) =
-    λ u. M.entry_act head.kind >> (M.list around' body >> M.end_reached around' valued) in
+    λ u. M.entry_act head.kind >> (M.block_list around' body valued) in
     ap (λ q. cond q (left (M.is_own_return head.kind) newest_ended (M.block_body around' head body entry k inner))
     (finish (E.Limit W.Depth) k s)) few
     ∙ ap (λ q. left q newest_ended (M.block_body around' head body entry k inner)) (own_return head.kind kind)

@@ -376,7 +376,7 @@ unfolding K.variables_made K.automatic_made K.extents K.variable_made K.paramete
 makings = tt
 
 unfoldable statements : Unit {0}
-unfolding M.statement M.statements M.list M.list_with M.block_variables_made M.entry_act M.end_reached M.block_body
+unfolding M.statement M.statements M.list M.list_with M.block_variables_made M.entry_act M.block_list M.block_body
     M.turn_due M.within_limit M.condition_met M.counter_number M.counter_value M.counter_started M.stepped M.limit_of
 statements = tt
 

@@ -56,7 +56,7 @@ begin_part around head body =
 -- its statements, and its end
 abbrev pub inner_part : Y.Program → (more : ℕ) → Y.BlockHead → Y.Stmts → Meaning (Unit {0})
 inner_part program more head body =
-    M.list (inner_around program more head.line) body >> M.end_reached (inner_around program more head.line) false
+    M.block_list (inner_around program more head.line) body false
 
 -- where too many blocks are entered the run ends
 pub begin_limited : (around : Around) (program : Y.Program) (more : ℕ) (head : Y.BlockHead) (body : Y.Stmts) (k : ℕ) (s : State) → around.enter ≡ M.entered program (suc more) → nat_lt (length s.activations) most_activations ≡ false → begin_part around head body k s ≡ flow_on k (finish {R = Option BasicValue} (E.Limit L.Depth) k s) (λ u. give tt)

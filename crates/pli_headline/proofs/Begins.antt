@@ -186,7 +186,7 @@ outer_homes bl inner t number level next links k returned (o ∷ os) cs homes = 
 
 -- behind its act
 inner_piece : {e : Environment} {block : Names} {types : Types} (bl : Block e block types) {links : Links} {code : List Instr} (around : Around) (more : ℕ) (head : Y.BlockHead) (body : Y.Stmts) (inner : Inner bl) → owner_level e.owner ≤ e.level → e.level < 100 → (next : head.level ≡ suc e.level) (filled : IsFilled bl) → head.kind ≡ Y.BeginBlock → head.line < 2 ^ 31 → variables_of_block e.program head.number ≡ [] → around.enter ≡ M.entered e.program (suc more) → ((t0 : ℕ → ℕ) → Does (inner_block bl inner t0 head.number head.level next filled) links code (suc more) (stmts_code (begin_environment head e) none_taken body) (M.list (inner_around e.program more head.line) body)) → {i : ℕ} {s : State} {v : Services} {h t : ℕ → ℕ} {aims : Aims (Unit {0})} (closed : Closed code aims) (n : Values) (f : Family) (k line : ℕ) → k < suc more + v.world.acts → 10 ≤ i → {turns0 i0 acts0 : ℕ} → Enough bl links k turns0 i0 h t acts0 aims.jumped aims.returned → acts0 ≤ v.world.acts → Linked links code i (inner_code e head inner.words body) → nat_lt (length s.activations) most_activations ≡ true → Serving k s v line → AllHold bl.frames bl.serials (storage v) (e.level ∷ bl.depths) s block types n → ((b : Base) → At b i (Known (bl.ground n) v h t nothing b) (f b)) → ((s' : State) (v' : Services) (line' : ℕ) (n' : Values) (h' : ℕ → ℕ) (f' : Family) → Serving k s' v' line' → AllHold bl.frames bl.serials (storage v') (e.level ∷ bl.depths) s' block types n' → ((b : Base) → At b (i + size_of (inner_code e head inner.words body)) (Known (bl.ground n') v' h' t nothing b) (f' b)) → aims.done (i + size_of (inner_code e head inner.words body)) f' v' tt s') → Comes code i f v aims (begin_part around head body k s)
-unfolding M.end_reached give ◌>>◌
+unfolding M.block_list give ◌>>◌
 inner_piece {e} {block} {types} bl {links} {code} around more head body inner lower shallow next filled kind fits none enter does' {i} {s} {v} {h} {t} {aims} closed n f k line enough later {turns0} {i0} {acts0} ready less l few serving all at goal =
     let program = e.program in
     let here = inner_around program more head.line in
@@ -213,11 +213,9 @@ inner_piece {e} {block} {types} bl {links} {code} around more head body inner lo
     let some : 0 < head.level = omega (arith, next) in
     let outside : Outside head.level e.level block types = inr (next, λ j kind at. bl.lower j at) in
     let last : Option BasicValue → Meaning (Unit {0}) = λ u. give tt in
-    let behind : Unit {0} → Meaning (Unit {0}) = λ u. M.end_reached here false in
     let part = inner_part program more head body in
     let closed1 = before_closed k last closed in
     let closed2 = ending_closed newest_ended closed1 in
-    let closed3 = before_closed k behind closed2 in
     subst (Comes code i f v aims) (sym (begin_meant program around more head body k s enter kind none few))
     (onward closed (inner_frame bl inner n i f shallow (omega (arith, later)) (front_of c1 (c2 ++ (c3 ++ c4)) l) at)
     (λ f1 at1.
@@ -225,8 +223,7 @@ inner_piece {e} {block} {types} bl {links} {code} around more head body inner lo
     (λ f2 at2.
     comes_on k (left false newest_ended (part k s2)) last
     (comes_ended newest_ended (part k s2)
-    (comes_on k (M.list here body k s2) behind
-    ((does' t).does closed3 head.line n f2 k (front_of c3 c4 l3)
+    ((does' t).does closed2 head.line n f2 k (front_of c3 c4 l3)
     (record {
       world = serving.world;
       running = serving.running;
@@ -243,29 +240,26 @@ inner_piece {e} {block} {types} bl {links} {code} around more head body inner lo
     (λ s3 v3 line3 n3' h3 t3 f3 serving3 all3 stays3 at3.
     let o = left_all s3 (storage v3) serving3.nested outside (λ j kind at. bl.owners j at) all3 in
     let v4 = ended_services v3 o.newest o.rest in
+    onward closed (inner_left bl inner n3' (inner.at + fixed_size (suc e.level) 0) i4 f3 o.newest o.rest o.are (back_of c3 c4 l3) at3)
+    (λ f4 at4.
     record {
       to =
-          onward closed (inner_left bl inner n3' (inner.at + fixed_size (suc e.level) 0) i4 f3 o.newest o.rest o.are (back_of c3 c4 l3) at3)
-          (λ f4 at4.
-          record {
-            to =
-                subst (λ u. aims.done u f4 v4 tt (with_world s3.world (newest_ended s3))) (sym place)
-                (goal (with_world s3.world (newest_ended s3)) v4 o.newest.line n3' h3 f4
-                (record {
-                  world = serving3.world;
-                  running = serving3.running;
-                  line_is = refl;
-                  input = serving3.input ∙ sym (ended_input s3);
-                  allowed = serving3.allowed;
-                  fits = serving3.fits;
-                  nested = o.nested;
-                  waiting = serving3.waiting;
-                  places = places_left v3.edits o.newest o.rest (subst (PlacesHeld (length v3.edits)) o.are serving3.places);
-                })
-                o.all
-                (λ b. record { pc = (at4 b).pc ∙ ap (address b) place; holds = (at4 b).holds }));
-          });
-    })
+          subst (λ u. aims.done u f4 v4 tt (with_world s3.world (newest_ended s3))) (sym place)
+          (goal (with_world s3.world (newest_ended s3)) v4 o.newest.line n3' h3 f4
+          (record {
+            world = serving3.world;
+            running = serving3.running;
+            line_is = refl;
+            input = serving3.input ∙ sym (ended_input s3);
+            allowed = serving3.allowed;
+            fits = serving3.fits;
+            nested = o.nested;
+            waiting = serving3.waiting;
+            places = places_left v3.edits o.newest o.rest (subst (PlacesHeld (length v3.edits)) o.are serving3.places);
+          })
+          o.all
+          (λ b. record { pc = (at4 b).pc ∙ ap (address b) place; holds = (at4 b).holds }));
+    }))
     (record {
       enough = omega (arith, enough);
       later = omega (arith, later);
@@ -282,7 +276,7 @@ inner_piece {e} {block} {types} bl {links} {code} around more head body inner lo
             later = o.later;
             leaves = λ s' v' f' a world running allowed fits' alone at'. o.leaves (with_world s'.world (newest_ended s')) v' f' a world running allowed fits' alone at';
           };
-    })))))))
+    }))))))
 
 -- where too many blocks are entered the run ends
 pub limited_piece : {e : Environment} {block : Names} {types : Types} (bl : Block e block types) {links : Links} {code : List Instr} (head : Y.BlockHead) (rest : Code) (inner : Inner bl) → e.level < 100 → head.line < 2 ^ 31 → {X : Type 0} {i : ℕ} {s : State} {v : Services} {h t : ℕ → ℕ} {aims : Aims X} (closed : Closed code aims) (n : Values) (f : Family) (k line : ℕ) → 0 < i → Linked links code i (inner_begun inner.words (suc e.level) ++ (entered_without_texts 1 head.line ++ rest)) → nat_lt (length s.activations) most_activations ≡ false → Serving k s v line → ((b : Base) → At b i (Known (bl.ground n) v h t nothing b) (f b)) → Comes code i f v aims (finish {R = X} (E.Limit L.Depth) k s)

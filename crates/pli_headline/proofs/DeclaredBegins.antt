@@ -181,16 +181,10 @@ declaring_code_is e head body next are =
 
 -- ---- what it does
 
--- its statements, and then its end
-pub ended_does : {e : Environment} {block : Names} {types : Types} (bl : Block e block types) {links : Links} {code : List Instr} {turns : ℕ} {c : Code} {meaning : Meaning (Unit {0})} (around : Around) → Does bl links code turns c meaning → Does bl links code turns c (meaning >> M.end_reached around false)
-unfolding M.end_reached give ◌>>◌
-ended_does bl {meaning = meaning} around d =
-    record {
-      does = λ {i} {s} {v} {h} {t} {aims} closed old n f k l serving all at goal more.
-          let behind : Unit {0} → Meaning (Unit {0}) = λ u. M.end_reached around false in
-          comes_on k (meaning k s) behind
-          (d.does (before_closed k behind closed) old n f k l serving all at (λ s' v' line' n' h' t' f' serving' all' stays at'. record { to = goal s' v' line' n' h' t' f' serving' all' stays at' }) more);
-    }
+-- its list is no function's
+pub ended_does : {e : Environment} {block : Names} {types : Types} (bl : Block e block types) {links : Links} {code : List Instr} {turns : ℕ} {c : Code} {body : Y.Stmts} (around : Around) → Does bl links code turns c (M.list around body) → Does bl links code turns c (M.block_list around body false)
+unfolding M.block_list
+ended_does bl around d = d
 
 -- the block, with its variables made, where service 7 gives them serial numbers from one on
 abbrev pub MadeDoes : {e : Environment} {block : Names} {types : Types} (bl : Block e block types) (inner : Inner bl) (head : Y.BlockHead) (next : head.level ≡ suc e.level) (filled : IsFilled bl) → ((t0 : ℕ → ℕ) → Makes (inner_block bl inner t0 head.number head.level next filled) 0 (vars_of e head)) → Links → List Instr → (more : ℕ) → Y.Stmts → Type 1

@@ -87,7 +87,7 @@ main_around program k line =
 -- what the main procedure does once its variables are made
 abbrev main_body : Y.Program → (k line : ℕ) → Y.Stmts → Meaning (Unit {0})
 main_body program k line body =
-    M.entry_act Y.ProcedureBlock >> (M.list (main_around program k line) body >> M.end_reached (main_around program k line) false)
+    M.entry_act Y.ProcedureBlock >> M.block_list (main_around program k line) body false
 
 -- the types of its variables
 abbrev pub main_types : Y.Program → (block : ℕ) → Types
@@ -181,8 +181,8 @@ statements_piece : {links : Links} {code : List Instr} {i : ℕ} {h t : ℕ → 
     (Known (ground_of (main_frame (main_words program block body) (main_sizes program block)
     (main_count program block) small' few) first (begin_contents (main_kind program block))) v h t nothing b) (g b))
     → Comes code i g v (inside (to_finish code k) newest_ended)
-    ((M.list (main_around program k line) body >> M.end_reached (main_around program k line) false) k s)
-unfolding main_block M.end_reached give ◌>>◌
+    (M.block_list (main_around program k line) body false k s)
+unfolding main_block M.block_list
 statements_piece {links = links} {code = code} {i = i} {h = h} {t = t} known program block line body first all alone small' few k does' later l finish' s g serving holds at =
     let e = main_environment program block in
     let st = stmts_code e none_taken body in
@@ -192,20 +192,15 @@ statements_piece {links = links} {code = code} {i = i} {h = h} {t = t} known pro
     let f = main_frame (main_words program block body) (main_sizes program block) (main_count program block) small' few in
     let most = held_few _ _ _ in
     let aims = inside (to_finish code k) newest_ended in
-    let next' : Unit {0} → Meaning (Unit {0}) = λ u. M.end_reached around false in
-    let closed = before_closed k next' (inside_closed newest_ended (to_finish_closed code k)) in
-    comes_on k (M.list around body k s) next'
-    ((does' few).does {h = h} {t = t} closed line (begin_values (main_kind program block)) g k (front_of st en l) serving holds at
+    let closed = inside_closed newest_ended (to_finish_closed code k) in
+    (does' few).does {h = h} {t = t} closed line (begin_values (main_kind program block)) g k (front_of st en l) serving holds at
     (λ s' v' line' n' h' t' g' serving' all' stays' at'.
     let o = only_activation s'.activations v'.activations serving'.nested (entered_length s'.activations (0 ∷ []) all'.entered) in
-    record {
-      to =
-          leaving_piece (never_closed code) e block line (main_words program block body)
-          (main_held program block body) f g' (with_world s'.world (newest_ended s')) k o.0 most
-          (omega (arith, small')) (omega arith) (back_of st en l) finish' serving'.world serving'.running
-          serving'.allowed serving'.fits o.1
-          (λ b. let p = (at' b).holds in record { pc = (at' b).pc; holds = record { services = p.body.services; regs = (frame_is p.body, (zero_is p.body, tt)); memory = (p.body.memory.resumes, p.body.memory.own) } });
-    })
+    leaving_piece (never_closed code) e block line (main_words program block body)
+    (main_held program block body) f g' (with_world s'.world (newest_ended s')) k o.0 most
+    (omega (arith, small')) (omega arith) (back_of st en l) finish' serving'.world serving'.running
+    serving'.allowed serving'.fits o.1
+    (λ b. let p = (at' b).holds in record { pc = (at' b).pc; holds = record { services = p.body.services; regs = (frame_is p.body, (zero_is p.body, tt)); memory = (p.body.memory.resumes, p.body.memory.own) } }))
     (record {
       enough = omega arith;
       later = omega (arith, later);
@@ -228,7 +223,7 @@ statements_piece {links = links} {code = code} {i = i} {h = h} {t = t} known pro
                 (main_held program block body) f g' (with_world s'.world (newest_ended s')) k a most
                 (omega (arith, small')) (omega arith) ended finish' same running allowed fits only at';
           };
-    }))
+    })
 
 -- ---- from the start to the statements
 
@@ -339,7 +334,7 @@ unfolding M.entry_act ◌>>◌
 body_piece {links = links} {code = code} known program block line body first input all alone small' few k ready low fits does' later l behind finish' at same g there =
     let n = main_count program block in
     let s = main_state (main_kind program block) input n in
-    let next' : Unit {0} → Meaning (Unit {0}) = λ u. M.list (main_around program k line) body >> M.end_reached (main_around program k line) false in
+    let next' : Unit {0} → Meaning (Unit {0}) = λ u. M.block_list (main_around program k line) body false in
     let closed = inside_closed newest_ended (to_finish_closed code k) in
     comes_on k (act counted k s) next'
     (act_piece (before_closed k next' closed) g line line k low l (serving_first (table_of program) (main_kind program block) input at line n k fits) there (λ g' serving' there'.

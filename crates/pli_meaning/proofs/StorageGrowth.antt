@@ -722,16 +722,18 @@ entry_act_agrees Y.BeginBlock = give_agrees tt
 entry_act_agrees Y.UnitBlock = act_agrees counted_shows
 entry_act_agrees Y.SimpleUnit = act_agrees counted_shows
 
-end_reached_agrees : (is_function : Bool) → Agrees (λ a. M.end_reached a is_function)
-unfolding M.end_reached
-end_reached_agrees false h = give_agrees tt
-end_reached_agrees true h = error_agrees _ h
+block_list_agrees : (xs : Y.Stmts) (is_function : Bool) → Agrees (λ a. M.block_list a xs is_function)
+unfolding M.block_list
+block_list_agrees xs false h = list_agrees_with xs h
+block_list_agrees xs true h =
+    list_with_agrees _ h (λ x. then_agrees (statements_agree xs x h) (error_agrees _ h))
+    (λ x. then_agrees (statements_agree xs x (twice h)) (error_agrees _ (twice h)))
 
 block_body_agrees : (head : Y.BlockHead) (body : Y.Stmts) (entry : Entry) → Agrees (λ a. M.block_body a head body entry)
 unfolding M.block_body
 block_body_agrees head body entry h =
     then_agrees (parameters_bound_agree entry.parameters entry.arguments) (then_agrees (block_variables_made_agree head head.kind h)
-    (then_agrees (entry_act_agrees head.kind) (then_agrees (list_agrees_with body h) (end_reached_agrees entry.is_function h))))
+    (then_agrees (entry_act_agrees head.kind) (block_list_agrees body entry.is_function h)))
 
 block_run_agrees : (b : Y.Block) (entry : Entry) → Agrees (λ a. M.block_run a b entry)
 unfolding M.block_run

@@ -277,17 +277,21 @@ unfoldable pub entry_act : Y.BlockKind → Meaning (Unit {0})
 entry_act Y.BeginBlock = give tt
 entry_act _ = act counted
 
-unfoldable pub end_reached : Around → (is_function : Bool) → Meaning (Unit {0})
-end_reached around false = give tt
-end_reached around true = error around no_value_code
+-- the list of a block. A function has an error at its end, and a unit for it may go back to a label of the list
+unfoldable pub block_list : Around → Y.Stmts → (is_function : Bool) → Meaning (Unit {0})
+block_list around body false = list around body
+block_list around body true =
+    list_with around (labels_in body)
+    (λ from. do
+      statements around body from
+      error around no_value_code)
 
 unfoldable pub block_body : Around → Y.BlockHead → Y.Stmts → Entry → Meaning (Unit {0})
 block_body around head body entry = do
   parameters_bound entry.parameters entry.arguments
   block_variables_made around head head.kind
   entry_act head.kind
-  list around body
-  end_reached around entry.is_function
+  block_list around body entry.is_function
 
 abbrev pub is_own_return : Y.BlockKind → Bool
 is_own_return Y.BeginBlock = false

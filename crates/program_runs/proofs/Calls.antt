@@ -70,12 +70,12 @@ on_same k (Paused s) next other h = refl
 on_same k Stuck next other h = refl
 
 abbrev pub behind_entry : Around → Y.Stmts → Meaning (Unit {0})
-behind_entry around body = M.list around body >> M.end_reached around false
+behind_entry around body = M.block_list around body false
 
 end_nothing :
     (around : Around) (body : Y.Stmts) (k : ℕ) (s : State) → behind_entry around body k s ≡ M.list around body k s
-unfolding ◌>>◌ M.end_reached give
-end_nothing around body k s = on_nothing k (M.list around body k s) (λ q. M.end_reached around false) (λ s'. refl)
+unfolding M.block_list
+end_nothing around body k s = refl
 
 pub entry_means :
     (around : Around) (kind : Y.BlockKind) (body : Y.Stmts) (k : ℕ) (s : State) → kind ≡ Y.ProcedureBlock →

@@ -315,13 +315,19 @@ entry_act_same Y.UnitBlock = act_same counted (λ w. refl)
 entry_act_same Y.SimpleUnit = act_same counted (λ w. refl)
 
 -- ERROR is an act, before its unit is entered
-end_reached_same : (is_function : Bool) (l : Level)
-    → Same 0 1 l.left (M.end_reached (fewer_at l) is_function) (M.end_reached (more_at l) is_function)
-unfolding M.end_reached G.error
-end_reached_same false l = give_same tt
-end_reached_same true l =
+end_error_same : (l : Level)
+    → Same 0 1 l.left (G.error (fewer_at l) no_value_code) (G.error (more_at l) no_value_code)
+unfolding G.error
+end_error_same l =
     slow (act_then (raising C.Error _) (λ w. refl) (λ c e. loose
     (bind_same looked_same (λ s. error_unit_run_same _ (force s.activations C.Error) (within l c e)))))
+
+block_list_same : (xs : Y.Stmts) (is_function : Bool) (l : Level)
+    → Same 0 1 l.left (M.block_list (fewer_at l) xs is_function) (M.block_list (more_at l) xs is_function)
+unfolding M.block_list
+block_list_same xs false l = statement_list_same xs l
+block_list_same xs true l =
+    list_with_same _ l (λ x c r. then_same (statements_sames xs x (lower l c r)) (end_error_same (lower l c r)))
 
 block_body_same : (head : Y.BlockHead) (body : Y.Stmts) (entry : Entry) (l : Level)
     → Same 0 1 l.left (M.block_body (fewer_at l) head body entry) (M.block_body (more_at l) head body entry)
@@ -329,8 +335,7 @@ unfolding M.block_body
 block_body_same head body entry l =
     then_same (parameters_bound_sames entry.parameters entry.arguments) (then_same
     (block_variables_begun head head.kind l)
-    (then_same (entry_act_same head.kind) (then_same (statement_list_same body l)
-    (end_reached_same entry.is_function l))))
+    (then_same (entry_act_same head.kind) (block_list_same body entry.is_function l)))
 
 block_run_same : (b : Y.Block) (entry : Entry) (l : Level)
     → Same 0 1 l.left (M.block_run (fewer_at l) b entry) (M.block_run (more_at l) b entry)

@@ -398,10 +398,11 @@ module _ {P : State → Type 0} (i : Invariant P) where
   entry_act_keeps Y.UnitBlock = act_keeps i counted
   entry_act_keeps Y.SimpleUnit = act_keeps i counted
 
-  end_reached_keeps : (is_function : Bool) → KeepsAround P (λ a. M.end_reached a is_function)
-  unfolding M.end_reached
-  end_reached_keeps false h = give_keeps i tt
-  end_reached_keeps true h = error_keeps i _ h
+  block_list_keeps : (xs : Y.Stmts) (is_function : Bool) → KeepsAround P (λ a. M.block_list a xs is_function)
+  unfolding M.block_list
+  block_list_keeps xs false h = statement_list_keeps xs h
+  block_list_keeps xs true h =
+      list_with_keeps _ h (λ x. then_keeps i (statements_keep xs x h) (error_keeps i _ h))
 
   block_body_keeps : (head : Y.BlockHead) (body : Y.Stmts) (entry : Entry)
       → KeepsAround P (λ a. M.block_body a head body entry)
@@ -409,8 +410,7 @@ module _ {P : State → Type 0} (i : Invariant P) where
   block_body_keeps head body entry h =
       then_keeps i (parameters_bound_keep i entry.parameters entry.arguments) (then_keeps i
       (block_variables_made_keep head head.kind h)
-      (then_keeps i (entry_act_keeps head.kind) (then_keeps i (statement_list_keeps body h)
-      (end_reached_keeps entry.is_function h))))
+      (then_keeps i (entry_act_keeps head.kind) (block_list_keeps body entry.is_function h)))
 
   block_run_keeps : (b : Y.Block) (entry : Entry) → KeepsAround P (λ a. M.block_run a b entry)
   unfolding M.block_run

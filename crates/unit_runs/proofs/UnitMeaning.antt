@@ -32,8 +32,8 @@ unit_body around head body =
 
 end_nothing :
     (around : Around) (body : Y.Stmts) (k : ℕ) (s : State) → behind_entry around body k s ≡ M.list around body k s
-unfolding ◌>>◌ M.end_reached give
-end_nothing around body k s = on_nothing k (M.list around body k s) (λ q. M.end_reached around false) (λ s'. refl)
+unfolding M.block_list
+end_nothing around body k s = refl
 
 entry_acts :
     (kind : Y.BlockKind) (k : ℕ) (s : State) → IsUnitKind kind → M.entry_act kind k s ≡ act counted k s
