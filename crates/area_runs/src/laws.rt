@@ -5,7 +5,7 @@ ghost use Rattle.area_runs.specs.Based.{BasedRead};
 ghost use Rattle.area_runs.specs.BasedAssignments.{BasedAssigned};
 ghost use Rattle.area_runs.specs.Rows.{LocateRan};
 
-use granule_keeper::laws::granules_keep;
+use run_keeper::laws::run_keeper_keeps;
 
 /// What a pointer variable points to leaves what it means in a register, at each point of the pointer's block.
 pub fn based_read()
@@ -26,5 +26,5 @@ pub fn based_allocated()
 pub fn locate_ran()
     ensures { LocateRan }
 {
-    granules_keep();
+    run_keeper_keeps();
 }

@@ -10,7 +10,7 @@ ghost use Rattle.argument_runs.specs.ListBeginnings.{ListsBegin};
 ghost use Rattle.argument_runs.specs.ListCalls.{ListCallsReturn};
 ghost use Rattle.argument_runs.specs.Parameters.{ParametersRead};
 
-use granule_keeper::laws::granules_keep;
+use run_keeper::laws::run_keeper_keeps;
 
 /// The code of a call leaves the list of its argument in words of the caller's frame.
 pub fn arguments_given()
@@ -65,12 +65,12 @@ pub fn copy_functions_know()
 pub fn copy_ran()
     ensures { CopyRan }
 {
-    granules_keep();
+    run_keeper_keeps();
 }
 
 /// A worked row: a main procedure that adds what a function returns of a copied argument, until that overflows.
 pub fn function_ran()
     ensures { FunctionRan }
 {
-    granules_keep();
+    run_keeper_keeps();
 }

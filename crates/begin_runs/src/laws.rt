@@ -7,7 +7,7 @@ ghost use Rattle.begin_runs.specs.LeaveRows.{LeaveRan};
 ghost use Rattle.begin_runs.specs.Rows.{NestRan};
 ghost use Rattle.begin_runs.specs.ThroughReturns.{ThroughReturnsDo};
 
-use granule_keeper::laws::granules_keep;
+use run_keeper::laws::run_keeper_keeps;
 
 /// A begin block does what it means if each of its statements does, however it is left.
 pub fn begins_do()
@@ -53,12 +53,12 @@ pub fn through_returns_do()
 pub fn nest_ran()
     ensures { NestRan }
 {
-    granules_keep();
+    run_keeper_keeps();
 }
 
 /// A worked row: RETURN in two begin blocks, one inside the other, of a main procedure.
 pub fn leave_ran()
     ensures { LeaveRan }
 {
-    granules_keep();
+    run_keeper_keeps();
 }

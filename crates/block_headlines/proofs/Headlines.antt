@@ -5,7 +5,7 @@ use Rattle.pli_meaning.specs.Executing.{meaning, run}
 use Rattle.pli_meaning.specs.Pictures.{first_bytes}
 use Rattle.pli_meaning.specs.StorageState.{first_state}
 use Rattle.area_keeper.specs.KeeperLaws.{Keeps}
-use Rattle.granule_keeper.specs.Granules.{granules}
+use Rattle.run_keeper.specs.RunKeeper.{run_keeper}
 use Rattle.pli_serving.specs.ServiceState.{first_services}
 use Rattle.pli_coding.specs.Assembly.{size_of}
 use Rattle.pli_coding.specs.Images.{code_of, picture_of}
@@ -131,7 +131,7 @@ promised_by laws program x is =
     promised laws (picture_of parts program) (table_of program) program (works laws program x is)
 
 pub kept :
-    Laws → Keeps granules → (program : Y.Program) (x : Layout) → Runs program x →
+    Laws → Keeps run_keeper → (program : Y.Program) (x : Layout) → Runs program x →
     Headline program (picture_of parts program) (table_of program)
 kept laws keeps program x is =
     promised_by laws program x
@@ -143,7 +143,7 @@ kept laws keeps program x is =
     })
 
 pub unit_kept :
-    Laws → Keeps granules → (program : Y.Program) (x : Layout) → UnitsRun program x →
+    Laws → Keeps run_keeper → (program : Y.Program) (x : Layout) → UnitsRun program x →
     Headline program (picture_of parts program) (table_of program)
 unit_kept laws keeps program x is =
     promised_by laws program x
@@ -604,7 +604,7 @@ number_runs =
       each = λ input acts few b. number_each input acts few;
     }
 
-pub rows_kept : Laws → Keeps granules → MarkedOnce → TableDiffers → HeadlinesOfRows
+pub rows_kept : Laws → Keeps run_keeper → MarkedOnce → TableDiffers → HeadlinesOfRows
 rows_kept laws keeps once tables =
     record {
       calling = kept laws keeps row_program row_layout row_runs;

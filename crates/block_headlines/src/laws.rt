@@ -4,7 +4,7 @@ ghost use Rattle.block_headlines.specs.Constants.{ConstantsTold};
 ghost use Rattle.block_headlines.specs.Headlines.{HeadlinesKept, HeadlinesOfRows, UnitHeadlinesKept};
 
 use code_marks::laws::marked_once;
-use granule_keeper::laws::granules_keep;
+use run_keeper::laws::run_keeper_keeps;
 use pli_meaning::laws::{storage_acts_allowed, storage_stays};
 use storage_relation::laws::table_differs;
 
@@ -15,7 +15,7 @@ pub fn headlines_kept()
 {
     storage_stays();
     storage_acts_allowed();
-    granules_keep();
+    run_keeper_keeps();
 }
 
 /// So does one with ON among the statements of its main procedure, if their list comes to its end.
@@ -24,7 +24,7 @@ pub fn unit_headlines_kept()
 {
     storage_stays();
     storage_acts_allowed();
-    granules_keep();
+    run_keeper_keeps();
 }
 
 /// What a program tells of its static data stands in the first memory of its image, each datum at its place.
@@ -38,7 +38,7 @@ pub fn headlines_of_rows()
 {
     storage_stays();
     storage_acts_allowed();
-    granules_keep();
+    run_keeper_keeps();
     marked_once();
     table_differs();
 }

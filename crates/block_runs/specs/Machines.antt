@@ -2,7 +2,7 @@
 use Rattle.std.specs.Prelude.{ℕ, ◌+◌, ◌*◌, ◌%◌, ◌^◌, ◌≤◌, ◌≡◌, List, [], ◌∷◌, length}
 use Rattle.rv_meaning.specs.declared.instr.Instr.{Instr}
 use Rattle.rv_meaning.specs.Machine.{memory_size}
-use Rattle.granule_keeper.specs.Granules.{granules}
+use Rattle.run_keeper.specs.RunKeeper.{run_keeper}
 use Rattle.pli_coding.specs.Frames.{MemoryParts}
 use Rattle.image_runs.specs.Runs.{Whole, layout_of}
 use Rattle.run_steps.specs.Engine.{Base}
@@ -26,7 +26,7 @@ AreEven parts (φ ∷ φs) = (φ.top % 16 ≡ 0) × AreEven parts φs
 
 -- services and memory are those of an image with this code
 pub record IsImage (w : Surroundings) (code : List Instr) (p : Point) : Type 0 where
-  pub keeper : p.keeper ≡ granules
+  pub keeper : p.keeper ≡ run_keeper
   pub layout : p.layout ≡ layout_of (4 * length code)
   pub parts : HasParts w.parts
   pub even : AreEven w.parts p.control.layers

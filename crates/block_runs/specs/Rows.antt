@@ -1,6 +1,6 @@
 -- A worked row: the main procedure calls a procedure inside it that does nothing, and its code.
 use Rattle.std.specs.Prelude.{ℕ, ◌+◌, ◌≡◌, [], ◌∷◌, None}
-use Rattle.granule_keeper.specs.Granules.{granules}
+use Rattle.run_keeper.specs.RunKeeper.{run_keeper}
 use Rattle.pli_typing.specs.TypedTree as Y
 use Rattle.pli_meaning.specs.Executing.{begun}
 use Rattle.pli_meaning.specs.StorageState.{first_state, with_activations}
@@ -18,7 +18,7 @@ use Rattle.block_runs.specs.Beginnings.{Beginning, IsBeginning, CallStands}
 use Rattle.block_runs.specs.EmptyProcedures.{empty_code}
 
 abbrev pub row_parts : MemoryParts
-row_parts = usual_parts granules.bytes_for
+row_parts = usual_parts run_keeper.bytes_for
 
 -- its two frames: the main procedure's, with two words for temporaries, and that of the procedure inside it
 abbrev pub row_layer : (block level at words saved top : ℕ) → (held : ℕ → ℕ) → Layer
@@ -69,7 +69,7 @@ row_call =
 abbrev pub row_point : Places → Point
 row_point π =
     record {
-      keeper = granules;
+      keeper = run_keeper;
       layout = layout_of 4096;
       places = π;
       state = with_activations (row_activation 1 0 0 0 ∷ []) (first_state []);

@@ -3,7 +3,7 @@
 ghost use Rattle.copy_units.specs.Calls.{CopyUnitsDo, CopyUnitsKnow};
 ghost use Rattle.copy_units.specs.Rows.{MuteRan};
 
-use granule_keeper::laws::granules_keep;
+use run_keeper::laws::run_keeper_keeps;
 
 /// Calls of procedures and functions with a parameter by copy do what they mean if their lists do, with ON in them.
 pub fn copy_units_do()
@@ -19,5 +19,5 @@ pub fn copy_units_know()
 pub fn mute_ran()
     ensures { MuteRan }
 {
-    granules_keep();
+    run_keeper_keeps();
 }

@@ -19,7 +19,7 @@ use Rattle.pli_meaning.specs.Raising as R
 use Rattle.pli_meaning.specs.Raising.{Around}
 use Rattle.pli_meaning.specs.StorageState.{first_state}
 use Rattle.area_keeper.specs.KeeperLaws.{Keeps}
-use Rattle.granule_keeper.specs.Granules.{granules}
+use Rattle.run_keeper.specs.RunKeeper.{run_keeper}
 use Rattle.pli_serving.specs.Templates.{template_of}
 use Rattle.pli_coding.specs.Allocating.{act_code}
 use Rattle.pli_coding.specs.Assembly.{CallTo, Code, JumpBack, Mark, ProcedureEntry, ReturnPlace, size_of}
@@ -430,7 +430,7 @@ count_is input first acts few bytes =
     }
 
 pub count_runs :
-    Keeps granules → (input first : List ℕ) (acts : ℕ) → acts + 1 < 2 ^ 64 → length first ≡ memory_size →
+    Keeps run_keeper → (input first : List ℕ) (acts : ℕ) → acts + 1 < 2 ^ 64 → length first ≡ memory_size →
     Comes (linked_code count_code) 0 (first_family first (services_of (start_point (count_image input acts))))
     (services_of (start_point (count_image input acts))) never
     (run count_program (suc acts) acts (first_state input))

@@ -11,7 +11,7 @@ use Rattle.rv_meaning.specs.Machine.{memory_size}
 use Rattle.pli_meaning.specs.Executing.{begun, entered, run}
 use Rattle.pli_meaning.specs.StorageState.{first_state}
 use Rattle.area_keeper.specs.KeeperLaws.{Keeps}
-use Rattle.granule_keeper.specs.Granules.{granules}
+use Rattle.run_keeper.specs.RunKeeper.{run_keeper}
 use Rattle.pli_coding.specs.Allocating.{act_code}
 use Rattle.pli_coding.specs.Assembly.{CallTo, Code, JumpBack}
 use Rattle.pli_coding.specs.Assembly.{ProcedureEntry}
@@ -287,7 +287,7 @@ tally_is input first acts few bytes =
     }
 
 pub tally_runs :
-    Keeps granules → (input first : List ℕ) (acts : ℕ) → acts + 1 < 2 ^ 64 → length first ≡ memory_size →
+    Keeps run_keeper → (input first : List ℕ) (acts : ℕ) → acts + 1 < 2 ^ 64 → length first ≡ memory_size →
     Comes (linked_code tally_code) 0 (first_family first (services_of (start_point (tally_image input acts))))
     (services_of (start_point (tally_image input acts))) never
     (run tally_program (suc acts) acts (first_state input))

@@ -4,7 +4,7 @@ ghost use Rattle.counter_runs.specs.CountRows.{CountRan};
 ghost use Rattle.counter_runs.specs.Laws.{CountersDo, CountsDo, StepsCount, TurnsDo, TurnsKnow};
 ghost use Rattle.counter_runs.specs.TallyRows.{TallyRan};
 
-use granule_keeper::laws::granules_keep;
+use run_keeper::laws::run_keeper_keeps;
 
 /// DO with a variable that counts does what it means if its start, its limit and its statements do.
 pub fn counts_do()
@@ -35,12 +35,12 @@ pub fn turns_know()
 pub fn count_ran()
     ensures { CountRan }
 {
-    granules_keep();
+    run_keeper_keeps();
 }
 
 /// A worked row: an element counts, whose subscript a function returns, in which a condition is raised that has a unit.
 pub fn tally_ran()
     ensures { TallyRan }
 {
-    granules_keep();
+    run_keeper_keeps();
 }

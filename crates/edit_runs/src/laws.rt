@@ -5,7 +5,7 @@ ghost use Rattle.edit_runs.specs.FormatRows.{NumbersShown};
 ghost use Rattle.edit_runs.specs.SkipRows.{RuledRan};
 ghost use Rattle.edit_runs.specs.Skips.{SkipsDo};
 
-use granule_keeper::laws::granules_keep;
+use run_keeper::laws::run_keeper_keeps;
 
 /// PUT SKIP ends lines, as it is meant.
 pub fn skips_do()
@@ -16,7 +16,7 @@ pub fn skips_do()
 pub fn ruled_ran()
     ensures { RuledRan }
 {
-    granules_keep();
+    run_keeper_keeps();
 }
 
 /// What is known of a block, and around its expressions, is known while a place in a format list is in use.

@@ -20,7 +20,7 @@ use Rattle.pli_meaning.specs.Placing as P
 use Rattle.pli_meaning.specs.Raising as R
 use Rattle.pli_meaning.specs.StorageState.{first_state, force}
 use Rattle.area_keeper.specs.KeeperLaws.{Keeps}
-use Rattle.granule_keeper.specs.Granules.{granules}
+use Rattle.run_keeper.specs.RunKeeper.{run_keeper}
 use Rattle.pli_serving.specs.Templates.{template_of}
 use Rattle.pli_coding.specs.Allocating.{act_code}
 use Rattle.pli_coding.specs.Assembly.{CallTo, Mark, ProcedureEntry, ReturnPlace, size_of}
@@ -652,7 +652,7 @@ pick_is input first acts few bytes =
     }
 
 pub pick_runs :
-    Keeps granules → (input first : List ℕ) (acts : ℕ) → acts + 1 < 2 ^ 64 → length first ≡ memory_size →
+    Keeps run_keeper → (input first : List ℕ) (acts : ℕ) → acts + 1 < 2 ^ 64 → length first ≡ memory_size →
     Comes (linked_code pick_code) 0 (first_family first (services_of (start_point (pick_image input acts))))
     (services_of (start_point (pick_image input acts))) never
     (run pick_program (suc acts) acts (first_state input))

@@ -4,7 +4,7 @@ ghost use Rattle.element_runs.specs.Laws.{ElementAssignmentsDo, ElementsDo, Subs
 ghost use Rattle.element_runs.specs.Outer.{OuterKnown};
 ghost use Rattle.element_runs.specs.Rows.{PickRan};
 
-use granule_keeper::laws::granules_keep;
+use run_keeper::laws::run_keeper_keeps;
 
 /// An element of an array leaves what it means in a register, at each point of a block.
 pub fn elements_do()
@@ -30,5 +30,5 @@ pub fn outer_known()
 pub fn pick_ran()
     ensures { PickRan }
 {
-    granules_keep();
+    run_keeper_keeps();
 }

@@ -18,7 +18,7 @@ use Rattle.pli_meaning.specs.Placing as P
 use Rattle.pli_meaning.specs.Raising as R
 use Rattle.pli_meaning.specs.StorageState.{first_state}
 use Rattle.area_keeper.specs.KeeperLaws.{Keeps}
-use Rattle.granule_keeper.specs.Granules.{granules}
+use Rattle.run_keeper.specs.RunKeeper.{run_keeper}
 use Rattle.pli_serving.specs.Templates.{template_of}
 use Rattle.pli_coding.specs.Allocating.{act_code}
 use Rattle.pli_coding.specs.Assembly.{CallTo, LabelPlace, Mark, ProcedureEntry, ReturnPlace, size_of}
@@ -338,7 +338,7 @@ double_is input first acts few bytes =
     }
 
 pub double_runs :
-    Keeps granules → (input first : List ℕ) (acts : ℕ) → acts + 1 < 2 ^ 64 → length first ≡ memory_size →
+    Keeps run_keeper → (input first : List ℕ) (acts : ℕ) → acts + 1 < 2 ^ 64 → length first ≡ memory_size →
     Comes (linked_code double_code) 0 (first_family first (services_of (start_point (double_image input acts))))
     (services_of (start_point (double_image input acts))) never
     (run double_program (suc acts) acts (first_state input))

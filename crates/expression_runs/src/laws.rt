@@ -5,7 +5,7 @@ ghost use Rattle.expression_runs.specs.Laws.{NumbersDo, OverflowEnds};
 ghost use Rattle.expression_runs.specs.OwnVariables.{OwnNumbers};
 ghost use Rattle.expression_runs.specs.Rows.{DoubleRan};
 
-use granule_keeper::laws::granules_keep;
+use run_keeper::laws::run_keeper_keeps;
 
 /// Constants, variables, sums and differences of numbers leave what they mean in a register, at each point of a block.
 pub fn numbers_do()
@@ -31,5 +31,5 @@ pub fn assignments_do()
 pub fn double_ran()
     ensures { DoubleRan }
 {
-    granules_keep();
+    run_keeper_keeps();
 }

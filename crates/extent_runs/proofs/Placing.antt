@@ -16,7 +16,7 @@ use Rattle.pli_meaning.specs.Making.{living_at, with_variable}
 use Rattle.pli_meaning.specs.StorageState.{Activation, newest_height, most_automatic}
 use Rattle.pli_meaning.specs.declared.outcome.End.TheVariants as E
 use Rattle.pli_meaning.specs.declared.outcome.Limit.TheVariants as L
-use Rattle.granule_keeper.specs.Granules.{granules}
+use Rattle.run_keeper.specs.RunKeeper.{run_keeper}
 use Rattle.area_keeper.specs.KeptAreas.{with_part}
 use Rattle.pli_serving.specs.ActsAndEnds.{run_ended}
 use Rattle.pli_serving.specs.Answers.{Answer, Done}
@@ -403,7 +403,7 @@ made_answer {w} {code} {p} {x} {φ} {φs} m k bytes h small' =
     ∙ ap (λ q. cond q (run_ended (E.Limit L.Automatic) v)
     (U.variable_made c name x.number place owner (p.state.serials + 1) g)) limit
     ∙ ap (λ q. bad_unless ((nat_le (4 * length code) place
-    && nat_le (place + bytes_taken granules shape q) memory_size)
+    && nat_le (place + bytes_taken run_keeper shape q) memory_size)
     && (nat_le (4 * length code) name && nat_le (name + 16) memory_size)) done) k.is.fixed
     ∙ ap (λ q. bad_unless ((q && nat_le (place + data_size shape.signature) memory_size)
     && (nat_le (4 * length code) name && nat_le (name + 16) memory_size)) done) t1

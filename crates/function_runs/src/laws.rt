@@ -7,7 +7,7 @@ ghost use Rattle.function_runs.specs.OuterVariables.{OuterNumbers, OwnNumbers};
 ghost use Rattle.function_runs.specs.Returns.{ReturnsDo};
 ghost use Rattle.function_runs.specs.Rows.{FetchRan};
 
-use granule_keeper::laws::granules_keep;
+use run_keeper::laws::run_keeper_keeps;
 
 /// RETURN with a number leaves its word in the function's frame, and the block comes to its end.
 pub fn returns_do()
@@ -40,12 +40,12 @@ pub fn own_numbers()
 pub fn fetch_ran()
     ensures { FetchRan }
 {
-    granules_keep();
+    run_keeper_keeps();
 }
 
 /// A worked row: a main procedure that calls another in a loop, which has a variable of its own, until it overflows.
 pub fn local_ran()
     ensures { LocalRan }
 {
-    granules_keep();
+    run_keeper_keeps();
 }

@@ -3,7 +3,7 @@
 ghost use Rattle.group_runs.specs.Groups.{GroupsDo};
 ghost use Rattle.group_runs.specs.Rows.{GroupRan};
 
-use granule_keeper::laws::granules_keep;
+use run_keeper::laws::run_keeper_keeps;
 
 /// A DO group does what it means if each of its statements does.
 pub fn groups_do()
@@ -14,5 +14,5 @@ pub fn groups_do()
 pub fn group_ran()
     ensures { GroupRan }
 {
-    granules_keep();
+    run_keeper_keeps();
 }

@@ -18,7 +18,7 @@ use Rattle.pli_meaning.specs.Placing as Pl
 use Rattle.pli_meaning.specs.Raising as R
 use Rattle.pli_meaning.specs.StorageState.{first_state, force, height_of, most_activations}
 use Rattle.area_keeper.specs.KeeperLaws.{Keeps}
-use Rattle.granule_keeper.specs.Granules.{granules}
+use Rattle.run_keeper.specs.RunKeeper.{run_keeper}
 use Rattle.pli_serving.specs.Templates.{template_of}
 use Rattle.pli_coding.specs.Allocating.{act_code}
 use Rattle.pli_coding.specs.Assembly.{CallTo, JumpAhead, OffsetAhead, Plain, ProcedureEntry, size_of}
@@ -698,7 +698,7 @@ flee_is input first acts few bytes =
     }
 
 pub flee_runs :
-    Keeps granules → (input first : List ℕ) (acts : ℕ) → acts + 1 < 2 ^ 64 → length first ≡ memory_size →
+    Keeps run_keeper → (input first : List ℕ) (acts : ℕ) → acts + 1 < 2 ^ 64 → length first ≡ memory_size →
     Comes (linked_code flee_code) 0 (first_family first (services_of (start_point (flee_image input acts))))
     (services_of (start_point (flee_image input acts))) never
     (run flee_program (suc acts) acts (first_state input))

@@ -8,7 +8,7 @@ ghost use Rattle.jump_runs.specs.Functions.{FunctionBlocks, FunctionListsDo, Jum
 ghost use Rattle.jump_runs.specs.Rows.{BoltRan};
 ghost use Rattle.jump_runs.specs.UnitRows.{FleeRan};
 
-use granule_keeper::laws::granules_keep;
+use run_keeper::laws::run_keeper_keeps;
 
 /// A call hands a jump on that leaves its block for a label of a block further out.
 pub fn calls_hand()
@@ -44,26 +44,26 @@ pub fn function_blocks()
 pub fn bolt_ran()
     ensures { BoltRan }
 {
-    granules_keep();
+    run_keeper_keeps();
 }
 
 /// A worked row: a main procedure with an expression that calls a function, which jumps out of it to a label.
 pub fn shed_ran()
     ensures { ShedRan }
 {
-    granules_keep();
+    run_keeper_keeps();
 }
 
 /// A worked row: the same while a text waits on the stack, which the jump drops.
 pub fn drop_ran()
     ensures { DropRan }
 {
-    granules_keep();
+    run_keeper_keeps();
 }
 
 /// A worked row: a main procedure with an expression that calls a function, whose unit jumps out of both.
 pub fn flee_ran()
     ensures { FleeRan }
 {
-    granules_keep();
+    run_keeper_keeps();
 }

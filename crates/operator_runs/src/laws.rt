@@ -3,7 +3,7 @@
 ghost use Rattle.operator_runs.specs.Laws.{OperatorsDo, ZeroDivideEnds};
 ghost use Rattle.operator_runs.specs.Rows.{SquareRan};
 
-use granule_keeper::laws::granules_keep;
+use run_keeper::laws::run_keeper_keeps;
 
 /// Products, quotients, remainders, extremes and signs of numbers leave what they mean in a register, at each point.
 pub fn operators_do()
@@ -19,5 +19,5 @@ pub fn zero_divide_ends()
 pub fn square_ran()
     ensures { SquareRan }
 {
-    granules_keep();
+    run_keeper_keeps();
 }

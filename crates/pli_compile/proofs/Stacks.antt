@@ -3,7 +3,8 @@ use Rattle.std.proofs.Common.{◌≡◌, ℕ, ◌+◌, ◌*◌, ◌≤◌, List,
 use Rattle.std.specs.Prelude.{Some, None, Option}
 use Rattle.std.specs.List.{sum}
 use Rattle.std.proofs.lemmas.List.Sums.{sum_by-cons}
-use Rattle.granule_keeper.specs.Granules.{bytes_for, granules}
+use Rattle.granule_keeper.specs.Granules.{bytes_for}
+use Rattle.run_keeper.specs.RunKeeper.{run_keeper}
 use Rattle.pli_typing.specs.Signatures.{footprint, data_size, rounded_up, leaf_bytes, leaves_size, element_count}
 use Rattle.pli_typing.specs.Signatures.{LeafKind, Fixed, Character, Varying, Bit, Pointer, Offset, Area, Bounds, Leaf}
 use Rattle.pli_meaning.specs.Contents.{Shape}
@@ -42,7 +43,7 @@ abbrev taken : (capacity : Option ℕ) (size : ℕ) → ℕ
 taken None size = size
 taken (Some capacity) size = bytes_for capacity
 
-data_taken : (s : Shape) (o : Option ℕ) → data_taken_by granules s o ≡ taken o (data_size s.signature)
+data_taken : (s : Shape) (o : Option ℕ) → data_taken_by run_keeper s o ≡ taken o (data_size s.signature)
 data_taken s None = refl
 data_taken s (Some capacity) = refl
 

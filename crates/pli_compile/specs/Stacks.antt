@@ -1,7 +1,7 @@
 -- How frames lie: what stands in one is apart, and as many as may be active fit memory's part for the stacks, with all AUTOMATIC data.
 use Rattle.std.specs.Prelude.{◌≡◌, ℕ, suc, ◌+◌, ◌*◌, pos, ◌+ℤ◌, ◌<◌, ◌≤◌, List, [], ◌∷◌, length, slice_get, Some, ⊤}
 use Rattle.std.specs.List.{sum}
-use Rattle.granule_keeper.specs.Granules.{granules}
+use Rattle.run_keeper.specs.RunKeeper.{run_keeper}
 use Rattle.pli_typing.specs.Signatures.{footprint, data_size, rounded_up, LeafKind, Area, Bounds, Leaf}
 use Rattle.pli_typing.specs.TypedTree as Y
 use Rattle.pli_meaning.specs.Contents.{Shape}
@@ -51,7 +51,7 @@ HaveOneArea (s ∷ ss) = HasOneArea s.signature.leaves × HaveOneArea ss
 
 -- what a generation of an AUTOMATIC variable takes: its name, and its data, an area's with its front
 abbrev pub bytes_taken : Shape → ℕ
-bytes_taken s = name_bytes + rounded_up 16 (data_bytes granules s)
+bytes_taken s = name_bytes + rounded_up 16 (data_bytes run_keeper s)
 
 abbrev pub all_taken : List Shape → ℕ
 all_taken [] = 0

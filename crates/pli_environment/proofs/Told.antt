@@ -18,7 +18,7 @@ use Rattle.pli_runtime.specs.Seen as runtime
 use Rattle.pli_runtime.specs.Seen.{asks_input, fault_of}
 use Rattle.pli_transmission.specs.Transmitting.{places_of}
 use Rattle.pli_runtime.specs.declared.runtime.Runtime.{Runtime}
-use Rattle.granule_keeper.specs.Granules.{granules}
+use Rattle.run_keeper.specs.RunKeeper.{run_keeper}
 use Rattle.pli_serving.specs.Serving.{serves}
 use Rattle.pli_services.specs.Shown.{world_of}
 use Rattle.pli_environment.specs.Calling.{fault_in, seen_for, services_of, world_behind}
@@ -77,7 +77,7 @@ pub serves_lent : {I O : Type 0} (s : Streams I O) (r inside r' : Runtime I O) (
     (m lent after m' : List ℕ) (reply : Result Reply Refusal) (served : Served) →
     inside ≡ r → lent ≡ m → m' ≡ after →
     ((all : List ℕ) → s.agrees r'.streams.input all → s.read_failed r'.streams.input ≡ false →
-    runtime.IsServed granules (λ c. serves c (slice_index x)) (seen_for s inside all) lent reply (seen_for s r' all)
+    runtime.IsServed run_keeper (λ c. serves c (slice_index x)) (seen_for s inside all) lent reply (seen_for s r' all)
     after) →
     MatchResult reply (λ _. s.read_failed inside.streams.input ≡ false → s.read_failed r'.streams.input ≡ false)
     (λ _. (world_of s.output r'.flow.shown ≡ world_of s.output inside.flow.shown) × (after ≡ lent)) →

@@ -2,7 +2,7 @@
 use Rattle.std.specs.Prelude.{◌≡◌, ◌⊎◌, ℕ, Bool, false, List, Option, Some, None}
 use Rattle.rv_meaning.specs.Machine.{written}
 use Rattle.rv_machine.specs.declared.services.Served.{Served}
-use Rattle.granule_keeper.specs.Granules.{granules}
+use Rattle.run_keeper.specs.RunKeeper.{run_keeper}
 use Rattle.pli_meaning.specs.InputLines.{Input}
 use Rattle.pli_meaning.specs.World.{World}
 use Rattle.pli_serving.specs.Answers.{Answer, Done, Ends, Bad}
@@ -69,7 +69,7 @@ IsAnsweredUnless (Some fault) answer v x m served v' x' m' = IsCutOff answer v s
 pub record Serves {I O : Type 0} (s : Streams I O) (r : Runtime I O) (x : ℕ → ℕ) (m : List ℕ) (served : Served)
     (r' : Runtime I O) (x' : ℕ → ℕ) (m' : List ℕ) : Type 0 where
   pub answered : s.read_failed r.streams.input ≡ false → (all : List ℕ) → s.agrees r'.streams.input all →
-      IsAnsweredUnless (fault_in s r') (serves (call_of granules (seen_for s r all) m) x) (services_of s r all) x m
+      IsAnsweredUnless (fault_in s r') (serves (call_of run_keeper (seen_for s r all) m) x) (services_of s r all) x m
       served (services_of s r' all) x' m'
   pub layout_kept : r'.held.layout ≡ r.held.layout
   pub unread : asks_input (places_of r.streams.edits.items) (x 17) (x 11) ≡ false → r'.streams.input ≡ r.streams.input

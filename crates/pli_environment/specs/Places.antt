@@ -1,7 +1,7 @@
 -- Where the parts of an image's memory lie.
 use Rattle.std.specs.Prelude.{◌≡◌, ℕ, ◌*◌, ◌^◌, List, length}
 use Rattle.rv_meaning.specs.Machine.{memory_size}
-use Rattle.granule_keeper.specs.Granules.{granules}
+use Rattle.run_keeper.specs.RunKeeper.{run_keeper}
 use Rattle.pli_values.specs.declared.layout.Layout.{Layout}
 use Rattle.pli_runtime.specs.Seen.{CanServe}
 use Rattle.pli_runtime.specs.declared.runtime.Runtime.{Runtime}
@@ -13,4 +13,4 @@ image_layout code_bytes =
 
 -- the services can be called with any memory of 16 MiB
 abbrev pub IsReady : {I O : Type 0} → Runtime I O → Type 0
-IsReady r = (m : List ℕ) → length m ≡ memory_size → CanServe granules r m
+IsReady r = (m : List ℕ) → length m ≡ memory_size → CanServe run_keeper r m

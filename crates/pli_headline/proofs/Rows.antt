@@ -3,7 +3,7 @@ use Rattle.std.proofs.Common.{◌≡◌, ℕ, ◌+◌, ◌≤◌, List, [], ◌�
 use Rattle.std.specs.Prelude.{negsuc, pos}
 use Rattle.rv_meaning.specs.declared.instr.Fault.TheVariants.{BadService}
 use Rattle.rv_meaning.specs.declared.instr.Instr.TheVariants as I
-use Rattle.granule_keeper.specs.Granules.{granules}
+use Rattle.run_keeper.specs.RunKeeper.{run_keeper}
 use Rattle.pli_language.specs.declared.condition.Condition.TheVariants as C
 use Rattle.pli_language.specs.Tree as T
 use Rattle.pli_language.specs.Formats.{format_moves_data, formats_move_data}
@@ -24,7 +24,7 @@ three_words : step_cost (record { code = I.Ecall ∷ I.Ecall ∷ I.Ecall ∷ [];
 three_words = refl
 
 -- the heap ends within memory
-heap_inside : (layout_of 0).heap_at + granules.bytes_for (layout_of 0).heap_capacity ≤ (layout_of 0).end
+heap_inside : (layout_of 0).heap_at + run_keeper.bytes_for (layout_of 0).heap_capacity ≤ (layout_of 0).end
 heap_inside = omega arith
 
 -- the heap stands behind the stacks

@@ -8,7 +8,7 @@ use Rattle.pli_meaning.specs.declared.outcome.End.TheVariants.{Running}
 use Rattle.pli_meaning.specs.World.{World}
 use Rattle.pli_meaning.specs.Executing.{meaning}
 use Rattle.pli_meaning.specs.Pictures.{Picture, step_cost}
-use Rattle.granule_keeper.specs.Granules.{granules}
+use Rattle.run_keeper.specs.RunKeeper.{run_keeper}
 use Rattle.pli_coding.specs.Frames.{MemoryParts, usual_parts}
 use Rattle.pli_coding.specs.SignatureTable.{table_of}
 use Rattle.pli_coding.specs.Images.{picture_of}
@@ -40,7 +40,7 @@ Headline program image signatures =
 
 -- 7 MiB for code and static data, 7 MiB for the stacks, and then the heap
 abbrev pub parts : MemoryParts
-parts = usual_parts granules.bytes_for
+parts = usual_parts run_keeper.bytes_for
 
 -- an image that a machine loads: 4 MiB of code and 3 MiB of static data at most
 pub record FitsMemory (image : Picture) : Type 0 where

@@ -9,7 +9,7 @@ use Rattle.rv_machine.specs.declared.services.Served.{Served}
 use Rattle.rv_machine.specs.declared.machine.Step.{Step}
 use Rattle.rv_machine.specs.declared.machine.Step.TheVariants.{Ran, Ended, Fault as Faulted, Refused}
 use Rattle.rv_machine.specs.Steps.{Moment, Makes, RanFor, RunsFor, Answers, start, then}
-use Rattle.granule_keeper.specs.Granules.{granules}
+use Rattle.run_keeper.specs.RunKeeper.{run_keeper}
 use Rattle.pli_edit.specs.OutputStreams.{IsCut}
 use Rattle.pli_meaning.specs.World.{World}
 use Rattle.pli_serving.specs.Answers.{Answer, Done, Ends, Bad}
@@ -69,12 +69,12 @@ OfCode p m = m.services.held.layout ≡ image_layout (4 * length p.code)
 
 serves_here : {I O : Type 0} (s : Streams I O) (p : Loaded) (from : Moment (Runtime I O)) (all : List ℕ) →
     OfCode p from →
-    called p (whole s from all) ≡ serves (call_of granules (seen_for s from.services all) from.state.memory)
+    called p (whole s from all) ≡ serves (call_of run_keeper (seen_for s from.services all) from.state.memory)
     from.state.registers
 serves_here s p from all h =
     ap
     (λ (l : Layout). serves (record {
-      keeper = granules;
+      keeper = run_keeper;
       layout = View.layout_of l;
       services = services_of s from.services all;
       memory = from.state.memory;

@@ -12,7 +12,7 @@ use Rattle.pli_meaning.specs.Executing.{entered, run}
 use Rattle.pli_meaning.specs.Making as K
 use Rattle.pli_meaning.specs.StorageState.{first_state}
 use Rattle.area_keeper.specs.KeeperLaws.{Keeps}
-use Rattle.granule_keeper.specs.Granules.{granules}
+use Rattle.run_keeper.specs.RunKeeper.{run_keeper}
 use Rattle.pli_coding.specs.Allocating.{act_code}
 use Rattle.pli_coding.specs.Assembly.{CallTo, ProcedureEntry, size_of}
 use Rattle.pli_coding.specs.Environments.{none_taken}
@@ -235,7 +235,7 @@ turning_is once tables input first acts few bytes =
     (record { room = omega arith; shallow = refl; parent = tt; idle = refl })
 
 pub turning_runs :
-    Keeps granules → MarkedOnce → TableDiffers → (input first : List ℕ) (acts : ℕ) → acts + 1 < 2 ^ 64 →
+    Keeps run_keeper → MarkedOnce → TableDiffers → (input first : List ℕ) (acts : ℕ) → acts + 1 < 2 ^ 64 →
     length first ≡ memory_size →
     Comes (linked_code (code_for turning_program)) 0
     (first_family first (services_of (start_point (image_for turning_program (turning_run input acts)))))

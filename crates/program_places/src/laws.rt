@@ -7,7 +7,7 @@ ghost use Rattle.program_places.specs.Rows.{TurningRan};
 ghost use Rattle.program_places.specs.Tables.{TablesRuled};
 
 use code_marks::laws::marked_once;
-use granule_keeper::laws::granules_keep;
+use run_keeper::laws::run_keeper_keeps;
 use storage_relation::laws::table_differs;
 
 /// The code of a well-formed program stands in its image, each symbol that it marks at its place, and so do its parts.
@@ -90,7 +90,7 @@ pub fn memory_fits()
 pub fn turning_ran()
     ensures { TurningRan }
 {
-    granules_keep();
+    run_keeper_keeps();
     marked_once();
     table_differs();
 }

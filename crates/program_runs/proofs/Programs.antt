@@ -11,7 +11,7 @@ use Rattle.pli_meaning.specs.Making.{statics_from}
 use Rattle.pli_meaning.specs.StorageState.{first_state, with_world}
 use Rattle.pli_meaning.specs.World.{World}
 use Rattle.area_keeper.specs.KeeperLaws.{Keeps}
-use Rattle.granule_keeper.specs.Granules.{granules}
+use Rattle.run_keeper.specs.RunKeeper.{run_keeper}
 use Rattle.pli_coding.specs.Assembly.{CallTo, ProcedureEntry}
 use Rattle.pli_coding.specs.Images.{first_frame}
 use Rattle.pli_coding.specs.Procedures.{finish_code}
@@ -66,7 +66,7 @@ finish_linked k first h =
     (rest_of _ _ (rest_of _ _ (back_of front (main_called main) h.start.linked))))
 
 pub program_comes :
-    Keeps granules → (k : Whole) (first : List ℕ) → IsWhole k first →
+    Keeps run_keeper → (k : Whole) (first : List ℕ) → IsWhole k first →
     BodyComes (surroundings_of k.image) k.image.code (main_of k) (start_point k.image) no_numbers →
     Comes k.image.code 0 (first_family first (services_of (start_point k.image))) (services_of (start_point k.image))
     never (M.run k.program (suc k.image.acts) k.image.acts (first_state k.image.input))
@@ -101,7 +101,7 @@ program_comes keeps k first h each =
     (λ b. record { parent = λ more. absurd (omega (arith, more, level)); texts = (at b).1 })))))
 
 pub program_runs :
-    Keeps granules → (k : Whole) (first : List ℕ) → IsWhole k first →
+    Keeps run_keeper → (k : Whole) (first : List ℕ) → IsWhole k first →
     (IsBegun (block_at (surroundings_of k.image) k.image.code (main_of k) (start_point k.image) no_numbers) →
     EachDoes (block_at (surroundings_of k.image) k.image.code (main_of k) (start_point k.image) no_numbers)
     (labels_of (main_of k)) k.main.body (body_index (main_of k)) left_over) →

@@ -12,7 +12,7 @@ use Rattle.pli_meaning.specs.Making as K
 use Rattle.pli_meaning.specs.StorageState.{first_state}
 use Rattle.pli_meaning.specs.declared.outcome.End.TheVariants as N
 use Rattle.area_keeper.specs.KeeperLaws.{Keeps}
-use Rattle.granule_keeper.specs.Granules.{granules}
+use Rattle.run_keeper.specs.RunKeeper.{run_keeper}
 use Rattle.pli_coding.specs.Allocating.{act_code}
 use Rattle.pli_coding.specs.Assembly.{Code, Datum, Symbol, CallTo, Mark, ProcedureEntry, ReturnPlace, Plain, BaseIn}
 use Rattle.pli_coding.specs.Assembly.{OffsetOf, OffsetAhead, JumpTo, JumpAhead, JumpBack, DataPlace, LabelPlace}
@@ -311,7 +311,7 @@ row_is input first acts few bytes =
     }
 
 pub row_runs :
-    Keeps granules → (input first : List ℕ) (acts : ℕ) → acts + 1 < 2 ^ 64 → length first ≡ memory_size →
+    Keeps run_keeper → (input first : List ℕ) (acts : ℕ) → acts + 1 < 2 ^ 64 → length first ≡ memory_size →
     Comes (linked_code row_code) 0 (first_family first (services_of (start_point (row_image input acts))))
     (services_of (start_point (row_image input acts))) never
     (run row_program (suc acts) acts (first_state input))

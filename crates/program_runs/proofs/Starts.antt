@@ -7,7 +7,7 @@ use Rattle.rv_meaning.specs.declared.instr.Instr.{Instr}
 use Rattle.rv_meaning.specs.Words.{word, sum}
 use Rattle.rv_meaning.specs.Machine.{memory_size, written, value}
 use Rattle.area_keeper.specs.KeeperLaws.{Keeps}
-use Rattle.granule_keeper.specs.Granules.{granules}
+use Rattle.run_keeper.specs.RunKeeper.{run_keeper}
 use Rattle.pli_serving.specs.ServiceState.{Services}
 use Rattle.pli_coding.specs.Assembly.{Code, BaseIn, CallTo, ProcedureEntry}
 use Rattle.pli_coding.specs.Frames.{own_offset, lower_top}
@@ -95,7 +95,7 @@ start_length first = length_stored (first_stores image_parts) first
 
 -- what is stored is as it was, nothing
 start_holds :
-    (i : Image) (main : ℕ) (first : List ℕ) → Keeps granules → IsStart i main first →
+    (i : Image) (main : ℕ) (first : List ℕ) → Keeps run_keeper → IsStart i main first →
     Holds (now (start_point i) (start_memory first))
 start_holds i main first keeps h =
     let p = start_point i in
@@ -250,7 +250,7 @@ start_reaches {links} {code} first v main c long l =
     (sym (reached_holds r b)) (frame_path links code first v b long l.small'))))
 
 pub image_starts :
-    Keeps granules → (i : Image) (main : ℕ) (first : List ℕ) (c : ℕ) → IsStart i main first →
+    Keeps run_keeper → (i : Image) (main : ℕ) (first : List ℕ) (c : ℕ) → IsStart i main first →
     Reach i.code c (first_family first (services_of (start_point i))) (services_of (start_point i)) (c + call_index)
     (services_of (start_point i))
     (λ b y. IsIn (surroundings_of i) (start_point i) no_numbers call_index b y × (value y.machine a2 ≡ 0))

@@ -8,7 +8,7 @@ use Rattle.pli_meaning.specs.Executing.{run}
 use Rattle.pli_meaning.specs.StorageState.{first_state}
 use Rattle.pli_types.specs.Templates.{Template}
 use Rattle.area_keeper.specs.KeeperLaws.{Keeps}
-use Rattle.granule_keeper.specs.Granules.{granules}
+use Rattle.run_keeper.specs.RunKeeper.{run_keeper}
 use Rattle.pli_serving.specs.SignatureService.{same_template}
 use Rattle.pli_serving.specs.Templates.{template_of}
 use Rattle.pli_coding.specs.Allocating.{act_code}
@@ -200,7 +200,7 @@ number_is input first acts few bytes =
     }
 
 pub number_runs :
-    Keeps granules → (input first : List ℕ) (acts : ℕ) → acts + 1 < 2 ^ 64 → length first ≡ memory_size →
+    Keeps run_keeper → (input first : List ℕ) (acts : ℕ) → acts + 1 < 2 ^ 64 → length first ≡ memory_size →
     Comes (linked_code number_code) 0 (first_family first (services_of (start_point (number_image input acts))))
     (services_of (start_point (number_image input acts))) never
     (run number_program (suc acts) acts (first_state input))

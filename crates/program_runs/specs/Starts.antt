@@ -3,7 +3,7 @@ use Rattle.std.specs.Prelude.{ℕ, ◌+◌, ◌*◌, ◌≡◌, List, ◌∷◌,
 use Rattle.rv_meaning.specs.declared.instr.Instr.{Instr}
 use Rattle.rv_meaning.specs.Machine.{memory_size, value}
 use Rattle.pli_types.specs.Templates.{Template}
-use Rattle.granule_keeper.specs.Granules.{granules}
+use Rattle.run_keeper.specs.RunKeeper.{run_keeper}
 use Rattle.pli_serving.specs.ServiceState.{Services}
 use Rattle.pli_coding.specs.Assembly.{Code, CallTo, ProcedureEntry}
 use Rattle.pli_coding.specs.Frames.{MemoryParts, usual_parts}
@@ -27,7 +27,7 @@ use Rattle.block_runs.specs.Machines.{IsImage, IsIn}
 -- ---- its code
 
 abbrev pub image_parts : MemoryParts
-image_parts = usual_parts granules.bytes_for
+image_parts = usual_parts run_keeper.bytes_for
 
 -- the main procedure is given no arguments; behind its call the run ends
 abbrev pub main_called : (main : ℕ) → Code
@@ -71,7 +71,7 @@ surroundings_of i =
 
 abbrev pub start_point : Image → Point
 start_point i =
-    first_point granules (layout_in (first_version (4 * length i.code)))
+    first_point run_keeper (layout_in (first_version (4 * length i.code)))
     (first_places (first_version (4 * length i.code)) i.signatures i.constants) i.input
 
 -- all registers are 0, and memory is anything but for what is told of it

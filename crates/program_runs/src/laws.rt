@@ -11,13 +11,13 @@ ghost use Rattle.program_runs.specs.Statements.{ListsDo, StatementsDo};
 ghost use Rattle.program_runs.specs.VariableRows.{NumberRan};
 ghost use Rattle.program_runs.specs.Variables.{OneAmong, OneMade, VariablesMade};
 
-use granule_keeper::laws::granules_keep;
+use run_keeper::laws::run_keeper_keeps;
 
 /// The start of an image comes to the call of the main procedure, at the first point.
 pub fn images_start()
     ensures { ImagesStart }
 {
-    granules_keep();
+    run_keeper_keeps();
 }
 
 /// The layer of a procedure is what its call makes, and its code that of the program's procedure.
@@ -59,14 +59,14 @@ pub fn none_made()
 pub fn programs_run()
     ensures { ProgramsRun }
 {
-    granules_keep();
+    run_keeper_keeps();
 }
 
 /// A worked row: such a program, with the image that pli_coding defines.
 pub fn program_ran()
     ensures { ProgramRan }
 {
-    granules_keep();
+    run_keeper_keeps();
 }
 
 /// A variable of constant size is made in the newest block, as its code and the storage machine do it.
@@ -98,5 +98,5 @@ pub fn one_among()
 pub fn number_ran()
     ensures { NumberRan }
 {
-    granules_keep();
+    run_keeper_keeps();
 }

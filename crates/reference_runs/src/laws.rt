@@ -8,7 +8,7 @@ ghost use Rattle.reference_runs.specs.ReferenceCalls.{ReferenceCallsDo, Referenc
 ghost use Rattle.reference_runs.specs.ReferenceRows.{ReferenceRan};
 ghost use Rattle.reference_runs.specs.References.{ReferencesGiven};
 
-use granule_keeper::laws::granules_keep;
+use run_keeper::laws::run_keeper_keeps;
 
 /// The code of a call by reference leaves the list of its argument in words of the caller's frame: the name of a
 /// generation that lives.
@@ -53,12 +53,12 @@ pub fn locals_known()
 pub fn reference_ran()
     ensures { ReferenceRan }
 {
-    granules_keep();
+    run_keeper_keeps();
 }
 
 /// A worked row: the same where that has a variable of its own.
 pub fn local_ran()
     ensures { LocalRan }
 {
-    granules_keep();
+    run_keeper_keeps();
 }

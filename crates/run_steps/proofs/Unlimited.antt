@@ -10,7 +10,7 @@ use Rattle.pli_meaning.specs.BasicValues.{VariableName}
 use Rattle.pli_meaning.specs.Contents.{Generation, fresh}
 use Rattle.pli_meaning.specs.declared.outcome.End.TheVariants as E
 use Rattle.pli_meaning.specs.declared.outcome.Limit.TheVariants as L
-use Rattle.granule_keeper.specs.Granules.{granules}
+use Rattle.run_keeper.specs.RunKeeper.{run_keeper}
 use Rattle.pli_serving.specs.Bytes.{is_data, with_bytes, name_size, name_bytes}
 use Rattle.pli_serving.specs.ServiceState.{height}
 use Rattle.pli_serving.specs.Answers.{Answer, Done, Ends, Bad}
@@ -80,7 +80,7 @@ of_effect_same p w (Goes s) few = refl
 of_effect_same p w (Faults fault) few = refl
 of_effect_same p w Calls few =
     let c : Call = record {
-      keeper = granules;
+      keeper = run_keeper;
       layout = layout_of (4 * length p.code);
       services = w.services;
       memory = w.machine.memory;
@@ -105,7 +105,7 @@ of_effect_serials p w (Goes s) = omega arith
 of_effect_serials p w (Faults fault) = tt
 of_effect_serials p w Calls =
     let c : Call = record {
-      keeper = granules;
+      keeper = run_keeper;
       layout = layout_of (4 * length p.code);
       services = w.services;
       memory = w.machine.memory;

@@ -8,7 +8,7 @@ use Rattle.rv_meaning.specs.Machine.{Loaded, memory_size, IsValidBase, written, 
 use Rattle.pli_serving.specs.ServiceState.{Services}
 use Rattle.pli_serving.specs.Answers.{Answer, Done}
 use Rattle.pli_serving.specs.Finding.{Call}
-use Rattle.granule_keeper.specs.Granules.{granules}
+use Rattle.run_keeper.specs.RunKeeper.{run_keeper}
 use Rattle.image_runs.specs.Runs.{Whole, Runs, layout_of}
 use Rattle.run_steps.specs.Unlimited.{serves, next, run_on}
 
@@ -38,7 +38,7 @@ most_code = 2 ^ 20
 -- a call, by its services and memory
 abbrev pub call_at : List Instr → Services → List ℕ → Call
 call_at code v m =
-    record { keeper = granules; layout = layout_of (4 * length code); services = v; memory = m }
+    record { keeper = run_keeper; layout = layout_of (4 * length code); services = v; memory = m }
 
 -- what the service answers that a machine calls
 unfoldable pub served : List Instr → Whole → Answer

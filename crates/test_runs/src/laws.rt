@@ -4,7 +4,7 @@ ghost use Rattle.test_runs.specs.Choices.{ChoicesDo};
 ghost use Rattle.test_runs.specs.Laws.{BitsDo};
 ghost use Rattle.test_runs.specs.Rows.{TurnRan};
 
-use granule_keeper::laws::granules_keep;
+use run_keeper::laws::run_keeper_keeps;
 
 /// Constants, comparisons and operators of bits leave what they mean in a register, at each point of a block.
 pub fn bits_do()
@@ -20,5 +20,5 @@ pub fn choices_do()
 pub fn turn_ran()
     ensures { TurnRan }
 {
-    granules_keep();
+    run_keeper_keeps();
 }

@@ -5,7 +5,7 @@ ghost use Rattle.text_runs.specs.Rows.{WaitRan};
 ghost use Rattle.text_runs.specs.Texts.{ErrorEnds};
 ghost use Rattle.text_runs.specs.Waiting.{TextsWait};
 
-use granule_keeper::laws::granules_keep;
+use run_keeper::laws::run_keeper_keeps;
 
 /// What is known of a block, and around its expressions, is known while texts wait.
 pub fn texts_wait()
@@ -27,5 +27,5 @@ pub fn texts_do()
 pub fn wait_ran()
     ensures { WaitRan }
 {
-    granules_keep();
+    run_keeper_keeps();
 }

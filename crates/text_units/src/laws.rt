@@ -3,7 +3,7 @@
 ghost use Rattle.text_units.specs.Raises.{RaisesWait};
 ghost use Rattle.text_units.specs.Rows.{RiseRan};
 
-use granule_keeper::laws::granules_keep;
+use run_keeper::laws::run_keeper_keeps;
 
 /// A unit is raised while texts wait as it is without: behind it they are there.
 pub fn raises_wait()
@@ -14,5 +14,5 @@ pub fn raises_wait()
 pub fn rise_ran()
     ensures { RiseRan }
 {
-    granules_keep();
+    run_keeper_keeps();
 }

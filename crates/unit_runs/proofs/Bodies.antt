@@ -16,7 +16,7 @@ use Rattle.pli_coding.specs.Assembly.{size_of}
 use Rattle.pli_coding.specs.Environments.{none_taken}
 use Rattle.pli_coding.specs.Statements.{stmt_code, stmts_code}
 use Rattle.area_keeper.specs.KeeperLaws.{Keeps}
-use Rattle.granule_keeper.specs.Granules.{granules}
+use Rattle.run_keeper.specs.RunKeeper.{run_keeper}
 use Rattle.activation_relation.specs.Landing.{closed, either}
 use Rattle.activation_relation.specs.Layers.{Point, services_of}
 use Rattle.run_steps.proofs.Linking.{size_append}
@@ -262,7 +262,7 @@ bodies_do = record { list = list_ends; first = first_ends; on = on_ends }
 -- ---- the program
 
 pub unit_program_runs :
-    Keeps granules → (k : Whole) (first : List ℕ) → IsWhole k first →
+    Keeps run_keeper → (k : Whole) (first : List ℕ) → IsWhole k first →
     (IsBegun (block_at (surroundings_of k.image) k.image.code (main_of k) (start_point k.image) no_numbers) →
     BodyDoes (block_at (surroundings_of k.image) k.image.code (main_of k) (start_point k.image) no_numbers) k.main.body
     (body_index (main_of k)) left_over) →

@@ -18,7 +18,7 @@ use Rattle.pli_meaning.specs.Placing as P
 use Rattle.pli_meaning.specs.Raising as R
 use Rattle.pli_meaning.specs.StorageState.{first_state, height_of}
 use Rattle.area_keeper.specs.KeeperLaws.{Keeps}
-use Rattle.granule_keeper.specs.Granules.{granules}
+use Rattle.run_keeper.specs.RunKeeper.{run_keeper}
 use Rattle.pli_serving.specs.Templates.{template_of}
 use Rattle.pli_coding.specs.Allocating.{act_code}
 use Rattle.pli_coding.specs.Assembly.{CallTo, JumpAhead, LabelPlace, Mark, OffsetAhead, Plain, ProcedureEntry}
@@ -596,7 +596,7 @@ loop_is input first acts few bytes =
     }
 
 pub loop_runs :
-    Keeps granules → (input first : List ℕ) (acts : ℕ) → acts + 1 < 2 ^ 64 → length first ≡ memory_size →
+    Keeps run_keeper → (input first : List ℕ) (acts : ℕ) → acts + 1 < 2 ^ 64 → length first ≡ memory_size →
     Comes (linked_code loop_code) 0 (first_family first (services_of (start_point (loop_image input acts))))
     (services_of (start_point (loop_image input acts))) never
     (run loop_program (suc acts) acts (first_state input))

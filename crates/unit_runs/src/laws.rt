@@ -15,7 +15,7 @@ ghost use Rattle.unit_runs.specs.Signals.{SignalsDo};
 ghost use Rattle.unit_runs.specs.UnitBeginnings.{UnitsBegin, UnitsEnd};
 ghost use Rattle.unit_runs.specs.UnitVariables.{UnitVariables};
 
-use granule_keeper::laws::granules_keep;
+use run_keeper::laws::run_keeper_keeps;
 
 /// ON with a unit makes it the newest block's own, and the run goes on over the unit's code.
 pub fn units_established()
@@ -72,47 +72,47 @@ pub fn signals_do()
 pub fn unit_programs_run()
     ensures { UnitProgramsRun }
 {
-    granules_keep();
+    run_keeper_keeps();
 }
 
 /// A worked row: a main procedure with a unit that assigns its variable and returns into the expression.
 pub fn mend_ran()
     ensures { MendRan }
 {
-    granules_keep();
+    run_keeper_keeps();
 }
 
 /// A worked row: a main procedure with a unit that jumps out of the expression to a label.
 pub fn skip_ran()
     ensures { SkipRan }
 {
-    granules_keep();
+    run_keeper_keeps();
 }
 
 /// A worked row: a main procedure with ON in a loop, whose unit, a single statement, jumps out of it.
 pub fn loop_ran()
     ensures { LoopRan }
 {
-    granules_keep();
+    run_keeper_keeps();
 }
 
 /// A worked row: a main procedure with a unit that is raised in a procedure that it calls.
 pub fn lend_ran()
     ensures { LendRan }
 {
-    granules_keep();
+    run_keeper_keeps();
 }
 
 /// A worked row: a main procedure with ON in a begin block, behind which the unit is gone.
 pub fn host_ran()
     ensures { HostRan }
 {
-    granules_keep();
+    run_keeper_keeps();
 }
 
 /// A worked row: a main procedure with a unit that has ON itself, and raises its condition again.
 pub fn deep_ran()
     ensures { DeepRan }
 {
-    granules_keep();
+    run_keeper_keeps();
 }

@@ -15,7 +15,7 @@ use Rattle.pli_meaning.specs.Making.{living_at}
 use Rattle.pli_meaning.specs.StorageState.{newest_height, most_automatic}
 use Rattle.pli_meaning.specs.declared.outcome.End.TheVariants as E
 use Rattle.pli_meaning.specs.declared.outcome.Limit.TheVariants as L
-use Rattle.granule_keeper.specs.Granules.{granules}
+use Rattle.run_keeper.specs.RunKeeper.{run_keeper}
 use Rattle.area_keeper.specs.Keeper.{Keeper}
 use Rattle.area_keeper.specs.KeeperLaws.{Keeps}
 use Rattle.area_keeper.specs.KeptAreas.{with_part}
@@ -113,7 +113,7 @@ owned_bytes :
     {w : Surroundings} {code : List Instr} {p : Point} {x : Declared} {φ : Layer} {φs : List Layer}
     (k : Around w code p x φ φs) (owner : ℕ) →
     bytes_of p.keeper (holder_of (living_at (p.state.serials + 1) owner (generation_for x)))
-    ≡ granules.bytes_for k.is.capacity
+    ≡ run_keeper.bytes_for k.is.capacity
 owned_bytes {p = p} {x = x} k owner =
     ap (λ o. bytes_of p.keeper (holder_by (generation_for x) o)) k.is.area
     ∙ ap (λ (u : Keeper). u.bytes_for k.is.capacity) k.image.keeper
@@ -245,7 +245,7 @@ made_stands {w} {p = p} {x = x} {φ = φ} {φs = φs} k = (
 -- the empty area in the bytes that are there
 abbrev pub area_data : Layer → Declared → (capacity : ℕ) → List ℕ → List ℕ
 area_data φ x capacity m =
-    granules.made capacity (bytes_at (granules.bytes_for capacity) (φ.at + (x.place + name_bytes)) m)
+    run_keeper.made capacity (bytes_at (run_keeper.bytes_for capacity) (φ.at + (x.place + name_bytes)) m)
 
 abbrev making_of : Point → Layer → Declared → (data' : List ℕ) → Making
 making_of p φ x data' =
@@ -263,14 +263,14 @@ made_memory p φ x capacity m =
     with_part (B.name_bytes (VariableName (p.state.serials + 1))) (φ.at + x.place)
     (with_part (area_data φ x capacity m) (φ.at + (x.place + name_bytes)) m)
 
-keeps_granules : {k : Keeper} → k ≡ granules → Keeps k → Keeps granules
-keeps_granules e h = subst Keeps e h
+keeps_areas : {k : Keeper} → k ≡ run_keeper → Keeps k → Keeps run_keeper
+keeps_areas e h = subst Keeps e h
 
 -- it is one, of as many bytes
 data_is :
     {w : Surroundings} {code : List Instr} {p : Point} {x : Declared} {φ : Layer} {φs : List Layer} (m : List ℕ)
     (k : Around w code p x φ φs) → length m ≡ memory_size → Holds (now p m) → (owner : ℕ) →
-    (length (area_data φ x k.is.capacity m) ≡ granules.bytes_for k.is.capacity)
+    (length (area_data φ x k.is.capacity m) ≡ run_keeper.bytes_for k.is.capacity)
     × Standing.Stands p.keeper p.places.signatures
     (holder_of (living_at (p.state.serials + 1) owner (generation_for x))) (area_data φ x k.is.capacity m)
 data_is {w} {p = p} {x = x} {φ = φ} m k bytes h owner =
@@ -282,13 +282,13 @@ data_is {w} {p = p} {x = x} {φ = φ} m k bytes h owner =
     let holds = k.is.holds in
     let fits = k.is.fits in
     let keeper = k.image.keeper in
-    let old = bytes_at (granules.bytes_for c) place m in
-    let long : length old ≡ granules.bytes_for c =
-    length_part place (granules.bytes_for c) m (omega (arith, holds, fits, high, last, bytes)) in
-    let r = begins_area granules (keeps_granules keeper h.keeps) p.places.signatures (p.state.serials + 1) owner c
+    let old = bytes_at (run_keeper.bytes_for c) place m in
+    let long : length old ≡ run_keeper.bytes_for c =
+    length_part place (run_keeper.bytes_for c) m (omega (arith, holds, fits, high, last, bytes)) in
+    let r = begins_area run_keeper (keeps_areas keeper h.keeps) p.places.signatures (p.state.serials + 1) owner c
     (generation_for x) old k.is.area k.is.rounded k.is.bounded long in
     let holder = holder_of (living_at (p.state.serials + 1) owner (generation_for x)) in (
-      r.0 ∙ ap (λ o'. bytes_of granules (holder_by (generation_for x) o')) k.is.area,
+      r.0 ∙ ap (λ o'. bytes_of run_keeper (holder_by (generation_for x) o')) k.is.area,
       subst (λ u. Standing.Stands u p.places.signatures holder (area_data φ x c m)) (sym keeper) r.1,
     )
 
@@ -355,7 +355,7 @@ made_holding {w} {p = p} {x = x} {φ = φ} m k bytes h =
 made_beside :
     {w : Surroundings} {code : List Instr} {p : Point} {x : Declared} {φ : Layer} {φs : List Layer} (m : List ℕ)
     (k : Around w code p x φ φs) → length m ≡ memory_size → Holds (now p m) →
-    IsBeside (φ.at + x.place) (name_bytes + granules.bytes_for k.is.capacity) m (made_memory p φ x k.is.capacity m)
+    IsBeside (φ.at + x.place) (name_bytes + run_keeper.bytes_for k.is.capacity) m (made_memory p φ x k.is.capacity m)
 made_beside {w} {p = p} {x = x} {φ = φ} m k bytes h =
     let o = bounded k in
     let high = o.high in
@@ -366,7 +366,7 @@ made_beside {w} {p = p} {x = x} {φ = φ} m k bytes h =
     let g = area_data φ x k.is.capacity m in
     let size = (data_is m k bytes h 0).0 in
     let named = B.name_bytes (VariableName (p.state.serials + 1)) in
-    let n = name_bytes + granules.bytes_for k.is.capacity in
+    let n = name_bytes + run_keeper.bytes_for k.is.capacity in
     let e : at + name_bytes ≡ φ.at + (x.place + name_bytes) = omega arith in
     let z : at + 0 ≡ at = omega arith in
     let first = subst (λ i. IsBeside at n m (with_part g i m)) e
@@ -389,7 +389,7 @@ frames_stay {w} {p = p} {x = x} {φ = φ} {φs = φs} base m k bytes h frames =
     let here = k.is.here in
     let new = made_memory p φ x k.is.capacity m in
     let at = φ.at + x.place in
-    let n = name_bytes + granules.bytes_for k.is.capacity in
+    let n = name_bytes + run_keeper.bytes_for k.is.capacity in
     let kept = frames_kept w.parts base at n m new p.state.activations p.control.layers frames k.stands.laid
     (beside_above w.parts at n p.control.layers k.stands.laid (omega (arith, top, here))) (made_beside m k bytes h) in
     subst (FramesStand w.parts base new p.state.activations) k.is.newest kept
@@ -530,7 +530,7 @@ made_answer {w} {code} {p} {x} {φ} {φs} m k bytes h small' =
     let limit : G.passes_limit v owner g ≡ false =
     limit_same (now p m) h owner g ∙ limit_kept (owner == 0) _ k.is.limit in
     let t1 : nat_le (4 * length code) place ≡ true = le-leb _ _ (omega (arith, low, first, small')) in
-    let t2 : nat_le (place + granules.bytes_for k.is.capacity) memory_size ≡ true =
+    let t2 : nat_le (place + run_keeper.bytes_for k.is.capacity) memory_size ≡ true =
     le-leb _ _ (omega (arith, holds, fits, high, last)) in
     let t3 : nat_le (4 * length code) name ≡ true = le-leb _ _ (omega (arith, low, first, small')) in
     let t4 : nat_le (name + 16) memory_size ≡ true = le-leb _ _ (omega (arith, holds, fits, high, last)) in
@@ -546,9 +546,9 @@ made_answer {w} {code} {p} {x} {φ} {φs} m k bytes h small' =
     ∙ ap (λ q. cond q (run_ended (E.Limit L.Automatic) v)
     (U.variable_made c name x.number place owner (p.state.serials + 1) g)) limit
     ∙ ap (λ q. bad_unless ((nat_le (4 * length code) place
-    && nat_le (place + bytes_taken granules shape q) memory_size)
+    && nat_le (place + bytes_taken run_keeper shape q) memory_size)
     && (nat_le (4 * length code) name && nat_le (name + 16) memory_size)) done) k.is.fixed
-    ∙ ap (λ q. bad_unless ((q && nat_le (place + granules.bytes_for k.is.capacity) memory_size)
+    ∙ ap (λ q. bad_unless ((q && nat_le (place + run_keeper.bytes_for k.is.capacity) memory_size)
     && (nat_le (4 * length code) name && nat_le (name + 16) memory_size)) done) t1
     ∙ ap (λ q. bad_unless (q && (nat_le (4 * length code) name && nat_le (name + 16) memory_size)) done) t2
     ∙ ap (λ q. bad_unless (q && nat_le (name + 16) memory_size) done) t3

@@ -5,7 +5,7 @@ use Rattle.pli_meaning.specs.Contents.{footprint_of}
 use Rattle.pli_meaning.specs.DeclaredShapes.{initial_of, shape_of}
 use Rattle.pli_meaning.specs.StorageState.{area_of_leaves, automatic_in_use, most_automatic}
 use Rattle.area_keeper.specs.KeeperLaws.{greatest_capacity}
-use Rattle.granule_keeper.specs.Granules.{granules}
+use Rattle.run_keeper.specs.RunKeeper.{run_keeper}
 use Rattle.pli_serving.specs.Arguments.{capacity_of}
 use Rattle.pli_serving.specs.InitialValues.{none_initial}
 use Rattle.pli_serving.specs.Templates.{shape_at}
@@ -21,7 +21,7 @@ pub record IsArea (w : Surroundings) (p : Point) (x : Declared) (φ : Layer) (φ
   pub here : φ.at + x.place ≡ φ.top
   -- what it holds; its data take what its keeper adds, too
   pub capacity : ℕ
-  pub holds : x.place + name_bytes + granules.bytes_for capacity ≤ place_behind w.parts x
+  pub holds : x.place + name_bytes + run_keeper.bytes_for capacity ≤ place_behind w.parts x
   pub size : x.place + name_bytes + data_size (shape_of [] x.declared).signature ≤ place_behind w.parts x
   pub fits : φ.at + place_behind w.parts x ≤ φ.lower
   pub even : (φ.at + place_behind w.parts x) % 16 ≡ 0

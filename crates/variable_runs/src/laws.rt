@@ -4,7 +4,7 @@ ghost use Rattle.variable_runs.specs.Known.{VariablesKnown};
 ghost use Rattle.variable_runs.specs.Lists.{AllAmong, AllMade};
 ghost use Rattle.variable_runs.specs.Rows.{PairRan};
 
-use granule_keeper::laws::granules_keep;
+use run_keeper::laws::run_keeper_keeps;
 
 /// A procedure makes the variables that it declares, one behind the other, where its block begins.
 pub fn all_made()
@@ -25,5 +25,5 @@ pub fn variables_known()
 pub fn pair_ran()
     ensures { PairRan }
 {
-    granules_keep();
+    run_keeper_keeps();
 }

@@ -3,4 +3,4 @@ use Rattle.block_headlines.proofs.laws.headlines_kept.Goals as goal
 
 pub returns : goal.returns
 returns c = kept (record { stays = c.storage_stays.ensures; allowed = c.storage_acts_allowed.ensures })
-    c.granules_keep.ensures
+    c.run_keeper_keeps.ensures

@@ -3,4 +3,4 @@ use Rattle.block_headlines.proofs.laws.headlines_of_rows.Goals as goal
 
 pub returns : goal.returns
 returns c = rows_kept (record { stays = c.storage_stays.ensures; allowed = c.storage_acts_allowed.ensures })
-    c.granules_keep.ensures c.marked_once.ensures c.table_differs.ensures
+    c.run_keeper_keeps.ensures c.marked_once.ensures c.table_differs.ensures

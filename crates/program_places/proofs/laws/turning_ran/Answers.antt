@@ -4,6 +4,6 @@ use Rattle.program_places.proofs.laws.turning_ran.Goals as goal
 pub returns : goal.returns
 returns c =
     record {
-      runs = turning_runs c.granules_keep.ensures c.marked_once.ensures c.table_differs.ensures;
+      runs = turning_runs c.run_keeper_keeps.ensures c.marked_once.ensures c.table_differs.ensures;
       goes_on = turning_goes_on;
     }

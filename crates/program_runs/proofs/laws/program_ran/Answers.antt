@@ -3,4 +3,4 @@ use Rattle.program_runs.proofs.Rows.{row_runs, row_ends}
 use Rattle.program_runs.proofs.laws.program_ran.Goals as goal
 
 pub returns : goal.returns
-returns c = record { runs = row_runs c.granules_keep.ensures; code = refl; ends = row_ends }
+returns c = record { runs = row_runs c.run_keeper_keeps.ensures; code = refl; ends = row_ends }

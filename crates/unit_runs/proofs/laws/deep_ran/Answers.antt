@@ -2,4 +2,4 @@ use Rattle.unit_runs.proofs.DeepRows.{deep_ends, deep_runs}
 use Rattle.unit_runs.proofs.laws.deep_ran.Goals as goal
 
 pub returns : goal.returns
-returns c = record { runs = deep_runs c.granules_keep.ensures; ends = deep_ends }
+returns c = record { runs = deep_runs c.run_keeper_keeps.ensures; ends = deep_ends }

@@ -2,4 +2,4 @@ use Rattle.unit_runs.proofs.LoopRows.{loop_ends, loop_runs}
 use Rattle.unit_runs.proofs.laws.loop_ran.Goals as goal
 
 pub returns : goal.returns
-returns c = record { runs = loop_runs c.granules_keep.ensures; ends = loop_ends }
+returns c = record { runs = loop_runs c.run_keeper_keeps.ensures; ends = loop_ends }
