@@ -320,7 +320,7 @@ call_piece {e} {block} {types} bl {links} {code} around more head body callee st
     })
     (omega (arith, enough)) (omega (arith, behind))
     (λ number owned once. let no : head.level ≡ 0 = ap owner_level owned in absurd (omega (arith, no, next)))
-    (acted_does (made_block cb vars (makes back h t) s2.serials) head.line fits (ended_does (made_block cb vars (makes back h t) s2.serials) here (does' back h t s2.serials)))
+    (acted_does (made_block cb vars (makes back h t) s2.serials) head.line fits (ended_does (made_block cb vars (makes back h t) s2.serials) here body (does' back h t s2.serials)))
     (front_of cs en l3)
     (record {
       world = serving.world;

@@ -182,9 +182,9 @@ declaring_code_is e head body next are =
 -- ---- what it does
 
 -- its list is no function's
-pub ended_does : {e : Environment} {block : Names} {types : Types} (bl : Block e block types) {links : Links} {code : List Instr} {turns : ℕ} {c : Code} {body : Y.Stmts} (around : Around) → Does bl links code turns c (M.list around body) → Does bl links code turns c (M.block_list around body false)
+pub ended_does : {e : Environment} {block : Names} {types : Types} (bl : Block e block types) {links : Links} {code : List Instr} {turns : ℕ} {c : Code} (around : Around) (body : Y.Stmts) → Does bl links code turns c (M.list around body) → Does bl links code turns c (M.block_list around body false)
 unfolding M.block_list
-ended_does bl around d = d
+ended_does bl around body d = d
 
 -- the block, with its variables made, where service 7 gives them serial numbers from one on
 abbrev pub MadeDoes : {e : Environment} {block : Names} {types : Types} (bl : Block e block types) (inner : Inner bl) (head : Y.BlockHead) (next : head.level ≡ suc e.level) (filled : IsFilled bl) → ((t0 : ℕ → ℕ) → Makes (inner_block bl inner t0 head.number head.level next filled) 0 (vars_of e head)) → Links → List Instr → (more : ℕ) → Y.Stmts → Type 1
@@ -252,7 +252,7 @@ declaring_piece {e} {block} {types} bl {links} {code} around more head body inne
       later = o.later;
       leaves = λ s' v' f' a world running allowed fits' alone at'. o.leaves (with_world s'.world (newest_ended s')) v' f' a world running allowed fits' alone at';
     })
-    (ended_does (made_block ib vars (makes t) s2.serials) here (does' t s2.serials))
+    (ended_does (made_block ib vars (makes t) s2.serials) here body (does' t s2.serials))
     (front_of c3 c4 l3)
     (record {
       world = serving.world;

@@ -260,7 +260,7 @@ unit_piece {e} {block} {types} bl {links} {code} main mains has around more m ca
     })
     (omega (arith, enough)) (omega (arith, behind))
     (λ number' owned once. absurd (unit_apart head head.kind level number' owned))
-    (acted_does (made_block ub vars makes s2.serials) head.line can.line (ended_does (made_block ub vars makes s2.serials) here (can.does m next deep (S.OnUnitBlock oncode (4 * resume), length v.edits) back h t s2.serials)))
+    (acted_does (made_block ub vars makes s2.serials) head.line can.line (ended_does (made_block ub vars makes s2.serials) here body (can.does m next deep (S.OnUnitBlock oncode (4 * resume), length v.edits) back h t s2.serials)))
     ls
     (record {
       world = serving.world;

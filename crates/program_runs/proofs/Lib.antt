@@ -7,6 +7,7 @@ pub mod Statements
 pub mod Constants
 pub mod NewestBlocks
 pub mod Gotos
+pub mod ListEnds
 pub mod Lists
 pub mod Calls
 pub mod CallStatements
