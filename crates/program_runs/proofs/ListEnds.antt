@@ -44,7 +44,8 @@ ends_from :
     ≡ flow_on k (list_from turns height labels part from k s) (λ u. end)
 unfolding list_from ◌>>◌
 ends_from zero height labels part end from k s h = refl
-ends_from (suc n) height labels part end from k s h = by (part from k s) h
+ends_from (suc n) height labels part end from k s h =
+    by (part from k s) (λ label s' p. ends_from n height labels part end (Some label) k s' p) h
   where
     before : Label → Meaning (Unit {0})
     before label = list_from n height labels part (Some label)
@@ -52,25 +53,30 @@ ends_from (suc n) height labels part end from k s h = by (part from k s) h
     now : Label → Meaning (Unit {0})
     now label = list_from n height labels (with_end part end) (Some label)
 
+    Again : Type 0
+    Again =
+        (label : Label) (s' : State) → IsPast height labels (flow_on k (before label k s') (λ u. end)) →
+        now label k s' ≡ flow_on k (before label k s') (λ u. end)
+
     on :
-        (q : Bool) (h' : ℕ) (label : Label) (s' : State) →
+        (q : Bool) (h' : ℕ) (label : Label) (s' : State) → Again →
         IsPast height labels (flow_on k (cond q (before label k s') (Jump h' label s')) (λ u. end)) →
         cond q (now label k s') (Jump h' label s')
         ≡ flow_on k (cond q (before label k s') (Jump h' label s')) (λ u. end)
-    on true h' label s' p = ends_from n height labels part end (Some label) k s' p
-    on false h' label s' p = refl
+    on true h' label s' again p = again label s' p
+    on false h' label s' again p = refl
 
     by :
-        (flow : Flow (Unit {0})) →
+        (flow : Flow (Unit {0})) → Again →
         IsPast height labels (flow_on k (caught k height labels flow before) (λ u. end)) →
         caught k height labels (flow_on k flow (λ u. end)) now
         ≡ flow_on k (caught k height labels flow before) (λ u. end)
-    by (Normal r s') p = past_caught k height labels (end k s') now p
-    by (Jump h' label s') p = on ((h' == height) && is_among label labels) h' label s' p
-    by (Return v s') p = refl
-    by (F.Ended s') p = refl
-    by (Paused s') p = refl
-    by Stuck p = refl
+    by (Normal r s') again p = past_caught k height labels (end k s') now p
+    by (Jump h' label s') again p = on ((h' == height) && is_among label labels) h' label s' again p
+    by (Return v s') again p = refl
+    by (F.Ended s') again p = refl
+    by (Paused s') again p = refl
+    by Stuck again p = refl
 
 abbrev ended_flow : Around → Y.Stmts → ℕ → State → Flow (Unit {0})
 ended_flow around body k s = flow_on k (M.list around body k s) (λ u. error around no_value_code)
