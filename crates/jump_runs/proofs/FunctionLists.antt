@@ -60,11 +60,11 @@ exits_since k acts more c f v flow few o =
 
 -- a label of a block further out is none of the list's
 elsewhere :
-    (k : Block) (body : Y.Stmts) (acts : ℕ) {c : ℕ} {f : Family} {v : Services} → IsBegun k →
+    (k : Block) (body : Y.Stmts) (acts c : ℕ) (f : Family) (v : Services) → IsBegun k →
     IsAmong k k.call.numbers k.first → (height : ℕ) (label : Label) (s : State) →
     JumpsOut k.call.surroundings k.call.code k.outers acts c f v height label (closed s) →
     (height == newest_height k.first.state.activations) && is_among label (M.labels_in body) ≡ false
-elsewhere k body acts {c} {f} {v} b o height label s out =
+elsewhere k body acts c f v b o height label s out =
     let w = k.call.surroundings in
     let low = outs_low w k.call.code k.outers k.call.point acts c f v height label (closed s) b.outer out in
     let same = newest_own (newest_at b o) in
@@ -99,7 +99,7 @@ each_ends k body index z marks each ends f there =
     let l = front_of (stmts_code k.environment none_taken body) (no_value k.around.line) z.linked in
     let inside = l.inside in
     let called = z.called in
-    list_comes k.around body w.acts k.first.state (elsewhere k body acts z.begun z.among)
+    list_comes k.around body w.acts k.first.state (elsewhere k body acts 0 f (services_of k.first) z.begun z.among)
     (comes_on w.acts flow next'
     (comes_map (statement_aims k [] first (behind_list k body index) 0 left_over)
     (before code aims w.acts next') flow
@@ -133,7 +133,7 @@ all_ends k body index z marks all ends f there =
     let l = front_of (stmts_code k.environment none_taken body) (no_value k.around.line) z.linked in
     let inside = l.inside in
     let called = z.called in
-    list_comes k.around body w.acts k.first.state (elsewhere k body acts z.begun z.among)
+    list_comes k.around body w.acts k.first.state (elsewhere k body acts 0 f (services_of k.first) z.begun z.among)
     (comes_on w.acts flow next'
     (comes_map (past_aims k body index first (behind_list k body index) 0 left_over) (before code aims w.acts next')
     flow
