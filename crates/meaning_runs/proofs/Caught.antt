@@ -1,25 +1,34 @@
--- The program whose jump is lost is well formed, and its run is computed.
-use Rattle.std.proofs.Common.{◌≡◌, ℕ, zero, suc, ◌<◌, ◌≤◌, [], ◌∷◌, None, refl, subst, arith, inl, inr}
+-- The program whose jump is caught at the end of a function is well formed and plain, and its run is computed.
+use Rattle.std.proofs.Common.{◌≡◌, ℕ, zero, suc, ◌<◌, ◌≤◌, [], ◌∷◌, Some, refl, subst, arith, inl, inr}
 use Rattle.std.proofs.lemmas.Bool.Decides.{nat_tests}
+use Rattle.pli_language.specs.declared.condition.Condition.TheVariants as C
+use Rattle.pli_language.specs.Formats as Q
+use Rattle.pli_meaning.specs.declared.outcome.End.TheVariants as E
 use Rattle.pli_typing.specs.TypedTree as Y
 use Rattle.pli_meaning.specs.Control as F
 use Rattle.pli_meaning.specs.Raising as R
 use Rattle.pli_meaning.specs.Evaluating as V
 use Rattle.pli_meaning.specs.Making as K
+use Rattle.pli_meaning.specs.Streaming as S
 use Rattle.pli_meaning.specs.Executing as M
 use Rattle.well_formed_trees.specs.Surroundings.{Around, Table}
 use Rattle.well_formed_trees.specs.Blocks.{times}
+use Rattle.well_formed_trees.specs.Ranges.{IsFormatList}
 use Rattle.well_formed_trees.specs.WellFormed as T
-use Rattle.meaning_runs.specs.Plain.{AnyGoto, IsPlain}
-use Rattle.meaning_runs.specs.Lost.{head, main_body, function_body, main, function, function_left, JumpLost}
+use Rattle.meaning_runs.specs.Plain.{IsPlain}
+use Rattle.meaning_runs.specs.Caught.{head, formats, main_body, function_body, main, function, function_ends}
+use Rattle.meaning_runs.specs.Caught.{JumpCaught}
 
-lost : M.meaning function_left [] 20 ≡ None
+caught :
+    M.meaning function_ends [] 20
+    ≡ Some (record { acts = 12; output = 65 ∷ 10 ∷ []; raised = (C.Error, 112) ∷ []; end = E.Finished })
 unfolding F.give F.stuck F.◌>>=◌ F.◌>>◌ F.looked F.stored F.act F.finish F.returns F.jumps F.choose F.given F.list_from
-    F.repeated_while F.leaving R.error_unit_run R.error V.all_passed_last V.procedure_entered V.returned V.bit V.called
-    V.arguments V.argument V.stored_value K.variables_made K.parameters_bound M.list_with M.established_by M.statement
-    M.statements M.list M.block_variables_made M.entry_act M.block_list M.block_body M.block_run M.entered M.run
-    M.meaning
-lost = refl
+    F.repeated_while F.leaving R.error_unit_run R.error V.all_passed_last V.procedure_entered V.returned V.bit V.text
+    V.called V.arguments V.argument V.stored_value V.computational K.variables_made K.parameters_bound S.controls
+    S.next_item S.control_put S.shown_by S.item_put S.items_put S.pairs_put S.put M.list_with M.established_by
+    M.statement M.statements M.list M.block_variables_made M.entry_act M.block_list M.block_body M.block_run M.entered
+    M.run M.meaning
+caught = refl
 
 -- ---- the blocks
 
@@ -27,7 +36,7 @@ abbrev main_around : Around
 main_around = record { number = 1; level = 0; outermost = []; inner = [] }
 
 abbrev function_around : Around
-function_around = record { number = 2; level = 1; outermost = (76 ∷ []) ∷ []; inner = [] }
+function_around = record { number = 2; level = 1; outermost = (76 ∷ []) ∷ (78 ∷ []) ∷ []; inner = [] }
 
 abbrev table : Table
 table = [] ∷ (main_around ∷ []) ∷ (function_around ∷ main_around ∷ []) ∷ []
@@ -63,7 +72,7 @@ nested (suc (suc zero)) own outer e =
     let same : main_around ∷ [] ≡ outer = cc e in subst (T.IsBehind table 2) same (omega arith, between)
 nested (suc (suc (suc n))) own outer e = absurd (cc e)
 
-variables : (number : ℕ) → T.DeclaresSound table function_left number
+variables : (number : ℕ) → T.DeclaresSound table function_ends number
 variables zero around e = tt
 variables (suc zero) around e = tt
 variables (suc (suc zero)) around e = tt
@@ -71,7 +80,11 @@ variables (suc (suc (suc n))) around e = absurd (cc e)
 
 -- ---- the procedures
 
-main_sound : T.SoundProcedure table function_left main
+has_data : IsFormatList Q.Putting formats
+unfolding Q.formats_move_data
+has_data = record { formats_are = ((omega arith, omega arith), (tt, tt)); moves_data = refl }
+
+main_sound : T.SoundProcedure table function_ends main
 main_sound =
     record {
       head = head Y.ProcedureBlock 1 0;
@@ -104,7 +117,10 @@ main_sound =
               tt,
             ),
           ),
-          (omega arith, omega arith),
+          (
+            (tt, (((has_data, (omega arith, tt)), tt), omega arith)),
+            omega arith,
+          ),
         ),
         tt,
       );
@@ -114,7 +130,7 @@ main_sound =
       result = tt;
     }
 
-function_sound : T.SoundProcedure table function_left function
+function_sound : T.SoundProcedure table function_ends function
 function_sound =
     record {
       head = head Y.ProcedureBlock 2 1;
@@ -130,15 +146,15 @@ function_sound =
           (refl, (record { line = omega arith; level = refl }, tt)),
           (((inr (inl (refl, refl)), omega arith), tt), omega arith),
         ),
-        tt,
+        ((inl (refl, refl), omega arith), ((refl, (tt, (tt, omega arith))), tt)),
       );
-      labels = ((refl, tt), ((tt, (tt, tt)), tt));
+      labels = ((refl, (refl, tt)), ((tt, (tt, tt)), (tt, (tt, tt))));
       parameters = tt;
       apart = tt;
       result = tt;
     }
 
-well_formed : T.IsWellFormed function_left
+well_formed : T.IsWellFormed function_ends
 well_formed =
     record {
       table = table;
@@ -152,12 +168,12 @@ well_formed =
       variables = variables;
     }
 
-plain : IsPlain AnyGoto function_left
+plain : IsPlain function_ends
 plain =
     record {
-      procedures = ((((tt, tt), tt), tt), (((tt, tt), tt), tt));
+      procedures = ((((tt, tt), ((tt, tt), tt)), tt), (((tt, tt), (tt, (tt, tt))), tt));
       variables = (tt, (tt, (tt, tt)));
     }
 
-pub jump_lost : JumpLost
-jump_lost = record { well_formed = well_formed; plain = plain; lost = lost }
+pub jump_caught : JumpCaught
+jump_caught = record { well_formed = well_formed; plain = plain; caught = caught }
