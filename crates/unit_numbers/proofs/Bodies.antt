@@ -149,6 +149,8 @@ main_ready once {program} m input more past few b known =
       variables = λ x h. past_numbers k past x (main_number m input (suc more) x (own_known m input (suc more) x h) b);
       arrays = λ may x h. past_array k past x (bounds_known (own_scope program m.head) x)
           (main_array m input (suc more) x h b);
+      parameters = λ x h. absurd (cc h);
+      given = λ may. absurd (cc may);
       calls = main_calls once m input more past few b known;
       puts = λ e. absurd (cc e);
       loops = λ e. absurd (cc e);

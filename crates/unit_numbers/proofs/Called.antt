@@ -1,6 +1,6 @@
 -- Procedures and functions of level 1 that the main procedure calls, whatever units it has by then.
-use Rattle.std.proofs.Common.{◌≡◌, ℕ, suc, ◌+◌, ◌*◌, ◌^◌, ◌<◌, ◌≤◌, List, [], ◌∷◌, ◌++◌, Option, None, Some}
-use Rattle.std.proofs.Common.{true, false, length, refl, sym, ap, ◌∙◌, subst, arith, inl, inr, ◌⊎◌}
+use Rattle.std.proofs.Common.{◌≡◌, ℕ, suc, ◌+◌, ◌^◌, ◌<◌, ◌≤◌, List, [], ◌∷◌, ◌++◌, Option, None, Some, true, false}
+use Rattle.std.proofs.Common.{length, refl, sym, ap, ◌∙◌, subst, arith, inl, inr, ◌⊎◌}
 use Rattle.std.specs.Prelude.{◌&&◌, ◌==◌, ◌||◌, Bool, cond, nat_le, nat_lt}
 use Rattle.std.proofs.lemmas.Bool.{and_parts, eqb-true, leb-true, or_cases}
 use Rattle.std.proofs.lemmas.Option.{same_Some}
@@ -9,7 +9,7 @@ use Rattle.pli_meaning.specs.Control.{Label}
 use Rattle.pli_meaning.specs.DeclaredShapes.{declared_variable, head_of, procedure_numbered, variables_of_block}
 use Rattle.pli_meaning.specs.Executing.{entered, labels_in}
 use Rattle.pli_meaning.specs.StorageState.{Activation, ancestor, automatic_in_use, height_of, most_activations}
-use Rattle.pli_coding.specs.Frames.{fixed_size, parameters_in}
+use Rattle.pli_coding.specs.Frames.{parameters_in}
 use Rattle.pli_coding.specs.Images.{linked_code, place_of_head}
 use Rattle.pli_coding.specs.Registers.{held_registers}
 use Rattle.activation_relation.specs.Chains.{HasParent}
@@ -34,7 +34,7 @@ use Rattle.number_runs.proofs.Uncounted.{words_none}
 use Rattle.number_runs.proofs.Words.{words_anywhere}
 use Rattle.number_headlines.specs.Programs.{body_of, has_result, is_body, most_waiting}
 use Rattle.number_headlines.proofs.Mains.{made_for, procedure_is, result_of}
-use Rattle.number_headlines.proofs.Tables.{block_plain, has_table}
+use Rattle.number_headlines.proofs.Tables.{all_known, block_plain, has_table}
 use Rattle.unit_runs.specs.Changing.{IsPast, Past}
 use Rattle.unit_runs.proofs.Changing.{begun_after}
 use Rattle.unit_runs.proofs.OwnRaises.{past_like}
@@ -139,7 +139,7 @@ pub no_inner_words :
 no_inner_words {program} m {valued} i =
     let plain = block_plain program.variables i.head.number m.plain in
     words_none (called_scope program m.head i.head i.writes) valued (environment_for program i.head) i.head.number
-    i.body refl plain.plain i.statements i.fits
+    i.body (refl, refl) plain.plain i.statements i.fits
 
 pub inner_room :
     {program : Y.Program} (m : Main program) {valued : Bool} {number : ℕ} (i : Inner m valued number)
@@ -209,7 +209,7 @@ inner_words {program} m {valued} i input acts past more call end numbers =
       few = plain.few;
       tabled =
           subst (λ t. AreTabled (environment_for program i.head) t (variables_of_block program i.head.number))
-          (sym (past'.signatures ∙ same.signatures)) (has_table program i.head m.plain);
+          (sym (past'.signatures ∙ same.signatures)) (has_table program i.head (all_known program.variables m.plain));
       room = record {
         newest = refl;
         here = refl;

@@ -1,13 +1,14 @@
 -- Calls of procedures and functions of level 1 by the main procedure, whatever units it has by then: raises in them
 -- come to its units.
-use Rattle.std.proofs.Common.{◌≡◌, ℕ, zero, suc, ◌+◌, ◌^◌, ◌<◌, List, [], ◌∷◌, ◌++◌, Option, Some, None}
-use Rattle.std.proofs.Common.{true, false, inl, inr, refl, sym, ap, ◌∙◌, subst, arith}
+use Rattle.std.proofs.Common.{◌≡◌, ℕ, zero, suc, ◌+◌, ◌^◌, ◌<◌, List, [], ◌∷◌, ◌++◌, Option, Some, None, true, false}
+use Rattle.std.proofs.Common.{inl, inr, refl, sym, ap, ◌∙◌, subst, arith}
 use Rattle.std.specs.Prelude.{Bool, not, ◌==◌}
 use Rattle.std.proofs.lemmas.Bool.{and_parts, eqb-true}
 use Rattle.pli_language.specs.declared.condition.Condition.TheVariants as C
 use Rattle.pli_typing.specs.Signatures.{Fixed}
 use Rattle.pli_typing.specs.TypedTree as Y
 use Rattle.pli_meaning.specs.Control.{Label}
+use Rattle.pli_meaning.specs.DeclaredShapes.{variables_of_block}
 use Rattle.pli_meaning.specs.Executing.{begun, labels_in}
 use Rattle.pli_meaning.specs.Raising.{Entry}
 use Rattle.pli_meaning.specs.World.{World}
@@ -25,15 +26,14 @@ use Rattle.run_steps.proofs.Jumps.{back_of}
 use Rattle.run_steps.proofs.Linking.{size_append}
 use Rattle.block_runs.specs.Bodies.{Function}
 use Rattle.block_runs.proofs.CallStatements.{given_code, own_code}
-use Rattle.program_places.specs.Programs.{behind_body, body_for, code_for, environment_for, links_for}
-use Rattle.program_places.specs.Programs.{procedures_index, program_environment}
+use Rattle.program_places.specs.Programs.{behind_body, body_for, code_for, environment_for, links_for, procedures_index}
+use Rattle.program_places.specs.Programs.{program_environment}
 use Rattle.program_places.proofs.Blocks.{own_block}
 use Rattle.program_places.proofs.Callees.{callee_stands, end_is}
 use Rattle.program_places.proofs.Functions.{function_end_is, function_stands}
 use Rattle.program_places.proofs.Labels.{are_marked}
 use Rattle.program_places.proofs.Procedures.{body_placed, raise_routines}
 use Rattle.program_runs.specs.Calls.{left_over}
-use Rattle.program_runs.specs.Procedures.{block_of}
 use Rattle.program_runs.specs.Starts.{no_numbers}
 use Rattle.program_runs.specs.Statements.{AreMarked, Block, Does, DoesWith, EachDoes, IsAmong, IsBegun, set_aside}
 use Rattle.program_runs.proofs.CallStatements.{statement_at}
@@ -52,7 +52,7 @@ use Rattle.number_runs.specs.Knowledge.{Includes, IsHome, IsReady, KnowsCalls, K
 use Rattle.element_runs.specs.Subscripts.{SubscriptComes}
 use Rattle.element_runs.proofs.Outside.{subscripts_end}
 use Rattle.number_runs.proofs.Statements.{body_does}
-use Rattle.number_runs.proofs.Takes.{registers_held}
+use Rattle.number_runs.proofs.Takes.{plain_known, registers_held}
 use Rattle.number_headlines.proofs.Mains.{result_of}
 use Rattle.number_headlines.proofs.Puts.{error_routine, lists_known}
 use Rattle.number_headlines.proofs.Tables.{block_plain}
@@ -61,11 +61,11 @@ use Rattle.unit_runs.proofs.Changing.{begun_after}
 use Rattle.unit_runs.proofs.InnerLists.{each_list}
 use Rattle.unit_numbers.specs.Calls.{called_scope, may_call}
 use Rattle.unit_numbers.specs.Units.{own_scope}
-use Rattle.unit_numbers.proofs.Called.{Inner, IsVisit, Visit, inner_for, inner_is, inner_room, site_for}
-use Rattle.unit_numbers.proofs.Called.{visit_begun, visit_callee, visit_made}
+use Rattle.unit_numbers.proofs.Called.{Inner, IsVisit, Visit, inner_for, inner_is, inner_room, site_for, visit_begun}
+use Rattle.unit_numbers.proofs.Called.{visit_callee, visit_made}
 use Rattle.unit_numbers.proofs.Established.{InForce, error_system, in_force}
 use Rattle.unit_numbers.proofs.Past.{main_past}
-use Rattle.unit_numbers.proofs.Mains.{Main, block_for, list_of, most_for, run_for, start_for, surroundings_for}
+use Rattle.unit_numbers.proofs.Mains.{Main, block_for, list_of, most_for, run_for, start_for}
 use Rattle.unit_numbers.proofs.Puts.{settled_writes}
 use Rattle.unit_numbers.proofs.Raises.{entry_low}
 use Rattle.unit_numbers.proofs.Visits.{visit_array, visit_block, visit_divides, visit_number, visit_overflow}
@@ -203,6 +203,8 @@ called_ready once {program} m i v more past entry function h b home =
       raises = called_raises once m i v more past entry function (labels_in i.body ++ []) h b;
       variables = λ x known. visit_number m i v more past entry function h b x known;
       arrays = λ may x known. visit_array m i v more past entry function h b x known;
+      parameters = λ x known. absurd (cc known);
+      given = λ may. absurd (cc may);
       calls = record {
         functions = λ words set labels line level n includes call. absurd (cc call);
         procedures = λ words set labels level n line index includes call. absurd (cc call);
@@ -221,6 +223,7 @@ called_ready once {program} m i v more past entry function h b home =
             few = omega (arith, inside);
             variables = λ x known. visit_number m i v more past entry function h b x known;
             arrays = λ may x known. visit_array m i v more past entry function h b x known;
+            parameters = λ x known. absurd (cc known);
             lists = lists_known program k m.memory (visit_told m i v more past entry function h b);
           });
       loops = λ e. absurd (cc e);
@@ -241,7 +244,8 @@ called_each once {program} m {valued} i v more past entry function h b home =
     let s = called_scope program m.head i.head i.writes in
     body_does s valued (visit_block m i v more past entry function) i.body (body_for program i.head i.body)
     (most_for program) left_over (called_ready once m i v more past entry function h b home) i.statements
-    (registers_held s valued (environment_for program i.head) i.head.number i.body plain.plain i.statements i.fits)
+    (registers_held s valued (environment_for program i.head) i.head.number i.body
+    (plain_known (variables_of_block program i.head.number) plain.plain) i.statements i.fits)
     (λ e. absurd (cc e)) (body_placed once program i.head i.body (result_of valued) m.loadable i.is)
 
 called_marked :

@@ -1,20 +1,18 @@
 -- The main procedure of a program of the class where it begins: its variables are made, and there is room for a unit.
-use Rattle.std.proofs.Common.{◌≡◌, ℕ, ◌+◌, ◌*◌, ◌≤◌, List, [], ◌∷◌, None, true, false}
-use Rattle.std.proofs.Common.{length, refl, sym, ap, ◌∙◌, subst, arith}
+use Rattle.std.proofs.Common.{◌≡◌, ℕ, ◌+◌, ◌≤◌, List, [], ◌∷◌, None, true, false, length, refl, sym, ap, ◌∙◌, subst}
+use Rattle.std.proofs.Common.{arith}
 use Rattle.std.specs.Prelude.{◌&&◌, ◌==◌, ◌||◌, Bool, nat_le}
 use Rattle.std.proofs.lemmas.Bool.{and_parts, eqb-true, leb-true}
 use Rattle.pli_language.specs.declared.condition.Condition.{Condition}
 use Rattle.pli_typing.specs.TypedTree as Y
 use Rattle.pli_meaning.specs.BasicValues.{VariableName}
 use Rattle.pli_meaning.specs.DeclaredShapes.{declared_variable, head_of, variables_of_block}
-use Rattle.pli_meaning.specs.Executing.{labels_in}
 use Rattle.pli_meaning.specs.Making.{with_binding}
 use Rattle.pli_meaning.specs.StorageState.{Activation, Binding, OnUnit}
-use Rattle.pli_coding.specs.Environments.{BlockPlace}
+use Rattle.pli_coding.specs.Environments.{BlockPlace, none_taken}
 use Rattle.pli_coding.specs.Frames.{fixed_size, parameters_in}
 use Rattle.pli_coding.specs.Images.{linked_code, picture_of, place_of_head}
 use Rattle.pli_coding.specs.Registers.{held_registers}
-use Rattle.pli_coding.specs.Environments.{none_taken}
 use Rattle.pli_coding.specs.Statements.{block_held, stmts_take}
 use Rattle.activation_relation.specs.Chains.{HasParent, UnitPlaces}
 use Rattle.activation_relation.specs.Layers.{Layer, Point}
@@ -43,7 +41,7 @@ use Rattle.number_runs.proofs.Takes.{Takes}
 use Rattle.number_runs.proofs.Words.{all_words, own_array, own_word, room_behind, room_fewer}
 use Rattle.number_headlines.specs.Programs.{are_all_plain, body_of, has_result, most_words}
 use Rattle.number_headlines.proofs.Mains.{made_for, procedure_is, spare}
-use Rattle.number_headlines.proofs.Tables.{block_plain, has_table}
+use Rattle.number_headlines.proofs.Tables.{all_known, block_plain, has_table}
 use Rattle.unit_numbers.specs.Programs.{are_apart, are_steps, has_unit_main, is_unit_body}
 use Rattle.unit_numbers.specs.Units.{own_scope}
 use Rattle.unit_numbers.proofs.Places.{units_of}
@@ -224,7 +222,7 @@ main_words {program} m input acts =
       made = refl;
       plain = plain.plain;
       few = plain.few;
-      tabled = has_table program m.head m.plain;
+      tabled = has_table program m.head (all_known program.variables m.plain);
       room = room_fewer (surroundings_for m input acts) (main_begun m input acts)
           (main_layer m input acts) [] (fixed_size m.head.level 0) n (n + spare) (omega arith)
           (main_spare m input acts);

@@ -1,7 +1,6 @@
 -- Statements that write numbers by format lists, of the main procedure and of its units: they raise nothing for which
 -- it has a unit, so what is known around them is known while a place in a format list is in use, too.
-use Rattle.std.proofs.Common.{◌≡◌, ℕ, suc, ◌+◌, ◌*◌, ◌^◌, ◌<◌, List, [], ◌∷◌, true, false, refl}
-use Rattle.std.proofs.Common.{◌∙◌, arith}
+use Rattle.std.proofs.Common.{◌≡◌, ℕ, suc, ◌+◌, ◌*◌, ◌^◌, ◌<◌, List, [], ◌∷◌, true, false, refl, ◌∙◌, arith}
 use Rattle.pli_language.specs.declared.condition.Condition.TheVariants as C
 use Rattle.pli_typing.specs.Signatures.{Bounds}
 use Rattle.pli_typing.specs.TypedTree as Y
@@ -28,8 +27,10 @@ use Rattle.edit_runs.specs.Edits.{placing, within}
 use Rattle.edit_runs.proofs.Places.{begun_placed, number_placed}
 use Rattle.block_headlines.specs.Constants.{IsOf}
 use Rattle.block_headlines.proofs.Constants.{main_of_program}
+use Rattle.argument_runs.specs.Parameters.{IsParameter}
 use Rattle.number_runs.specs.Knowledge.{IsReady, KnowsLists, KnowsPuts}
-use Rattle.number_runs.specs.Numbers.{Scope, bounds_known, is_array_known, is_known}
+use Rattle.number_runs.specs.Numbers.{Scope, bounds_known, is_array_known, is_known, is_received}
+use Rattle.number_runs.proofs.Received.{parameter_placed}
 use Rattle.number_headlines.proofs.Puts.{error_routine, lists_known}
 use Rattle.unit_runs.specs.Changing.{IsPast, Past, after, past_point}
 use Rattle.unit_numbers.specs.Units.{own_scope, written_scope}
@@ -88,6 +89,7 @@ pub record IsSettled (s : Scope) (k : Block) (most : ℕ) : Type 0 where
   pub few : 18 < most
   pub variables : (x : Spot) → is_known s x ≡ true → IsNumber k x
   pub arrays : s.elements ≡ true → (x : Spot) → is_array_known s x ≡ true → IsArray k x (bounds_known s x)
+  pub parameters : (x : Spot) → is_received s x ≡ true → IsParameter k x
   pub lists : KnowsLists k
 
 -- there numbers may be written
@@ -122,7 +124,9 @@ settled_writes s k most h =
             });
             variables = λ x is. number_placed k place x (h.variables x is);
             arrays = λ raises x is. array_placed k place x (bounds_known s x) (h.arrays raises x is);
+            parameters = λ x is. parameter_placed k place x (h.parameters x is);
             functions = λ level n is. absurd (cc is);
+            given = λ may. absurd (cc may);
           };
       error = λ words may place labels line.
           error_ends (List ℕ) (within place (setting_around words k labels line most)) (record {
@@ -165,6 +169,8 @@ written_ready once {program} m input more past few b known ready =
       };
       variables = ready.variables;
       arrays = ready.arrays;
+      parameters = ready.parameters;
+      given = λ may. absurd (cc may);
       calls = record { functions = calls.functions; procedures = calls.procedures };
       puts = λ may.
           settled_writes s k (most_for program)
@@ -179,6 +185,7 @@ written_ready once {program} m input more past few b known ready =
             few = omega (arith, inside);
             variables = ready.variables;
             arrays = ready.arrays;
+            parameters = ready.parameters;
             lists = lists_known program k m.memory (main_told m input (suc more) past b);
           });
       loops = λ e. absurd (cc e);

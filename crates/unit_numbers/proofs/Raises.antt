@@ -1,7 +1,7 @@
 -- A unit of the main procedure where it is raised: it stands in the code, its statements do what they mean, and so the
 -- raise comes to what it means.
-use Rattle.std.proofs.Common.{◌≡◌, ◌⊎◌, inl, inr, ℕ, suc, ◌+◌, ◌*◌, ◌^◌, ◌<◌, ◌≤◌, List, [], ◌∷◌, length}
-use Rattle.std.proofs.Common.{◌++◌, true, false, refl, sym, ap, ◌∙◌, subst, arith}
+use Rattle.std.proofs.Common.{◌≡◌, ◌⊎◌, inl, inr, ℕ, suc, ◌+◌, ◌*◌, ◌^◌, ◌<◌, ◌≤◌, List, [], ◌∷◌, length, ◌++◌, true}
+use Rattle.std.proofs.Common.{false, refl, sym, ap, ◌∙◌, subst, arith, Some}
 use Rattle.std.specs.Prelude.{◌==◌, Bool, cond, drop, nat_lt}
 use Rattle.pli_language.specs.declared.condition.Condition.{Condition}
 use Rattle.pli_language.specs.declared.condition.Condition.TheVariants as C
@@ -26,17 +26,16 @@ use Rattle.run_steps.specs.Items.{Linked}
 use Rattle.begin_runs.proofs.FarGotos.{far_does}
 use Rattle.function_runs.proofs.OuterVariables.{same_ancestor}
 use Rattle.std.proofs.lemmas.Bool.{and_parts, eqb-true}
-use Rattle.std.proofs.Common.{None, Some}
 use Rattle.program_places.proofs.Outermost.{outermost_block}
 use Rattle.program_places.specs.Inner.{standing_for}
-use Rattle.program_places.specs.Programs.{body_for, code_for, entry_among, environment_for, links_for}
-use Rattle.program_places.specs.Programs.{procedures_index, program_environment}
+use Rattle.program_places.specs.Programs.{body_for, code_for, entry_among, environment_for, links_for, procedures_index}
+use Rattle.program_places.specs.Programs.{program_environment}
 use Rattle.program_places.proofs.Inner.{unit_list_placed, unit_placed}
 use Rattle.program_places.proofs.Labels.{are_marked, label_of}
 use Rattle.program_places.proofs.Procedures.{raise_routines}
 use Rattle.program_runs.specs.Calls.{left_over}
 use Rattle.program_runs.specs.Starts.{image_parts}
-use Rattle.program_runs.specs.Statements.{Block, Does, IsBegun, Outer, as_outer, outer_block, own_height}
+use Rattle.program_runs.specs.Statements.{Block, Does, IsBegun, Outer, as_outer, outer_block}
 use Rattle.expression_runs.specs.Assignments.{setting_around, setting_of}
 use Rattle.expression_runs.specs.Values.{OverflowComes, Setting}
 use Rattle.expression_runs.specs.Variables.{IsNumber, Spot}
@@ -91,7 +90,7 @@ taken_by {program} m x u =
     let s = unit_scope program m.head (list_of m) in
     let plain = block_plain program.variables x.head.number m.plain in
     unit_taken s program x.head x.head.kind (statements_need x.body) x.body plain.plain
-    (statements_take s false (labels_in x.body ++ []) x.body refl u.statements u.fits)
+    (statements_take s false (labels_in x.body ++ []) x.body (refl, refl) u.statements u.fits)
 
 -- procedures stand behind the start and the routines of raises
 pub entry_low :
@@ -336,6 +335,8 @@ scene_ready once {program} m z s r is made b =
       raises = scene_raises once m z s r is (labels_in z.unit.body ++ []);
       variables = λ v known. s.numbers r is made b v known;
       arrays = λ may v known. absurd (cc may);
+      parameters = λ v known. absurd (cc known);
+      given = λ may. absurd (cc may);
       calls = record {
         functions = λ words set ls at level n inside call. absurd (cc call);
         procedures = λ words set ls level n at index inside call. absurd (cc call);
@@ -356,6 +357,7 @@ scene_ready once {program} m z s r is made b =
             few = omega (arith, inside);
             variables = λ v known. s.numbers r is made b v known;
             arrays = λ may v known. absurd (cc may);
+            parameters = λ v known. absurd (cc known);
             lists = lists_known program (scene_inner m z r) m.memory
                 (called_of_program program (scene_block m z) (scene_inner m z r) r.numbers s.told is.among refl refl
                 b);

@@ -1,6 +1,6 @@
 -- What the temporaries of the main procedure and of its units take: registers, and no words of their frames.
-use Rattle.std.proofs.Common.{◌≡◌, ◌⊎◌, inl, inr, ℕ, ◌≤◌, List, [], Option, Some, None, true, false}
-use Rattle.std.proofs.Common.{refl, sym, ap, subst, arith}
+use Rattle.std.proofs.Common.{◌≡◌, ◌⊎◌, inl, inr, ℕ, ◌≤◌, List, [], Option, Some, None, true, false, refl, sym, ap}
+use Rattle.std.proofs.Common.{subst, arith}
 use Rattle.std.proofs.lemmas.Bool.{and_parts, or_cases}
 use Rattle.pli_typing.specs.TypedTree as Y
 use Rattle.pli_meaning.specs.Control.{Label}
@@ -72,8 +72,8 @@ step_taken program main all stmt h fits = by (unit_in stmt) refl h
     plain :
         (is_statement own false labels stmt ≡ true) ⊎ (is_statement written false labels stmt ≡ true) →
         Takes (statement_needs stmt) none_taken (stmt_takes none_taken stmt)
-    plain (inl is) = statement_takes own false labels stmt refl is fits
-    plain (inr is) = statement_takes written false labels stmt refl is fits
+    plain (inl is) = statement_takes own false labels stmt (refl, refl) is fits
+    plain (inr is) = statement_takes written false labels stmt (refl, refl) is fits
 
     by :
         (o : Option OnUnit) → unit_in stmt ≡ o → is_step_with program main all o stmt ≡ true →
@@ -109,7 +109,8 @@ pub behind_variables :
     are_plain (variables_of_block program block) ≡ true → Takes need none_taken (stmts_take none_taken body) →
     Takes need none_taken (block_takes program block body)
 behind_variables s program block need body plain x =
-    let n = block_taken (record s { counts = false }) false program block empty refl plain refl (omega arith) in
+    let n = block_taken (record s { counts = false; gives = false }) false program block empty (refl, refl) plain refl
+    (omega arith) in
     let p = x.registers in
     let u = x.words in
     let v = n.words in

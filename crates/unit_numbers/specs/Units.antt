@@ -21,8 +21,12 @@ own_scope program main =
       program = program;
       level = main.level;
       blocks = place_of_head main ∷ [];
+      receivers = [];
       is_function = λ level n. (level == main.level) && may_call program main true n;
       is_procedure = λ level n. (level == main.level) && may_call program main false n;
+      gives = false;
+      is_given_function = λ level n. false;
+      is_given_procedure = λ level n. false;
       counts = false;
       puts = false;
       overflows = true;
@@ -63,8 +67,12 @@ unit_scope program main body =
       program = program;
       level = main.level;
       blocks = place_of_head main ∷ [];
+      receivers = [];
       is_function = λ level n. false;
       is_procedure = λ level n. false;
+      gives = false;
+      is_given_function = λ level n. false;
+      is_given_procedure = λ level n. false;
       counts = false;
       puts = true;
       overflows = not (has_unit C.FixedOverflow body);
