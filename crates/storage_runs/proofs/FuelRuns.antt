@@ -10,6 +10,7 @@ use Rattle.pli_meaning.specs.World.{counted, raising}
 use Rattle.pli_typing.specs.TypedTree as Y
 use Rattle.pli_meaning.specs.BasicValues.{BasicValue}
 use Rattle.pli_meaning.specs.StorageState.{Activation, force}
+use Rattle.pli_meaning.specs.Codes.{no_value_code}
 use Rattle.pli_meaning.specs.Control.{Label, Meaning}
 use Rattle.pli_meaning.specs.Raising as G
 use Rattle.pli_meaning.specs.Raising.{Around, Enter, at_line, Entry, Passed, PassedName, PassedValue}
