@@ -35,7 +35,7 @@ use Rattle.meaning_runs.proofs.Steps.{act_there, act_then, finish_there, choose_
 use Rattle.meaning_runs.proofs.Steps.{list_there, block_there, Leads, leads_there, leads_then, Passes}
 use Rattle.meaning_runs.proofs.Ways.{Whole, Declares, FineProcedure, SoundEntry, Expected, statics_kept}
 use Rattle.meaning_runs.proofs.Expressions.{error_unit_there}
-use Rattle.meaning_runs.proofs.Ways.{AreParameters, listed_unit, next_of}
+use Rattle.meaning_runs.proofs.Ways.{ArePassedAs, listed_unit, next_of}
 use Rattle.meaning_runs.proofs.Stored.{evaluations_there, variable_made_there, parameters_bound_there}
 use Rattle.meaning_runs.proofs.Statements.{Level, FootAt, demand_at, around_at, place_at, lower, apart}
 use Rattle.meaning_runs.proofs.Statements.{listed_frame, labels_same, newest_there, statements_there}
@@ -70,8 +70,9 @@ automatic_begun : (variable : ℕ) (d : Y.DeclaredVariable) (class : Y.StorageCl
 unfolding K.automatic_made
 automatic_begun variable d Y.AutomaticClass l g e h =
     bind_there (extents_begun d l g h) (λ values k. variable_made_there variable _
-    (λ n x f known.
-    let same : d ≡ x = cc (e, f) in subst (λ y. IsShapedAs y (D.shape_of values d)) same (shape_declared values d)))
+    (λ n own x f.
+    let same : d ≡ x = cc (e, f) in
+    (subst (λ y. IsShapedAs y (D.shape_of values d)) same (shape_declared values d), λ area. own)))
 automatic_begun variable d Y.ParameterClass l g e h = give_there tt tt
 automatic_begun variable d Y.StaticClass l g e h = give_there tt tt
 automatic_begun variable d Y.BasedClass l g e h = give_there tt tt
@@ -280,8 +281,7 @@ block_variables_begun r head body entry Y.SimpleUnit t i = give_there tt tt
 -- what is known of the arguments of a block, and of its declarations
 record Entered (r : Run) (head : Y.BlockHead) (body : Y.Stmts) (entry : Entry)
     (t : FootAt (list_level r head body entry)) : Type 0 where
-  counts : length entry.arguments ≡ length entry.parameters
-  parameters : AreParameters r.program head.number entry.parameters
+  passed : ArePassedAs r.program head.number entry.parameters entry.arguments
   listed : IsListedUnit r.table head (t.own ∷ t.outer) head.kind
 
 block_body_there : (r : Run) (head : Y.BlockHead) (body : Y.Stmts) (entry : Entry)
@@ -306,7 +306,7 @@ block_body_there r head body entry t h p e =
     in
     let u : Level = fresh_level r head entry in
     leads_then (outside r) (Some r.returning) f g (EndsSo entry.is_function) widens refl
-    (parameters_bound_there entry.parameters entry.arguments e.parameters e.counts)
+    (parameters_bound_there entry.parameters entry.arguments e.passed)
     (leads_then (outside r) (Some r.returning) f g (EndsSo entry.is_function) widens refl
     (block_variables_begun r head body entry head.kind t e.listed)
     (leads_then (outside r) (Some r.returning) f g (EndsSo entry.is_function) widens refl (entry_act_there head.kind)
@@ -393,7 +393,7 @@ entered_there p table whole (suc n) left few outer entry s =
     (block_run_there r s.block.head s.block.body entry
     (list_foot r entry s.block.head s.block.body s.block.outer s.chain s.stands)
     s.block.statements s.block.plain
-    (record { counts = s.counts; parameters = s.parameters; listed = s.listed }) s.passes)
+    (record { passed = s.passed; listed = s.listed }) s.passes)
 
 -- the main procedure stands in no block
 main_outer : (table : Table) (level : ℕ) (blocks : List W.Around) → IsHeld table level blocks → level ≡ 0 → blocks ≡ []
@@ -422,8 +422,7 @@ main_entry p table q f e =
       opens = tt;
       passes =
           subst (λ own. Passes own (Expected false) (Some f.block.returning) None) (sym f.own) (λ v h. tt);
-      counts = refl;
-      parameters = tt;
+      passed = tt;
       listed = listed_unit table f.block.head (own ∷ f.block.outer) f.block.head.kind f.listed;
     }
 

@@ -19,6 +19,7 @@ use Rattle.well_formed_trees.specs.Statements as T
 use Rattle.meaning_runs.specs.Plain.{PlainStmts}
 use Rattle.meaning_runs.specs.Present.{IsOver}
 use Rattle.meaning_runs.proofs.Frames.{Frame, outlines, skeleton, closed, IsOpen, Chain, Stands}
+use Rattle.meaning_runs.proofs.Heaps.{HasHeap}
 use Rattle.meaning_runs.proofs.Bindings.{HasBindings, HasStatics, HasShapes, established_bindings, reverted_bindings}
 use Rattle.meaning_runs.proofs.Frames.{stands_under, stands_wider, first_outline, rest_outlines}
 
@@ -130,7 +131,8 @@ ended_kept d f s h e = of_list s.activations s h e
   where
     of_list : (as' : List Activation) (s : State)
         → HasUnits d.program d.table (f ∷ d.bearing.frames) as'
-        × (HasBindings d.program (f ∷ d.bearing.frames) as' × HasStatics d.program s.statics)
+        × (HasBindings d.program (f ∷ d.bearing.frames) as'
+        × (HasStatics d.program s.statics × HasHeap d.program s.heap s.controlled))
         → skeleton as' ≡ outlines (f ∷ d.bearing.frames) → Kept d (without_newest as' s)
     of_list [] s a e = absurd (cc e)
     of_list (y ∷ ys) s a e = ((a.0.1, (a.1.0.1, a.1.1)), cc e)

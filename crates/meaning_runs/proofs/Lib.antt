@@ -1,6 +1,7 @@
 mod Dimensions
 mod Shapes
 mod Frames
+mod Heaps
 mod Bindings
 mod Demands
 mod Steps
@@ -8,6 +9,7 @@ mod Ways
 mod Callees
 mod Extents
 mod Expressions
+mod AtStates
 mod Stored
 mod Streams
 mod Statements

@@ -15,13 +15,13 @@ use Rattle.well_formed_trees.specs.Every.{Every}
 use Rattle.well_formed_trees.specs.Surroundings.{Around, Table, Where, number_here, Returns, NoReturn}
 use Rattle.well_formed_trees.specs.Declarations.{IsEvaluation, SoundVariables}
 use Rattle.well_formed_trees.specs.Surroundings as W
-use Rattle.well_formed_trees.specs.WellFormed.{AcceptedWellFormed, IsWellFormed, IsParameter, SoundProcedure}
+use Rattle.well_formed_trees.specs.WellFormed.{AcceptedWellFormed, IsWellFormed, SoundProcedure}
 use Rattle.well_formed_trees.proofs.Lists.{every_map, every_pair}
 use Rattle.meaning_runs.specs.Plain as P
 use Rattle.meaning_runs.specs.Present.{IsOver, EndsOrPauses, NeverStuck, MeaningThere, AcceptedMeaningThere}
 use Rattle.meaning_runs.proofs.Demands.{Comes, placed}
 use Rattle.meaning_runs.proofs.Extents.{number_uncalled}
-use Rattle.meaning_runs.proofs.Ways.{Whole, Declares, AreParameters, FineProcedure}
+use Rattle.meaning_runs.proofs.Ways.{Whole, Declares, FineProcedure}
 use Rattle.meaning_runs.proofs.Blocks.{at_start, run_there}
 
 -- ---- procedures
@@ -43,11 +43,6 @@ procedure_is_fine p table q s h =
       returning = refl;
       held = s.held;
       listed = s.listed;
-      parameters =
-          subst (λ b. AreParameters p (W.head_of b).number q.parameters) s.is
-          (every_map (IsParameter p q) _ (λ i x d e.
-          let same : x.d ≡ d = cc (x.found, e) in subst (λ y. y.class ≡ Y.ParameterClass) same x.class_is)
-          q.parameters s.parameters);
     }
 
 -- ---- variables
@@ -74,6 +69,7 @@ declare_sound p table block blocks index (d ∷ ds) e h k = (
         evaluations_uncalled (placed p table blocks NoReturn) index (length d.evaluations) d.evaluations
         h.0.evaluations k.0;
     members = h.0.members;
+    areas = h.0.areas;
     dimensions = h.0.dimensions;
   },
   declare_sound p table block blocks (suc index) ds e h.1 k.1,
@@ -132,7 +128,7 @@ pub never_stuck : NeverStuck
 never_stuck p input k h i =
     ends_or_pauses p h.table 0 k (run p (suc k) k (first_state input))
     ((run_there p h.table (whole_sound p h i) h.main (suc k) k (omega arith)).comes k
-    (first_state input) (omega arith) (omega arith) ((tt, (tt, tt)), refl))
+    (first_state input) (omega arith) (omega arith) ((tt, (tt, (tt, (tt, (tt, λ o. omega arith))))), refl))
 
 -- what a flow shows
 record Shows (k : ℕ) (f : Flow (Unit {0})) : Type 0 where

@@ -393,8 +393,7 @@ begun_sound l t head body s e h p =
       passes =
           subst (λ kind. Passes (M.is_own_return kind) (Expected false) (Some l.returning) (Some l.returning))
           (sym h.0.0) (λ v a. a);
-      counts = refl;
-      parameters = tt;
+      passed = tt;
       listed = listed_unit l.table head (block_around head body ∷ t.own ∷ t.outer) head.kind h.0.1.1;
     }
 
@@ -507,9 +506,10 @@ mutual
       act_then counted (λ v. refl) (λ c e. loose (aggregate_assigned_there target source
       (on_line line (within l t c e)) h.1.0 h.1.1.0 p.0 p.1))
   statement_there (Y.AssignArea target source line) l t h p =
-      act_then counted (λ v. refl) (λ c e. loose (area_assigned_there target source (on_line line (within l t c e))))
+      act_then counted (λ v. refl) (λ c e. loose
+      (area_assigned_there target source (on_line line (within l t c e)) h.0))
   statement_there (Y.EmptyArea target line) l t h p =
-      act_then counted (λ v. refl) (λ c e. loose (area_emptied_there target (on_line line (within l t c e))))
+      act_then counted (λ v. refl) (λ c e. loose (area_emptied_there target (on_line line (within l t c e)) h.0))
   statement_there (Y.If condition unit line) l t h p =
       act_then counted (λ v. refl) (λ c e. loose (bind_there
       (bit_there condition (on_line line (within l t c e)) h.0 p.0)

@@ -419,11 +419,11 @@ record IsReadAs (has_fixed : Bool) (x : V.Designated) (e : Element) : Type 0 whe
   reads : is_read has_fixed type ≡ true
 
 element_read : (has_fixed : Bool) (w : Ways) (r : Y.Reference) (x : V.Designated) (e : Element)
-    → T.PassesTest (here w) (is_read has_fixed) r → P.HasKnownShape r → IsFound w.program r x → IsIn x e
+    → T.PassesTest (here w) (is_read has_fixed) r → IsFound w.program r x → IsIn x e
     → IsReadAs has_fixed x e
-element_read g w (Y.Referring v locator part subscripts) x e h known found inside =
+element_read g w (Y.Referring v locator part subscripts) x e h found inside =
     let d : Y.DeclaredVariable = h.0.d in
-    let told = found d h.0.declared.found known in
+    let told = found d h.0.declared.found in
     let tests = both_true (nat_le x.part.first e.0) _ inside in
     let more = both_true (nat_lt e.0 (x.part.first + x.part.count)) _ tests.1 in
     let low : x.part.first ≤ e.0 = grind (arith, nat_tests, tests.0) in
@@ -485,8 +485,8 @@ item_got_there g whole rest (Y.GetScalar r) w l j h p =
     bind_there (next_item_there (GetsBy g) S.control_got whole rest control_got_there l.gets l.has j)
     (λ next k. bind_there (field_got_there g next.0 w k.0) (λ f i. scalar_if_got_there g r next.1 f w h p i k.1))
 item_got_there g whole rest (Y.GetAggregate r) w l j h p =
-    bind_there (designated_there r w h.1 p.1) (λ x found. elements_got_there g whole rest x _ w l j
-    (every_map (IsIn x) (IsReadAs g x) (λ e inside. element_read g w r x e h.0 p.0 found inside) _
+    bind_there (designated_there r w h.1 p) (λ x found. elements_got_there g whole rest x _ w l j
+    (every_map (IsIn x) (IsReadAs g x) (λ e inside. element_read g w r x e h.0 found inside) _
     (every_chosen (λ e. is_in_part x e.0 e.1) _)))
 
 -- further items, where the input lasted

@@ -11,7 +11,7 @@ use Rattle.pli_meaning.specs.Contents.{Shape, Generation, Placed, changed_at}
 use Rattle.pli_meaning.specs.StorageState.{State, Binding, Activation, with_area, with_generation, area_changed}
 use Rattle.pli_meaning.specs.StorageState.{living_changed, heap_serial, offsets_of}
 use Rattle.pli_meaning.specs.Control.{Meaning}
-use Rattle.pli_meaning.specs.Raising.{Around, Enter, Entry, unit_entered}
+use Rattle.pli_meaning.specs.Raising.{Around, Enter, Entry, Passed, PassedName, PassedValue, unit_entered}
 use Rattle.pli_meaning.specs.DeclaredShapes as D
 use Rattle.pli_meaning.specs.Making as K
 use Rattle.pli_meaning.specs.Placing as A
@@ -20,7 +20,7 @@ use Rattle.well_formed_trees.specs.Every.{Every}
 use Rattle.well_formed_trees.specs.WellFormed.{IsHeld}
 use Rattle.well_formed_trees.specs.Statements.{IsListed, IsListedUnit}
 use Rattle.well_formed_trees.specs.Members.{all_dimensions}
-use Rattle.well_formed_trees.specs.Declarations.{AreMembers, HaveBounds, leaf_dimensions}
+use Rattle.well_formed_trees.specs.Declarations.{AreMembers, AreasAlone, HaveBounds, leaf_dimensions}
 use Rattle.well_formed_trees.specs.Surroundings.{Table, Where, Returning, Returns, NoReturn}
 use Rattle.well_formed_trees.specs.Surroundings as W
 use Rattle.well_formed_trees.specs.Expressions.{SoundNumber}
@@ -28,7 +28,8 @@ use Rattle.meaning_runs.specs.Plain.{Calls, AnyCall, NoCall, PlainVariable}
 use Rattle.meaning_runs.proofs.Frames.{Frame, skeleton, Stands, Chain, IsOpen}
 use Rattle.meaning_runs.proofs.Demands.{Bearing, block_around, placed, SoundBlock, SoundUnit, HasUnits}
 use Rattle.meaning_runs.proofs.Demands.{Demand, Kept}
-use Rattle.meaning_runs.proofs.Shapes.{IsShapedAs, shape_declared}
+use Rattle.meaning_runs.proofs.Shapes.{IsShapedAs, IsOwnName, StandsAs, shape_declared}
+use Rattle.meaning_runs.proofs.Heaps.{HasHeap, KeepsShape, heap_changed, heap_popped}
 use Rattle.meaning_runs.proofs.Bindings.{IsNewBinding, binding_added, Ground}
 use Rattle.meaning_runs.proofs.Demands.{There}
 use Rattle.meaning_runs.proofs.Demands.{IsThere, Answered}
@@ -44,13 +45,21 @@ pub record Declares (p : Y.Program) (table : Table) (block : ℕ) (d : Y.Declare
   pub sound : Every (λ x. SoundNumber (placed p table blocks NoReturn) x.value) d.evaluations
   pub plain : PlainVariable NoCall d
   pub members : AreMembers d.members
+  pub areas : AreasAlone d
   pub dimensions : HaveBounds d.leaves (leaf_dimensions d.members (all_dimensions d.members))
 
--- variables of a block that are parameters
-abbrev pub AreParameters : Y.Program → (block : ℕ) → List ℕ → Type 0
-AreParameters p block vs =
-    Every (λ v. (d : Y.DeclaredVariable) → slice_get (D.variables_of_block p block) v ≡ Some d
-    → d.class ≡ Y.ParameterClass) vs
+-- what a parameter takes
+abbrev pub TakesPassed : Y.DeclaredVariable → Passed → Type 0
+TakesPassed d (PassedName n shape) = StandsAs d n shape
+TakesPassed d (PassedValue kind v) = IsShapedAs d (K.plain kind)
+
+-- as many arguments as variables of a block, each of which takes its argument
+abbrev pub ArePassedAs : Y.Program → (block : ℕ) → List ℕ → List Passed → Type 0
+ArePassedAs p block [] [] = ⊤
+ArePassedAs p block (v ∷ vs) (x ∷ xs) =
+    ((d : Y.DeclaredVariable) → slice_get (D.variables_of_block p block) v ≡ Some d → TakesPassed d x)
+    × ArePassedAs p block vs xs
+ArePassedAs p block _ _ = ⊥
 
 pub record FineProcedure (p : Y.Program) (table : Table) (q : Y.Procedure) : Type 0 where
   pub block : SoundBlock p table q.block
@@ -59,7 +68,6 @@ pub record FineProcedure (p : Y.Program) (table : Table) (q : Y.Procedure) : Typ
   pub held : IsHeld table block.head.level block.outer
   pub listed :
       slice_get table block.head.number ≡ Some (block_around block.head block.body ∷ block.outer)
-  pub parameters : AreParameters p block.head.number q.parameters
 
 pub record Whole (p : Y.Program) (table : Table) : Type 0 where
   pub declares : (block : ℕ) → Every (Declares p table block) (D.variables_of_block p block)
@@ -80,8 +88,7 @@ pub record SoundEntry (p : Y.Program) (table : Table) (outer : Bearing) (e : Ent
   pub opens : Every IsOpen outer.frames
   pub passes :
       Passes (is_own_return block.head.kind) (Expected e.is_function) (Some block.returning) outer.answers
-  pub counts : length e.arguments ≡ length e.parameters
-  pub parameters : AreParameters p block.head.number e.parameters
+  pub passed : ArePassedAs p block.head.number e.parameters e.arguments
   pub listed : IsListedUnit table block.head (block_around block.head block.body ∷ block.outer) block.head.kind
 
 -- a block with a number of its own
@@ -103,8 +110,7 @@ unit_entry p table outer b a code o u =
       opens = o;
       passes =
           subst (λ own. Passes own (Expected false) (Some u.block.returning) outer.answers) (sym u.own) (λ v h. tt);
-      counts = refl;
-      parameters = tt;
+      passed = tt;
       listed = u.listed;
     }
 
@@ -262,21 +268,25 @@ procedure_fine F n (p ∷ ps) q h e =
 
 -- ---- changes of a state that keep its on-units
 
-either_kept : (d : Demand) (t : Bool) (a b : State) → Kept d a → Kept d b → Kept d (cond t a b)
-either_kept d true a b x y = x
-either_kept d false a b x y = y
-
-pub area_kept : (d : Demand) (serial : ℕ) (change : List Placed → List Placed) (s : State) → Kept d s
+-- where the area is the heap, its generations are kept
+pub area_kept : (d : Demand) (serial : ℕ) (change : List Placed → List Placed) (s : State)
+    → ((serial == heap_serial) ≡ true → HasHeap d.program (change s.heap) s.controlled) → Kept d s
     → Kept d (with_area serial change s)
-area_kept d serial change s h =
-    either_kept d (serial == heap_serial) (record s { heap = change s.heap })
-    (record s { living = living_changed serial (area_changed change) s.living }) h h
+area_kept d serial change s heap h = by_test (serial == heap_serial) heap
+  where
+    by_test : (t : Bool) → (t ≡ true → HasHeap d.program (change s.heap) s.controlled)
+        → Kept d (cond t (record s { heap = change s.heap })
+        (record s { living = living_changed serial (area_changed change) s.living }))
+    by_test true k = ((h.0.0, (h.0.1.0, (h.0.1.1.0, k refl))), h.1)
+    by_test false k = h
 
-pub generation_kept : (d : Demand) (n : Name) (change : Generation → Generation) (s : State) → Kept d s
-    → Kept d (with_generation n change s)
-generation_kept d NullName change s h = h
-generation_kept d (VariableName serial) change s h = h
-generation_kept d (BasedName area offset) change s h = area_kept d area (changed_at offset change) s h
+pub generation_kept : (d : Demand) (n : Name) (change : Generation → Generation) (s : State) → KeepsShape change
+    → Kept d s → Kept d (with_generation n change s)
+generation_kept d NullName change s c h = h
+generation_kept d (VariableName serial) change s c h = h
+generation_kept d (BasedName area offset) change s c h =
+    area_kept d area (changed_at offset change) s
+    (λ e. heap_changed d.program offset change s.heap s.controlled c h.0.1.1.1) h
 
 binding_kept : (p : Y.Program) (table : Table) (b : Binding) (fs : List Frame) (as' : List Activation)
     → HasUnits p table fs as' → HasUnits p table fs (K.with_binding b as')
@@ -289,32 +299,42 @@ binding_heights b [] = refl
 binding_heights b (a ∷ as') = refl
 
 -- what the newest block's variable may stand for
-abbrev pub MayStand : Demand → (variable : ℕ) → Shape → Type 0
-MayStand d variable shape =
-    (n : Name) → IsNewBinding d.program d.bearing.frames (record { variable = variable; name = n; shape = shape })
+abbrev pub MayStand : Demand → (variable : ℕ) → Name → Shape → Type 0
+MayStand d variable n shape =
+    IsNewBinding d.program d.bearing.frames (record { variable = variable; name = n; shape = shape })
 
-pub bound_kept : (d : Demand) (variable : ℕ) (n : Name) (shape : Shape) (s : State) → MayStand d variable shape
+pub bound_kept : (d : Demand) (variable : ℕ) (n : Name) (shape : Shape) (s : State) → MayStand d variable n shape
     → Kept d s → Kept d (K.bound variable n shape s)
 bound_kept d variable n shape s new h =
     let b : Binding = record { variable = variable; name = n; shape = shape } in (
       (
         binding_kept d.program d.table b d.bearing.frames s.activations h.0.0,
-        (binding_added d.program b d.bearing.frames s.activations (new n) h.0.1.0, h.0.1.1),
+        (binding_added d.program b d.bearing.frames s.activations new h.0.1.0, h.0.1.1),
       ),
       binding_heights b s.activations ∙ h.1,
     )
 
-pub variable_kept : (d : Demand) (variable : ℕ) (g : Generation) (s : State) → MayStand d variable g.shape
-    → Kept d s → Kept d (K.with_variable variable g s)
+pub variable_kept : (d : Demand) (variable : ℕ) (g : Generation) (s : State)
+    → ((n : Name) → IsOwnName n → MayStand d variable n g.shape) → Kept d s → Kept d (K.with_variable variable g s)
 variable_kept d variable g s new h =
-    bound_kept d variable (VariableName (s.serials + 1)) g.shape (K.with_living g s) new h
+    bound_kept d variable (VariableName (s.serials + 1)) g.shape (K.with_living g s)
+    (new (VariableName (s.serials + 1)) (omega arith)) h
 
 pub freed_kept : (d : Demand) (v : Y.Variable) (s : State) → Kept d s → Kept d (A.controlled_freed v s)
-freed_kept d v s h = of_stack (offsets_of s.controlled v.block v.index)
+freed_kept d v s h = of_stack (offsets_of s.controlled v.block v.index) refl
   where
-    of_stack : (os : List ℕ) → Kept d (A.without_newest_of v os s)
-    of_stack [] = h
-    of_stack (o ∷ os) = h
+    of_stack : (os : List ℕ) → offsets_of s.controlled v.block v.index ≡ os → Kept d (A.without_newest_of v os s)
+    of_stack [] e = h
+    of_stack (o ∷ os) e = (
+      (
+        h.0.0,
+        (
+          h.0.1.0,
+          (h.0.1.1.0, heap_popped d.program s.heap v.block v.index o os s.controlled e h.0.1.1.1),
+        ),
+      ),
+      h.1,
+    )
 
 -- where a list goes on
 pub next_of : {X : Type 0} (xs : List X) (n : ℕ) (y : X) (ys : List X) → drop n xs ≡ y ∷ ys
@@ -336,12 +356,14 @@ static_kept : (d : Demand) (block variable : ℕ) (v : Y.DeclaredVariable) (clas
 static_kept d block variable v Y.AutomaticClass s e h = h
 static_kept d block variable v Y.ParameterClass s e h = h
 static_kept d block variable v Y.StaticClass s e h =
-    ((h.0.0, (h.0.1.0, (λ x f known. of_declared x f, h.0.1.1))), h.1)
+    ((h.0.0, (h.0.1.0, ((λ x f. of_declared x f, h.0.1.1.0), h.0.1.1.1))), h.1)
   where
     of_declared : (x : Y.DeclaredVariable)
-        → slice_get (D.variables_of_block d.program block) variable ≡ Some x → IsShapedAs x (D.shape_of [] v)
+        → slice_get (D.variables_of_block d.program block) variable ≡ Some x
+        → StandsAs x (VariableName (s.serials + 1)) (D.shape_of [] v)
     of_declared x f =
-        let same : v ≡ x = cc (e, f) in subst (λ y. IsShapedAs y (D.shape_of [] v)) same (shape_declared [] v)
+        let same : v ≡ x = cc (e, f) in
+        (subst (λ y. IsShapedAs y (D.shape_of [] v)) same (shape_declared [] v), λ a. omega arith)
 static_kept d block variable v Y.BasedClass s e h = h
 static_kept d block variable v Y.ControlledClass s e h = h
 
