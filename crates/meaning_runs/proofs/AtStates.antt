@@ -1,5 +1,5 @@
 -- What a part comes to at a state of which more is known: what was looked up there is still so where it is stored.
-use Rattle.std.proofs.Common.{◌≡◌, ℕ, suc, ◌+◌, ◌≤◌, List, Option, Some, None, Bool, true, false, refl, arith}
+use Rattle.std.proofs.Common.{◌≡◌, ℕ, ◌+◌, ◌≤◌, Option, Some, None, Bool, true, false, refl, arith}
 use Rattle.pli_typing.specs.TypedTree as Y
 use Rattle.pli_meaning.specs.StorageState.{State, standing_for}
 use Rattle.pli_meaning.specs.Codes.{no_generation_code}

@@ -1,6 +1,6 @@
 -- What variables stand for: each binding has the shape that its variable is declared with, in activations and of STATIC
 -- variables, and so has what is found for a variable of a block around.
-use Rattle.std.proofs.Common.{◌≡◌, ℕ, suc, ◌+◌, ◌<◌, List, [], ◌∷◌, Option, Some, None, Bool, true, false}
+use Rattle.std.proofs.Common.{◌≡◌, ℕ, suc, ◌<◌, List, [], ◌∷◌, Option, Some, None, Bool, true, false}
 use Rattle.std.proofs.Common.{refl, ap, sym, ◌∙◌, subst, arith, inl, inr}
 use Rattle.std.specs.Prelude.{◌==◌, ◌&&◌, cond, ⊤, length, slice_get}
 use Rattle.std.proofs.lemmas.Bool.Decides.{nat_tests}
@@ -19,6 +19,7 @@ use Rattle.well_formed_trees.specs.Declarations.{HoldsArea}
 use Rattle.meaning_runs.proofs.Frames.{Frame, outlines, skeleton, with_labels, first_outline, rest_outlines, Holds}
 use Rattle.meaning_runs.proofs.Frames.{Chain, AtLevel, around_at, lower_level, newest_ancestor, chosen, passed_over}
 use Rattle.meaning_runs.proofs.Shapes.{IsShapedAs, IsAreaVariable, StandsAs, both_true}
+use Rattle.meaning_runs.proofs.Values.{HasStored}
 use Rattle.meaning_runs.proofs.Heaps.{HasHeap, IsPlacedFor, offsets_placed}
 
 -- ---- bindings
@@ -36,9 +37,10 @@ HasBindings p (f ∷ fs) (a ∷ as') = Every (IsBinding p f.number) a.bindings �
 abbrev pub HasStatics : Y.Program → List StaticBinding → Type 0
 HasStatics p bs = Every (λ b. IsBinding p b.block b.binding) bs
 
--- those of all activations, of STATIC variables and of CONTROLLED ones
+-- those of all activations, of STATIC variables and of CONTROLLED ones; and values are of their leaves' kinds
 abbrev pub HasShapes : Y.Program → List Frame → State → Type 0
-HasShapes p fs s = HasBindings p fs s.activations × (HasStatics p s.statics × HasHeap p s.heap s.controlled)
+HasShapes p fs s =
+    HasBindings p fs s.activations × ((HasStatics p s.statics × HasStored s) × HasHeap p s.heap s.controlled)
 
 -- one that the newest activation may have
 abbrev pub IsNewBinding : Y.Program → List Frame → Binding → Type 0
@@ -213,7 +215,7 @@ standing_shaped p table fs blocks s class v d b g e h found areas around is =
         → StandsAs d b.name b.shape
     of_class Y.AutomaticClass a f = of_variable (of_ancestor f)
     of_class Y.ParameterClass a f = of_variable (of_ancestor f)
-    of_class Y.StaticClass a f = of_variable (static_found p v.block v.index s.statics b h.1.0 f)
+    of_class Y.StaticClass a f = of_variable (static_found p v.block v.index s.statics b h.1.0.0 f)
     of_class Y.BasedClass a f = absurd (cc f)
     of_class Y.ControlledClass a f = (
       newest_shaped p s.heap v.block v.index (offsets_of s.controlled v.block v.index) b d

@@ -1,13 +1,13 @@
 -- The heap: generations stand one behind the other, and those of CONTROLLED variables have the shapes that these are
 -- declared with. No other generation takes the place of one, since each offset stands once among those of all
 -- variables.
-use Rattle.std.proofs.Common.{◌≡◌, ℕ, zero, suc, ◌+◌, ◌<◌, ◌≤◌, List, [], ◌∷◌, ◌++◌, Option, Some, None, Bool, true}
+use Rattle.std.proofs.Common.{◌≡◌, ℕ, suc, ◌+◌, ◌<◌, ◌≤◌, List, [], ◌∷◌, Option, Some, None, Bool, true}
 use Rattle.std.proofs.Common.{false, refl, ap, sym, ◌∙◌, subst, arith}
 use Rattle.std.specs.Prelude.{◌==◌, ◌&&◌, nat_le, nat_lt, cond, ⊤, slice_get}
 use Rattle.std.proofs.lemmas.Bool.Decides.{nat_tests}
-use Rattle.pli_typing.specs.Signatures.{Class, PlainClass, ControlledClass}
+use Rattle.pli_typing.specs.Signatures.{PlainClass, ControlledClass}
 use Rattle.pli_typing.specs.TypedTree as Y
-use Rattle.pli_meaning.specs.Contents.{Shape, Generation, footprint_of, Placed, end_of, gap_from, with_placed}
+use Rattle.pli_meaning.specs.Contents.{Generation, footprint_of, Placed, end_of, gap_from, with_placed}
 use Rattle.pli_meaning.specs.Contents.{without_offset, placed_at, changed_at}
 use Rattle.pli_meaning.specs.StorageState.{Stack, offsets_of, with_offsets}
 use Rattle.pli_meaning.specs.DeclaredShapes as D

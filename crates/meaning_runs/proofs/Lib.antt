@@ -1,7 +1,9 @@
+mod Calling
 mod Dimensions
 mod Shapes
 mod Frames
 mod Heaps
+mod Values
 mod Bindings
 mod Demands
 mod Steps
@@ -10,6 +12,7 @@ mod Callees
 mod Extents
 mod Expressions
 mod AtStates
+mod Designating
 mod Stored
 mod Streams
 mod Statements

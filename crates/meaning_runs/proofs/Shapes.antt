@@ -7,7 +7,7 @@ use Rattle.pli_typing.specs.Signatures.{Class, PlainClass, ControlledClass}
 use Rattle.pli_typing.specs.TypedTree as Y
 use Rattle.pli_meaning.specs.BasicValues.{Name, VariableName, BasicValue}
 use Rattle.pli_meaning.specs.Unreachable.{unreachable_leaf}
-use Rattle.pli_meaning.specs.Contents.{Shape, Generation, same_kind, same_bounds, same_leaves, same_class, same_offset}
+use Rattle.pli_meaning.specs.Contents.{Shape, Generation, same_kind, same_bounds, same_leaves, same_class}
 use Rattle.pli_meaning.specs.Contents.{same_shape, leaf_refers, last_refers, leaves_refer, leaves_with}
 use Rattle.pli_meaning.specs.StorageState.{State, generation_at, if_same_shape, named}
 use Rattle.pli_meaning.specs.DeclaredShapes as D
@@ -97,7 +97,7 @@ StandsAs d n shape = IsShapedAs d shape × (IsAreaVariable d → IsOwnName n)
 
 -- ---- what keeps forms
 
-kind_declared : (values : List ℤ) (t : Y.LeafType) → kind_number (D.kind_of values t) ≡ type_number t
+pub kind_declared : (values : List ℤ) (t : Y.LeafType) → kind_number (D.kind_of values t) ≡ type_number t
 kind_declared values (Y.FixedLeaf p) = refl
 kind_declared values (Y.CharacterLeaf size) = refl
 kind_declared values (Y.VaryingLeaf size) = refl
@@ -198,6 +198,15 @@ named_forms s n shape g e = of_found (generation_at s n) e
     of_found None k = absurd (cc k)
     of_found (Some x) k = by_test x (same_shape x.shape shape) refl k
 
+pub named_given : (shape : Shape) (g : Generation) (o : Option Generation) → if_same_shape shape o ≡ Some g
+    → o ≡ Some g
+named_given shape g None e = absurd (cc e)
+named_given shape g (Some x) e = by_test (same_shape x.shape shape) e
+  where
+    by_test : (t : Bool) → cond t (Some x) None ≡ Some g → Some x ≡ Some g
+    by_test true k = k
+    by_test false k = absurd (cc k)
+
 -- and its class
 pub named_plain : (shape : Shape) (g : Generation) (o : Option Generation) → if_same_shape shape o ≡ Some g
     → shape.signature.class ≡ PlainClass → (o ≡ Some g) × (g.shape.signature.class ≡ PlainClass)
@@ -276,6 +285,13 @@ scalar_shaped d t kind h e =
     (ap (λ x. x ∷ []) (same_form _ _ _ _ (e ∙ sym type_is) (sym many)))
 
 -- ---- a leaf
+
+-- the form of a declared leaf
+pub form_there : (ts : List Y.Leaf) (place : ℕ) (leaf : Y.Leaf) → slice_get ts place ≡ Some leaf
+    → slice_get (declared_forms ts) place ≡ Some (declared_form leaf)
+form_there [] place leaf e = absurd (cc e)
+form_there (t ∷ ts) zero leaf e = let same : t ≡ leaf = cc e in ap (λ x. Some (declared_form x)) same
+form_there (t ∷ ts) (suc p) leaf e = form_there ts p leaf e
 
 -- a leaf that is there, of the form of a declared one
 pub record Formed (ls : List Leaf) (place : ℕ) (leaf : Y.Leaf) : Type 0 where

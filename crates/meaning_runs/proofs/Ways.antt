@@ -1,7 +1,7 @@
--- What stands around a part of a run: a program all of whose procedures and variables are sound and plain, a place in
+-- What stands around a part of a run: a program all of whose procedures and variables are sound, a place in
 -- it, the activations of the blocks around, and how blocks are entered.
-use Rattle.std.proofs.Common.{◌∙◌, ◌≡◌, ℕ, zero, suc, ◌+◌, ◌<◌, ◌≤◌, List, [], ◌∷◌, Option, Some, None, Bool, true}
-use Rattle.std.proofs.Common.{false}
+use Rattle.std.proofs.Common.{◌∙◌, ◌≡◌, ℕ, zero, suc, ◌+◌, ◌<◌, ◌≤◌, pos, List, [], ◌∷◌, Option, Some, None, Bool}
+use Rattle.std.proofs.Common.{true, false}
 use Rattle.std.proofs.Common.{refl, ap}
 use Rattle.std.proofs.Common.{sym, subst, arith}
 use Rattle.std.specs.Prelude.{◌==◌, cond, ⊤, drop, length, slice_get, is_some, unwrap_or}
@@ -9,7 +9,7 @@ use Rattle.pli_typing.specs.TypedTree as Y
 use Rattle.pli_meaning.specs.BasicValues.{Name, NullName, VariableName, BasedName, BasicValue}
 use Rattle.pli_meaning.specs.Contents.{Shape, Generation, Placed, changed_at}
 use Rattle.pli_meaning.specs.StorageState.{State, Binding, Activation, with_area, with_generation, area_changed}
-use Rattle.pli_meaning.specs.StorageState.{living_changed, heap_serial, offsets_of}
+use Rattle.pli_meaning.specs.StorageState.{living_changed, heap_serial, offsets_of, generation_at}
 use Rattle.pli_meaning.specs.Control.{Meaning}
 use Rattle.pli_meaning.specs.Raising.{Around, Enter, Entry, Passed, PassedName, PassedValue, unit_entered}
 use Rattle.pli_meaning.specs.DeclaredShapes as D
@@ -20,15 +20,17 @@ use Rattle.well_formed_trees.specs.Every.{Every}
 use Rattle.well_formed_trees.specs.WellFormed.{IsHeld}
 use Rattle.well_formed_trees.specs.Statements.{IsListed, IsListedUnit}
 use Rattle.well_formed_trees.specs.Members.{all_dimensions}
-use Rattle.well_formed_trees.specs.Declarations.{AreMembers, AreasAlone, HaveBounds, leaf_dimensions}
+use Rattle.well_formed_trees.specs.Declarations.{IsReferIf, AreMembers, AreasAlone, HaveBounds, leaf_dimensions}
 use Rattle.well_formed_trees.specs.Surroundings.{Table, Where, Returning, Returns, NoReturn}
 use Rattle.well_formed_trees.specs.Surroundings as W
 use Rattle.well_formed_trees.specs.Expressions.{SoundNumber}
-use Rattle.meaning_runs.specs.Plain.{Calls, AnyCall, NoCall, PlainVariable}
+use Rattle.meaning_runs.proofs.Calling.{Calls, AnyCall, NoCall, AllowedVariable}
 use Rattle.meaning_runs.proofs.Frames.{Frame, skeleton, Stands, Chain, IsOpen}
 use Rattle.meaning_runs.proofs.Demands.{Bearing, block_around, placed, SoundBlock, SoundUnit, HasUnits}
 use Rattle.meaning_runs.proofs.Demands.{Demand, Kept}
-use Rattle.meaning_runs.proofs.Shapes.{IsShapedAs, IsOwnName, StandsAs, shape_declared}
+use Rattle.meaning_runs.proofs.Shapes.{IsShapedAs, IsOwnName, StandsAs, shape_declared, kind_number}
+use Rattle.meaning_runs.proofs.Values.{IsOfNumber, HasValues, HasInitial, AllHave, HasStored, fresh_values}
+use Rattle.meaning_runs.proofs.Values.{area_stored, generation_stored, removed_all}
 use Rattle.meaning_runs.proofs.Heaps.{HasHeap, KeepsShape, heap_changed, heap_popped}
 use Rattle.meaning_runs.proofs.Bindings.{IsNewBinding, binding_added, Ground}
 use Rattle.meaning_runs.proofs.Demands.{There}
@@ -37,27 +39,29 @@ use Rattle.meaning_runs.proofs.Steps.{Passes, fewer_left}
 
 -- ---- a whole program
 
--- what is evaluated for a variable's extents is sound, where it is declared, and plain; it calls nothing. Each leaf has
+-- what is evaluated for a variable's extents is sound, where it is declared; it calls nothing. Each leaf has
 -- the bounds of the members that hold it
 pub record Declares (p : Y.Program) (table : Table) (block : ℕ) (d : Y.DeclaredVariable) : Type 0 where
   pub blocks : List W.Around
   pub listed : slice_get table block ≡ Some blocks
   pub sound : Every (λ x. SoundNumber (placed p table blocks NoReturn) x.value) d.evaluations
-  pub plain : PlainVariable NoCall d
+  pub allowed : AllowedVariable NoCall d
   pub members : AreMembers d.members
   pub areas : AreasAlone d
+  pub initial : HasInitial d.leaves
+  pub refer : IsReferIf d d.refer
   pub dimensions : HaveBounds d.leaves (leaf_dimensions d.members (all_dimensions d.members))
 
 -- what a parameter takes
 abbrev pub TakesPassed : Y.DeclaredVariable → Passed → Type 0
 TakesPassed d (PassedName n shape) = StandsAs d n shape
-TakesPassed d (PassedValue kind v) = IsShapedAs d (K.plain kind)
+TakesPassed d (PassedValue kind v) = IsShapedAs d (K.plain kind) × IsOfNumber (kind_number kind) v
 
 -- as many arguments as variables of a block, each of which takes its argument
 abbrev pub ArePassedAs : Y.Program → (block : ℕ) → List ℕ → List Passed → Type 0
 ArePassedAs p block [] [] = ⊤
 ArePassedAs p block (v ∷ vs) (x ∷ xs) =
-    ((d : Y.DeclaredVariable) → slice_get (D.variables_of_block p block) v ≡ Some d → TakesPassed d x)
+    ((d : Y.DeclaredVariable) × (slice_get (D.variables_of_block p block) v ≡ Some d) × TakesPassed d x)
     × ArePassedAs p block vs xs
 ArePassedAs p block _ _ = ⊥
 
@@ -268,25 +272,61 @@ procedure_fine F n (p ∷ ps) q h e =
 
 -- ---- changes of a state that keep its on-units
 
--- where the area is the heap, its generations are kept
+-- the generations of an area are changed; where it is the heap, those of CONTROLLED variables are kept
 pub area_kept : (d : Demand) (serial : ℕ) (change : List Placed → List Placed) (s : State)
-    → ((serial == heap_serial) ≡ true → HasHeap d.program (change s.heap) s.controlled) → Kept d s
-    → Kept d (with_area serial change s)
-area_kept d serial change s heap h = by_test (serial == heap_serial) heap
+    → ((serial == heap_serial) ≡ true → HasHeap d.program (change s.heap) s.controlled)
+    → ((ps : List Placed) → AllHave ps → AllHave (change ps)) → Kept d s → Kept d (with_area serial change s)
+area_kept d serial change s heap values h =
+    by_test (serial == heap_serial) heap (area_stored s serial change values h.0.1.1.0.1)
   where
     by_test : (t : Bool) → (t ≡ true → HasHeap d.program (change s.heap) s.controlled)
+        → HasStored (cond t (record s { heap = change s.heap })
+        (record s { living = living_changed serial (area_changed change) s.living }))
         → Kept d (cond t (record s { heap = change s.heap })
         (record s { living = living_changed serial (area_changed change) s.living }))
-    by_test true k = ((h.0.0, (h.0.1.0, (h.0.1.1.0, k refl))), h.1)
-    by_test false k = h
+    by_test true k stored = ((h.0.0, (h.0.1.0, ((h.0.1.1.0.0, stored), k refl))), h.1)
+    by_test false k stored = ((h.0.0, (h.0.1.0, ((h.0.1.1.0.0, stored), h.0.1.1.1))), h.1)
 
-pub generation_kept : (d : Demand) (n : Name) (change : Generation → Generation) (s : State) → KeepsShape change
-    → Kept d s → Kept d (with_generation n change s)
-generation_kept d NullName change s c h = h
-generation_kept d (VariableName serial) change s c h = h
-generation_kept d (BasedName area offset) change s c h =
-    area_kept d area (changed_at offset change) s
-    (λ e. heap_changed d.program offset change s.heap s.controlled c h.0.1.1.1) h
+-- a generation is changed that stands there
+pub generation_kept : (d : Demand) (n : Name) (change : Generation → Generation) (s : State) (g : Generation)
+    → KeepsShape change → generation_at s n ≡ Some g → HasValues (change g) → Kept d s
+    → Kept d (with_generation n change s)
+generation_kept d NullName change s g c e v h = h
+generation_kept d (VariableName serial) change s g c e v h = (
+  (
+    h.0.0,
+    (
+      h.0.1.0,
+      ((h.0.1.1.0.0, generation_stored s (VariableName serial) change g e v h.0.1.1.0.1), h.0.1.1.1),
+    ),
+  ),
+  h.1,
+)
+generation_kept d (BasedName area offset) change s g c e v h =
+    by_test (area == heap_serial) (generation_stored s (BasedName area offset) change g e v h.0.1.1.0.1)
+  where
+    changed : List Placed → List Placed
+    changed = changed_at offset change
+
+    by_test : (t : Bool)
+        → HasStored (cond t (record s { heap = changed s.heap })
+        (record s { living = living_changed area (area_changed changed) s.living }))
+        → Kept d (cond t (record s { heap = changed s.heap })
+        (record s { living = living_changed area (area_changed changed) s.living }))
+    by_test true stored = (
+      (
+        h.0.0,
+        (
+          h.0.1.0,
+          (
+            (h.0.1.1.0.0, stored),
+            heap_changed d.program offset change s.heap s.controlled c h.0.1.1.1,
+          ),
+        ),
+      ),
+      h.1,
+    )
+    by_test false stored = ((h.0.0, (h.0.1.0, ((h.0.1.1.0.0, stored), h.0.1.1.1))), h.1)
 
 binding_kept : (p : Y.Program) (table : Table) (b : Binding) (fs : List Frame) (as' : List Activation)
     → HasUnits p table fs as' → HasUnits p table fs (K.with_binding b as')
@@ -314,11 +354,18 @@ bound_kept d variable n shape s new h =
       binding_heights b s.activations ∙ h.1,
     )
 
+-- one more generation lives
+living_kept : (d : Demand) (g : Generation) (s : State) → HasValues g → Kept d s → Kept d (K.with_living g s)
+living_kept d g s v h =
+    let stored = h.0.1.1.0.1 in
+    ((h.0.0, (h.0.1.0, ((h.0.1.1.0.0, (((v, tt), stored.0), stored.1)), h.0.1.1.1))), h.1)
+
 pub variable_kept : (d : Demand) (variable : ℕ) (g : Generation) (s : State)
-    → ((n : Name) → IsOwnName n → MayStand d variable n g.shape) → Kept d s → Kept d (K.with_variable variable g s)
-variable_kept d variable g s new h =
+    → ((n : Name) → IsOwnName n → MayStand d variable n g.shape) → HasValues g → Kept d s
+    → Kept d (K.with_variable variable g s)
+variable_kept d variable g s new v h =
     bound_kept d variable (VariableName (s.serials + 1)) g.shape (K.with_living g s)
-    (new (VariableName (s.serials + 1)) (omega arith)) h
+    (new (VariableName (s.serials + 1)) (omega arith)) (living_kept d g s v h)
 
 pub freed_kept : (d : Demand) (v : Y.Variable) (s : State) → Kept d s → Kept d (A.controlled_freed v s)
 freed_kept d v s h = of_stack (offsets_of s.controlled v.block v.index) refl
@@ -330,7 +377,10 @@ freed_kept d v s h = of_stack (offsets_of s.controlled v.block v.index) refl
         h.0.0,
         (
           h.0.1.0,
-          (h.0.1.1.0, heap_popped d.program s.heap v.block v.index o os s.controlled e h.0.1.1.1),
+          (
+            (h.0.1.1.0.0, (h.0.1.1.0.1.0, removed_all o s.heap h.0.1.1.0.1.1)),
+            heap_popped d.program s.heap v.block v.index o os s.controlled e h.0.1.1.1,
+          ),
         ),
       ),
       h.1,
@@ -351,12 +401,25 @@ next_of {X} xs n y ys e =
     by_place (x ∷ xs) (suc n) e = by_place xs n e
 
 static_kept : (d : Demand) (block variable : ℕ) (v : Y.DeclaredVariable) (class : Y.StorageClass) (s : State)
-    → slice_get (D.variables_of_block d.program block) variable ≡ Some v → Kept d s
+    → HasInitial v.leaves → slice_get (D.variables_of_block d.program block) variable ≡ Some v → Kept d s
     → Kept d (K.static_made block variable v class s)
-static_kept d block variable v Y.AutomaticClass s e h = h
-static_kept d block variable v Y.ParameterClass s e h = h
-static_kept d block variable v Y.StaticClass s e h =
-    ((h.0.0, (h.0.1.0, ((λ x f. of_declared x f, h.0.1.1.0), h.0.1.1.1))), h.1)
+static_kept d block variable v Y.AutomaticClass s i e h = h
+static_kept d block variable v Y.ParameterClass s i e h = h
+static_kept d block variable v Y.StaticClass s i e h =
+    let stored = h.0.1.1.0.1 in
+    let values = fresh_values (D.shape_of [] v) (pos 0) v.leaves (shape_declared [] v) i in (
+      (
+        h.0.0,
+        (
+          h.0.1.0,
+          (
+            ((λ x f. of_declared x f, h.0.1.1.0.0), (((values, tt), stored.0), stored.1)),
+            h.0.1.1.1,
+          ),
+        ),
+      ),
+      h.1,
+    )
   where
     of_declared : (x : Y.DeclaredVariable)
         → slice_get (D.variables_of_block d.program block) variable ≡ Some x
@@ -364,25 +427,31 @@ static_kept d block variable v Y.StaticClass s e h =
     of_declared x f =
         let same : v ≡ x = cc (e, f) in
         (subst (λ y. IsShapedAs y (D.shape_of [] v)) same (shape_declared [] v), λ a. omega arith)
-static_kept d block variable v Y.BasedClass s e h = h
-static_kept d block variable v Y.ControlledClass s e h = h
+static_kept d block variable v Y.BasedClass s i e h = h
+static_kept d block variable v Y.ControlledClass s i e h = h
 
 block_kept : (d : Demand) (block variable : ℕ) (vs : List Y.DeclaredVariable) (s : State)
-    → drop variable (D.variables_of_block d.program block) ≡ vs → Kept d s
+    → Every (λ v. HasInitial v.leaves) vs → drop variable (D.variables_of_block d.program block) ≡ vs → Kept d s
     → Kept d (K.statics_of_block block variable vs s)
-block_kept d block variable [] s e h = h
-block_kept d block variable (v ∷ vs) s e h =
+block_kept d block variable [] s i e h = h
+block_kept d block variable (v ∷ vs) s i e h =
     let next = next_of (D.variables_of_block d.program block) variable v vs e in
-    block_kept d block (variable + 1) vs (K.static_made block variable v v.class s) next.1
-    (static_kept d block variable v v.class s next.0 h)
+    block_kept d block (variable + 1) vs (K.static_made block variable v v.class s) i.1 next.1
+    (static_kept d block variable v v.class s i.0 next.0 h)
 
-statics_on : (d : Demand) (block : ℕ) (vs : List (List Y.DeclaredVariable)) (s : State)
+-- what INITIAL says of all variables
+abbrev pub AllInitial : Y.Program → Type 0
+AllInitial p = (block : ℕ) → Every (λ v. HasInitial v.leaves) (D.variables_of_block p block)
+
+statics_on : (d : Demand) (block : ℕ) (vs : List (List Y.DeclaredVariable)) (s : State) → AllInitial d.program
     → drop block d.program.variables ≡ vs → Kept d s → Kept d (K.statics_from block vs s)
-statics_on d block [] s e h = h
-statics_on d block (v ∷ vs) s e h =
+statics_on d block [] s i e h = h
+statics_on d block (v ∷ vs) s i e h =
     let next = next_of d.program.variables block v vs e in
-    statics_on d (block + 1) vs (K.statics_of_block block 0 v s) next.1
-    (block_kept d block 0 v s (ap (λ o. unwrap_or o []) next.0) h)
+    let same : D.variables_of_block d.program block ≡ v = ap (λ o. unwrap_or o []) next.0 in
+    statics_on d (block + 1) vs (K.statics_of_block block 0 v s) i next.1
+    (block_kept d block 0 v s (subst (λ xs. Every (λ x. HasInitial x.leaves) xs) same (i block)) same h)
 
-pub statics_kept : (d : Demand) (s : State) → Kept d s → Kept d (K.statics_from 0 d.program.variables s)
-statics_kept d s h = statics_on d 0 d.program.variables s refl h
+pub statics_kept : (d : Demand) (s : State) → AllInitial d.program → Kept d s
+    → Kept d (K.statics_from 0 d.program.variables s)
+statics_kept d s i h = statics_on d 0 d.program.variables s i refl h
