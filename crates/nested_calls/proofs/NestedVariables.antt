@@ -78,7 +78,7 @@ pub record Over (k inner : Block) (level : ℕ) (p : Point) : Type 0 where
   pub layer_level : inner.call.beginning.layer.level ≡ suc level
   pub few : suc level < most_levels
 
-same_ancestor :
+pub same_ancestor :
     {k inner : Block} {level : ℕ} {numbers : ℕ → ℕ} {p : Point} (n : ℕ) → Over k inner level p → IsNested k →
     IsAmong k numbers p → level ≤ k.environment.level → n ≤ level →
     ancestor_at inner.first.state n ≡ ancestor_at k.first.state n
@@ -270,7 +270,7 @@ over_number {k} {inner} x i nest b o within less program parts is =
       inside = subst (λ n. is.base + n + 4 ≤ 15 * 2 ^ 20) (sym place) is.inside;
     }
 
-over_known :
+pub over_known :
     {k inner : Block} {level : ℕ} {numbers : ℕ → ℕ} {p : Point} (x : Spot) (d : Y.DeclaredVariable) →
     Over k inner level p → IsNested k → IsBegun k → IsAmong k numbers p → level ≤ k.environment.level →
     x.level ≤ level → inner.environment.program ≡ k.environment.program →

@@ -1,4 +1,5 @@
 pub mod Arrays
+pub mod UnitArrays
 pub mod Takes
 pub mod Places
 pub mod Mains

@@ -265,7 +265,7 @@ own_known {program} m input acts x h =
     let b = in_place x (place_of_head m.head) a.0 in
     record { block = b.0; level = b.1; plain = a.1 }
 
-own_array_known :
+pub own_array_known :
     {program : Y.Program} (m : Main program) (input : List ℕ) (acts : ℕ) (x : Spot) →
     is_array_known (own_scope program m.head) x ≡ true →
     IsOwnArray (main_for m input acts) x

@@ -41,10 +41,12 @@ use Rattle.expression_runs.specs.Assignments.{setting_around, setting_of}
 use Rattle.expression_runs.specs.Values.{OverflowComes, Setting}
 use Rattle.expression_runs.specs.Variables.{IsNumber, Spot}
 use Rattle.expression_runs.proofs.Raises.{overflow_ends}
+use Rattle.element_runs.specs.Arrays.{IsArray}
+use Rattle.element_runs.proofs.Outside.{subscripts_end}
 use Rattle.operator_runs.specs.Divisors.{ZeroDivideComes}
 use Rattle.operator_runs.proofs.Divisors.{zero_divide_ends}
 use Rattle.number_runs.specs.Knowledge.{Includes, IsReady, KnowsRaises}
-use Rattle.number_runs.specs.Numbers.{is_known}
+use Rattle.number_runs.specs.Numbers.{bounds_known, is_array_known, is_known}
 use Rattle.number_runs.specs.Statements.{statements_need}
 use Rattle.number_runs.specs.Variables.{words_in}
 use Rattle.number_runs.proofs.Statements.{body_does}
@@ -64,7 +66,10 @@ use Rattle.unit_runs.proofs.UnitRuns.{overflow_returns}
 use Rattle.unit_runs.proofs.UnitVariables.{none_made, outer_number, unit_over}
 use Rattle.unit_numbers.specs.Units.{own_scope, unit_scope}
 use Rattle.unit_numbers.proofs.Mains.{Alone, Main, block_for, first_alone, free, level_of, list_of, main_begun}
-use Rattle.unit_numbers.proofs.Mains.{main_layer, main_number, most_for, own_known, placed, surroundings_for}
+use Rattle.unit_numbers.proofs.Mains.{main_array, main_layer, main_number, most_for, own_array_known, own_known, placed}
+use Rattle.unit_numbers.proofs.Mains.{surroundings_for}
+use Rattle.unit_numbers.proofs.Arrays.{past_array}
+use Rattle.unit_numbers.proofs.UnitArrays.{outer_unit_array}
 use Rattle.unit_numbers.proofs.Outer.{alone_own, made_stacks, main_saves, main_top}
 use Rattle.unit_numbers.proofs.Divides.{divide_returns}
 use Rattle.unit_numbers.proofs.Established.{IsUnitOf, Newest, error_system, list_placed, none_system}
@@ -215,6 +220,11 @@ pub record IsScene {program : Y.Program} (m : Main program) (z : Scene) : Type 0
       (r : Raise) → IsRaiseOf (scene_setting m z) (scene_unit m z) z.more raised r →
       AreMade (scene_setting m z) (scene_unit m z) r → IsBegun (scene_inner m z r) → (v : Spot) →
       is_known (own_scope program m.head) v ≡ true → IsNumber (scene_inner m z r) v
+  pub arrays :
+      (r : Raise) → IsRaiseOf (scene_setting m z) (scene_unit m z) z.more raised r →
+      AreMade (scene_setting m z) (scene_unit m z) r → IsBegun (scene_inner m z r) → (v : Spot) →
+      is_array_known (own_scope program m.head) v ≡ true →
+      IsArray (scene_inner m z r) v (bounds_known (own_scope program m.head) v)
   pub found :
       (r : Raise) → IsRaiseOf (scene_setting m z) (scene_unit m z) z.more raised r →
       AreMade (scene_setting m z) (scene_unit m z) r → IsBegun (scene_inner m z r) →
@@ -314,7 +324,15 @@ scene_raises once {program} m z s r is own =
             acts = s.few;
             most = omega (arith, inside);
           });
-      subscript = λ may words set labels line includes. absurd (cc may);
+      subscript = λ may words set labels line includes. subscripts_end
+          (setting_around words (scene_inner m z r) labels line (most_for program))
+          (record {
+            routines = routines;
+            place = error_routine once program m.loadable;
+            error = error;
+            acts = s.few;
+            most = omega (arith, inside);
+          });
     }
 
 scene_ready :
@@ -335,7 +353,7 @@ scene_ready once {program} m z s r is made b =
       held = omega arith;
       raises = scene_raises once m z s r is (labels_in z.unit.body ++ []);
       variables = λ v known. s.numbers r is made b v known;
-      arrays = λ may v known. absurd (cc may);
+      arrays = λ may v known. s.arrays r is made b v known;
       calls = record {
         functions = λ words set ls at level n inside call. absurd (cc call);
         procedures = λ words set ls level n at index inside call. absurd (cc call);
@@ -355,7 +373,7 @@ scene_ready once {program} m z s r is made b =
             acts = s.few;
             few = omega (arith, inside);
             variables = λ v known. s.numbers r is made b v known;
-            arrays = λ may v known. absurd (cc may);
+            arrays = λ may v known. s.arrays r is made b v known;
             lists = lists_known program (scene_inner m z r) m.memory
                 (called_of_program program (scene_block m z) (scene_inner m z r) r.numbers s.told is.among refl refl
                 b);
@@ -504,6 +522,11 @@ own_is once {program} m input more past labels line few b includes known n =
           let at = (own_known m input (suc more) v named).level in
           outer_number k y more h.0 r v own is made b' (omega (arith, level, outer, at))
           (past_numbers k0 past v (main_number m input (suc more) v (own_known m input (suc more) v named) b));
+      arrays = λ r is made b' v named.
+          let at = (own_array_known m input (suc more) v named).level in
+          outer_unit_array k y more h.0 r v (bounds_known (own_scope program m.head) v) own is made b'
+          (omega (arith, level, outer, at))
+          (past_array k0 past v (bounds_known (own_scope program m.head) v) (main_array m input (suc more) v named b));
       found = λ r is made b'.
           ap height_of (same_ancestor m.head.level (unit_over k y more h.0 r own is made b') h.0.begun is.among
           (omega (arith, outer, level)))

@@ -45,23 +45,26 @@ use Rattle.jump_runs.proofs.Numbers.{alone, called_number, number_leaving}
 use Rattle.variable_runs.specs.Lists.{all_made, behind_made, layer_behind}
 use Rattle.element_runs.specs.Arrays.{IsArray}
 use Rattle.element_runs.proofs.Outer.{outer_array, procedure_known}
-use Rattle.number_runs.specs.Numbers.{bounds_known, is_array_known, is_known}
+use Rattle.number_runs.specs.Numbers.{Scope, bounds_known, is_array_known, is_known}
 use Rattle.number_runs.specs.Variables.{bytes_of, words_in}
 use Rattle.number_runs.proofs.Words.{AreLaid, own_array, own_word, words_laid}
 use Rattle.number_headlines.proofs.Tables.{block_plain}
 use Rattle.unit_runs.specs.Changing.{Past}
 use Rattle.unit_runs.specs.Establishing as T
 use Rattle.unit_runs.specs.Raised.{AreMade, IsRaiseOf, IsRaised, Raise, Standing, unit_block, unit_entry}
+use Rattle.unit_runs.specs.UnitVariables.{IsFurther}
 use Rattle.unit_runs.proofs.FurtherVariables.{further_number}
 use Rattle.unit_runs.proofs.OwnRaises.{past_like, past_numbers}
 use Rattle.unit_numbers.specs.Calls.{called_scope}
+use Rattle.unit_numbers.specs.Units.{own_scope}
 use Rattle.unit_numbers.proofs.Arrays.{array_leaving, past_array}
 use Rattle.unit_numbers.proofs.Called.{Inner, IsOfBoth, IsVisit, NamedArray, Visit, named_array, named_is}
 use Rattle.unit_numbers.proofs.Called.{no_inner_words}
 use Rattle.unit_numbers.proofs.Called.{Named, inner_words, visit_all, visit_begun, visit_callee, visit_made}
 use Rattle.unit_numbers.proofs.Mains as N
 use Rattle.unit_numbers.proofs.Mains.{Main, block_for, free, level_of, list_of, main_number, most_for, own_known}
-use Rattle.unit_numbers.proofs.Mains.{own_main_array, surroundings_for}
+use Rattle.unit_numbers.proofs.Mains.{own_array_known, own_main_array, surroundings_for}
+use Rattle.unit_numbers.proofs.UnitArrays.{further_array}
 use Rattle.block_headlines.specs.Constants.{IsOf}
 use Rattle.block_headlines.proofs.Constants.{called_of_program}
 use Rattle.unit_numbers.proofs.Puts.{main_told}
@@ -544,22 +547,16 @@ visit_is once {program} m i v more past entry function labels line h n b =
       there = refl;
       numbers = λ r is made b' s named.
           let at = (own_known m v.input acts s named).level in
-          further_number (scene_setting m z) (scene_unit m z) more raised.0 r s main v.point v.numbers 1
-          (record {
-            begun = visit_begun m v (suc more) past h;
-            among = h.among;
-            activations = ap (λ as'. drop 1 as') (visit_above m i v (suc more) past entry function).is;
-            layers = ap (λ ls. drop 1 ls) (visit_made m i v (suc more) past h).layers;
-            remains = b.remains;
-            own = raised.1;
-            level = refl;
-            inner = refl;
-            program = refl;
-            parts = refl;
-          })
+          further_number (scene_setting m z) (scene_unit m z) more raised.0 r s main v.point v.numbers 1 further
           is made b' (omega (arith, level, outer, at))
           (past_numbers (block_for m v.input acts) past s
           (main_number m v.input acts s (own_known m v.input acts s named) h.begun));
+      arrays = λ r is made b' s named.
+          let at = (own_array_known m v.input acts s named).level in
+          further_array (scene_setting m z) (scene_unit m z) more raised.0 r s (bounds_known own s) main v.point
+          v.numbers 1 further is made b' (omega (arith, level, outer, at))
+          (past_array (block_for m v.input acts) past s (bounds_known own s) (N.main_array m v.input acts s named
+          h.begun));
       found = λ r is made b'.
           two_found (E.activation_of n.unit.head (unit_entry (scene_unit m z) r) (length r.point.state.activations + 1))
           r.point.state.activations m.head.level i.head.level (two_at r is) (is.height ∙ raised.1)
@@ -586,6 +583,25 @@ visit_is once {program} m i v more past entry function labels line h n b =
 
     raised : (h' : IsRaised (scene_setting m z) (scene_unit m z) more) × (h'.by.height ≡ 1)
     raised = visit_raised once m i v more past entry function labels line h n b
+
+    own : Scope
+    own = own_scope program m.head
+
+    -- the main procedure is the next block further out
+    further : IsFurther (scene_setting m z) (scene_unit m z) more raised.0 main v.point v.numbers 1
+    further =
+        record {
+          begun = visit_begun m v (suc more) past h;
+          among = h.among;
+          activations = ap (λ as'. drop 1 as') (visit_above m i v (suc more) past entry function).is;
+          layers = ap (λ ls. drop 1 ls) (visit_made m i v (suc more) past h).layers;
+          remains = b.remains;
+          own = raised.1;
+          level = refl;
+          inner = refl;
+          program = refl;
+          parts = refl;
+        }
 
     two_at :
         (r : Raise) → IsRaiseOf (scene_setting m z) (scene_unit m z) more raised.0 r →

@@ -55,8 +55,8 @@ is_of_numbers C.FixedOverflow = true
 is_of_numbers C.ZeroDivide = true
 is_of_numbers _ = false
 
--- those of a unit in it may name them, too, write numbers, and jump to the labels of the main procedure's list; they
--- call nothing and don't return, and raise no condition for which that list has a unit
+-- those of a unit in it may name them, too, arrays among them, write numbers, and jump to the labels of the main
+-- procedure's list; they call nothing and don't return, and raise no condition for which that list has a unit
 abbrev pub unit_scope : Y.Program → (main : Y.BlockHead) → Y.Stmts → Scope
 unit_scope program main body =
     record {
@@ -69,7 +69,7 @@ unit_scope program main body =
       puts = true;
       overflows = not (has_unit C.FixedOverflow body);
       divides = not (has_unit C.ZeroDivide body);
-      elements = false;
+      elements = true;
       own = false;
       is_outer = λ level label. (level == main.level) && is_among label (labels_in body);
     }
