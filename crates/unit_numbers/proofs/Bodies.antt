@@ -1,6 +1,6 @@
--- The statements of each block do what they mean, as deep as blocks are entered; and the list of the main procedure comes
+-- The statements of each block do what they mean, as deep as blocks are entered; and the main procedure's list comes
 -- to its end, whatever units it has by then.
-use Rattle.std.proofs.Common.{◌≡◌, ◌⊎◌, inl, inr, ℕ, zero, suc, ◌+◌, ◌^◌, ◌<◌, ◌≤◌, List, [], ◌∷◌, ◌++◌, length}
+use Rattle.std.proofs.Common.{◌≡◌, ◌⊎◌, inl, inr, ℕ, zero, suc, ◌+◌, ◌^◌, ◌<◌, ◌≤◌, List, [], ◌++◌, length}
 use Rattle.std.proofs.Common.{Bool, Option, Some, None, true, false, refl, sym, ap, ◌∙◌, subst, arith}
 use Rattle.std.specs.Prelude.{not}
 use Rattle.std.proofs.lemmas.Bool.{and_parts, or_cases}
@@ -360,10 +360,13 @@ all_do once {program} m input acts few b (Y.StmtThen own first rest) index is fi
     let at' = placed_back (marked e.block own) (one ++ more) at in
     let here = index + size_of (marked e.block own) in
     let labels = labels_in (list_of m) in
-    let a = and_parts (is_step program m.called m.head (list_of m) first) (are_steps program m.called m.head (list_of m) rest) is in (
-      step_does once m input acts few b first here a.0 (omega (arith, fits)) (omega (arith, sets)) (placed_front one more at')
+    let a = and_parts (is_step program m.called m.head (list_of m) first)
+    (are_steps program m.called m.head (list_of m) rest) is in (
+      step_does once m input acts few b first here a.0 (omega (arith, fits)) (omega (arith, sets))
+      (placed_front one more at')
           (λ x same. unit_stands once m input acts (x, here) (there (x, here) (inl (same, refl)))),
-      all_do once m input acts few b rest (here + size_of one) a.1 (omega (arith, fits)) (omega (arith, sets)) (placed_back one more at')
+      all_do once m input acts few b rest (here + size_of one) a.1 (omega (arith, fits)) (omega (arith, sets))
+      (placed_back one more at')
           (λ z h. there z (inr h)),
     )
 
@@ -389,4 +392,5 @@ main_ends once {program} m input acts few b p numbers f o there =
       enough = omega (arith, first);
     })
     (are_marked (links_for program) (linked_code (code_for program)) (start_of m) e (list_of m) at)
-    (all_do once m input acts few b (list_of m) (start_of m) m.steps (omega arith) (omega arith) at (λ e h. h)) p numbers f o there)
+    (all_do once m input acts few b (list_of m) (start_of m) m.steps (omega arith) (omega arith) at (λ e h. h)) p
+    numbers f o there)

@@ -1,7 +1,7 @@
 -- Calls in a block of what the program may call: they do what they mean if the statements of blocks that may be entered
 -- one level less deep do.
 use Rattle.std.proofs.Common.{◌≡◌, ℕ, zero, suc, ◌+◌, ◌^◌, ◌<◌, ◌≤◌, List, [], ◌∷◌, ◌++◌, length}
-use Rattle.std.proofs.Common.{Bool, None, Some, true, false, refl, sym, ap, ◌∙◌, subst, arith}
+use Rattle.std.proofs.Common.{Bool, None, Some, true, false, refl, sym, ap, subst, arith}
 use Rattle.std.specs.Prelude.{nat_le, nat_lt}
 use Rattle.std.proofs.lemmas.Bool.{leb-true}
 use Rattle.std.proofs.lemmas.Bool.Decides.{nat_tests}
@@ -9,7 +9,7 @@ use Rattle.pli_language.specs.declared.condition.Condition.TheVariants as C
 use Rattle.pli_typing.specs.TypedTree as Y
 use Rattle.pli_meaning.specs.Control.{Label}
 use Rattle.pli_meaning.specs.DeclaredShapes.{procedure_numbered, variables_of_block}
-use Rattle.pli_meaning.specs.Executing.{entered, labels_in}
+use Rattle.pli_meaning.specs.Executing.{entered}
 use Rattle.pli_meaning.specs.StorageState.{automatic_in_use, force, most_activations, most_automatic}
 use Rattle.pli_coding.specs.Allocating.{act_code}
 use Rattle.pli_coding.specs.Assembly.{size_of}
@@ -31,13 +31,12 @@ use Rattle.program_places.proofs.Labels.{are_marked}
 use Rattle.program_places.proofs.Procedures.{body_placed}
 use Rattle.program_runs.specs.Calls.{left_over}
 use Rattle.program_runs.specs.Starts.{image_parts}
-use Rattle.program_runs.specs.Statements.{DoesWith, IsBegun, Outer, as_outer, set_aside}
+use Rattle.program_runs.specs.Statements.{DoesWith, Outer, as_outer, set_aside}
 use Rattle.expression_runs.specs.Assignments.{setting_around}
 use Rattle.expression_runs.specs.Laws as L
 use Rattle.function_runs.specs.FunctionCalls.{called_from}
-use Rattle.jump_runs.specs.Functions.{IsFunctionList, function_in}
+use Rattle.jump_runs.specs.Functions.{function_in}
 use Rattle.jump_runs.proofs.FunctionLists.{each_ends, system_ends}
-use Rattle.jump_runs.proofs.Numbers.{alone}
 use Rattle.nested_calls.specs.NestedCalls.{HasFrame, IsNestedCall}
 use Rattle.nested_calls.specs.NestedFunctions.{IsNestedFunction}
 use Rattle.nested_calls.proofs.DeepCalls.{deep_call_ends}
@@ -49,7 +48,7 @@ use Rattle.number_runs.specs.Variables.{bytes_of}
 use Rattle.number_headlines.proofs.Mains.{result_of}
 use Rattle.number_headlines.proofs.Running.{callee_of, site_of}
 use Rattle.unit_numbers.proofs.Entered.{Moment, are_made, bare_block, called_entered, called_part, entered_at}
-use Rattle.unit_numbers.proofs.Entered.{forced_there, inner_set, whole_block}
+use Rattle.unit_numbers.proofs.Entered.{forced_there, inner_set}
 use Rattle.unit_numbers.proofs.Established.{error_system}
 use Rattle.unit_numbers.proofs.Full.{are_full}
 use Rattle.unit_numbers.proofs.Homes.{Home, IsHome', home_block}
@@ -216,7 +215,8 @@ value_by once {program} m h ih more b part out os a each own rises words set lab
     (each h b (called_part i) (as_outer (bare_block m h true more r) []) os' ih
     (called_entered once m moment i call labels pass shallow list'.begun) (rises labels includes))
     (system_ends (function_in z (called_from c call) p numbers) i.body (body_for program i.head i.body) [] list'
-    (error_there once m h ih (bare_block m h true more r).first.state.activations (forced_there m moment i call C.Error)))))
+    (error_there once m h ih (bare_block m h true more r).first.state.activations
+    (forced_there m moment i call C.Error)))))
     (λ e.
     full_function_ends z c level more is shallow
     (λ call p numbers o. are_full m (record { at = a; among = o }) i call ih.few (past used e))))

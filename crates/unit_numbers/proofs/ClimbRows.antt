@@ -15,8 +15,8 @@ use Rattle.pli_coding.specs.Images.{code_of, picture_of}
 use Rattle.pli_coding.specs.Linking.{links_of}
 use Rattle.well_formed_trees.specs.Blocks.{times}
 use Rattle.well_formed_trees.specs.Declarations.{SoundVariable}
-use Rattle.well_formed_trees.specs.References.{Designates, IsNumberScalar, IsScalar}
-use Rattle.well_formed_trees.specs.Surroundings.{Around, NoReturn, Returns, Table, Where}
+use Rattle.well_formed_trees.specs.References.{Designates, IsScalar}
+use Rattle.well_formed_trees.specs.Surroundings.{Around, Returns, Table, Where}
 use Rattle.well_formed_trees.specs.WellFormed.{AreNested, AreNumbered, DeclaresSound, IsBehind, IsEntry, IsWellFormed}
 use Rattle.well_formed_trees.specs.WellFormed.{SoundProcedure}
 use Rattle.storage_relation.proofs.Holders.{eqb-other}
@@ -103,29 +103,29 @@ main_sound = record {
         (((inr (inl (refl, refl)), omega arith), tt), omega arith),
       ),
       (
+        (
+          (twice_procedure, refl, refl),
           (
-            (twice_procedure, refl, refl),
             (
-              (
-                record {
-                  procedure = twice_procedure;
-                  is = record {
-                    found = refl;
-                    level_is = refl;
-                    kind = refl;
-                    own = twice_entry;
-                    holder = main_entry;
-                    outer = [];
-                    entry = refl;
-                    holder_around = inl (refl, refl);
-                  };
-                  passed = tt;
-                },
-                tt,
-              ),
-              omega arith,
+              record {
+                procedure = twice_procedure;
+                is = record {
+                  found = refl;
+                  level_is = refl;
+                  kind = refl;
+                  own = twice_entry;
+                  holder = main_entry;
+                  outer = [];
+                  entry = refl;
+                  holder_around = inl (refl, refl);
+                };
+                passed = tt;
+              },
+              tt,
             ),
+            omega arith,
           ),
+        ),
         (omega arith, tt),
       ),
     ),
@@ -164,29 +164,29 @@ twice_sound = record {
       ),
     ),
     (
+      (
+        (twice_procedure, refl, refl),
+        (
           (
-            (twice_procedure, refl, refl),
-            (
-              (
-                record {
-                  procedure = twice_procedure;
-                  is = record {
-                    found = refl;
-                    level_is = refl;
-                    kind = refl;
-                    own = twice_entry;
-                    holder = main_entry;
-                    outer = [];
-                    entry = refl;
-                    holder_around = inr (inl (refl, refl));
-                  };
-                  passed = tt;
-                },
-                tt,
-              ),
-              omega arith,
-            ),
+            record {
+              procedure = twice_procedure;
+              is = record {
+                found = refl;
+                level_is = refl;
+                kind = refl;
+                own = twice_entry;
+                holder = main_entry;
+                outer = [];
+                entry = refl;
+                holder_around = inr (inl (refl, refl));
+              };
+              passed = tt;
+            },
+            tt,
           ),
+          omega arith,
+        ),
+      ),
       tt,
     ),
   );

@@ -1,5 +1,5 @@
 -- ZERODIVIDE in an expression while a unit is in force for it: behind the unit the expression goes on with 0.
-use Rattle.std.proofs.Common.{◌≡◌, ℕ, ◌+◌, ◌≤◌, [], ◌∷◌, false, refl, subst, arith}
+use Rattle.std.proofs.Common.{◌≡◌, ℕ, ◌+◌, [], ◌∷◌, false, refl, subst, arith}
 use Rattle.std.specs.Prelude.{pos}
 use Rattle.pli_language.specs.declared.condition.Condition.{Condition}
 use Rattle.pli_language.specs.declared.condition.Condition.TheVariants as C

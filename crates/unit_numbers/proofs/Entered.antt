@@ -1,6 +1,6 @@
 -- A procedure or a function that is called in a block: its variables are made, and what is known there is known of it.
 use Rattle.std.proofs.Common.{◌≡◌, ◌⊎◌, inl, inr, ℕ, suc, ◌+◌, ◌<◌, ◌≤◌, List, [], ◌∷◌, length}
-use Rattle.std.proofs.Common.{Bool, None, Some, true, false, refl, sym, ap, ◌∙◌, subst, arith}
+use Rattle.std.proofs.Common.{Bool, None, Some, true, false, refl, sym, ap, ◌∙◌, arith}
 use Rattle.std.specs.Prelude.{cond, nat_le, nat_lt, ◌==◌}
 use Rattle.std.specs.List.{list_any}
 use Rattle.std.proofs.lemmas.Bool.{and_from, and_parts, leb-true, ltb-true}
@@ -18,7 +18,6 @@ use Rattle.pli_meaning.specs.World.{World}
 use Rattle.pli_coding.specs.Environments.{block_around}
 use Rattle.pli_coding.specs.Frames.{fixed_size, parameters_in, temporary_bytes}
 use Rattle.pli_coding.specs.Images.{linked_code}
-use Rattle.pli_coding.specs.Registers.{held_registers}
 use Rattle.code_marks.specs.CodeMarks.{MarkedOnce}
 use Rattle.storage_relation.proofs.Holders.{eqb-other, eqb-refl}
 use Rattle.activation_relation.specs.Frames.{lower_end, upper_top}
@@ -66,7 +65,7 @@ use Rattle.unit_numbers.proofs.Arrays.{array_leaving}
 use Rattle.unit_numbers.proofs.Homes.{Home, home_block, low_array, low_spot, world_of}
 use Rattle.unit_numbers.proofs.Inner.{Inner}
 use Rattle.unit_numbers.proofs.Mains.{Main, level_of, list_of, main_scope}
-use Rattle.unit_numbers.proofs.Scenes.{IsAt, IsEntered, Part, block_of, scope_of}
+use Rattle.unit_numbers.proofs.Scenes.{IsAt, IsEntered, Part, block_of}
 
 -- ---- what is called at a point of a block
 
@@ -121,8 +120,8 @@ DontPass {program} k i =
 
 -- then there is room for them where it begins
 pub begun_room :
-    {program : Y.Program} (m : Main program) {h : Home} {more b : ℕ} {part : Part} {out : Outer} {os : List Outer} {p : Point}
-    {numbers : ℕ → ℕ} (o : Moment m h (suc more) (suc b) part out os p numbers)
+    {program : Y.Program} (m : Main program) {h : Home} {more b : ℕ} {part : Part} {out : Outer} {os : List Outer}
+    {p : Point} {numbers : ℕ → ℕ} (o : Moment m h (suc more) (suc b) part out os p numbers)
     {v : Bool} {level number : ℕ} (i : Inner m part.caller v level number) (c : Callee) →
     c.procedure ≡ procedure_for program i.head i.body →
     DontPass (block_of m h out os) i →
@@ -156,8 +155,8 @@ begun_room {program} m {h} {more} {b} {part} {out} {os} {p} {numbers} o {v} i c 
     }
 
 pub has_words :
-    {program : Y.Program} (m : Main program) {h : Home} {more b : ℕ} {part : Part} {out : Outer} {os : List Outer} {p : Point}
-    {numbers : ℕ → ℕ} (o : Moment m h (suc more) (suc b) part out os p numbers)
+    {program : Y.Program} (m : Main program) {h : Home} {more b : ℕ} {part : Part} {out : Outer} {os : List Outer}
+    {p : Point} {numbers : ℕ → ℕ} (o : Moment m h (suc more) (suc b) part out os p numbers)
     {v : Bool} {level number : ℕ} (i : Inner m part.caller v level number) (call : ℕ) →
     DontPass (block_of m h out os) i →
     HasWords (world_of m h)
@@ -186,8 +185,8 @@ has_words {program} m {h} {more} {b} {part} {out} {os} {p = p} {numbers = number
     }
 
 pub has_all :
-    {program : Y.Program} (m : Main program) {h : Home} {more b : ℕ} {part : Part} {out : Outer} {os : List Outer} {p : Point}
-    {numbers : ℕ → ℕ} (o : Moment m h (suc more) (suc b) part out os p numbers)
+    {program : Y.Program} (m : Main program) {h : Home} {more b : ℕ} {part : Part} {out : Outer} {os : List Outer}
+    {p : Point} {numbers : ℕ → ℕ} (o : Moment m h (suc more) (suc b) part out os p numbers)
     {v : Bool} {level number : ℕ} (i : Inner m part.caller v level number) (call : ℕ) →
     DontPass (block_of m h out os) i →
     AreAll (world_of m h)
@@ -199,8 +198,8 @@ has_all {program} m {h} {more} {part = part} {out = out} {os = os} {p = p} {numb
     numbers (has_words m o i call pass)
 
 pub are_made :
-    {program : Y.Program} (m : Main program) {h : Home} {more b : ℕ} {part : Part} {out : Outer} {os : List Outer} {p : Point}
-    {numbers : ℕ → ℕ} (o : Moment m h (suc more) (suc b) part out os p numbers)
+    {program : Y.Program} (m : Main program) {h : Home} {more b : ℕ} {part : Part} {out : Outer} {os : List Outer}
+    {p : Point} {numbers : ℕ → ℕ} (o : Moment m h (suc more) (suc b) part out os p numbers)
     {v : Bool} {level number : ℕ} (i : Inner m part.caller v level number) (call : ℕ) →
     DontPass (block_of m h out os) i →
     AreMade (world_of m h) (linked_code (code_for program))
@@ -222,8 +221,8 @@ made_idle φ (x ∷ xs) p =
 -- ---- where its first statement begins
 
 pub is_inside :
-    {program : Y.Program} (m : Main program) {h : Home} {more blocks : ℕ} {part : Part} {out : Outer} {os : List Outer} {p : Point}
-    {numbers : ℕ → ℕ}
+    {program : Y.Program} (m : Main program) {h : Home} {more blocks : ℕ} {part : Part} {out : Outer} {os : List Outer}
+    {p : Point} {numbers : ℕ → ℕ}
     (o : Moment m h (suc more) blocks part out os p numbers) {v : Bool} {level number : ℕ}
     (i : Inner m part.caller v level number) (call : ℕ) →
     IsInside (block_of m h out os)
@@ -245,8 +244,8 @@ is_inside {program} m o {v = v} i call =
     }
 
 nested_by :
-    (v : Bool) {program : Y.Program} (m : Main program) {h : Home} {more b : ℕ} {part : Part} {out : Outer} {os : List Outer} {p : Point}
-    {numbers : ℕ → ℕ}
+    (v : Bool) {program : Y.Program} (m : Main program) {h : Home} {more b : ℕ} {part : Part} {out : Outer}
+    {os : List Outer} {p : Point} {numbers : ℕ → ℕ}
     (o : Moment m h (suc more) (suc b) part out os p numbers) {level number : ℕ}
     (i : Inner m part.caller v level number) (call : ℕ) →
     DontPass (block_of m h out os) i →
@@ -254,21 +253,21 @@ nested_by :
     (entered_at i (block_of m h out os) call p numbers)) →
     IsNested (bare_block m h v more
     (entered_at i (block_of m h out os) call p numbers))
-nested_by false {program} m {h} {more} {part = part} {out = out} {os = os} {p = p} {numbers = numbers} o {level} i call pass
-    b' =
+nested_by false {program} m {h} {more} {part = part} {out = out} {os = os} {p = p} {numbers = numbers} o {level} i call
+    pass b' =
     let k = block_of m h out os in
     procedure_nested k (callee_of program false more (entered_at i k call p numbers)) level (is_inside m o i call) p
     numbers o.among (are_made m o i call pass) b'
-nested_by true {program} m {h} {more} {part = part} {out = out} {os = os} {p = p} {numbers = numbers} o {level} i call pass
-    b' =
+nested_by true {program} m {h} {more} {part = part} {out = out} {os = os} {p = p} {numbers = numbers} o {level} i call
+    pass b' =
     let k = block_of m h out os in
     function_nested k (callee_of program true more (entered_at i k call p numbers)) level (is_inside m o i call) p
     numbers o.among (are_made m o i call pass) b'
 
 -- a variable of a block around is the one of the calling block
 outer_by :
-    (v : Bool) {program : Y.Program} (m : Main program) {h : Home} {more b : ℕ} {part : Part} {out : Outer} {os : List Outer} {p : Point}
-    {numbers : ℕ → ℕ}
+    (v : Bool) {program : Y.Program} (m : Main program) {h : Home} {more b : ℕ} {part : Part} {out : Outer}
+    {os : List Outer} {p : Point} {numbers : ℕ → ℕ}
     (o : Moment m h (suc more) (suc b) part out os p numbers) {level number : ℕ}
     (i : Inner m part.caller v level number) (call : ℕ) →
     DontPass (block_of m h out os) i →
@@ -277,21 +276,21 @@ outer_by :
     x.level ≤ level → IsNumber (block_of m h out os) x →
     IsNumber (bare_block m h v more
     (entered_at i (block_of m h out os) call p numbers)) x
-outer_by false {program} m {h} {more} {part = part} {out = out} {os = os} {p = p} {numbers = numbers} o {level} i call pass
-    b' x low is =
+outer_by false {program} m {h} {more} {part = part} {out = out} {os = os} {p = p} {numbers = numbers} o {level} i call
+    pass b' x low is =
     let k = block_of m h out os in
     procedure_number k (callee_of program false more (entered_at i k call p numbers)) level x (is_inside m o i call) low
     is p numbers o.among (are_made m o i call pass) b'
-outer_by true {program} m {h} {more} {part = part} {out = out} {os = os} {p = p} {numbers = numbers} o {level} i call pass
-    b' x low is =
+outer_by true {program} m {h} {more} {part = part} {out = out} {os = os} {p = p} {numbers = numbers} o {level} i call
+    pass b' x low is =
     let k = block_of m h out os in
     function_number k (callee_of program true more (entered_at i k call p numbers)) level x (is_inside m o i call) low
     is p numbers o.among (are_made m o i call pass) b'
 
 -- one of its own stands in its frame
 own_by :
-    (v : Bool) {program : Y.Program} (m : Main program) {h : Home} {more b : ℕ} {part : Part} {out : Outer} {os : List Outer} {p : Point}
-    {numbers : ℕ → ℕ}
+    (v : Bool) {program : Y.Program} (m : Main program) {h : Home} {more b : ℕ} {part : Part} {out : Outer}
+    {os : List Outer} {p : Point} {numbers : ℕ → ℕ}
     (o : Moment m h (suc more) (suc b) part out os p numbers) {level number : ℕ}
     (i : Inner m part.caller v level number) (call : ℕ) →
     DontPass (block_of m h out os) i →
@@ -301,7 +300,8 @@ own_by :
     is_plain_if (declared_variable program (variable_of x)) ≡ true →
     IsNumber (bare_block m h v more
     (entered_at i (block_of m h out os) call p numbers)) x
-own_by false {program} m {h} {more} {part = part} {out = out} {os = os} {p = p} {numbers = numbers} o i call pass b' x is
+own_by false {program} m {h} {more} {part = part} {out = out} {os = os} {p = p} {numbers = numbers} o i call pass b' x
+    is
     plain =
     let k = block_of m h out os in
     own_word (world_of m h) (linked_code (code_for program))
@@ -320,8 +320,8 @@ own_by true {program} m {h} {more} {part = part} {out = out} {os = os} {p = p} {
 
 -- an array of a block around is the one of the calling block
 outer_array_by :
-    (v : Bool) {program : Y.Program} (m : Main program) {h : Home} {more b : ℕ} {part : Part} {out : Outer} {os : List Outer} {p : Point}
-    {numbers : ℕ → ℕ}
+    (v : Bool) {program : Y.Program} (m : Main program) {h : Home} {more b : ℕ} {part : Part} {out : Outer}
+    {os : List Outer} {p : Point} {numbers : ℕ → ℕ}
     (o : Moment m h (suc more) (suc b) part out os p numbers) {level number : ℕ}
     (i : Inner m part.caller v level number) (call : ℕ) →
     DontPass (block_of m h out os) i →
@@ -330,14 +330,16 @@ outer_array_by :
     x.level ≤ level → IsArray (block_of m h out os) x s →
     IsArray (bare_block m h v more
     (entered_at i (block_of m h out os) call p numbers)) x s
-outer_array_by false {program} m {h} {more} {part = part} {out = out} {os = os} {p = p} {numbers = numbers} o {level} i call
+outer_array_by false {program} m {h} {more} {part = part} {out = out} {os = os} {p = p} {numbers = numbers} o {level} i
+    call
     pass b' x s low is =
     let k = block_of m h out os in
     let r = entered_at i k call p numbers in
     outer_array k (bare_block m h false more r) x s
     (λ d known'. procedure_known k (callee_of program false more r) level x d (is_inside m o i call) low known' p
     numbers o.among (are_made m o i call pass) b') is
-outer_array_by true {program} m {h} {more} {part = part} {out = out} {os = os} {p = p} {numbers = numbers} o {level} i call
+outer_array_by true {program} m {h} {more} {part = part} {out = out} {os = os} {p = p} {numbers = numbers} o {level} i
+    call
     pass b' x s low is =
     let k = block_of m h out os in
     let r = entered_at i k call p numbers in
@@ -347,8 +349,8 @@ outer_array_by true {program} m {h} {more} {part = part} {out = out} {os = os} {
 
 -- one of its own stands in its frame
 own_array_by :
-    (v : Bool) {program : Y.Program} (m : Main program) {h : Home} {more b : ℕ} {part : Part} {out : Outer} {os : List Outer} {p : Point}
-    {numbers : ℕ → ℕ}
+    (v : Bool) {program : Y.Program} (m : Main program) {h : Home} {more b : ℕ} {part : Part} {out : Outer}
+    {os : List Outer} {p : Point} {numbers : ℕ → ℕ}
     (o : Moment m h (suc more) (suc b) part out os p numbers) {level number : ℕ}
     (i : Inner m part.caller v level number) (call : ℕ) →
     DontPass (block_of m h out os) i →
@@ -359,14 +361,16 @@ own_array_by :
     IsArray (bare_block m h v more
     (entered_at i (block_of m h out os) call p numbers)) x
     (bounds_if (declared_variable program (variable_of x)))
-own_array_by false {program} m {h} {more} {part = part} {out = out} {os = os} {p = p} {numbers = numbers} o i call pass b' x is
+own_array_by false {program} m {h} {more} {part = part} {out = out} {os = os} {p = p} {numbers = numbers} o i call pass
+    b' x is
     array =
     let k = block_of m h out os in
     own_array (world_of m h) (linked_code (code_for program))
     (callee_of program false more (entered_at i k call p numbers)) p p numbers x
     (record { high = omega arith; inside = omega arith }) (has_words m o i call pass, has_all m o i call pass)
     (record { block = is.0; level = is.1; array = array }) b'
-own_array_by true {program} m {h} {more} {part = part} {out = out} {os = os} {p = p} {numbers = numbers} o i call pass b' x is
+own_array_by true {program} m {h} {more} {part = part} {out = out} {os = os} {p = p} {numbers = numbers} o i call pass
+    b' x is
     array =
     let k = block_of m h out os in
     function_array (world_of m h) (linked_code (code_for program))
@@ -422,8 +426,8 @@ stands_at {program} {caller = caller} {v} {level} i x h =
         )
 
 each_number :
-    {program : Y.Program} (m : Main program) {h : Home} {more b : ℕ} {part : Part} {out : Outer} {os : List Outer} {p : Point}
-    {numbers : ℕ → ℕ}
+    {program : Y.Program} (m : Main program) {h : Home} {more b : ℕ} {part : Part} {out : Outer} {os : List Outer}
+    {p : Point} {numbers : ℕ → ℕ}
     (o : Moment m h (suc more) (suc b) part out os p numbers) {v : Bool} {level number : ℕ}
     (i : Inner m part.caller v level number) (call : ℕ) →
     DontPass (block_of m h out os) i →
@@ -451,13 +455,14 @@ each_number {program} m {h} {more} {b} {part} {out} {os} {p} {numbers} o {v} {le
     by (inl low) =
         outer_by v m o i call pass b' x low.0
         (o.at.variables x
-        (and_from (list_any (is_place x) (places_to (environment_for program part.caller) part.caller.level)) plain low.1
+        (and_from (list_any (is_place x) (places_to (environment_for program part.caller) part.caller.level)) plain
+        low.1
         parts.1))
     by (inr own) = own_by v m o i call pass b' x own parts.1
 
 each_array :
-    {program : Y.Program} (m : Main program) {h : Home} {more b : ℕ} {part : Part} {out : Outer} {os : List Outer} {p : Point}
-    {numbers : ℕ → ℕ}
+    {program : Y.Program} (m : Main program) {h : Home} {more b : ℕ} {part : Part} {out : Outer} {os : List Outer}
+    {p : Point} {numbers : ℕ → ℕ}
     (o : Moment m h (suc more) (suc b) part out os p numbers) {v : Bool} {level number : ℕ}
     (i : Inner m part.caller v level number) (call : ℕ) →
     DontPass (block_of m h out os) i →
@@ -487,7 +492,8 @@ each_array {program} m {h} {more} {b} {part} {out} {os} {p} {numbers} o {v} {lev
     by (inl low) =
         outer_array_by v m o i call pass b' x (bounds_if (declared_variable program (variable_of x))) low.0
         (o.at.arrays x
-        (and_from (list_any (is_place x) (places_to (environment_for program part.caller) part.caller.level)) array low.1
+        (and_from (list_any (is_place x) (places_to (environment_for program part.caller) part.caller.level)) array
+        low.1
         parts.1))
     by (inr own) = own_array_by v m o i call pass b' x own parts.1
 

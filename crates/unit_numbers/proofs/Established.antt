@@ -6,7 +6,6 @@ use Rattle.std.specs.Prelude.{Bool, not}
 use Rattle.pli_language.specs.declared.condition.Condition.{Condition}
 use Rattle.pli_language.specs.declared.condition.Condition.TheVariants as C
 use Rattle.pli_typing.specs.TypedTree as Y
-use Rattle.pli_meaning.specs.Executing.{labels_in}
 use Rattle.pli_meaning.specs.StorageState.{BlockUnit, force, same_condition}
 use Rattle.code_marks.specs.CodeMarks.{MarkedOnce}
 use Rattle.activation_relation.specs.ServiceLaws.{IsSystem}
@@ -35,7 +34,8 @@ use Rattle.unit_numbers.proofs.Units.{not_error, unit_is}
 abbrev pub IsUnitOf : {program : Y.Program} → Main program → (input : List ℕ) → (acts : ℕ) → OnUnit → (index : ℕ) →
     Type 0
 IsUnitOf {program} m input acts x index =
-    IsPlaced program m.called m.head (list_of m) (block_for m input acts) (units_for m) (body_for program m.head m.body) x
+    IsPlaced program m.called m.head (list_of m) (block_for m input acts) (units_for m) (body_for program m.head m.body)
+    x
     index
 
 abbrev pub start_of : {program : Y.Program} → Main program → ℕ

@@ -1,6 +1,6 @@
--- The main procedure's block at a point of its list: with the units that it has by then, and what is told of the words of
--- its frame while loops of it go on.
-use Rattle.std.proofs.Common.{◌≡◌, ℕ, ◌+◌, ◌*◌, ◌%◌, ◌^◌, ◌<◌, ◌≤◌, List, [], ◌∷◌, length, Option, None, true, false}
+-- The main procedure's block at a point of its list: with the units that it has by then, and what is told of the words
+-- of its frame while its loops go on.
+use Rattle.std.proofs.Common.{◌≡◌, ℕ, ◌+◌, ◌^◌, ◌<◌, ◌≤◌, List, [], ◌∷◌, Option, None, true, false}
 use Rattle.std.proofs.Common.{refl, sym, ap, ◌∙◌, subst, arith}
 use Rattle.pli_language.specs.declared.condition.Condition.{Condition}
 use Rattle.pli_typing.specs.TypedTree as Y
@@ -8,7 +8,6 @@ use Rattle.pli_meaning.specs.DeclaredShapes.{variables_of_block}
 use Rattle.pli_meaning.specs.StorageState.{automatic_in_use, most_activations}
 use Rattle.pli_serving.specs.ServiceState as S
 use Rattle.pli_coding.specs.Frames.{fixed_size, frame_end}
-use Rattle.code_marks.specs.CodeMarks.{MarkedOnce}
 use Rattle.activation_relation.specs.Changes.{newest_with}
 use Rattle.activation_relation.specs.FrameLaws.{with_waits}
 use Rattle.activation_relation.specs.Frames.{frame_under, upper_top}
@@ -23,20 +22,19 @@ use Rattle.counter_runs.proofs.Known.{array_told, number_told}
 use Rattle.counter_runs.proofs.Words.{begun_telling}
 use Rattle.number_runs.specs.Numbers.{bounds_known, is_array_known, is_known}
 use Rattle.number_runs.specs.Statements.{statements_set}
-use Rattle.number_runs.specs.Variables.{HaveRoom, bytes_of, words_in}
-use Rattle.number_runs.proofs.Words.{room_behind}
+use Rattle.number_runs.specs.Variables.{words_in}
 use Rattle.number_headlines.proofs.FullWords.{words_at, words_count, words_lower}
 use Rattle.number_headlines.proofs.Loops.{after_waits, after_words}
-use Rattle.number_headlines.proofs.Mains.{spare}
-use Rattle.number_headlines.proofs.Running.{Free, HasDepth, HasTable, table_later, with_layers}
-use Rattle.number_headlines.proofs.Tables.{block_plain, has_table}
-use Rattle.unit_runs.specs.Changing.{IsPast, Past, after, past_point}
+use Rattle.number_headlines.proofs.Running.{Free, with_layers}
+use Rattle.number_headlines.proofs.Tables.{block_plain}
+use Rattle.unit_runs.specs.Changing.{IsPast, Past, past_point}
 use Rattle.unit_runs.proofs.Changing.{begun_after}
 use Rattle.unit_runs.proofs.OwnRaises.{past_like, past_numbers}
 use Rattle.unit_numbers.proofs.Arrays.{past_array}
 use Rattle.unit_numbers.proofs.Established.{start_of}
-use Rattle.unit_numbers.proofs.Mains.{Main, block_for, free, layer_behind_all, level_of, list_of, main_array, main_begun}
-use Rattle.unit_numbers.proofs.Mains.{main_layer, main_number, main_scope, main_spare, own_array_known, own_known}
+use Rattle.unit_numbers.proofs.Mains.{Main, block_for, free, layer_behind_all, level_of, list_of, main_array}
+use Rattle.unit_numbers.proofs.Mains.{main_begun}
+use Rattle.unit_numbers.proofs.Mains.{main_layer, main_number, main_scope, own_array_known, own_known}
 use Rattle.unit_numbers.proofs.Mains.{own_words, surroundings_for}
 use Rattle.unit_numbers.proofs.Outer.{main_top}
 use Rattle.unit_numbers.proofs.Past.{main_past, past_living, past_same}

@@ -1,17 +1,16 @@
 -- Calls, statements and in expressions, of what the running block declares, or a block around it, where that may jump
 -- out: to a label of the block that calls, or of one further out.
-use Rattle.std.proofs.Common.{◌≡◌, ℕ, ◌+◌, ◌<◌, ◌≤◌, List, [], ◌++◌, length, Option, true, refl, sym, ap, ◌∙◌, subst}
+use Rattle.std.proofs.Common.{◌≡◌, ℕ, ◌+◌, ◌≤◌, List, [], ◌++◌, length, true, refl, sym, ap, ◌∙◌, subst}
 use Rattle.std.proofs.Common.{arith}
 use Rattle.std.specs.Prelude.{nat_lt, ◌==◌}
 use Rattle.pli_typing.specs.TypedTree as Y
-use Rattle.pli_meaning.specs.BasicValues.{BasicValue}
 use Rattle.pli_meaning.specs.Control.{Label, Meaning, act, give, ◌>>=◌, ◌>>◌}
 use Rattle.pli_meaning.specs.Evaluating as V
 use Rattle.pli_meaning.specs.Executing as M
 use Rattle.pli_meaning.specs.Executing.{begun, labels_in}
 use Rattle.pli_meaning.specs.Raising.{Around, at_line}
 use Rattle.pli_meaning.specs.StorageState.{most_activations}
-use Rattle.pli_meaning.specs.World.{World, counted}
+use Rattle.pli_meaning.specs.World.{counted}
 use Rattle.pli_coding.specs.Allocating.{act_code}
 use Rattle.pli_coding.specs.Assembly.{size_of}
 use Rattle.pli_coding.specs.Expressions.{number_code}
@@ -27,7 +26,7 @@ use Rattle.block_runs.proofs.CallStatements.{comes_map}
 use Rattle.block_runs.proofs.PointActs.{act_comes}
 use Rattle.program_runs.specs.Calls.{AreMade, Callee, body_index, left_over}
 use Rattle.program_runs.specs.Procedures.{block_of, beginning_for}
-use Rattle.program_runs.specs.Statements.{AreMarked, Block, DoesWith, EachDoes, IsAmong, IsBegun, set_aside, size_with}
+use Rattle.program_runs.specs.Statements.{Block, DoesWith, EachDoes, IsAmong, IsBegun, size_with}
 use Rattle.program_runs.specs.Statements.{statement_aims}
 use Rattle.program_runs.proofs.Statements.{acted_among, statement_closed}
 use Rattle.expression_runs.specs.Laws as L
@@ -35,7 +34,6 @@ use Rattle.expression_runs.specs.Values.{Setting, behind, in_registers, number_a
 use Rattle.expression_runs.proofs.Words.{number_closed}
 use Rattle.function_runs.specs.FunctionCalls.{called_from}
 use Rattle.function_runs.specs.Functions.{function_beginning, function_entry}
-use Rattle.unit_runs.specs.InnerLists.{IsList, ListDoes}
 use Rattle.unit_runs.proofs.InnerLists.{each_list}
 use Rattle.jump_runs.specs.Calls.{block_in}
 use Rattle.jump_runs.specs.Exits.{hand_aims}
@@ -58,7 +56,8 @@ call_goes :
     (h : IsNestedCall words k c level line index more) (p : Point) (numbers : ℕ → ℕ) (wanted : ℕ) (f : Family) →
     IsHere (here_of k labels c p numbers) → acts ≤ p.state.world.acts →
     ListExits (here_of k labels c p numbers) acts →
-    Linked k.call.surroundings.links k.call.code (index + size_of (act_code line)) (given_in words k level ++ call_of c) →
+    Linked k.call.surroundings.links k.call.code (index + size_of (act_code line)) (given_in words k level ++ call_of c)
+    →
     size_with words k (call_at c level line) ≡ size_of (act_code line) + size_of (given_in words k level ++ call_of c) →
     AreIn k.call.surroundings p numbers (index + size_of (act_code line)) f →
     Comes k.call.code 0 f (services_of p)
@@ -194,7 +193,8 @@ nested_jump_function_does k c level more h few made' does p numbers taken credit
     let goal = number_aims k.block k.labels y in
     let closed' = number_closed k.block k.labels y in
     let tree = Y.Calling c.procedure.head.number level Y.NoArgument in
-    let flow = M.block_run c.around (block_of c.procedure) (function_entry c.procedure c.calling.parent) w.acts p.state in
+    let flow = M.block_run c.around (block_of c.procedure) (function_entry c.procedure c.calling.parent) w.acts p.state
+    in
     let base = frame_at k.block.first.control.layers (parent_at k.block level) in
     let most = h.most in
     let acts = p.state.world.acts in

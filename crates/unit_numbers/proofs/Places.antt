@@ -106,7 +106,8 @@ one_place e (Y.StmtThen own first rest) index unit one other h a b =
 -- ---- an ON of the list
 
 -- it is of the class, and its code stands with its marks
-pub record IsPlaced (program : Y.Program) (ns : List ℕ) (main : Y.BlockHead) (all : Y.Stmts) (k : Block) (units : UnitPlaces)
+pub record IsPlaced (program : Y.Program) (ns : List ℕ) (main : Y.BlockHead) (all : Y.Stmts) (k : Block)
+    (units : UnitPlaces)
     (start : ℕ) (x : OnUnit) (index : ℕ) : Type 0
   where
     pub is : is_unit program ns main all x ≡ true

@@ -1,6 +1,6 @@
 -- Statements that write numbers by format lists: they raise nothing for which the main procedure has a unit, so what is
 -- known around them is known while a place in a format list is in use, too.
-use Rattle.std.proofs.Common.{◌≡◌, ℕ, suc, ◌+◌, ◌*◌, ◌^◌, ◌<◌, List, [], ◌∷◌, true, false, refl}
+use Rattle.std.proofs.Common.{◌≡◌, ℕ, ◌+◌, ◌*◌, ◌^◌, ◌<◌, List, [], ◌∷◌, true, refl}
 use Rattle.std.proofs.Common.{◌∙◌, arith}
 use Rattle.pli_language.specs.declared.condition.Condition.TheVariants as C
 use Rattle.pli_typing.specs.Signatures.{Bounds}

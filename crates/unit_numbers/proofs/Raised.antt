@@ -1,6 +1,6 @@
 -- The block of a unit that is raised in a block: it stands in the code, and what is known of a block is known of it.
-use Rattle.std.proofs.Common.{◌≡◌, ◌⊎◌, inl, inr, ℕ, suc, ◌+◌, ◌*◌, ◌^◌, ◌<◌, ◌≤◌, List, [], ◌∷◌, ◌++◌, length}
-use Rattle.std.proofs.Common.{Bool, Some, None, true, false, refl, sym, ap, ◌∙◌, subst, arith}
+use Rattle.std.proofs.Common.{◌≡◌, ◌⊎◌, inl, inr, ℕ, suc, ◌+◌, ◌*◌, ◌≤◌, List, [], ◌∷◌, ◌++◌, length}
+use Rattle.std.proofs.Common.{Bool, Some, true, false, refl, sym, ap, ◌∙◌, subst, arith}
 use Rattle.std.specs.Prelude.{◌==◌, cond, nat_lt}
 use Rattle.std.proofs.lemmas.Bool.{ltb-true}
 use Rattle.pli_language.specs.declared.condition.Condition.{Condition}
@@ -70,7 +70,8 @@ taken_by {program} m x u =
     let s = main_scope m false in
     let plain = block_plain program.variables x.head.number m.plain in
     unit_taken s program x.head x.head.kind (statements_need x.body) (statements_set x.body) x.body plain.plain
-    (statements_taken 0 (scope_in program m.called (list_of m) m.head true u.fit.writes) false (labels_in x.body ++ []) x.body u.fit.statements u.fit.fits)
+    (statements_taken 0 (scope_in program m.called (list_of m) m.head true u.fit.writes) false (labels_in x.body ++ [])
+    x.body u.fit.statements u.fit.fits)
 
 -- procedures stand behind the start and the routines of raises
 pub entry_low :

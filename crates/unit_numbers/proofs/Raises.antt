@@ -1,6 +1,6 @@
 -- What is known around the statements of a block: its raises come to what they mean, be it by a unit of the main
 -- procedure, and so do its calls, its jumps out and what it writes.
-use Rattle.std.proofs.Common.{◌≡◌, inl, inr, ℕ, zero, suc, ◌+◌, ◌*◌, ◌^◌, ◌<◌, ◌≤◌, List, [], ◌∷◌, ◌++◌, length}
+use Rattle.std.proofs.Common.{◌≡◌, inl, inr, ℕ, zero, suc, ◌+◌, ◌^◌, ◌<◌, List, [], ◌∷◌, length}
 use Rattle.std.proofs.Common.{Bool, true, false, refl, sym, ap, ◌∙◌, subst, arith}
 use Rattle.std.specs.Prelude.{◌&&◌, ◌==◌, nat_lt, not}
 use Rattle.std.proofs.lemmas.Bool.{and_parts, eqb-true}
@@ -9,7 +9,7 @@ use Rattle.pli_language.specs.declared.condition.Condition.TheVariants as C
 use Rattle.pli_typing.specs.TypedTree as Y
 use Rattle.pli_meaning.specs.Control.{Label, is_among}
 use Rattle.pli_meaning.specs.Executing.{labels_in}
-use Rattle.pli_meaning.specs.StorageState.{force, height_of, most_activations}
+use Rattle.pli_meaning.specs.StorageState.{force, most_activations}
 use Rattle.pli_coding.specs.Environments.{block_around, none_taken}
 use Rattle.pli_coding.specs.Frames.{frame_end}
 use Rattle.pli_coding.specs.Images.{linked_code}
@@ -35,8 +35,7 @@ use Rattle.number_runs.specs.Knowledge.{Includes, KnowsCalls, KnowsJumps, KnowsP
 use Rattle.number_runs.specs.Numbers.{Scope}
 use Rattle.number_runs.specs.Variables.{words_in}
 use Rattle.number_headlines.proofs.Puts.{error_routine, lists_known}
-use Rattle.unit_runs.specs.Raised.{IsRaised, Raise, Standing, UnitDoes, unit_block}
-use Rattle.unit_runs.specs.Raised.{IsRaiseOf}
+use Rattle.unit_runs.specs.Raised.{IsRaised, UnitDoes, unit_block}
 use Rattle.unit_runs.proofs.DeepRaises.{deep_overflow_ends}
 use Rattle.unit_runs.proofs.OwnRaises.{past_like}
 use Rattle.unit_runs.proofs.UnitRuns.{overflow_returns}
@@ -75,7 +74,8 @@ unit_does {program} m h ih more b c o os a each own rises words labels includes 
     let x = n.unit in
     let u = unit_is program m.called m.head (list_of m) x n.placed.is in
     let made = none_made z y r
-    (record { kind = u.bare; code = none_coded program (environment_for program m.head) x.head refl u.bare; made = refl })
+    (record { kind = u.bare; code = none_coded program (environment_for program m.head) x.head refl u.bare; made = refl
+    })
     in (
       made,
       λ b'.
@@ -88,7 +88,8 @@ unit_does {program} m h ih more b c o os a each own rises words labels includes 
             made = made;
             begun = b';
           } in
-          each h b (part_of m more x n.index u) (as_outer (unit_block z y r) []) (as_outer (block_of m h o os) labels ∷ os)
+          each h b (part_of m more x n.index u) (as_outer (unit_block z y r) [])
+          (as_outer (block_of m h o os) labels ∷ os)
           ih (unit_entered m n q) (rises labels includes),
     )
 

@@ -17,7 +17,7 @@ use Rattle.pli_coding.specs.Linking.{links_of}
 use Rattle.well_formed_trees.specs.Blocks.{times}
 use Rattle.well_formed_trees.specs.Declarations.{SoundVariable}
 use Rattle.well_formed_trees.specs.Expressions.{SoundNumber}
-use Rattle.well_formed_trees.specs.References.{Designates, IsNumberScalar, IsScalar}
+use Rattle.well_formed_trees.specs.References.{Designates, IsScalar}
 use Rattle.well_formed_trees.specs.Statements.{SoundStmt}
 use Rattle.well_formed_trees.specs.Surroundings.{Around, IsDeclared, NoReturn, Returns, Table, Where}
 use Rattle.well_formed_trees.specs.WellFormed.{AreNested, AreNumbered, DeclaresSound, IsBehind, IsEntry, IsWellFormed}
@@ -30,7 +30,7 @@ use Rattle.element_runs.specs.Laws.{element_assigned}
 use Rattle.pli_headline.specs.Headline.{FitsMemory, parts}
 use Rattle.unit_numbers.specs.Headlines.{IsUnitProgram}
 use Rattle.unit_numbers.specs.TallyRows.{first_tally, number_at, spot_at, tally_body, tally_bounds, tally_head}
-use Rattle.unit_numbers.specs.TallyRows.{tally_loop, tally_main, tally_program}
+use Rattle.unit_numbers.specs.TallyRows.{tally_main, tally_program}
 
 -- ---- it is well formed
 

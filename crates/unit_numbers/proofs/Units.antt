@@ -1,7 +1,7 @@
 -- A unit of the main procedure: what the class says of it, and what of its frame.
 use Rattle.std.proofs.Common.{◌≡◌, ◌⊎◌, inl, inr, ℕ, ◌^◌, ◌<◌, ◌≤◌, List, [], ◌∷◌, ◌++◌, true, false, refl}
 use Rattle.std.proofs.Common.{sym, ap, ◌∙◌}
-use Rattle.std.specs.Prelude.{◌&&◌, ◌==◌, ◌||◌, Bool, nat_le}
+use Rattle.std.specs.Prelude.{◌&&◌, ◌==◌, Bool, nat_le}
 use Rattle.std.proofs.lemmas.Bool.{and_parts, eqb-true, leb-true, ltb-true, or_cases}
 use Rattle.pli_language.specs.declared.condition.Condition.{Condition}
 use Rattle.pli_language.specs.declared.condition.Condition.TheVariants as C
@@ -50,7 +50,8 @@ fit_is program ns all caller unit valued body h =
     one writes g =
         let fits = nat_le (statements_need body) held_registers in
         let waiting = nat_le (statements_set body) most_waiting in
-        let a = and_parts (are_statements (scope_in program ns all caller unit writes) valued (labels_in body ++ []) body)
+        let a = and_parts (are_statements (scope_in program ns all caller unit writes) valued (labels_in body ++ [])
+        body)
         (fits && waiting) g in
         let b = and_parts fits waiting a.1 in
         record {

@@ -1,5 +1,5 @@
--- What such a program may call: procedures and functions without parameters that call one another, in which the units of
--- the main procedure may be raised, too.
+-- What such a program may call: procedures and functions without parameters that call one another, in which the main
+-- procedure's units may be raised, too.
 use Rattle.std.specs.Prelude.{ℕ, zero, suc, ◌&&◌, ◌||◌, ◌==◌, Bool, true, false, List, [], ◌∷◌, length, not, Option}
 use Rattle.std.specs.Prelude.{None, Some, if◌then◌else◌}
 use Rattle.pli_language.specs.declared.condition.Condition.{Condition}
@@ -35,8 +35,8 @@ has_unit c (Y.StmtThen own first rest) = is_unit_for c (unit_in first) || has_un
 
 -- a block whose statements may name the variables that a block may name, and call what that may: itself, or the main
 -- procedure, of which it is a unit. It writes numbers, and then raises no condition for which the main procedure's list
--- has a unit, so that none is raised while a place in a format list is in use; or it writes none. A unit doesn't return,
--- and may jump to the labels of that list.
+-- has a unit, so that none is raised while a place in a format list is in use; or it writes none. A unit doesn't
+-- return, and may jump to the labels of that list.
 abbrev pub scope_in :
     Y.Program → List ℕ → (all : Y.Stmts) → (caller : Y.BlockHead) → (unit writes : Bool) → Scope
 scope_in program ns all caller unit writes =

@@ -21,7 +21,7 @@ is_bare program head Y.SimpleUnit = true
 is_bare program head Y.UnitBlock = has_none (variables_of_block program head.number)
 is_bare program head _ = false
 
--- a unit of the main procedure, which has this list and calls these: it names what that names, and calls what that calls
+-- a unit of the main procedure, which has this list and calls these: it may name what that names, and call these
 abbrev pub is_unit : Y.Program → List ℕ → (main : Y.BlockHead) → (all : Y.Stmts) → OnUnit → Bool
 is_unit program ns main all x =
     is_of_numbers x.condition

@@ -34,7 +34,8 @@ use Rattle.block_runs.proofs.PointActs.{stands_acted}
 use Rattle.program_runs.specs.Statements.{IsAmong, IsBegun, JumpsOut, JumpsTo}
 use Rattle.program_runs.proofs.JumpsOut.{jumps_later}
 use Rattle.program_runs.proofs.Waiting.{outer_among}
-use Rattle.unit_runs.specs.Raised.{AreMade, IsRaiseOf, IsRaised, IsRaisedAt, Raise, Standing, begun_unit, end_index, raise_aims}
+use Rattle.unit_runs.specs.Raised.{AreMade, IsRaiseOf, IsRaised, IsRaisedAt, Raise, Standing, begun_unit, end_index}
+use Rattle.unit_runs.specs.Raised.{raise_aims}
 use Rattle.unit_runs.specs.Raised.{unit_beginning, unit_block, unit_call, unit_layer}
 use Rattle.unit_runs.specs.UnitBeginnings.{IsUnitAt}
 use Rattle.unit_runs.proofs.UnitEndings as N
