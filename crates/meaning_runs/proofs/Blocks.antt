@@ -9,7 +9,8 @@ use Rattle.pli_meaning.specs.declared.outcome.Limit.TheVariants as L
 use Rattle.pli_meaning.specs.World.{counted, raising}
 use Rattle.pli_typing.specs.TypedTree as Y
 use Rattle.pli_meaning.specs.StorageState.{State, Activation, OnUnit, SystemUnit, BlockUnit, force}
-use Rattle.pli_meaning.specs.Control.{Label, is_among}
+use Rattle.pli_meaning.specs.Codes.{no_value_code}
+use Rattle.pli_meaning.specs.Control.{is_among}
 use Rattle.pli_meaning.specs.Raising as G
 use Rattle.pli_meaning.specs.Raising.{Entry}
 use Rattle.pli_meaning.specs.Making as K
@@ -21,28 +22,28 @@ use Rattle.well_formed_trees.specs.Expressions.{SoundNumber}
 use Rattle.well_formed_trees.specs.Statements as T
 use Rattle.well_formed_trees.specs.WellFormed.{HasMain, IsHeld}
 use Rattle.meaning_runs.specs.Plain as P
-use Rattle.meaning_runs.proofs.Frames.{Frame, outlines, skeleton, closed, rest_outlines, IsOpen, AreAmong, Has, Stands}
+use Rattle.meaning_runs.proofs.Frames.{Frame, outlines, skeleton, closed, rest_outlines, IsOpen, AreAmong, Stands}
 use Rattle.meaning_runs.proofs.Frames.{Chain, among_first, enters_own, stands_wider}
-use Rattle.meaning_runs.proofs.Demands.{Setting, placed, block_around, Bearing, SoundOnUnit, HasUnits, Kept, Demand}
+use Rattle.meaning_runs.proofs.Demands.{placed, block_around, Bearing, SoundOnUnit, HasUnits, Kept, Demand}
 use Rattle.meaning_runs.proofs.Demands.{Anything, There, force_sound}
 use Rattle.meaning_runs.proofs.Steps.{loose, slow, give_there, bind_there, then_there, looked_there, stored_there}
 use Rattle.meaning_runs.proofs.Steps.{act_there, act_then, finish_there, choose_there, found_there, entering}
 use Rattle.meaning_runs.proofs.Steps.{list_there, block_there, Leads, leads_there, leads_then, Passes}
-use Rattle.meaning_runs.proofs.Ways.{Whole, Declares, FineProcedure, SoundEntry, Expected, IsKnown, statics_kept}
+use Rattle.meaning_runs.proofs.Ways.{Whole, Declares, FineProcedure, SoundEntry, Expected, statics_kept}
 use Rattle.meaning_runs.proofs.Expressions.{error_unit_there}
 use Rattle.meaning_runs.proofs.Stored.{evaluations_there, variable_made_there, parameters_bound_there}
-use Rattle.meaning_runs.proofs.Statements.{Level, FootAt, standing_at, demand_at, around_at, place_at, lower, apart}
-use Rattle.meaning_runs.proofs.Statements.{Lasts, listed_frame, labels_same, newest_there, statements_there}
+use Rattle.meaning_runs.proofs.Statements.{Level, FootAt, demand_at, around_at, place_at, lower, apart}
+use Rattle.meaning_runs.proofs.Statements.{listed_frame, labels_same, newest_there, statements_there}
 
 -- ---- blocks
 
-extents_begun : (d : Y.DeclaredVariable) (l : Level) → Declares l.program l.setting d
+extents_begun : (d : Y.DeclaredVariable) (l : Level) → Declares l.program l.table d
     → There (demand_at l) 0 1 l.left Anything (K.extents (around_at l) d.evaluations)
 unfolding K.extents
 extents_begun d l h = of_list d.evaluations h.sound h.plain
   where
     of_list : (xs : List Y.Evaluation)
-        → Every (λ x. SoundNumber (placed l.program l.setting.table h.blocks NoReturn) x.value) xs
+        → Every (λ x. SoundNumber (placed l.program l.table h.blocks NoReturn) x.value) xs
         → Every (λ x. P.PlainNumber P.NoCall x.value) xs
         → There (demand_at l) 0 1 l.left Anything (K.extents (around_at l) xs)
     of_list [] s p = give_there [] tt
@@ -51,7 +52,7 @@ extents_begun d l h = of_list d.evaluations h.sound h.plain
         (evaluations_there [] (x ∷ xs) (apart l h.blocks c e) s p)))
 
 automatic_begun : (variable : ℕ) (d : Y.DeclaredVariable) (class : Y.StorageClass) (l : Level)
-    → Declares l.program l.setting d
+    → Declares l.program l.table d
     → There (demand_at l) 0 1 l.left Anything (K.automatic_made (around_at l) variable d class)
 unfolding K.automatic_made
 automatic_begun variable d Y.AutomaticClass l h =
@@ -61,7 +62,7 @@ automatic_begun variable d Y.StaticClass l h = give_there tt tt
 automatic_begun variable d Y.BasedClass l h = give_there tt tt
 automatic_begun variable d Y.ControlledClass l h = give_there tt tt
 
-variables_begun : (variable : ℕ) (ds : List Y.DeclaredVariable) (l : Level) → Every (Declares l.program l.setting) ds
+variables_begun : (variable : ℕ) (ds : List Y.DeclaredVariable) (l : Level) → Every (Declares l.program l.table) ds
     → There (demand_at l) 0 1 l.left Anything (K.variables_made (around_at l) variable ds)
 unfolding K.variables_made
 variables_begun variable [] l h = give_there tt tt
@@ -88,15 +89,6 @@ abbrev EndsSo : (is_function : Bool) → Unit {0} → Type 0
 EndsSo false r = ⊤
 EndsSo true r = ⊥
 
-end_reached_there : (is_function : Bool) (l : Level)
-    → There (demand_at l) 0 1 l.left (EndsSo is_function) (M.end_reached (around_at l) is_function)
-unfolding M.end_reached G.error
-end_reached_there false l = give_there tt tt
-end_reached_there true l =
-    slow (act_then (raising C.Error _) (λ v. refl) (λ c e. loose
-    (bind_there looked_there (λ s k. error_unit_there _ (force s.activations C.Error) (apart l [] c e)
-    (force_sound l.program l.setting (l.frame ∷ l.further) s.activations C.Error l.opens k.0 k.1)))))
-
 none_expected : (is_function : Bool) (r : Unit {0}) → EndsSo is_function r → Expected is_function None
 none_expected false r h = tt
 none_expected true r h = absurd h
@@ -112,25 +104,20 @@ heights_many (a ∷ as') (f ∷ fs) e = ap suc (heights_many as' fs (ap rest_out
 abbrev fresh_frame : Y.BlockHead → Entry → Frame
 fresh_frame head entry = record { level = head.level; parent = entry.parent; lasting = []; labels = [] }
 
--- a function's list is left before the function is
-abbrev lasting_labels : (is_function : Bool) → Y.Stmts → List Label
-lasting_labels false body = M.labels_in body
-lasting_labels true body = []
-
 abbrev run_frame : Y.BlockHead → Y.Stmts → Entry → Frame
 run_frame head body entry =
     record {
       level = head.level;
       parent = entry.parent;
-      lasting = lasting_labels entry.is_function body;
+      lasting = M.labels_in body;
       labels = [];
     }
 
 -- a block that is run: the activations further down, and what stands around it
 record Run : Type 0 where
   program : Y.Program
-  setting : Setting
-  whole : Whole program setting
+  table : Table
+  whole : Whole program table
   returning : Returning
   outer : Bearing
   opens : Every IsOpen outer.frames
@@ -138,8 +125,8 @@ record Run : Type 0 where
   enter : G.Enter
   turns : ℕ
   left : ℕ
-  later : (c : ℕ) → c < left → (outer : Bearing) (e : Entry) → SoundEntry program setting outer e
-      → There (record { program = program; setting = setting; bearing = outer }) 0 1 c (Expected e.is_function)
+  later : (c : ℕ) → c < left → (outer : Bearing) (e : Entry) → SoundEntry program table outer e
+      → There (record { program = program; table = table; bearing = outer }) 0 1 c (Expected e.is_function)
       (enter e)
   few : left < turns
 
@@ -147,7 +134,7 @@ abbrev level_in : Run → (frame : Frame) → IsOpen frame → Level
 level_in r frame o =
     record {
       program = r.program;
-      setting = r.setting;
+      table = r.table;
       whole = r.whole;
       returning = r.returning;
       frame = frame;
@@ -165,29 +152,20 @@ level_in r frame o =
 abbrev fresh_level : Run → Y.BlockHead → Entry → Level
 fresh_level r head entry = level_in r (fresh_frame head entry) (λ label h. h)
 
-lasting_open : (is_function : Bool) (body : Y.Stmts)
-    → AreAmong (lasting_labels is_function body) (M.labels_in body ++ [])
-lasting_open false body label h = among_first label (M.labels_in body) [] h
-lasting_open true body label h = absurd (cc h)
-
 -- in the list
 abbrev list_level : Run → Y.BlockHead → Y.Stmts → Entry → Level
 list_level r head body entry =
-    level_in r (listed_frame (M.labels_in body) (run_frame head body entry)) (lasting_open entry.is_function body)
+    level_in r (listed_frame (M.labels_in body) (run_frame head body entry))
+    (λ label h. among_first label (M.labels_in body) [] h)
 
 -- outside of the block
 abbrev outside : Run → Demand
-outside r = record { program = r.program; setting = r.setting; bearing = r.outer }
+outside r = record { program = r.program; table = r.table; bearing = r.outer }
 
 -- ---- what stands around a block's list
 
-lasting_has : (p : Y.Program) (is_function : Bool) (body : Y.Stmts) → IsKnown p is_function body
-    → P.any_establishes body ≡ true → Has p (lasting_labels is_function body) (T.labels_in body)
-lasting_has p false body known e label x y = subst (λ ls. is_among label ls ≡ true) (labels_same body) x
-lasting_has p true body known e label x y = absurd (cc (known refl e label x, y))
-
 list_foot : (r : Run) (entry : Entry) (head : Y.BlockHead) (body : Y.Stmts) (blocks : List W.Around)
-    → Chain r.setting.table (block_around head body ∷ blocks) → Stands r.program r.outer.frames entry.parent blocks
+    → Chain r.table (block_around head body ∷ blocks) → Stands r.outer.frames entry.parent blocks
     → FootAt (list_level r head body entry)
 list_foot r entry head body blocks chain stands =
     record {
@@ -198,19 +176,20 @@ list_foot r entry head body blocks chain stands =
           λ label h.
           among_first label (M.labels_in body) []
           (subst (λ ls. is_among label ls ≡ true) (labels_same body) h);
+      lasts = λ label h. subst (λ ls. is_among label ls ≡ true) (labels_same body) h;
       below = stands;
       chain = chain;
     }
 
 -- what a block keeps before its list it keeps from then on
-units_wider : (p : Y.Program) (g : Setting) (f e : Frame) (fs : List Frame) (as' : List Activation)
-    → f.level ≡ e.level → f.parent ≡ e.parent → AreAmong f.lasting e.lasting → HasUnits p g (f ∷ fs) as'
-    → HasUnits p g (e ∷ fs) as'
-units_wider p g f e fs [] l u o h = tt
-units_wider p g f e fs (a ∷ as') l u o h = (of_units a.units h.0, h.1)
+units_wider : (p : Y.Program) (table : Table) (f e : Frame) (fs : List Frame) (as' : List Activation)
+    → f.level ≡ e.level → f.parent ≡ e.parent → AreAmong f.lasting e.lasting → HasUnits p table (f ∷ fs) as'
+    → HasUnits p table (e ∷ fs) as'
+units_wider p table f e fs [] l u o h = tt
+units_wider p table f e fs (a ∷ as') l u o h = (of_units a.units h.0, h.1)
   where
-    of_unit : (u : OnUnit) → SoundOnUnit p g (closed f ∷ fs) (suc (length fs)) u
-        → SoundOnUnit p g (closed e ∷ fs) (suc (length fs)) u
+    of_unit : (u : OnUnit) → SoundOnUnit p table (closed f ∷ fs) (suc (length fs)) u
+        → SoundOnUnit p table (closed e ∷ fs) (suc (length fs)) u
     of_unit SystemUnit h = tt
     of_unit (BlockUnit b) h =
         record {
@@ -218,59 +197,57 @@ units_wider p g f e fs (a ∷ as') l u o h = (of_units a.units h.0, h.1)
           own = h.own;
           chain = h.chain;
           stands =
-              stands_wider p (closed f) (closed e) fs (suc (length fs)) h.block.outer l u o h.stands;
+              stands_wider (closed f) (closed e) fs (suc (length fs)) h.block.outer l u o h.stands;
         }
 
-    of_units : (us : List (Condition × OnUnit)) → Every (λ u. SoundOnUnit p g (closed f ∷ fs) (suc (length fs)) u.1) us
-        → Every (λ u. SoundOnUnit p g (closed e ∷ fs) (suc (length fs)) u.1) us
+    of_units : (us : List (Condition × OnUnit))
+        → Every (λ u. SoundOnUnit p table (closed f ∷ fs) (suc (length fs)) u.1) us
+        → Every (λ u. SoundOnUnit p table (closed e ∷ fs) (suc (length fs)) u.1) us
     of_units [] h = tt
     of_units (u ∷ us) h = (of_unit u.1 h.0, of_units us h.1)
 
 -- ---- a block that is run
 
-list_run_there : (r : Run) (head : Y.BlockHead) (body : Y.Stmts) (entry : Entry)
-    (t : FootAt (list_level r head body entry)) → Lasts (list_level r head body entry) t (P.any_establishes body)
-    → T.SoundStmts (place_at (list_level r head body entry) t) body
-    → P.PlainStmts (standing_at (list_level r head body entry)) body
-    → There (entering (Some r.returning) (run_frame head body entry) (outside r)) 0 1 r.left Anything
-    (M.list (around_at (fresh_level r head entry)) body)
-unfolding M.list M.list_with
-list_run_there r head body entry t z h p =
+-- the end of a function raises ERROR in its list
+end_there : (l : Level) → There (demand_at l) 0 1 l.left (EndsSo true) (G.error (around_at l) no_value_code)
+unfolding G.error
+end_there l =
+    slow (act_then (raising C.Error _) (λ v. refl) (λ c e. loose
+    (bind_there looked_there (λ s k. error_unit_there _ (force s.activations C.Error) (apart l [] c e)
+    (force_sound l.program l.table (l.frame ∷ l.further) s.activations C.Error l.opens k.0 k.1)))))
+
+block_list_there : (r : Run) (head : Y.BlockHead) (body : Y.Stmts) (entry : Entry) (is_function : Bool)
+    (t : FootAt (list_level r head body entry)) → T.SoundStmts (place_at (list_level r head body entry) t) body
+    → P.PlainStmts body
+    → There (entering (Some r.returning) (run_frame head body entry) (outside r)) 0 1 r.left (EndsSo is_function)
+    (M.block_list (around_at (fresh_level r head entry)) body is_function)
+unfolding M.block_list M.list M.list_with
+block_list_there r head body entry false t h p =
     bind_there looked_there (λ s k. list_there r.turns r.left _ (M.labels_in body) None r.few
     (newest_there s.activations (run_frame head body entry) r.outer.frames k.1)
-    (λ x c q. statements_there body x (lower (list_level r head body entry) c q) t z h p))
-
-end_there : (r : Run) (head : Y.BlockHead) (body : Y.Stmts) (entry : Entry) (is_function : Bool)
-    → entry.is_function ≡ is_function
-    → There (entering (Some r.returning) (run_frame head body entry) (outside r)) 0 1 r.left (EndsSo is_function)
-    (M.end_reached (around_at (fresh_level r head entry)) is_function)
-unfolding M.end_reached
-end_there r head body entry false e = give_there tt tt
-end_there r head body entry true e =
-    subst (λ ls. There (entering (Some r.returning) (record {
-      level = head.level;
-      parent = entry.parent;
-      lasting = ls;
-      labels = [];
-    }) (outside r)) 0 1 r.left (EndsSo true) (M.end_reached (around_at (fresh_level r head entry)) true))
-    (sym (ap (λ t. lasting_labels t body) e)) (end_reached_there true (fresh_level r head entry))
+    (λ x c q. statements_there body x (lower (list_level r head body entry) c q) t h p))
+block_list_there r head body entry true t h p =
+    bind_there looked_there (λ s k. list_there r.turns r.left _ (M.labels_in body) None r.few
+    (newest_there s.activations (run_frame head body entry) r.outer.frames k.1)
+    (λ x c q. let l : Level = lower (list_level r head body entry) c q in
+    then_there (statements_there body x l t h p) (end_there l)))
 
 block_body_there : (r : Run) (head : Y.BlockHead) (body : Y.Stmts) (entry : Entry)
-    (t : FootAt (list_level r head body entry)) → Lasts (list_level r head body entry) t (P.any_establishes body)
+    (t : FootAt (list_level r head body entry))
     → T.SoundStmts (place_at (list_level r head body entry) t) body
-    → P.PlainStmts (standing_at (list_level r head body entry)) body
+    → P.PlainStmts body
     → length entry.arguments ≡ length entry.parameters
     → Leads (entering (Some r.returning) (fresh_frame head entry) (outside r))
     (entering (Some r.returning) (run_frame head body entry) (outside r)) r.left (EndsSo entry.is_function)
     (M.block_body (around_at (fresh_level r head entry)) head body entry)
 unfolding M.block_body
-block_body_there r head body entry t z h p e =
+block_body_there r head body entry t h p e =
     let f : Frame = fresh_frame head entry in
     let g : Frame = run_frame head body entry in
     let widens : (s : State) → Kept (entering (Some r.returning) f (outside r)) s
     → Kept (entering (Some r.returning) g (outside r)) s =
     λ s k. (
-      units_wider r.program r.setting f g r.outer.frames s.activations refl refl (λ label x. absurd (cc x)) k.0,
+      units_wider r.program r.table f g r.outer.frames s.activations refl refl (λ label x. absurd (cc x)) k.0,
       k.1,
     )
     in
@@ -281,7 +258,7 @@ block_body_there r head body entry t z h p e =
     (block_variables_begun head head.kind u)
     (leads_then (outside r) (Some r.returning) f g (EndsSo entry.is_function) widens refl (entry_act_there head.kind)
     (leads_there (outside r) (Some r.returning) f g (EndsSo entry.is_function) widens
-    (then_there (list_run_there r head body entry t z h p) (end_there r head body entry entry.is_function refl)))))
+    (block_list_there r head body entry entry.is_function t h p))))
 
 -- the new activation is one higher than those further down, and has no on-units
 entered_kept : (r : Run) (head : Y.BlockHead) (entry : Entry) (s : State) → Kept (outside r) s
@@ -302,7 +279,7 @@ abbrev run_on_line : Run → ℕ → Run
 run_on_line r line =
     record {
       program = r.program;
-      setting = r.setting;
+      table = r.table;
       whole = r.whole;
       returning = r.returning;
       outer = r.outer;
@@ -319,34 +296,34 @@ abbrev around_in : Run → G.Around
 around_in r = record { program = r.program; enter = r.enter; turns = r.turns; line = r.line }
 
 block_run_there : (r : Run) (head : Y.BlockHead) (body : Y.Stmts) (entry : Entry)
-    (t : FootAt (list_level r head body entry)) → Lasts (list_level r head body entry) t (P.any_establishes body)
+    (t : FootAt (list_level r head body entry))
     → T.SoundStmts (place_at (list_level (run_on_line r head.line) head body entry) t) body
-    → P.PlainStmts (standing_at (list_level r head body entry)) body
+    → P.PlainStmts body
     → length entry.arguments ≡ length entry.parameters
     → Passes (M.is_own_return head.kind) (Expected entry.is_function) (Some r.returning) r.outer.answers
     → There (outside r) 0 1 r.left (Expected entry.is_function) (M.block_run (around_in r) (Y.BlockOf head body) entry)
 unfolding M.block_run
-block_run_there r head body entry t z h p e passes =
+block_run_there r head body entry t h p e passes =
     bind_there looked_there (λ s k. choose_there _
     (block_there (M.is_own_return head.kind) (Expected entry.is_function) (Some r.returning)
     (fresh_frame head entry) (run_frame head body entry) (EndsSo entry.is_function) (M.with_activation head entry)
     (entered_kept r head entry) refl
-    (block_body_there (run_on_line r head.line) head body entry t z h p e) (none_expected entry.is_function) passes)
+    (block_body_there (run_on_line r head.line) head body entry t h p e) (none_expected entry.is_function) passes)
     (finish_there (E.Limit L.Depth) tt))
 
 -- ---- the whole
 
 -- more levels than acts are enough
-entered_there : (p : Y.Program) (g : Setting) → Whole p g → (n left : ℕ) → left < n → (outer : Bearing)
-    → (entry : Entry) → SoundEntry p g outer entry
-    → There (record { program = p; setting = g; bearing = outer }) 0 1 left (Expected entry.is_function)
+entered_there : (p : Y.Program) (table : Table) → Whole p table → (n left : ℕ) → left < n → (outer : Bearing)
+    → (entry : Entry) → SoundEntry p table outer entry
+    → There (record { program = p; table = table; bearing = outer }) 0 1 left (Expected entry.is_function)
     (M.entered p n entry)
 unfolding M.entered list_foot
-entered_there p g whole zero left few outer entry s = absurd (omega (arith, few))
-entered_there p g whole (suc n) left few outer entry s =
+entered_there p table whole zero left few outer entry s = absurd (omega (arith, few))
+entered_there p table whole (suc n) left few outer entry s =
     let r : Run = record {
       program = p;
-      setting = g;
+      table = table;
       whole = whole;
       returning = s.block.returning;
       outer = outer;
@@ -355,37 +332,36 @@ entered_there p g whole (suc n) left few outer entry s =
       enter = M.entered p n;
       turns = suc n;
       left = left;
-      later = λ c r o e t. entered_there p g whole n c (omega (arith, r, few)) o e t;
+      later = λ c r o e t. entered_there p table whole n c (omega (arith, r, few)) o e t;
       few = few;
     } in
     subst (λ b. There (outside r) 0 1 left (Expected entry.is_function) (M.block_run (around_in r) b entry))
     (sym s.block.is)
     (block_run_there r s.block.head s.block.body entry
     (list_foot r entry s.block.head s.block.body s.block.outer s.chain s.stands)
-    (lasting_has p entry.is_function s.block.body s.known) s.block.statements s.block.plain s.counts s.passes)
+    s.block.statements s.block.plain s.counts s.passes)
 
 -- the main procedure stands in no block
 main_outer : (table : Table) (level : ℕ) (blocks : List W.Around) → IsHeld table level blocks → level ≡ 0 → blocks ≡ []
 main_outer table level [] h e = refl
 main_outer table level (a ∷ more) h e = absurd (omega (arith, h.0, e))
 
-main_entry : (p : Y.Program) (g : Setting) (q : Y.Procedure) (f : FineProcedure p g q)
-    → (W.head_of q.block).level ≡ 0 → SoundEntry p g (record { answers = None; frames = [] }) (M.begun q.block 0)
-main_entry p g q f e =
+main_entry : (p : Y.Program) (table : Table) (q : Y.Procedure) (f : FineProcedure p table q)
+    → (W.head_of q.block).level ≡ 0 → SoundEntry p table (record { answers = None; frames = [] }) (M.begun q.block 0)
+main_entry p table q f e =
     let own : W.Around = block_around f.block.head f.block.body in
     let deep : f.block.head.level ≡ 0 = sym (ap (λ b. (W.head_of b).level) f.block.is) ∙ e in
-    let none : f.block.outer ≡ [] = main_outer g.table f.block.head.level f.block.outer f.held deep in
+    let none : f.block.outer ≡ [] = main_outer table f.block.head.level f.block.outer f.held deep in
     record {
       block = f.block;
       chain =
-          subst (λ os. Chain g.table (own ∷ os)) (sym none) (
-            enters_own g.table own own []
-                (subst (λ os. slice_get g.table own.number ≡ Some (own ∷ os)) none f.listed) refl refl (λ label h. h),
+          subst (λ os. Chain table (own ∷ os)) (sym none) (
+            enters_own table own own []
+                (subst (λ os. slice_get table own.number ≡ Some (own ∷ os)) none f.listed) refl refl (λ label h. h),
             (tt, tt),
           );
-      stands = subst (Stands p [] 0) (sym none) tt;
+      stands = subst (Stands [] 0) (sym none) tt;
       opens = tt;
-      known = λ x. absurd (cc x);
       passes =
           subst (λ own. Passes own (Expected false) (Some f.block.returning) None) (sym f.own) (λ v h. tt);
       counts = refl;
@@ -403,19 +379,19 @@ main_there F [] h f = absurd h
 main_there F (q ∷ qs) h f = record { main = q; is = refl; fine = f.0; outermost = h.0 }
 
 -- no activation yet
-abbrev pub at_start : Y.Program → Setting → Demand
-at_start p g =
-    record { program = p; setting = g; bearing = record { answers = None; frames = [] } }
+abbrev pub at_start : Y.Program → Table → Demand
+at_start p table =
+    record { program = p; table = table; bearing = record { answers = None; frames = [] } }
 
 -- a run has no result of its own, and no RETURN goes out of it
-pub run_there : (p : Y.Program) (g : Setting) → Whole p g → HasMain p.procedures → (n left : ℕ) → left < n
-    → There (at_start p g) 0 1 left (λ r. ⊥) (M.run p n)
+pub run_there : (p : Y.Program) (table : Table) → Whole p table → HasMain p.procedures → (n left : ℕ) → left < n
+    → There (at_start p table) 0 1 left (λ r. ⊥) (M.run p n)
 unfolding M.run
-run_there p g whole h n left few =
-    let m = main_there (FineProcedure p g) p.procedures h whole.procedures in
+run_there p table whole h n left few =
+    let m = main_there (FineProcedure p table) p.procedures h whole.procedures in
     found_there (M.main_of p.procedures) m.main _ _ m.is
     (then_there (stored_there (K.statics_from 0 p.variables)
-    (statics_kept (at_start p g) 0 p.variables))
-    (then_there (entered_there p g whole n left few (at_start p g).bearing (M.begun m.main.block 0)
-    (main_entry p g m.main m.fine m.outermost))
+    (statics_kept (at_start p table) 0 p.variables))
+    (then_there (entered_there p table whole n left few (at_start p table).bearing (M.begun m.main.block 0)
+    (main_entry p table m.main m.fine m.outermost))
     (finish_there E.Finished tt)))

@@ -16,17 +16,12 @@ use Rattle.well_formed_trees.specs.Surroundings.{Table, Where, Returning, Return
 use Rattle.well_formed_trees.specs.Surroundings as W
 use Rattle.well_formed_trees.specs.Statements.{SoundStmts}
 use Rattle.well_formed_trees.specs.Statements as T
-use Rattle.meaning_runs.specs.Plain.{Gotos, AnyGoto, CaughtGotos, PlainStmts, in_block, outermost}
+use Rattle.meaning_runs.specs.Plain.{PlainStmts}
 use Rattle.meaning_runs.specs.Present.{IsOver}
 use Rattle.meaning_runs.proofs.Frames.{Frame, outlines, skeleton, closed, IsOpen, Chain, Stands}
 use Rattle.meaning_runs.proofs.Frames.{stands_under, stands_wider, first_outline, rest_outlines}
 
 -- ---- blocks
-
--- which GOTO may be, and the table of the program's blocks
-pub record Setting : Type 0 where
-  pub gotos : Gotos
-  pub table : Table
 
 abbrev pub placed : Y.Program → Table → List W.Around → Returning → Where
 placed p table blocks returning =
@@ -38,32 +33,32 @@ block_around head body =
     record { number = head.number; level = head.level; outermost = T.labels_in body; inner = [] }
 
 -- the statements of a block are sound, somewhere in the program, and plain
-pub record SoundBlock (p : Y.Program) (g : Setting) (b : Y.Block) : Type 0 where
+pub record SoundBlock (p : Y.Program) (table : Table) (b : Y.Block) : Type 0 where
   pub head : Y.BlockHead
   pub body : Y.Stmts
   pub is : b ≡ Y.BlockOf head body
   pub outer : List W.Around
   pub returning : Returning
-  pub statements : SoundStmts (placed p g.table (block_around head body ∷ outer) returning) body
-  pub plain : PlainStmts (in_block (outermost g.gotos p) head) body
+  pub statements : SoundStmts (placed p table (block_around head body ∷ outer) returning) body
+  pub plain : PlainStmts body
 
 -- a unit takes a RETURN in it for its own; where it is established, the blocks around it stand at a height
-pub record SoundUnit (p : Y.Program) (g : Setting) (fs : List Frame) (height : ℕ) (b : Y.Block) : Type 0 where
-  pub block : SoundBlock p g b
+pub record SoundUnit (p : Y.Program) (table : Table) (fs : List Frame) (height : ℕ) (b : Y.Block) : Type 0 where
+  pub block : SoundBlock p table b
   pub own : is_own_return block.head.kind ≡ true
-  pub chain : Chain g.table (block_around block.head block.body ∷ block.outer)
-  pub stands : Stands p fs height block.outer
+  pub chain : Chain table (block_around block.head block.body ∷ block.outer)
+  pub stands : Stands fs height block.outer
 
-abbrev pub SoundOnUnit : Y.Program → Setting → (fs : List Frame) → (height : ℕ) → OnUnit → Type 0
-SoundOnUnit p g fs height SystemUnit = ⊤
-SoundOnUnit p g fs height (BlockUnit b) = SoundUnit p g fs height b
+abbrev pub SoundOnUnit : Y.Program → Table → (fs : List Frame) → (height : ℕ) → OnUnit → Type 0
+SoundOnUnit p table fs height SystemUnit = ⊤
+SoundOnUnit p table fs height (BlockUnit b) = SoundUnit p table fs height b
 
 -- each unit is one of its own activation's block, whichever of its lists are carried out
-abbrev pub HasUnits : Y.Program → Setting → List Frame → List Activation → Type 0
-HasUnits p g [] as' = ⊤
-HasUnits p g (f ∷ fs) [] = ⊤
-HasUnits p g (f ∷ fs) (a ∷ as') =
-    Every (λ u. SoundOnUnit p g (closed f ∷ fs) (suc (length fs)) u.1) a.units × HasUnits p g fs as'
+abbrev pub HasUnits : Y.Program → Table → List Frame → List Activation → Type 0
+HasUnits p table [] as' = ⊤
+HasUnits p table (f ∷ fs) [] = ⊤
+HasUnits p table (f ∷ fs) (a ∷ as') =
+    Every (λ u. SoundOnUnit p table (closed f ∷ fs) (suc (length fs)) u.1) a.units × HasUnits p table fs as'
 
 -- ---- what is asked
 
@@ -88,19 +83,17 @@ pub record Bearing : Type 0 where
 
 pub record Demand : Type 0 where
   pub program : Y.Program
-  pub setting : Setting
+  pub table : Table
   pub bearing : Bearing
 
 abbrev pub Kept : Demand → State → Type 0
 Kept d s =
-    HasUnits d.program d.setting d.bearing.frames s.activations × (skeleton s.activations ≡ outlines d.bearing.frames)
+    HasUnits d.program d.table d.bearing.frames s.activations × (skeleton s.activations ≡ outlines d.bearing.frames)
 
--- a jump goes anywhere, or to a label of a list that is carried out
-abbrev pub Jumps : Gotos → List Frame → (height : ℕ) → Label → Type 0
-Jumps AnyGoto fs height label = ⊤
-Jumps CaughtGotos [] height label = ⊥
-Jumps CaughtGotos (f ∷ fs) height label =
-    ((height ≡ suc (length fs)) × (is_among label f.labels ≡ true)) ⊎ Jumps CaughtGotos fs height label
+-- a jump goes to a label of a list that is carried out
+abbrev pub Jumps : List Frame → (height : ℕ) → Label → Type 0
+Jumps [] height label = ⊥
+Jumps (f ∷ fs) height label = ((height ≡ suc (length fs)) × (is_among label f.labels ≡ true)) ⊎ Jumps fs height label
 
 abbrev pub Anything : {R : Type 0} → R → Type 0
 Anything r = ⊤
@@ -112,7 +105,7 @@ Comes d after by jumping acts k (Normal r s) =
     (acts + by ≤ s.world.acts) × ((s.world.acts ≤ k) × (Kept d s × after r))
 Comes d after by jumping acts k (Jump height label s) =
     (acts + jumping ≤ s.world.acts)
-    × ((s.world.acts ≤ k) × (Kept d s × Jumps d.setting.gotos d.bearing.frames height label))
+    × ((s.world.acts ≤ k) × (Kept d s × Jumps d.bearing.frames height label))
 Comes d after by jumping acts k (Return v s) =
     (acts ≤ s.world.acts) × ((s.world.acts ≤ k) × (Kept d s × Answers d.bearing.answers v))
 Comes d after by jumping acts k (Ended s) = (s.world.acts ≤ k) × IsOver s.world.end
@@ -128,11 +121,11 @@ pub record There (d : Demand) (by jumping left : ℕ) {R : Type 0} (after : R �
 
 -- the newest activation ends
 pub ended_kept : (d : Demand) (f : Frame) (s : State)
-    → HasUnits d.program d.setting (f ∷ d.bearing.frames) s.activations
+    → HasUnits d.program d.table (f ∷ d.bearing.frames) s.activations
     → skeleton s.activations ≡ outlines (f ∷ d.bearing.frames) → Kept d (newest_ended s)
 ended_kept d f s h e = of_list s.activations s h e
   where
-    of_list : (as' : List Activation) (s : State) → HasUnits d.program d.setting (f ∷ d.bearing.frames) as'
+    of_list : (as' : List Activation) (s : State) → HasUnits d.program d.table (f ∷ d.bearing.frames) as'
         → skeleton as' ≡ outlines (f ∷ d.bearing.frames) → Kept d (without_newest as' s)
     of_list [] s a e = absurd (cc e)
     of_list (y ∷ ys) s a e = (a.1, cc e)
@@ -158,42 +151,43 @@ without_kept Q c (u ∷ us) h =
     by_test false xs ys a b = b
 
 -- a unit that the newest activation may establish
-abbrev pub IsOfNewest : Y.Program → Setting → List Frame → OnUnit → Type 0
-IsOfNewest p g [] u = ⊤
-IsOfNewest p g (f ∷ fs) u = SoundOnUnit p g (closed f ∷ fs) (suc (length fs)) u
+abbrev pub IsOfNewest : Y.Program → Table → List Frame → OnUnit → Type 0
+IsOfNewest p table [] u = ⊤
+IsOfNewest p table (f ∷ fs) u = SoundOnUnit p table (closed f ∷ fs) (suc (length fs)) u
 
-established_units : (p : Y.Program) (g : Setting) (c : Condition) (u : OnUnit) (fs : List Frame)
-    (as' : List Activation) → IsOfNewest p g fs u → HasUnits p g fs as' → HasUnits p g fs (established c u as')
-established_units p g c u [] as' a h = tt
-established_units p g c u (f ∷ fs) [] a h = tt
-established_units p g c u (f ∷ fs) (x ∷ xs) a h =
-    ((a, without_kept (SoundOnUnit p g (closed f ∷ fs) (suc (length fs))) c x.units h.0), h.1)
+established_units : (p : Y.Program) (table : Table) (c : Condition) (u : OnUnit) (fs : List Frame)
+    (as' : List Activation) → IsOfNewest p table fs u → HasUnits p table fs as'
+    → HasUnits p table fs (established c u as')
+established_units p table c u [] as' a h = tt
+established_units p table c u (f ∷ fs) [] a h = tt
+established_units p table c u (f ∷ fs) (x ∷ xs) a h =
+    ((a, without_kept (SoundOnUnit p table (closed f ∷ fs) (suc (length fs))) c x.units h.0), h.1)
 
-reverted_units : (p : Y.Program) (g : Setting) (c : Condition) (fs : List Frame) (as' : List Activation)
-    → HasUnits p g fs as' → HasUnits p g fs (reverted c as')
-reverted_units p g c [] as' h = tt
-reverted_units p g c (f ∷ fs) [] h = tt
-reverted_units p g c (f ∷ fs) (x ∷ xs) h =
-    (without_kept (SoundOnUnit p g (closed f ∷ fs) (suc (length fs))) c x.units h.0, h.1)
+reverted_units : (p : Y.Program) (table : Table) (c : Condition) (fs : List Frame) (as' : List Activation)
+    → HasUnits p table fs as' → HasUnits p table fs (reverted c as')
+reverted_units p table c [] as' h = tt
+reverted_units p table c (f ∷ fs) [] h = tt
+reverted_units p table c (f ∷ fs) (x ∷ xs) h =
+    (without_kept (SoundOnUnit p table (closed f ∷ fs) (suc (length fs))) c x.units h.0, h.1)
 
 pub established_kept : (d : Demand) (c : Condition) (u : OnUnit) (s : State)
-    → IsOfNewest d.program d.setting d.bearing.frames u → Kept d s
+    → IsOfNewest d.program d.table d.bearing.frames u → Kept d s
     → Kept d (with_activations (established c u s.activations) s)
 established_kept d c u s a h = (
-  established_units d.program d.setting c u d.bearing.frames s.activations a h.0,
+  established_units d.program d.table c u d.bearing.frames s.activations a h.0,
   established_heights c u s.activations ∙ h.1,
 )
 
 pub reverted_kept : (d : Demand) (c : Condition) (s : State) → Kept d s
     → Kept d (with_activations (reverted c s.activations) s)
 reverted_kept d c s h =
-    (reverted_units d.program d.setting c d.bearing.frames s.activations h.0, reverted_heights c s.activations ∙ h.1)
+    (reverted_units d.program d.table c d.bearing.frames s.activations h.0, reverted_heights c s.activations ∙ h.1)
 
 -- ---- the unit in force is one of them
 
-abbrev pub IsForced : Y.Program → Setting → List Frame → Option (Activation × OnUnit) → Type 0
-IsForced p g fs None = ⊤
-IsForced p g fs (Some x) = SoundOnUnit p g fs x.0.height x.1
+abbrev pub IsForced : Y.Program → Table → List Frame → Option (Activation × OnUnit) → Type 0
+IsForced p table fs None = ⊤
+IsForced p table fs (Some x) = SoundOnUnit p table fs x.0.height x.1
 
 abbrev IsUnitIf : (OnUnit → Type 0) → Option OnUnit → Type 0
 IsUnitIf Q None = ⊤
@@ -209,45 +203,45 @@ unit_sound Q (u ∷ us) c h = by_test (same_condition u.0 c) (unit_for us c) (un
     by_test false o b = b
 
 -- under one more activation
-forced_under : (p : Y.Program) (g : Setting) (f : Frame) (fs : List Frame) (o : Option (Activation × OnUnit))
-    → IsForced p g fs o → IsForced p g (f ∷ fs) o
-forced_under p g f fs None h = tt
-forced_under p g f fs (Some (a, SystemUnit)) h = tt
-forced_under p g f fs (Some (a, BlockUnit b)) h =
+forced_under : (p : Y.Program) (table : Table) (f : Frame) (fs : List Frame) (o : Option (Activation × OnUnit))
+    → IsForced p table fs o → IsForced p table (f ∷ fs) o
+forced_under p table f fs None h = tt
+forced_under p table f fs (Some (a, SystemUnit)) h = tt
+forced_under p table f fs (Some (a, BlockUnit b)) h =
     record {
       block = h.block;
       own = h.own;
       chain = h.chain;
-      stands = stands_under p f fs a.height h.block.outer h.stands;
+      stands = stands_under f fs a.height h.block.outer h.stands;
     }
 
 -- where the lists are carried out that it may count on
-unit_opened : (p : Y.Program) (g : Setting) (f : Frame) (fs : List Frame) (height : ℕ) (u : OnUnit) → IsOpen f
-    → height ≡ suc (length fs) → SoundOnUnit p g (closed f ∷ fs) (suc (length fs)) u
-    → SoundOnUnit p g (f ∷ fs) height u
-unit_opened p g f fs height SystemUnit o e h = tt
-unit_opened p g f fs height (BlockUnit b) o e h =
+unit_opened : (p : Y.Program) (table : Table) (f : Frame) (fs : List Frame) (height : ℕ) (u : OnUnit) → IsOpen f
+    → height ≡ suc (length fs) → SoundOnUnit p table (closed f ∷ fs) (suc (length fs)) u
+    → SoundOnUnit p table (f ∷ fs) height u
+unit_opened p table f fs height SystemUnit o e h = tt
+unit_opened p table f fs height (BlockUnit b) o e h =
     record {
       block = h.block;
       own = h.own;
       chain = h.chain;
       stands =
-          subst (λ z. Stands p (f ∷ fs) z h.block.outer) (sym e)
-          (stands_wider p (closed f) f fs (suc (length fs)) h.block.outer refl refl o h.stands);
+          subst (λ z. Stands (f ∷ fs) z h.block.outer) (sym e)
+          (stands_wider (closed f) f fs (suc (length fs)) h.block.outer refl refl o h.stands);
     }
 
-pub force_sound : (p : Y.Program) (g : Setting) (fs : List Frame) (as' : List Activation) (c : Condition)
-    → Every IsOpen fs → HasUnits p g fs as' → skeleton as' ≡ outlines fs → IsForced p g fs (force as' c)
-force_sound p g [] [] c o h e = tt
-force_sound p g [] (a ∷ as') c o h e = absurd (cc e)
-force_sound p g (f ∷ fs) [] c o h e = tt
-force_sound p g (f ∷ fs) (a ∷ as') c o h e =
-    let further : IsForced p g fs (force as' c) = force_sound p g fs as' c o.1 h.1 (ap rest_outlines e) in
+pub force_sound : (p : Y.Program) (table : Table) (fs : List Frame) (as' : List Activation) (c : Condition)
+    → Every IsOpen fs → HasUnits p table fs as' → skeleton as' ≡ outlines fs → IsForced p table fs (force as' c)
+force_sound p table [] [] c o h e = tt
+force_sound p table [] (a ∷ as') c o h e = absurd (cc e)
+force_sound p table (f ∷ fs) [] c o h e = tt
+force_sound p table (f ∷ fs) (a ∷ as') c o h e =
+    let further : IsForced p table fs (force as' c) = force_sound p table fs as' c o.1 h.1 (ap rest_outlines e) in
     first (unit_for a.units c) further
-    (unit_sound (SoundOnUnit p g (closed f ∷ fs) (suc (length fs))) a.units c h.0)
+    (unit_sound (SoundOnUnit p table (closed f ∷ fs) (suc (length fs))) a.units c h.0)
   where
-    first : (x : Option OnUnit) → IsForced p g fs (force as' c)
-        → IsUnitIf (SoundOnUnit p g (closed f ∷ fs) (suc (length fs))) x
-        → IsForced p g (f ∷ fs) (first_unit a x (force as' c))
-    first None k u = forced_under p g f fs (force as' c) k
-    first (Some x) k u = unit_opened p g f fs a.height x o.0 (ap (λ os. (first_outline os).height) e) u
+    first : (x : Option OnUnit) → IsForced p table fs (force as' c)
+        → IsUnitIf (SoundOnUnit p table (closed f ∷ fs) (suc (length fs))) x
+        → IsForced p table (f ∷ fs) (first_unit a x (force as' c))
+    first None k u = forced_under p table f fs (force as' c) k
+    first (Some x) k u = unit_opened p table f fs a.height x o.0 (ap (λ os. (first_outline os).height) e) u

@@ -29,14 +29,14 @@ use Rattle.meaning_runs.proofs.Callees.{Callee, callee}
 -- ---- conditions
 
 pub error_unit_there : {R : Type 0} {after : R → Type 0} (code : ℕ) (found : Option (Activation × OnUnit)) (w : Ways)
-    → IsForced w.program w.setting w.bearing.frames found
+    → IsForced w.program w.table w.bearing.frames found
     → There (demand w) 0 1 w.left after (G.error_unit_run {R = R} (around w) code found)
 unfolding G.error_unit_run
 error_unit_there code None w s = finish_there (E.Error code w.line) tt
 error_unit_there code (Some (a, SystemUnit)) w s = finish_there (E.Error code w.line) tt
 error_unit_there code (Some (a, BlockUnit b)) w s =
     then_there (w.keeps w.bearing (G.unit_entered b a code)
-    (unit_entry w.program w.setting w.bearing b a code w.opens s))
+    (unit_entry w.program w.table w.bearing b a code w.opens s))
     (finish_there (E.Error code w.line) tt)
 
 pub error_there : {R : Type 0} {after : R → Type 0} (code : ℕ) → ThereAround {R = R} after (λ a. G.error a code)
@@ -44,17 +44,17 @@ unfolding G.error
 error_there code w =
     then_there (act_there (raising C.Error code) (λ v. refl))
     (bind_there looked_there (λ s kept. error_unit_there code (force s.activations C.Error) w
-    (force_sound w.program w.setting w.bearing.frames s.activations C.Error w.opens kept.0 kept.1)))
+    (force_sound w.program w.table w.bearing.frames s.activations C.Error w.opens kept.0 kept.1)))
 
 unit_there : (code : ℕ) (found : Option (Activation × OnUnit)) (w : Ways)
-    → IsForced w.program w.setting w.bearing.frames found
+    → IsForced w.program w.table w.bearing.frames found
     → There (demand w) 0 1 w.left Anything (G.unit_run (around w) code found)
 unfolding G.unit_run
 unit_there code None w s = error_there code w
 unit_there code (Some (a, SystemUnit)) w s = error_there code w
 unit_there code (Some (a, BlockUnit b)) w s =
     then_there (w.keeps w.bearing (G.unit_entered b a code)
-    (unit_entry w.program w.setting w.bearing b a code w.opens s))
+    (unit_entry w.program w.table w.bearing b a code w.opens s))
     (give_there tt tt)
 
 pub raised_there : (c : Condition) (code : ℕ) → ThereAround Anything (λ a. G.raised a c code)
@@ -62,7 +62,7 @@ unfolding G.raised
 raised_there c code w =
     then_there (act_there (raising c code) (λ v. refl))
     (bind_there looked_there (λ s kept. unit_there code (force s.activations c) w
-    (force_sound w.program w.setting w.bearing.frames s.activations c w.opens kept.0 kept.1)))
+    (force_sound w.program w.table w.bearing.frames s.activations c w.opens kept.0 kept.1)))
 
 pub value_of_there : (v : Checked) → ThereAround Anything (λ a. G.value_of a v)
 unfolding G.value_of
@@ -118,32 +118,31 @@ all_passed_there all (x ∷ xs) w =
     (λ ys e. give_there (y ∷ ys) (ap suc e)))
 
 -- where procedures may be called, it is known which activations are those of the blocks around
-footed : (w : Ways) → P.MayCall w.calls → Footing w.program w.setting w.bearing.frames w.blocks
+footed : (w : Ways) → P.MayCall w.calls → Footing w.table w.bearing.frames w.blocks
 footed w may = of_calls w.calls may w.footing
   where
-    of_calls : (k : P.Calls) → P.MayCall k → FootingIf k w.program w.setting w.bearing.frames w.blocks
-        → Footing w.program w.setting w.bearing.frames w.blocks
+    of_calls : (k : P.Calls) → P.MayCall k → FootingIf k w.table w.bearing.frames w.blocks
+        → Footing w.table w.bearing.frames w.blocks
     of_calls P.AnyCall m h = h
     of_calls P.NoCall m h = absurd m
 
 procedure_entered_there : (q : Y.Procedure) (number level : ℕ) (passed : List Passed) (w : Ways)
-    → FineProcedure w.program w.setting q → P.MayCall w.calls → X.IsProcedure (here w) number level q
+    → FineProcedure w.program w.table q → P.MayCall w.calls → X.IsProcedure (here w) number level q
     → length passed ≡ length q.parameters
     → There (demand w) 0 1 w.left (Expected (is_some q.result)) (V.procedure_entered (around w) (Some q) level passed)
 unfolding V.procedure_entered
 procedure_entered_there q number level passed w f may i e =
     bind_there looked_there (λ s k.
-    let c : Callee w.program w.setting w.bearing.frames
+    let c : Callee w.program w.table w.bearing.frames
     (height_of (ancestor s.activations (newest_height s.activations) level)) q f =
-    callee w.program w.setting w.bearing.frames s.activations w.blocks w.returning number level q f (footed w may) k.1 i
+    callee w.program w.table w.bearing.frames s.activations w.blocks w.returning number level q f (footed w may) k.1 i
     in
     w.keeps w.bearing _ (record {
       block = f.block;
       chain = c.chain;
       stands = c.stands;
       opens = w.opens;
-      known = f.known;
-      passes = procedure_passes w.program w.setting w.bearing.answers q f;
+      passes = procedure_passes w.program w.table w.bearing.answers q f;
       counts = e;
     }))
 
@@ -329,7 +328,7 @@ mutual
       (sym (procedures_same number w.program.procedures ∙ found))
       (told (λ v k q' e'. same_result number w.program.procedures q q' v found e' k)
       (procedure_entered_there q number level ps w
-      (procedure_fine (FineProcedure w.program w.setting) number w.program.procedures q w.whole.procedures found) p.0
+      (procedure_fine (FineProcedure w.program w.table) number w.program.procedures q w.whole.procedures found) p.0
       h.0.is
       (f ∙ (e ∙ arguments_count (here w) q q.parameters xs h.0.passed))))))
 

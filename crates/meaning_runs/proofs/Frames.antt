@@ -8,10 +8,8 @@ use Rattle.std.specs.List.{list_any}
 use Rattle.std.proofs.lemmas.Bool.Decides.{nat_tests}
 use Rattle.std.proofs.lemmas.List.Folds.{list_any-append}
 use Rattle.pli_language.specs.Keywords.{same_bytes}
-use Rattle.pli_typing.specs.TypedTree as Y
 use Rattle.pli_meaning.specs.StorageState.{Activation, ancestor, height_of, newest_height}
 use Rattle.well_formed_trees.specs.Surroundings.{Label, is_among, Around, Table, labels_of, IsAround, IsTarget}
-use Rattle.meaning_runs.specs.Plain.{function_labels}
 
 -- ---- labels
 
@@ -84,19 +82,13 @@ IsOpen f = AreAmong f.lasting f.labels
 
 -- ---- blocks around
 
--- labels of a block around are of lists that are carried out, but for those of functions' own lists
-abbrev pub Has : Y.Program → List Label → List Label → Type 0
-Has p labels xs =
-    (label : Label) → is_among label xs ≡ true → is_among label (function_labels p.procedures) ≡ false
-    → is_among label labels ≡ true
-
 -- the blocks around a place are those of the activation at a height and of its static ancestors
-abbrev pub Stands : Y.Program → List Frame → (height : ℕ) → List Around → Type 0
-Stands p fs height [] = ⊤
-Stands p [] height (a ∷ more) = ⊥
-Stands p (f ∷ fs) height (a ∷ more) =
-    ((height ≡ suc (length fs)) × ((f.level ≡ a.level) × (Has p f.labels (labels_of a) × Stands p fs f.parent more)))
-    ⊎ ((height ≤ length fs) × Stands p fs height (a ∷ more))
+abbrev pub Stands : List Frame → (height : ℕ) → List Around → Type 0
+Stands fs height [] = ⊤
+Stands [] height (a ∷ more) = ⊥
+Stands (f ∷ fs) height (a ∷ more) =
+    ((height ≡ suc (length fs)) × ((f.level ≡ a.level) × (AreAmong (labels_of a) f.labels × Stands fs f.parent more)))
+    ⊎ ((height ≤ length fs) × Stands fs height (a ∷ more))
 
 -- an entry of the table with the number of a block around is no deeper, and that block's own if it has the level
 abbrev pub Enters : Table → Around → List Around → Type 0
@@ -126,35 +118,35 @@ enters_own table a o more e same bare h o' outer f =
 
 -- ---- where a block stands
 
-pub stands_low : (p : Y.Program) (fs : List Frame) (height : ℕ) (a : Around) (more : List Around)
-    → Stands p fs height (a ∷ more) → height ≤ length fs
-stands_low p [] height a more h = absurd h
-stands_low p (f ∷ fs) height a more (inl h) = omega (arith, h.0)
-stands_low p (f ∷ fs) height a more (inr h) = omega (arith, h.0)
+pub stands_low : (fs : List Frame) (height : ℕ) (a : Around) (more : List Around)
+    → Stands fs height (a ∷ more) → height ≤ length fs
+stands_low [] height a more h = absurd h
+stands_low (f ∷ fs) height a more (inl h) = omega (arith, h.0)
+stands_low (f ∷ fs) height a more (inr h) = omega (arith, h.0)
 
 -- under one more activation
-pub stands_under : (p : Y.Program) (f : Frame) (fs : List Frame) (height : ℕ) (around : List Around)
-    → Stands p fs height around → Stands p (f ∷ fs) height around
-stands_under p f fs height [] h = tt
-stands_under p f fs height (a ∷ more) h = inr (stands_low p fs height a more h, h)
+pub stands_under : (f : Frame) (fs : List Frame) (height : ℕ) (around : List Around)
+    → Stands fs height around → Stands (f ∷ fs) height around
+stands_under f fs height [] h = tt
+stands_under f fs height (a ∷ more) h = inr (stands_low fs height a more h, h)
 
 -- where more lists are carried out
-pub stands_wider : (p : Y.Program) (f e : Frame) (fs : List Frame) (height : ℕ) (around : List Around)
-    → f.level ≡ e.level → f.parent ≡ e.parent → AreAmong f.labels e.labels → Stands p (f ∷ fs) height around
-    → Stands p (e ∷ fs) height around
-stands_wider p f e fs height [] l u o h = tt
-stands_wider p f e fs height (a ∷ more) l u o (inl h) =
-    inl (h.0, (sym l ∙ h.1.0, (λ label x y. o label (h.1.1.0 label x y), subst (λ z. Stands p fs z more) u h.1.1.1)))
-stands_wider p f e fs height (a ∷ more) l u o (inr h) = inr h
+pub stands_wider : (f e : Frame) (fs : List Frame) (height : ℕ) (around : List Around)
+    → f.level ≡ e.level → f.parent ≡ e.parent → AreAmong f.labels e.labels → Stands (f ∷ fs) height around
+    → Stands (e ∷ fs) height around
+stands_wider f e fs height [] l u o h = tt
+stands_wider f e fs height (a ∷ more) l u o (inl h) =
+    inl (h.0, (sym l ∙ h.1.0, (λ label x. o label (h.1.1.0 label x), subst (λ z. Stands fs z more) u h.1.1.1)))
+stands_wider f e fs height (a ∷ more) l u o (inr h) = inr h
 
 -- for a block with fewer labels
-pub stands_as : (p : Y.Program) (fs : List Frame) (height : ℕ) (a b : Around) (more : List Around)
-    → a.level ≡ b.level → AreAmong (labels_of b) (labels_of a) → Stands p fs height (a ∷ more)
-    → Stands p fs height (b ∷ more)
-stands_as p [] height a b more e h s = absurd s
-stands_as p (f ∷ fs) height a b more e h (inl s) =
-    inl (s.0, (s.1.0 ∙ e, (λ label x y. s.1.1.0 label (h label x) y, s.1.1.1)))
-stands_as p (f ∷ fs) height a b more e h (inr s) = inr (s.0, stands_as p fs height a b more e h s.1)
+pub stands_as : (fs : List Frame) (height : ℕ) (a b : Around) (more : List Around)
+    → a.level ≡ b.level → AreAmong (labels_of b) (labels_of a) → Stands fs height (a ∷ more)
+    → Stands fs height (b ∷ more)
+stands_as [] height a b more e h s = absurd s
+stands_as (f ∷ fs) height a b more e h (inl s) =
+    inl (s.0, (s.1.0 ∙ e, (λ label x. s.1.1.0 label (h label x), s.1.1.1)))
+stands_as (f ∷ fs) height a b more e h (inr s) = inr (s.0, stands_as fs height a b more e h s.1)
 
 -- ---- the static ancestor at a level
 
@@ -184,24 +176,24 @@ lower_level table level top Q (a ∷ more) u c (inr h) =
     let less : level < a.level = lower_level table level a.level Q more c.1.0 c.1.1 h in omega (arith, less, u)
 
 -- the block and the ones around it stand at a height
-pub record Reached (p : Y.Program) (table : Table) (fs : List Frame) (height level : ℕ) (Q : Around → Type 0) : Type 0
+pub record Reached (table : Table) (fs : List Frame) (height level : ℕ) (Q : Around → Type 0) : Type 0
   where
     pub own : Around
     pub outer : List Around
     pub level_is : own.level ≡ level
     pub so : Q own
-    pub stands : Stands p fs height (own ∷ outer)
+    pub stands : Stands fs height (own ∷ outer)
     pub chain : Chain table (own ∷ outer)
 
-raised : (p : Y.Program) (table : Table) (f : Frame) (fs : List Frame) (height level : ℕ) (Q : Around → Type 0)
-    → Reached p table fs height level Q → Reached p table (f ∷ fs) height level Q
-raised p table f fs height level Q r =
+raised : (table : Table) (f : Frame) (fs : List Frame) (height level : ℕ) (Q : Around → Type 0)
+    → Reached table fs height level Q → Reached table (f ∷ fs) height level Q
+raised table f fs height level Q r =
     record {
       own = r.own;
       outer = r.outer;
       level_is = r.level_is;
       so = r.so;
-      stands = stands_under p f fs height (r.own ∷ r.outer) r.stands;
+      stands = stands_under f fs height (r.own ∷ r.outer) r.stands;
       chain = r.chain;
     }
 
@@ -227,14 +219,14 @@ passed_over : {X : Type 0} (t : Bool) (x y : X) → t ≡ false → cond t x y �
 passed_over true x y e = absurd (cc e)
 passed_over false x y e = refl
 
-pub reached : (p : Y.Program) (table : Table) (level : ℕ) (Q : Around → Type 0) (fs : List Frame)
+pub reached : (table : Table) (level : ℕ) (Q : Around → Type 0) (fs : List Frame)
     (as' : List Activation) (height : ℕ) (around : List Around) → skeleton as' ≡ outlines fs
-    → Stands p fs height around → Chain table around → AtLevel level Q around
-    → Reached p table fs (height_of (ancestor as' height level)) level Q
-reached p table level Q fs as' height [] e s c h = absurd h
-reached p table level Q [] as' height (a ∷ more) e s c h = absurd s
-reached p table level Q (f ∷ fs) [] height (a ∷ more) e s c h = absurd (cc e)
-reached p table level Q (f ∷ fs) (x ∷ xs) height (a ∷ more) e (inl s) c (inl h) =
+    → Stands fs height around → Chain table around → AtLevel level Q around
+    → Reached table fs (height_of (ancestor as' height level)) level Q
+reached table level Q fs as' height [] e s c h = absurd h
+reached table level Q [] as' height (a ∷ more) e s c h = absurd s
+reached table level Q (f ∷ fs) [] height (a ∷ more) e s c h = absurd (cc e)
+reached table level Q (f ∷ fs) (x ∷ xs) height (a ∷ more) e (inl s) c (inl h) =
     let at : x.height ≡ suc (length fs) = ap (λ os. (first_outline os).height) e in
     let deep : x.level ≡ f.level = ap (λ os. (first_outline os).level) e in
     let here : (x.height == height) ≡ true = nat_same x.height height (at ∙ sym s.0) in
@@ -242,9 +234,9 @@ reached p table level Q (f ∷ fs) (x ∷ xs) height (a ∷ more) e (inl s) c (i
     let found : ancestor (x ∷ xs) height level ≡ Some x =
     chosen (x.height == height) _ _ here ∙ chosen (x.level == level) _ _ own in
     let same : height_of (ancestor (x ∷ xs) height level) ≡ height = ap height_of found ∙ (at ∙ sym s.0) in
-    subst (λ z. Reached p table (f ∷ fs) z level Q) (sym same)
+    subst (λ z. Reached table (f ∷ fs) z level Q) (sym same)
     (record { own = a; outer = more; level_is = h.0; so = h.1; stands = inl s; chain = c })
-reached p table level Q (f ∷ fs) (x ∷ xs) height (a ∷ more) e (inl s) c (inr h) =
+reached table level Q (f ∷ fs) (x ∷ xs) height (a ∷ more) e (inl s) c (inr h) =
     let at : x.height ≡ suc (length fs) = ap (λ os. (first_outline os).height) e in
     let deep : x.level ≡ f.level = ap (λ os. (first_outline os).level) e in
     let up : x.parent ≡ f.parent = ap (λ os. (first_outline os).parent) e in
@@ -254,16 +246,16 @@ reached p table level Q (f ∷ fs) (x ∷ xs) height (a ∷ more) e (inl s) c (i
     let found : ancestor (x ∷ xs) height level ≡ ancestor xs f.parent level =
     chosen (x.height == height) _ _ here
     ∙ (passed_over (x.level == level) _ _ other ∙ ap (λ z. ancestor xs z level) up) in
-    subst (λ o. Reached p table (f ∷ fs) (height_of o) level Q) (sym found)
-    (raised p table f fs _ level Q
-    (reached p table level Q fs xs f.parent more (ap rest_outlines e) s.1.1.1 c.1.1 h))
-reached p table level Q (f ∷ fs) (x ∷ xs) height (a ∷ more) e (inr s) c h =
+    subst (λ o. Reached table (f ∷ fs) (height_of o) level Q) (sym found)
+    (raised table f fs _ level Q
+    (reached table level Q fs xs f.parent more (ap rest_outlines e) s.1.1.1 c.1.1 h))
+reached table level Q (f ∷ fs) (x ∷ xs) height (a ∷ more) e (inr s) c h =
     let at : x.height ≡ suc (length fs) = ap (λ os. (first_outline os).height) e in
     let other : (x.height == height) ≡ false = grind (arith, nat_tests, at, s.0) in
     let found : ancestor (x ∷ xs) height level ≡ ancestor xs height level =
     passed_over (x.height == height) _ _ other in
-    subst (λ o. Reached p table (f ∷ fs) (height_of o) level Q) (sym found)
-    (raised p table f fs _ level Q (reached p table level Q fs xs height (a ∷ more) (ap rest_outlines e) s.1 c h))
+    subst (λ o. Reached table (f ∷ fs) (height_of o) level Q) (sym found)
+    (raised table f fs _ level Q (reached table level Q fs xs height (a ∷ more) (ap rest_outlines e) s.1 c h))
 
 -- the newest activation is as high as there are frames
 pub newest_ancestor : (fs : List Frame) (as' : List Activation) (level : ℕ) → skeleton as' ≡ outlines fs

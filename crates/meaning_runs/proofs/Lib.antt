@@ -10,4 +10,4 @@ mod Streams
 mod Statements
 mod Blocks
 mod Programs
-mod Lost
+mod Caught

@@ -8,52 +8,26 @@ use Rattle.pli_typing.specs.Resolving.{typed_tree}
 use Rattle.pli_typing.specs.TypedTree as Y
 use Rattle.pli_meaning.specs.World.{World}
 use Rattle.pli_meaning.specs.StorageState.{first_state}
-use Rattle.pli_meaning.specs.Control.{Label, is_among, Flow, Normal, Jump, Return, Ended, Paused, Stuck}
+use Rattle.pli_meaning.specs.Control.{Flow, Normal, Jump, Return, Ended, Paused, Stuck}
 use Rattle.pli_meaning.specs.DeclaredShapes as D
 use Rattle.pli_meaning.specs.Executing.{run, meaning, shown, is_own_return}
 use Rattle.well_formed_trees.specs.Every.{Every}
-use Rattle.well_formed_trees.specs.Surroundings.{Around, Where, number_here, Returns, NoReturn}
+use Rattle.well_formed_trees.specs.Surroundings.{Around, Table, Where, number_here, Returns, NoReturn}
 use Rattle.well_formed_trees.specs.Declarations.{IsEvaluation, SoundVariables}
 use Rattle.well_formed_trees.specs.WellFormed.{AcceptedWellFormed, IsWellFormed, SoundProcedure}
 use Rattle.well_formed_trees.proofs.Lists.{every_map, every_pair}
 use Rattle.meaning_runs.specs.Plain as P
-use Rattle.meaning_runs.specs.Present.{IsOver, JumpsOut, EndsOrPauses, NeverStuck, MeaningThere, AcceptedMeaningThere}
-use Rattle.meaning_runs.proofs.Frames.{AreAmong, among_first, among_second}
-use Rattle.meaning_runs.proofs.Demands.{Setting, Comes, Jumps, placed}
+use Rattle.meaning_runs.specs.Present.{IsOver, EndsOrPauses, NeverStuck, MeaningThere, AcceptedMeaningThere}
+use Rattle.meaning_runs.proofs.Demands.{Comes, placed}
 use Rattle.meaning_runs.proofs.Extents.{number_uncalled}
-use Rattle.meaning_runs.proofs.Statements.{labels_same}
 use Rattle.meaning_runs.proofs.Ways.{Whole, Declares, FineProcedure}
 use Rattle.meaning_runs.proofs.Blocks.{at_start, run_there}
 
 -- ---- procedures
 
--- the labels of the own list of a function that establishes on-units are known as such
-known_each : (all : List Label) (ps : List Y.Procedure) → AreAmong (P.function_labels ps) all
-    → Every (λ q. is_some q.result ≡ true → P.establishes_in q.block ≡ true → AreAmong (P.own_labels q.block) all) ps
-known_each all [] h = tt
-known_each all (q ∷ qs) h = (
-  λ e d label x. h label (first (is_some q.result) (P.establishes_in q.block) e d label x),
-  known_each all qs (λ label x. h label (others (is_some q.result && P.establishes_in q.block) label x)),
-)
-  where
-    first : (t u : Bool) → t ≡ true → u ≡ true
-        → AreAmong (P.own_labels q.block)
-        (cond (t && u) (P.own_labels q.block ++ P.function_labels qs) (P.function_labels qs))
-    first true true e d label x = among_first label (P.own_labels q.block) (P.function_labels qs) x
-    first true false e d label x = absurd (cc d)
-    first false u e d label x = absurd (cc e)
-
-    others : (t : Bool)
-        → AreAmong (P.function_labels qs) (cond t (P.own_labels q.block ++ P.function_labels qs) (P.function_labels qs))
-    others true label x = among_second label (P.own_labels q.block) (P.function_labels qs) x
-    others false label x = x
-
-procedure_is_fine : (p : Y.Program) (g : Setting) (q : Y.Procedure) → SoundProcedure g.table p q
-    → P.PlainBlock (P.outermost g.gotos p) q.block
-    → (is_some q.result ≡ true → P.establishes_in q.block ≡ true
-    → AreAmong (P.own_labels q.block) (P.function_labels p.procedures))
-    → FineProcedure p g q
-procedure_is_fine p g q s h known =
+procedure_is_fine : (p : Y.Program) (table : Table) (q : Y.Procedure) → SoundProcedure table p q
+    → P.PlainBlock q.block → FineProcedure p table q
+procedure_is_fine p table q s h =
     record {
       block = record {
         head = s.head;
@@ -62,17 +36,12 @@ procedure_is_fine p g q s h known =
         outer = s.outer;
         returning = Returns q.result;
         statements = s.statements;
-        plain = subst (P.PlainBlock (P.outermost g.gotos p)) s.is h;
+        plain = subst P.PlainBlock s.is h;
       };
       own = ap is_own_return s.kind;
       returning = refl;
       held = s.held;
       listed = s.listed;
-      known =
-          λ e d label x.
-          subst (λ b. AreAmong (P.own_labels b) (P.function_labels p.procedures)) s.is
-          (known e (ap P.establishes_in s.is ∙ d)) label
-          (subst (λ ls. is_among label ls ≡ true) (labels_same s.body) x);
     }
 
 -- ---- variables
@@ -85,19 +54,19 @@ evaluations_uncalled w index many (x ∷ xs) h k = (
   evaluations_uncalled w index many xs h.1 k.1,
 )
 
-declare_sound : (p : Y.Program) (g : Setting) (blocks : List Around) (index : ℕ) (ds : List Y.DeclaredVariable)
-    → SoundVariables (placed p g.table blocks NoReturn) index ds → Every (P.PlainVariable P.AnyCall) ds
-    → Every (Declares p g) ds
-declare_sound p g blocks index [] h k = tt
-declare_sound p g blocks index (d ∷ ds) h k = (
+declare_sound : (p : Y.Program) (table : Table) (blocks : List Around) (index : ℕ) (ds : List Y.DeclaredVariable)
+    → SoundVariables (placed p table blocks NoReturn) index ds → Every (P.PlainVariable P.AnyCall) ds
+    → Every (Declares p table) ds
+declare_sound p table blocks index [] h k = tt
+declare_sound p table blocks index (d ∷ ds) h k = (
   record {
     blocks = blocks;
     sound = every_map _ _ (λ x e. e.value) d.evaluations h.0.evaluations;
     plain =
-        evaluations_uncalled (placed p g.table blocks NoReturn) index (length d.evaluations) d.evaluations
+        evaluations_uncalled (placed p table blocks NoReturn) index (length d.evaluations) d.evaluations
         h.0.evaluations k.0;
   },
-  declare_sound p g blocks (suc index) ds h.1 k.1,
+  declare_sound p table blocks (suc index) ds h.1 k.1,
 )
 
 plain_at : (vs : List (List Y.DeclaredVariable)) (n : ℕ) → Every (Every (P.PlainVariable P.AnyCall)) vs
@@ -114,55 +83,45 @@ none_there (x ∷ xs) [] n e h = absurd (omega (arith, e))
 none_there (x ∷ xs) (y ∷ ys) zero e h = absurd (cc h)
 none_there (x ∷ xs) (y ∷ ys) (suc n) e h = none_there xs ys n (omega (arith, e)) h
 
--- where the program's own table is
-abbrev setting_of : (p : Y.Program) → P.Gotos → IsWellFormed p → Setting
-setting_of p gotos h = record { gotos = gotos; table = h.table }
-
-declared_sound : (p : Y.Program) (gotos : P.Gotos) (h : IsWellFormed p) → P.IsPlain gotos p → (number : ℕ)
-    → Every (Declares p (setting_of p gotos h)) (D.variables_of_block p number)
-declared_sound p gotos h k number = of_entry (slice_get h.table number) refl
+declared_sound : (p : Y.Program) (h : IsWellFormed p) → P.IsPlain p → (number : ℕ)
+    → Every (Declares p h.table) (D.variables_of_block p number)
+declared_sound p h k number = of_entry (slice_get h.table number) refl
   where
     of_entry : (o : Option (List Around)) → slice_get h.table number ≡ o
-        → Every (Declares p (setting_of p gotos h)) (D.variables_of_block p number)
+        → Every (Declares p h.table) (D.variables_of_block p number)
     of_entry None e =
-        subst (λ o. Every (Declares p (setting_of p gotos h)) (unwrap_or o []))
+        subst (λ o. Every (Declares p h.table) (unwrap_or o []))
         (sym (none_there p.variables h.table number h.lists e)) tt
     of_entry (Some blocks) e =
-        declare_sound p (setting_of p gotos h) blocks 0 (D.variables_of_block p number) (h.variables number blocks e)
+        declare_sound p h.table blocks 0 (D.variables_of_block p number) (h.variables number blocks e)
         (plain_at p.variables number k.variables)
 
-whole_sound : (p : Y.Program) (gotos : P.Gotos) (h : IsWellFormed p) → P.IsPlain gotos p
-    → Whole p (setting_of p gotos h)
-whole_sound p gotos h k =
+whole_sound : (p : Y.Program) (h : IsWellFormed p) → P.IsPlain p
+    → Whole p h.table
+whole_sound p h k =
     record {
-      declares = declared_sound p gotos h k;
+      declares = declared_sound p h k;
       procedures =
-          every_map _ (FineProcedure p (setting_of p gotos h))
-          (λ q b. procedure_is_fine p (setting_of p gotos h) q b.0 b.1.0 b.1.1) p.procedures
-          (every_pair (SoundProcedure h.table p) _ p.procedures h.procedures
-          (every_pair (λ q. P.PlainBlock (P.outermost gotos p) q.block) _ p.procedures k.procedures
-          (known_each (P.function_labels p.procedures) p.procedures (λ label x. x))));
+          every_map _ (FineProcedure p h.table)
+          (λ q b. procedure_is_fine p h.table q b.0 b.1) p.procedures
+          (every_pair (SoundProcedure h.table p) (λ q. P.PlainBlock q.block) p.procedures h.procedures k.procedures);
     }
 
 -- ---- the laws
 
-jumps_out : (gotos : P.Gotos) (height : ℕ) (label : Label) → Jumps gotos [] height label → JumpsOut gotos
-jumps_out P.AnyGoto height label h = tt
-jumps_out P.CaughtGotos height label h = h
-
-ends_or_pauses : (p : Y.Program) (g : Setting) (acts k : ℕ) (f : Flow (Unit {0}))
-    → Comes (at_start p g) (λ r. ⊥) 0 1 acts k f → EndsOrPauses g.gotos k f
-ends_or_pauses p g acts k (Normal r s) h = absurd h.1.1.1
-ends_or_pauses p g acts k (Jump height label s) h = jumps_out g.gotos height label h.1.1.1
-ends_or_pauses p g acts k (Return v s) h = absurd h.1.1.1
-ends_or_pauses p g acts k (Ended s) h = h
-ends_or_pauses p g acts k (Paused s) h = h
-ends_or_pauses p g acts k Stuck h = absurd h
+ends_or_pauses : (p : Y.Program) (table : Table) (acts k : ℕ) (f : Flow (Unit {0}))
+    → Comes (at_start p table) (λ r. ⊥) 0 1 acts k f → EndsOrPauses k f
+ends_or_pauses p table acts k (Normal r s) h = absurd h.1.1.1
+ends_or_pauses p table acts k (Jump height label s) h = absurd h.1.1.1
+ends_or_pauses p table acts k (Return v s) h = absurd h.1.1.1
+ends_or_pauses p table acts k (Ended s) h = h
+ends_or_pauses p table acts k (Paused s) h = h
+ends_or_pauses p table acts k Stuck h = absurd h
 
 pub never_stuck : NeverStuck
-never_stuck p gotos input k h i =
-    ends_or_pauses p (setting_of p gotos h) 0 k (run p (suc k) k (first_state input))
-    ((run_there p (setting_of p gotos h) (whole_sound p gotos h i) h.main (suc k) k (omega arith)).comes k
+never_stuck p input k h i =
+    ends_or_pauses p h.table 0 k (run p (suc k) k (first_state input))
+    ((run_there p h.table (whole_sound p h i) h.main (suc k) k (omega arith)).comes k
     (first_state input) (omega arith) (omega arith) (tt, refl))
 
 -- what a flow shows
@@ -172,7 +131,7 @@ record Shows (k : ℕ) (f : Flow (Unit {0})) : Type 0 where
   few : world.acts ≤ k
   going_on : world.end ≡ E.Running → world.acts ≡ k
 
-shows : (k : ℕ) (f : Flow (Unit {0})) → EndsOrPauses P.CaughtGotos k f → Shows k f
+shows : (k : ℕ) (f : Flow (Unit {0})) → EndsOrPauses k f → Shows k f
 shows k (Normal r s) h = absurd h
 shows k (Jump height label s) h = absurd h
 shows k (Return v s) h = absurd h
@@ -184,7 +143,7 @@ shows k Stuck h = absurd h
 pub meaning_there : MeaningThere
 unfolding meaning
 meaning_there p input k h i =
-    let f = shows k (run p (suc k) k (first_state input)) (never_stuck p P.CaughtGotos input k h i) in
+    let f = shows k (run p (suc k) k (first_state input)) (never_stuck p input k h i) in
     record { world = f.world; meant = f.is; few = f.few; going_on = f.going_on }
 
 pub accepted_meaning_there : AcceptedWellFormed → AcceptedMeaningThere

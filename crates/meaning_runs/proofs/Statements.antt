@@ -15,16 +15,15 @@ use Rattle.well_formed_trees.specs.Every.{Every}
 use Rattle.pli_meaning.specs.Raising.{Around, Enter, Entry}
 use Rattle.pli_meaning.specs.Evaluating as V
 use Rattle.pli_meaning.specs.Executing as M
-use Rattle.well_formed_trees.specs.Surroundings.{Where, Returning, Returns, NoReturn}
+use Rattle.well_formed_trees.specs.Surroundings.{Table, Where, Returning, Returns, NoReturn}
 use Rattle.well_formed_trees.specs.Surroundings as W
 use Rattle.well_formed_trees.specs.Expressions as X
 use Rattle.well_formed_trees.specs.Statements as T
 use Rattle.meaning_runs.specs.Plain as P
-use Rattle.meaning_runs.specs.Plain.{Gotos}
-use Rattle.meaning_runs.proofs.Frames.{Frame, skeleton, outlines, closed, first_outline, IsOpen, AreAmong, Has, Stands}
+use Rattle.meaning_runs.proofs.Frames.{Frame, skeleton, outlines, closed, first_outline, IsOpen, AreAmong, Stands}
 use Rattle.meaning_runs.proofs.Frames.{Enters, Chain, among_first, among_second, among_either, enters_own, target_at}
 use Rattle.meaning_runs.proofs.Frames.{lower_level, reached, newest_ancestor}
-use Rattle.meaning_runs.proofs.Demands.{Setting, Bearing, Jumps, block_around, placed, SoundUnit, Demand, Kept}
+use Rattle.meaning_runs.proofs.Demands.{Bearing, Jumps, block_around, placed, SoundUnit, Demand, Kept}
 use Rattle.meaning_runs.proofs.Demands.{Anything, There}
 use Rattle.meaning_runs.proofs.Demands.{Answered, established_kept}
 use Rattle.meaning_runs.proofs.Demands.{reverted_kept}
@@ -160,8 +159,8 @@ signalled_there C.Error w = error_there _ w
 -- the activation of the block, and those further down
 pub record Level : Type 0 where
   pub program : Y.Program
-  pub setting : Setting
-  pub whole : Whole program setting
+  pub table : Table
+  pub whole : Whole program table
   pub returning : Returning
   pub frame : Frame
   pub further : List Frame
@@ -170,54 +169,43 @@ pub record Level : Type 0 where
   pub enter : Enter
   pub turns : ℕ
   pub left : ℕ
-  pub later : (c : ℕ) → c < left → (outer : Bearing) (e : Entry) → SoundEntry program setting outer e
-      → There (record { program = program; setting = setting; bearing = outer }) 0 1 c (Expected e.is_function)
+  pub later : (c : ℕ) → c < left → (outer : Bearing) (e : Entry) → SoundEntry program table outer e
+      → There (record { program = program; table = table; bearing = outer }) 0 1 c (Expected e.is_function)
       (enter e)
   pub few : left < turns
 
--- the blocks around a place, where lists of the block are carried out: they stand at the activation
-pub record Foot (p : Y.Program) (g : Setting) (frame : Frame) (further : List Frame) : Type 0 where
+-- the blocks around a place, where lists of the block are carried out: they stand at the activation, in which the
+-- labels last that a unit may name
+pub record Foot (table : Table) (frame : Frame) (further : List Frame) : Type 0 where
   pub own : W.Around
   pub outer : List W.Around
   pub level_is : frame.level ≡ own.level
   pub has : AreAmong (W.labels_of own) frame.labels
-  pub below : Stands p further frame.parent outer
-  pub chain : Chain g.table (own ∷ outer)
+  pub lasts : AreAmong own.outermost frame.lasting
+  pub below : Stands further frame.parent outer
+  pub chain : Chain table (own ∷ outer)
 
 abbrev pub FootAt : Level → Type 0
-FootAt l = Foot l.program l.setting l.frame l.further
-
--- where a unit is established the labels last that it may name
-abbrev pub Lasts : (l : Level) → FootAt l → (establishes : Bool) → Type 0
-Lasts l t establishes = establishes ≡ true → Has l.program l.frame.lasting t.own.outermost
+FootAt l = Foot l.table l.frame l.further
 
 abbrev pub bearing_at : Level → Bearing
 bearing_at l = record { answers = Some l.returning; frames = l.frame ∷ l.further }
 
--- where a statement stands in its block
-abbrev pub standing_at : Level → P.Standing
-standing_at l =
-    record {
-      gotos = l.setting.gotos;
-      functions = P.function_labels l.program.procedures;
-      level = l.frame.level;
-    }
-
 abbrev pub demand_at : Level → Demand
-demand_at l = record { program = l.program; setting = l.setting; bearing = bearing_at l }
+demand_at l = record { program = l.program; table = l.table; bearing = bearing_at l }
 
 abbrev pub around_at : Level → Around
 around_at l = record { program = l.program; enter = l.enter; turns = l.turns; line = l.line }
 
 abbrev pub place_at : (l : Level) → FootAt l → Where
-place_at l t = placed l.program l.setting.table (t.own ∷ t.outer) l.returning
+place_at l t = placed l.program l.table (t.own ∷ t.outer) l.returning
 
 -- with fewer acts left, or in a list
 abbrev level : (l : Level) (frame : Frame) → IsOpen frame → (c : ℕ) → c ≤ l.left → Level
 level l frame o c r =
     record {
       program = l.program;
-      setting = l.setting;
+      table = l.table;
       whole = l.whole;
       returning = l.returning;
       frame = frame;
@@ -280,32 +268,33 @@ group_around body a =
       inner = T.labels_in body ++ a.inner;
     }
 
-abbrev in_group : (p : Y.Program) (g : Setting) (f : Frame) (fs : List Frame) (body : Y.Stmts) → Foot p g f fs
-    → Foot p g (listed_frame (M.labels_in body) f) fs
-in_group p g f fs body t =
+abbrev in_group : (table : Table) (f : Frame) (fs : List Frame) (body : Y.Stmts) → Foot table f fs
+    → Foot table (listed_frame (M.labels_in body) f) fs
+in_group table f fs body t =
     record {
       own = group_around body t.own;
       outer = t.outer;
       level_is = t.level_is;
       has = group_has t.own body f.labels t.has;
+      lasts = t.lasts;
       below = t.below;
       chain = t.chain;
     }
 
 abbrev group : (body : Y.Stmts) (l : Level) → FootAt l → FootAt (listed body l)
-group body l t = in_group l.program l.setting l.frame l.further body t
+group body l t = in_group l.table l.frame l.further body t
 
 -- where the blocks stand
 abbrev stands_at : (l : Level) (t : FootAt l)
-    → Stands l.program (l.frame ∷ l.further) (suc (length l.further)) (t.own ∷ t.outer)
-stands_at l t = inl (refl, (t.level_is, (λ label x y. t.has label x, t.below)))
+    → Stands (l.frame ∷ l.further) (suc (length l.further)) (t.own ∷ t.outer)
+stands_at l t = inl (refl, (t.level_is, (t.has, t.below)))
 
 -- behind an act
 abbrev pub within : (l : Level) → FootAt l → (c : ℕ) → suc c ≡ l.left → Ways
 within l t c e =
     record {
       program = l.program;
-      setting = l.setting;
+      table = l.table;
       bearing = bearing_at l;
       whole = l.whole;
       blocks = t.own ∷ t.outer;
@@ -321,12 +310,12 @@ within l t c e =
       few = omega (arith, e, l.few);
     }
 
--- before and behind the block's own list, where nothing is called
+-- before the block's own list and at its end, where nothing is called
 abbrev pub apart : (l : Level) → List W.Around → (c : ℕ) → suc c ≡ l.left → Ways
 apart l blocks c e =
     record {
       program = l.program;
-      setting = l.setting;
+      table = l.table;
       bearing = bearing_at l;
       whole = l.whole;
       blocks = blocks;
@@ -360,8 +349,8 @@ list_with_there labels l a =
 begun_sound : (l : Level) (t : FootAt l) (head : Y.BlockHead) (body : Y.Stmts) (s : State)
     → skeleton s.activations ≡ outlines (l.frame ∷ l.further)
     → T.SoundStmt (place_at l t) (Y.Begin (Y.BlockOf head body))
-    → P.PlainStmts (P.in_block (standing_at l) head) body
-    → SoundEntry l.program l.setting (bearing_at l) (M.begun (Y.BlockOf head body) (newest_height s.activations))
+    → P.PlainStmts body
+    → SoundEntry l.program l.table (bearing_at l) (M.begun (Y.BlockOf head body) (newest_height s.activations))
 begun_sound l t head body s e h p =
     record {
       block = record {
@@ -374,15 +363,14 @@ begun_sound l t head body s e h p =
         plain = p;
       };
       chain = (
-        enters_own l.setting.table (block_around head body) (block_around head body) (t.own ∷ t.outer) h.0.1.1 refl
+        enters_own l.table (block_around head body) (block_around head body) (t.own ∷ t.outer) h.0.1.1 refl
             refl (λ label x. x),
         (omega (arith, h.0.1.0.level), t.chain),
       );
       stands =
-          subst (λ z. Stands l.program (l.frame ∷ l.further) z (t.own ∷ t.outer))
+          subst (λ z. Stands (l.frame ∷ l.further) z (t.own ∷ t.outer))
           (sym (newest_there s.activations l.frame l.further e)) (stands_at l t);
       opens = l.opens;
-      known = λ x. absurd (cc x);
       passes =
           subst (λ kind. Passes (M.is_own_return kind) (Expected false) (Some l.returning) (Some l.returning))
           (sym h.0.0) (λ v a. a);
@@ -402,25 +390,24 @@ unit_around a = record { number = a.number; level = a.level; outermost = a.outer
 -- a single statement's block has the number of the block around, and no entry of its own
 unit_enters : (l : Level) (t : FootAt l) (head : Y.BlockHead) (body : Y.Stmts) (kind : Y.BlockKind)
     → T.IsUnitHead (place_at l t) head kind → head.level ≡ suc t.own.level
-    → T.IsListedUnit l.setting.table head (block_around head body ∷ unit_around t.own ∷ t.outer) kind
-    → Enters l.setting.table (block_around head body) (unit_around t.own ∷ t.outer)
+    → T.IsListedUnit l.table head (block_around head body ∷ unit_around t.own ∷ t.outer) kind
+    → Enters l.table (block_around head body) (unit_around t.own ∷ t.outer)
 unit_enters l t head body Y.UnitBlock h deep i =
-    enters_own l.setting.table (block_around head body) (block_around head body) (unit_around t.own ∷ t.outer) i refl
+    enters_own l.table (block_around head body) (block_around head body) (unit_around t.own ∷ t.outer) i refl
     refl (λ label x. x)
 unit_enters l t head body Y.SimpleUnit h deep i =
     λ o outer e.
     let low : o.level ≤ t.own.level =
-    (t.chain.0 o outer (subst (λ n. slice_get l.setting.table n ≡ Some (o ∷ outer)) h e)).0 in
+    (t.chain.0 o outer (subst (λ n. slice_get l.table n ≡ Some (o ∷ outer)) h e)).0 in
     (omega (arith, low, deep), λ q. absurd (omega (arith, q, low, deep)))
 unit_enters l t head body Y.ProcedureBlock h deep i = absurd h
 unit_enters l t head body Y.BeginBlock h deep i = absurd h
 
 unit_sound : (l : Level) (t : FootAt l) (c : Condition) (head : Y.BlockHead) (body : Y.Stmts) (line : ℕ)
-    → Has l.program l.frame.lasting t.own.outermost
     → T.SoundStmt (place_at l t) (Y.OnUnit c (Y.BlockOf head body) line)
-    → P.PlainStmts (P.in_block (standing_at l) head) body
-    → SoundUnit l.program l.setting (closed l.frame ∷ l.further) (suc (length l.further)) (Y.BlockOf head body)
-unit_sound l t c head body line z h p =
+    → P.PlainStmts body
+    → SoundUnit l.program l.table (closed l.frame ∷ l.further) (suc (length l.further)) (Y.BlockOf head body)
+unit_sound l t c head body line h p =
     record {
       block = record {
         head = head;
@@ -436,7 +423,7 @@ unit_sound l t c head body line z h p =
         unit_enters l t head body head.kind h.0.0 h.0.1.0.level h.0.1.1,
         (omega (arith, h.0.1.0.level), t.chain),
       );
-      stands = inl (refl, (t.level_is, (z, t.below)));
+      stands = inl (refl, (t.level_is, (t.lasts, t.below)));
     }
 
 answered_some : (r : Returning) (v : BasicValue) → Answered r (Some v)
@@ -446,108 +433,74 @@ answered_some NoReturn v = tt
 
 -- ---- GOTO
 
-both_met : {Q : Type 0} (t u : Bool) (x y z : Q) → t ≡ true → u ≡ true → cond t (cond u x y) z ≡ x
-both_met true true x y z e f = refl
-both_met true false x y z e f = absurd (cc f)
-both_met false u x y z e f = absurd (cc e)
-
--- the newest activation is its own ancestor at its own level
-own_ancestor : (as' : List Activation) (f : Frame) (fs : List Frame) → skeleton as' ≡ outlines (f ∷ fs)
-    → height_of (ancestor as' (newest_height as') f.level) ≡ suc (length fs)
-own_ancestor [] f fs e = absurd (cc e)
-own_ancestor (a ∷ as') f fs e =
-    let same : a.height ≡ suc (length fs) = ap (λ os. (first_outline os).height) e in
-    let own : a.level ≡ f.level = ap (λ os. (first_outline os).level) e in
-    ap height_of (both_met (a.height == a.height) (a.level == f.level) (Some a) (ancestor as' a.parent f.level)
-    (ancestor as' a.height f.level) (nat_same a.height a.height refl) (nat_same a.level f.level own)) ∙ same
-
 -- where a block stands its lists are carried out
-jumps_at : (p : Y.Program) (fs : List Frame) (height : ℕ) (label : Label) (a : W.Around) (more : List W.Around)
-    → Stands p fs height (a ∷ more) → W.is_among label (W.labels_of a) ≡ true
-    → is_among label (P.function_labels p.procedures) ≡ false → Jumps P.CaughtGotos fs height label
-jumps_at p [] height label a more s h n = absurd s
-jumps_at p (f ∷ fs) height label a more (inl s) h n = inl (s.0, s.1.1.0 label h n)
-jumps_at p (f ∷ fs) height label a more (inr s) h n = inr (jumps_at p fs height label a more s.1 h n)
+jumps_at : (fs : List Frame) (height : ℕ) (label : Label) (a : W.Around) (more : List W.Around)
+    → Stands fs height (a ∷ more) → W.is_among label (W.labels_of a) ≡ true → Jumps fs height label
+jumps_at [] height label a more s h = absurd s
+jumps_at (f ∷ fs) height label a more (inl s) h = inl (s.0, s.1.1.0 label h)
+jumps_at (f ∷ fs) height label a more (inr s) h = inr (jumps_at fs height label a more s.1 h)
 
 -- a label of a block's own lists, or of a list of a block around
-goto_there : (l : Level) (t : FootAt l) (gotos : Gotos) (s : State) (level : ℕ) (label : Label)
+goto_there : (l : Level) (t : FootAt l) (s : State) (level : ℕ) (label : Label)
     → skeleton s.activations ≡ outlines (l.frame ∷ l.further) → W.IsTarget level label (t.own ∷ t.outer)
-    → P.MayGo gotos (P.function_labels l.program.procedures) l.frame.level level label
-    → Jumps gotos (l.frame ∷ l.further) (height_of (ancestor_at s level)) label
-goto_there l t P.AnyGoto s level label e h m = tt
-goto_there l t P.CaughtGotos s level label e (inl h) (inl m) =
-    inl (ap (λ z. height_of (ancestor_at s z)) m ∙ own_ancestor s.activations l.frame l.further e, t.has label h.1)
-goto_there l t P.CaughtGotos s level label e (inr h) (inl m) =
-    let less : level < t.own.level =
-    lower_level l.setting.table level t.own.level _ t.outer t.chain.1.0 t.chain.1.1 (target_at level label t.outer h) in
-    absurd (omega (arith, less, m, t.level_is))
-goto_there l t P.CaughtGotos s level label e h (inr m) =
+    → Jumps (l.frame ∷ l.further) (height_of (ancestor_at s level)) label
+goto_there l t s level label e h =
     let fs : List Frame = l.frame ∷ l.further in
-    let r = reached l.program l.setting.table level (λ a. W.is_among label (W.labels_of a) ≡ true) fs s.activations
+    let r = reached l.table level (λ a. W.is_among label (W.labels_of a) ≡ true) fs s.activations
     (length fs) (t.own ∷ t.outer) e (stands_at l t) t.chain (target_at level label (t.own ∷ t.outer) h) in
-    subst (λ o. Jumps P.CaughtGotos fs (height_of o) label) (sym (newest_ancestor fs s.activations level e))
-    (jumps_at l.program fs _ label r.own r.outer r.stands r.so m)
+    subst (λ o. Jumps fs (height_of o) label) (sym (newest_ancestor fs s.activations level e))
+    (jumps_at fs _ label r.own r.outer r.stands r.so)
 
 -- ---- statements
-
-or_first : (t u : Bool) → t ≡ true → (t || u) ≡ true
-or_first t u e = ap (λ x. x || u) e
-
-or_second : (t u : Bool) → u ≡ true → (t || u) ≡ true
-or_second true u e = refl
-or_second false u e = e
 
 mutual
   unfolding M.statement M.statements
 
-  statement_there : (x : Y.Stmt) (l : Level) (t : FootAt l) → Lasts l t (P.establishes x)
-      → T.SoundStmt (place_at l t) x
-      → P.PlainStmt (standing_at l) x
+  statement_there : (x : Y.Stmt) (l : Level) (t : FootAt l) → T.SoundStmt (place_at l t) x
+      → P.PlainStmt x
       → There (demand_at l) 1 1 l.left Anything (M.statement (around_at l) x)
-  statement_there (Y.Null line) l t z h p = act_made counted (λ v. refl)
-  statement_there (Y.Assign target source line) l t z h p =
+  statement_there (Y.Null line) l t h p = act_made counted (λ v. refl)
+  statement_there (Y.Assign target source line) l t h p =
       act_then counted (λ v. refl) (λ c e. loose (let w = on_line line (within l t c e) in
       bind_there (stored_value_there source w h.1.1.0 p.1) (λ v k. assigned_there target v w h.1.0 p.0)))
-  statement_there (Y.AssignElements target source line) l t z h p =
+  statement_there (Y.AssignElements target source line) l t h p =
       act_then counted (λ v. refl) (λ c e. loose (let w = on_line line (within l t c e) in
       bind_there (stored_value_there source w h.1.1.0 p.1) (λ v k. elements_assigned_there target v w h.1.0 p.0)))
-  statement_there (Y.AssignAggregate target source line) l t z h p =
+  statement_there (Y.AssignAggregate target source line) l t h p =
       act_then counted (λ v. refl) (λ c e. loose (aggregate_assigned_there target source
       (on_line line (within l t c e)) h.1.0 h.1.1.0 p.0 p.1))
-  statement_there (Y.AssignArea target source line) l t z h p =
+  statement_there (Y.AssignArea target source line) l t h p =
       act_then counted (λ v. refl) (λ c e. loose (area_assigned_there target source (on_line line (within l t c e))))
-  statement_there (Y.EmptyArea target line) l t z h p =
+  statement_there (Y.EmptyArea target line) l t h p =
       act_then counted (λ v. refl) (λ c e. loose (area_emptied_there target (on_line line (within l t c e))))
-  statement_there (Y.If condition unit line) l t z h p =
+  statement_there (Y.If condition unit line) l t h p =
       act_then counted (λ v. refl) (λ c e. loose (bind_there
       (bit_there condition (on_line line (within l t c e)) h.0 p.0)
-      (λ met k. choose_there met (slow (statement_there unit (below l c e) t z h.1.0 p.1)) (give_there tt tt))))
-  statement_there (Y.IfElse condition unit otherwise line) l t z h p =
+      (λ met k. choose_there met (slow (statement_there unit (below l c e) t h.1.0 p.1)) (give_there tt tt))))
+  statement_there (Y.IfElse condition unit otherwise line) l t h p =
       act_then counted (λ v. refl) (λ c e. loose (bind_there
       (bit_there condition (on_line line (within l t c e)) h.0 p.0)
-      (λ met k. choose_there met (slow (statement_there unit (below l c e) t
-      (λ a. z (or_first (P.establishes unit) (P.establishes otherwise) a)) h.1.0 p.1.0))
-      (slow (statement_there otherwise (below l c e) t
-      (λ a. z (or_second (P.establishes unit) (P.establishes otherwise) a)) h.1.1.0 p.1.1)))))
-  statement_there (Y.Do body line) l t z h p =
+      (λ met k. choose_there met (slow (statement_there unit (below l c e) t h.1.0 p.1.0))
+      (slow (statement_there otherwise (below l c e) t h.1.1.0 p.1.1)))))
+  statement_there (Y.Do body line) l t h p =
       act_then counted (λ v. refl) (λ c e. loose (let u = below l c e in
       list_with_there _ u (λ x d r. statements_there body x (listed body (lower u d r))
-      (group body (lower u d r) t) z h.0 p)))
-  statement_there (Y.DoWhile condition body line) l t z h p =
+      (group body (lower u d r) t) h.0 p)))
+  statement_there (Y.DoWhile condition body line) l t h p =
       act_then counted (λ v. refl) (λ c e. loose (let u = below l c e in
       while_there u.turns c u.few
       (λ d r. met_after_act_there condition (on_line line (smaller (within l t c e) d r)) h.0 p.0)
       (λ d r. list_with_there _ (lower u d r)
       (λ x f q. statements_there body x (listed body (lower (lower u d r) f q))
-      (group body (lower (lower u d r) f q) t) z h.1.0 p.1))))
-  statement_there (Y.DoOnce variable start condition body line) l t z h p =
+      (group body (lower (lower u d r) f q) t) h.1.0 p.1))))
+  statement_there (Y.DoOnce variable start condition body line) l t h p =
       act_then counted (λ v. refl) (λ c e. loose (let u = below l c e in let w = on_line line (within l t c e) in
       bind_there (stored_value_there start w h.0.1.1 p.0.1)
       (λ v k. then_there (assigned_there variable v w h.0.1.0 p.0.0)
       (once_there condition w h.1.0 p.1.0
       (list_with_there _ u (λ x d r. statements_there body x (listed body (lower u d r))
-      (group body (lower u d r) t) z h.1.1.0 p.1.1))))))
-  statement_there (Y.DoCount counter start limit step condition body line) l t z h p =
+      (group body (lower u d r) t) h.1.1.0 p.1.1))))))
+  statement_there (Y.DoCount counter start limit step condition body line) l t h p =
       act_then counted (λ v. refl) (λ c e. loose (let u = below l c e in let w = on_line line (within l t c e) in
       let counting : SoundCounting P.AnyCall (place_at l t) counter = record { sound = h.0.0; plain = p.0.0 } in
       bind_there (computational_there start w h.0.1.0 p.0.1.0) (λ v k.
@@ -558,51 +511,49 @@ mutual
       (λ d r. turn_due_there counter most by condition (smaller w d r) counting h.1.0 p.1.0)
       (λ d r. then_there (list_with_there _ (lower u d r)
       (λ x f q. statements_there body x (listed body (lower (lower u d r) f q))
-      (group body (lower (lower u d r) f q) t) z h.1.1.0 p.1.1))
+      (group body (lower (lower u d r) f q) t) h.1.1.0 p.1.1))
       (stepped_there counter by (smaller w d r) counting)))))))))
-  statement_there (Y.Begin (Y.BlockOf head body)) l t z h p =
+  statement_there (Y.Begin (Y.BlockOf head body)) l t h p =
       act_then counted (λ v. refl) (λ c e. loose (bind_there looked_there
       (λ s k. then_there ((within l t c e).keeps (bearing_at l) _ (begun_sound l t head body s k.1 h p))
       (give_there tt tt))))
-  statement_there (Y.OnSystem c line) l t z h p =
+  statement_there (Y.OnSystem c line) l t h p =
       established_by_there c (established c SystemUnit)
       (λ s k. established_kept (demand_at l) c SystemUnit s tt k)
-  statement_there (Y.OnUnit c (Y.BlockOf head body) line) l t z h p =
+  statement_there (Y.OnUnit c (Y.BlockOf head body) line) l t h p =
       established_by_there c (established c (BlockUnit (Y.BlockOf head body)))
       (λ s k. established_kept (demand_at l) c (BlockUnit (Y.BlockOf head body)) s
-      (unit_sound l t c head body line (z refl) h p) k)
-  statement_there (Y.CallProcedure call line) l t z h p =
+      (unit_sound l t c head body line h p) k)
+  statement_there (Y.CallProcedure call line) l t h p =
       act_then counted (λ v. refl) (λ c e. loose (then_there (called_there call (on_line line (within l t c e)) h.1.0 p)
       (give_there tt tt)))
-  statement_there (Y.Return line) l t z h p =
+  statement_there (Y.Return line) l t h p =
       act_then counted (λ v. refl) (λ c e. returns_there None (subst (λ r. Answered r None) (sym h.0) tt))
-  statement_there (Y.ReturnValue type source line) l t z h p =
+  statement_there (Y.ReturnValue type source line) l t h p =
       act_then counted (λ v. refl) (λ c e. loose (bind_there
       (stored_value_there source (on_line line (within l t c e)) h.1.1.0 p)
       (λ v k. returns_there _ (answered_some l.returning _))))
-  statement_there (Y.Goto level label line) l t z h p =
+  statement_there (Y.Goto level label line) l t h p =
       act_then counted (λ v. refl) (λ c e. bind_there looked_there (λ s k. jumps_there _ label
-      (goto_there l t l.setting.gotos s level label k.1 h.0 p)))
-  statement_there (Y.Stop line) l t z h p = act_then counted (λ v. refl) (λ c e. finish_there E.Stopped tt)
-  statement_there (Y.Signal condition line) l t z h p =
+      (goto_there l t s level label k.1 h.0)))
+  statement_there (Y.Stop line) l t h p = act_then counted (λ v. refl) (λ c e. finish_there E.Stopped tt)
+  statement_there (Y.Signal condition line) l t h p =
       act_then counted (λ v. refl) (λ c e. loose (signalled_there condition (on_line line (within l t c e))))
-  statement_there (Y.Revert c line) l t z h p =
+  statement_there (Y.Revert c line) l t h p =
       established_by_there c (reverted c) (λ s k. reverted_kept (demand_at l) c s k)
-  statement_there (Y.Allocate all line) l t z h p =
+  statement_there (Y.Allocate all line) l t h p =
       act_then counted (λ v. refl) (λ c e. loose (allocations_there all (on_line line (within l t c e)) h.0 p))
-  statement_there (Y.Free all line) l t z h p =
+  statement_there (Y.Free all line) l t h p =
       act_then counted (λ v. refl) (λ c e. loose (freeings_there all (on_line line (within l t c e)) h.0 p))
-  statement_there (Y.Get skip pairs line) l t z h p =
+  statement_there (Y.Get skip pairs line) l t h p =
       act_then counted (λ v. refl) (λ c e. loose (get_there skip pairs (on_line line (within l t c e)) h.1.0 p))
-  statement_there (Y.Put skip pairs line) l t z h p =
+  statement_there (Y.Put skip pairs line) l t h p =
       act_then counted (λ v. refl) (λ c e. loose (put_there skip pairs (on_line line (within l t c e)) h.1.0 p))
 
   pub statements_there : (xs : Y.Stmts) (from : Option Label) (l : Level) (t : FootAt l)
-      → Lasts l t (P.any_establishes xs) → T.SoundStmts (place_at l t) xs
-      → P.PlainStmts (standing_at l) xs → There (demand_at l) 0 1 l.left Anything (M.statements (around_at l) xs from)
-  statements_there (Y.EndOfList labels) from l t z h p = give_there tt tt
-  statements_there (Y.StmtThen labels first rest) from l t z h p =
-      choose_there _ (then_there (slow (statement_there first l t
-      (λ a. z (or_first (P.establishes first) (P.any_establishes rest) a)) h.0 p.0)) (statements_there rest None l t
-      (λ a. z (or_second (P.establishes first) (P.any_establishes rest) a)) h.1 p.1))
-      (statements_there rest from l t (λ a. z (or_second (P.establishes first) (P.any_establishes rest) a)) h.1 p.1)
+      → T.SoundStmts (place_at l t) xs → P.PlainStmts xs
+      → There (demand_at l) 0 1 l.left Anything (M.statements (around_at l) xs from)
+  statements_there (Y.EndOfList labels) from l t h p = give_there tt tt
+  statements_there (Y.StmtThen labels first rest) from l t h p =
+      choose_there _ (then_there (slow (statement_there first l t h.0 p.0)) (statements_there rest None l t h.1 p.1))
+      (statements_there rest from l t h.1 p.1)

@@ -13,7 +13,6 @@ use Rattle.pli_meaning.specs.Control.{give, flow_on, ◌>>=◌, ◌>>◌, looked
 use Rattle.pli_meaning.specs.Control.{choose, given, is_among, caught, list_from, repeated_while, left, leaving}
 use Rattle.std.proofs.lemmas.List.Folds.{list_any-append}
 use Rattle.pli_language.specs.Keywords.{same_bytes}
-use Rattle.meaning_runs.specs.Plain.{Gotos, AnyGoto, CaughtGotos}
 use Rattle.meaning_runs.proofs.Frames.{Frame, outlines, with_labels}
 use Rattle.meaning_runs.specs.Present.{IsOver}
 use Rattle.well_formed_trees.specs.Surroundings.{Returning}
@@ -233,7 +232,7 @@ unfolding returns
 returns_there v a = record { comes = λ k s h r c. (omega arith, (h, (c, a))) }
 
 pub jumps_there : {R : Type 0} {d : Demand} {by left : ℕ} {after : R → Type 0} (height : ℕ) (label : Label)
-    → Jumps d.setting.gotos d.bearing.frames height label
+    → Jumps d.bearing.frames height label
     → There d by 0 left after (jumps {R = R} height label)
 unfolding jumps
 jumps_there height label a = record { comes = λ k s h r c. (omega arith, (h, (c, a))) }
@@ -284,7 +283,7 @@ abbrev pub labelled : List Label → Demand → Demand
 labelled labels d =
     record {
       program = d.program;
-      setting = d.setting;
+      table = d.table;
       bearing = record { answers = d.bearing.answers; frames = with_labels labels d.bearing.frames };
     }
 
@@ -295,13 +294,13 @@ IsNewest (f ∷ fs) height = height ≡ suc (length fs)
 
 -- the list behind it keeps what it keeps
 unlabelled_units : (d : Demand) (labels : List Label) (fs : List Frame) (as' : List Activation)
-    → HasUnits d.program d.setting (with_labels labels fs) as' → HasUnits d.program d.setting fs as'
+    → HasUnits d.program d.table (with_labels labels fs) as' → HasUnits d.program d.table fs as'
 unlabelled_units d labels [] as' h = h
 unlabelled_units d labels (f ∷ fs) [] h = h
 unlabelled_units d labels (f ∷ fs) (a ∷ as') h = h
 
 labelled_units : (d : Demand) (labels : List Label) (fs : List Frame) (as' : List Activation)
-    → HasUnits d.program d.setting fs as' → HasUnits d.program d.setting (with_labels labels fs) as'
+    → HasUnits d.program d.table fs as' → HasUnits d.program d.table (with_labels labels fs) as'
 labelled_units d labels [] as' h = h
 labelled_units d labels (f ∷ fs) [] h = h
 labelled_units d labels (f ∷ fs) (a ∷ as') h = h
@@ -328,33 +327,32 @@ among_rest label labels outer e h =
     ap (λ t. t || is_among label outer) (sym e) ∙ (sym (list_any-append (same_bytes label) labels outer) ∙ h)
 
 -- a jump that a list doesn't catch goes to a label further out
-jump_on : (g : Gotos) (fs : List Frame) (labels : List Label) (at height : ℕ) (label : Label) → IsNewest fs height
-    → Jumps g (with_labels labels fs) at label → ((at == height) && is_among label labels) ≡ false
-    → Jumps g fs at label
-jump_on AnyGoto fs labels at height label n h e = tt
-jump_on CaughtGotos [] labels at height label n h e = absurd h
-jump_on CaughtGotos (f ∷ fs) labels at height label n (inl h) e =
+jump_on : (fs : List Frame) (labels : List Label) (at height : ℕ) (label : Label) → IsNewest fs height
+    → Jumps (with_labels labels fs) at label → ((at == height) && is_among label labels) ≡ false
+    → Jumps fs at label
+jump_on [] labels at height label n h e = absurd h
+jump_on (f ∷ fs) labels at height label n (inl h) e =
     let same : (at == height) ≡ true = nat_same at height (h.0 ∙ sym n) in
     let none : is_among label labels ≡ false = ap (λ t. t && is_among label labels) (sym same) ∙ e in
     inl (h.0, among_rest label labels f.labels none h.1)
-jump_on CaughtGotos (f ∷ fs) labels at height label n (inr h) e = inr h
+jump_on (f ∷ fs) labels at height label n (inr h) e = inr h
 
-caught_comes : (d : Demand) (k acts left height : ℕ) (labels : List Label) (f : Flow (Unit {0}))
-    (next : Label → Meaning (Unit {0})) → IsNewest d.bearing.frames height
-    → Comes (labelled labels d) Anything 0 1 acts k f → k ≤ acts + left
-    → ((label : Label) (c : ℕ) → suc c ≡ left → There d 0 1 c Anything (next label))
-    → Comes d Anything 0 1 acts k (caught k height labels f next)
-caught_comes d k acts left height labels (Normal q s) next newest h r n =
+caught_comes : (d : Demand) (after : Unit {0} → Type 0) (k acts left height : ℕ) (labels : List Label)
+    (f : Flow (Unit {0})) (next : Label → Meaning (Unit {0})) → IsNewest d.bearing.frames height
+    → Comes (labelled labels d) after 0 1 acts k f → k ≤ acts + left
+    → ((label : Label) (c : ℕ) → suc c ≡ left → There d 0 1 c after (next label))
+    → Comes d after 0 1 acts k (caught k height labels f next)
+caught_comes d after k acts left height labels (Normal q s) next newest h r n =
     (h.0, (h.1.0, (unlabelled d labels s h.1.1.0, h.1.1.1)))
-caught_comes d k acts left height labels (Jump at label s) next newest h r n =
+caught_comes d after k acts left height labels (Jump at label s) next newest h r n =
     let less = less_left left acts s.world.acts k h.0 h.1.0 r in
     let kept : Kept d s = unlabelled d labels s h.1.1.0 in
     by_test ((at == height) && is_among label labels) (next label k s) refl
-    (from_later d Anything 0 1 acts s.world.acts k (next label k s) (omega (arith, h.0))
+    (from_later d after 0 1 acts s.world.acts k (next label k s) (omega (arith, h.0))
     ((n label less.0 less.1).comes k s h.1.0 less.2 kept))
   where
     by_test : (t : Bool) (f : Flow (Unit {0})) → ((at == height) && is_among label labels) ≡ t
-        → Comes d Anything 0 1 acts k f → Comes d Anything 0 1 acts k (cond t f (Jump at label s))
+        → Comes d after 0 1 acts k f → Comes d after 0 1 acts k (cond t f (Jump at label s))
     by_test true f e g = g
     by_test false f e g = (
       h.0,
@@ -362,31 +360,31 @@ caught_comes d k acts left height labels (Jump at label s) next newest h r n =
         h.1.0,
         (
           unlabelled d labels s h.1.1.0,
-          jump_on d.setting.gotos d.bearing.frames labels at height label newest h.1.1.1 e,
+          jump_on d.bearing.frames labels at height label newest h.1.1.1 e,
         ),
       ),
     )
-caught_comes d k acts left height labels (Return v s) next newest h r n =
+caught_comes d after k acts left height labels (Return v s) next newest h r n =
     (h.0, (h.1.0, (unlabelled d labels s h.1.1.0, h.1.1.1)))
-caught_comes d k acts left height labels (Ended s) next newest h r n = h
-caught_comes d k acts left height labels (Paused s) next newest h r n = h
-caught_comes d k acts left height labels Stuck next newest h r n = h
+caught_comes d after k acts left height labels (Ended s) next newest h r n = h
+caught_comes d after k acts left height labels (Paused s) next newest h r n = h
+caught_comes d after k acts left height labels Stuck next newest h r n = h
 
-pub list_there : {d : Demand} (n left height : ℕ) (labels : List Label) {part : Option Label → Meaning (Unit {0})}
-    (from : Option Label) → left < n → IsNewest d.bearing.frames height
-    → ((x : Option Label) (c : ℕ) → c ≤ left → There (labelled labels d) 0 1 c Anything (part x))
-    → There d 0 1 left Anything (list_from n height labels part from)
+pub list_there : {d : Demand} {after : Unit {0} → Type 0} (n left height : ℕ) (labels : List Label)
+    {part : Option Label → Meaning (Unit {0})} (from : Option Label) → left < n → IsNewest d.bearing.frames height
+    → ((x : Option Label) (c : ℕ) → c ≤ left → There (labelled labels d) 0 1 c after (part x))
+    → There d 0 1 left after (list_from n height labels part from)
 unfolding list_from
 list_there zero left height labels from few newest a = absurd (omega (arith, few))
-list_there {d} (suc n) left height labels {part} from few newest a =
+list_there {d} {after} (suc n) left height labels {part} from few newest a =
+    let first = a from left (omega arith) in
     let rest : (label : Label) (c : ℕ) → suc c ≡ left
-    → There d 0 1 c Anything (list_from n height labels part (Some label)) =
+    → There d 0 1 c after (list_from n height labels part (Some label)) =
     λ label c e.
     list_there n c height labels (Some label) (omega (arith, e, few)) newest (λ x b r. a x b (omega (arith, r, e))) in
-    let first = a from left (omega arith) in
     record {
       comes = λ k s h r c.
-          caught_comes d k s.world.acts left height labels (part from k s) _ newest
+          caught_comes d after k s.world.acts left height labels (part from k s) _ newest
           (first.comes k s h r (labelled_kept d labels s c)) r rest;
     }
 
@@ -397,7 +395,7 @@ abbrev pub entering : Option Returning → Frame → Demand → Demand
 entering inner f d =
     record {
       program = d.program;
-      setting = d.setting;
+      table = d.table;
       bearing = record { answers = inner; frames = f ∷ d.bearing.frames };
     }
 
@@ -417,12 +415,11 @@ pub leads_there : (d : Demand) {few : ℕ} (inner : Option Returning) (f e : Fra
 leads_there d inner f e after widens a = record { comes = λ k s h r c. a.comes k s h r (widens s c) }
 
 -- a jump goes to the lists of the activations further down where none is carried out in the newest one
-jump_out : (g : Gotos) (f e : Frame) (fs : List Frame) (height : ℕ) (label : Label) → f.labels ≡ []
-    → Jumps g (f ∷ fs) height label → Jumps g (e ∷ fs) height label × Jumps g fs height label
-jump_out AnyGoto f e fs height label n h = (tt, tt)
-jump_out CaughtGotos f e fs height label n (inl h) =
+jump_out : (f e : Frame) (fs : List Frame) (height : ℕ) (label : Label) → f.labels ≡ []
+    → Jumps (f ∷ fs) height label → Jumps (e ∷ fs) height label × Jumps fs height label
+jump_out f e fs height label n (inl h) =
     absurd (cc (ap (λ ls. is_among label ls) (sym n) ∙ h.1))
-jump_out CaughtGotos f e fs height label n (inr h) = (inr h, h)
+jump_out f e fs height label n (inr h) = (inr h, h)
 
 pub leads_then : (d : Demand) {few : ℕ} (inner : Option Returning) (f e : Frame) (after : Unit {0} → Type 0)
     {m n : Meaning (Unit {0})} → ((s : State) → Kept (entering inner f d) s → Kept (entering inner e d) s)
@@ -443,7 +440,7 @@ leads_then d {few} inner f e after {m} {n} widens none a b =
       h.0,
       (
         h.1.0,
-        (widens s h.1.1.0, (jump_out d.setting.gotos f e d.bearing.frames height label none h.1.1.1).0),
+        (widens s h.1.1.0, (jump_out f e d.bearing.frames height label none h.1.1.1).0),
       ),
     )
     of_flow k acts r (Return v s) h = (h.0, (h.1.0, (widens s h.1.1.0, h.1.1.1)))
@@ -475,7 +472,7 @@ block_there {d} {few} own after inner f e result change {m} kept bare a none p =
         h.1.0,
         (
           ended_kept d e s h.1.1.0.0 h.1.1.0.1,
-          (jump_out d.setting.gotos e e d.bearing.frames height label bare h.1.1.1).1,
+          (jump_out e e d.bearing.frames height label bare h.1.1.1).1,
         ),
       ),
     )

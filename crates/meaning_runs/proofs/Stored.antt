@@ -45,7 +45,7 @@ extents_there [] w h p = give_there [] tt
 extents_there (x ∷ xs) w h p = then_there (act_there counted (λ v. refl)) (evaluations_there [] (x ∷ xs) w h p)
 
 -- those of a declared variable
-pub extents_declared : (d : Y.DeclaredVariable) (w : Ways) → Declares w.program w.setting d
+pub extents_declared : (d : Y.DeclaredVariable) (w : Ways) → Declares w.program w.table d
     → There (demand w) 0 1 w.left Anything (K.extents (around w) d.evaluations)
 extents_declared d w h = extents_there d.evaluations (elsewhere h.blocks w) h.sound h.plain
 
@@ -138,7 +138,7 @@ locator_set_there (Y.SetOffset r area) n w h p =
     (designated_there r w h.1.1 p) (λ d i. element_stored_there d _)))
 
 based_allocated_there : (d : Y.DeclaredVariable) (area : Option Y.Variable) (target : Y.LocatorTarget) (w : Ways)
-    → Declares w.program w.setting d → T.SoundTarget (here w) target → P.PlainTarget w.calls target
+    → Declares w.program w.table d → T.SoundTarget (here w) target → P.PlainTarget w.calls target
     → There (demand w) 0 1 w.left Anything (A.based_allocated (around w) d area target)
 unfolding A.based_allocated
 based_allocated_there d area target w s h p =
@@ -146,7 +146,7 @@ based_allocated_there d area target w s h p =
     (bind_there (area_or_heap_there area w) (λ x j.
     bind_there (placing_there w.turns x _ w w.few) (λ o i. locator_set_there target _ w h p))))
 
-controlled_allocated_there : (v : Y.Variable) (d : Y.DeclaredVariable) (w : Ways) → Declares w.program w.setting d
+controlled_allocated_there : (v : Y.Variable) (d : Y.DeclaredVariable) (w : Ways) → Declares w.program w.table d
     → There (demand w) 0 1 w.left Anything (A.controlled_allocated (around w) v d)
 unfolding A.controlled_allocated
 controlled_allocated_there v d w s =
@@ -158,11 +158,11 @@ allocation_there : (x : Y.Allocation) (w : Ways) → T.SoundAllocation (here w) 
 unfolding A.allocation
 allocation_there (Y.AllocateBased v area target) w h p =
     found_there _ h.0.d _ _ h.0.declared.found
-    (based_allocated_there h.0.d area target w (declared_there w.program w.setting w.whole v h.0.d h.0.declared.found)
+    (based_allocated_there h.0.d area target w (declared_there w.program w.table w.whole v h.0.d h.0.declared.found)
     h.1.1 p)
 allocation_there (Y.AllocateControlled v) w h p =
     found_there _ h.d _ _ h.declared.found
-    (controlled_allocated_there v h.d w (declared_there w.program w.setting w.whole v h.d h.declared.found))
+    (controlled_allocated_there v h.d w (declared_there w.program w.table w.whole v h.d h.declared.found))
 
 pub allocations_there : (xs : List Y.Allocation) (w : Ways) → Every (T.SoundAllocation (here w)) xs
     → Every (P.PlainAllocation w.calls) xs → There (demand w) 0 1 w.left Anything (A.allocations (around w) xs)

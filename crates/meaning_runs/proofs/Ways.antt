@@ -17,15 +17,13 @@ use Rattle.pli_meaning.specs.Making as K
 use Rattle.pli_meaning.specs.Placing as A
 use Rattle.pli_meaning.specs.Executing.{is_own_return}
 use Rattle.well_formed_trees.specs.Every.{Every}
-use Rattle.pli_meaning.specs.Control.{Label, is_among}
-use Rattle.well_formed_trees.specs.Statements as T
 use Rattle.well_formed_trees.specs.WellFormed.{IsHeld}
-use Rattle.well_formed_trees.specs.Surroundings.{Where, Returning, Returns, NoReturn}
+use Rattle.well_formed_trees.specs.Surroundings.{Table, Where, Returning, Returns, NoReturn}
 use Rattle.well_formed_trees.specs.Surroundings as W
 use Rattle.well_formed_trees.specs.Expressions.{SoundNumber}
-use Rattle.meaning_runs.specs.Plain.{Calls, AnyCall, NoCall, PlainVariable, function_labels, any_establishes}
+use Rattle.meaning_runs.specs.Plain.{Calls, AnyCall, NoCall, PlainVariable}
 use Rattle.meaning_runs.proofs.Frames.{Frame, skeleton, Stands, Chain, IsOpen}
-use Rattle.meaning_runs.proofs.Demands.{Setting, Bearing, block_around, placed, SoundBlock, SoundUnit, HasUnits}
+use Rattle.meaning_runs.proofs.Demands.{Bearing, block_around, placed, SoundBlock, SoundUnit, HasUnits}
 use Rattle.meaning_runs.proofs.Demands.{Demand, Kept}
 use Rattle.meaning_runs.proofs.Demands.{There}
 use Rattle.meaning_runs.proofs.Demands.{IsThere, Answered}
@@ -34,29 +32,22 @@ use Rattle.meaning_runs.proofs.Steps.{Passes, fewer_left}
 -- ---- a whole program
 
 -- what is evaluated for a variable's extents is sound, where it is declared, and plain; it calls nothing
-pub record Declares (p : Y.Program) (g : Setting) (d : Y.DeclaredVariable) : Type 0 where
+pub record Declares (p : Y.Program) (table : Table) (d : Y.DeclaredVariable) : Type 0 where
   pub blocks : List W.Around
-  pub sound : Every (λ x. SoundNumber (placed p g.table blocks NoReturn) x.value) d.evaluations
+  pub sound : Every (λ x. SoundNumber (placed p table blocks NoReturn) x.value) d.evaluations
   pub plain : PlainVariable NoCall d
 
--- the labels of the own list of a function that establishes on-units are known as such
-abbrev pub IsKnown : Y.Program → (is_function : Bool) → Y.Stmts → Type 0
-IsKnown p is_function body =
-    is_function ≡ true → any_establishes body ≡ true → (label : Label) → is_among label (T.labels_in body) ≡ true
-    → is_among label (function_labels p.procedures) ≡ true
-
-pub record FineProcedure (p : Y.Program) (g : Setting) (q : Y.Procedure) : Type 0 where
-  pub block : SoundBlock p g q.block
+pub record FineProcedure (p : Y.Program) (table : Table) (q : Y.Procedure) : Type 0 where
+  pub block : SoundBlock p table q.block
   pub own : is_own_return block.head.kind ≡ true
   pub returning : block.returning ≡ Returns q.result
-  pub held : IsHeld g.table block.head.level block.outer
+  pub held : IsHeld table block.head.level block.outer
   pub listed :
-      slice_get g.table block.head.number ≡ Some (block_around block.head block.body ∷ block.outer)
-  pub known : IsKnown p (is_some q.result) block.body
+      slice_get table block.head.number ≡ Some (block_around block.head block.body ∷ block.outer)
 
-pub record Whole (p : Y.Program) (g : Setting) : Type 0 where
-  pub declares : (block : ℕ) → Every (Declares p g) (D.variables_of_block p block)
-  pub procedures : Every (FineProcedure p g) p.procedures
+pub record Whole (p : Y.Program) (table : Table) : Type 0 where
+  pub declares : (block : ℕ) → Every (Declares p table) (D.variables_of_block p block)
+  pub procedures : Every (FineProcedure p table) p.procedures
 
 -- ---- blocks that are entered
 
@@ -66,26 +57,24 @@ Expected false v = ⊤
 Expected true v = IsThere v
 
 -- the blocks around it stand at its parent, where the lists are carried out that units count on
-pub record SoundEntry (p : Y.Program) (g : Setting) (outer : Bearing) (e : Entry) : Type 0 where
-  pub block : SoundBlock p g e.block
-  pub chain : Chain g.table (block_around block.head block.body ∷ block.outer)
-  pub stands : Stands p outer.frames e.parent block.outer
+pub record SoundEntry (p : Y.Program) (table : Table) (outer : Bearing) (e : Entry) : Type 0 where
+  pub block : SoundBlock p table e.block
+  pub chain : Chain table (block_around block.head block.body ∷ block.outer)
+  pub stands : Stands outer.frames e.parent block.outer
   pub opens : Every IsOpen outer.frames
-  pub known : IsKnown p e.is_function block.body
   pub passes :
       Passes (is_own_return block.head.kind) (Expected e.is_function) (Some block.returning) outer.answers
   pub counts : length e.arguments ≡ length e.parameters
 
-pub unit_entry : (p : Y.Program) (g : Setting) (outer : Bearing) (b : Y.Block) (a : Activation) (code : ℕ)
-    → Every IsOpen outer.frames → SoundUnit p g outer.frames a.height b
-    → SoundEntry p g outer (unit_entered b a code)
-unit_entry p g outer b a code o u =
+pub unit_entry : (p : Y.Program) (table : Table) (outer : Bearing) (b : Y.Block) (a : Activation) (code : ℕ)
+    → Every IsOpen outer.frames → SoundUnit p table outer.frames a.height b
+    → SoundEntry p table outer (unit_entered b a code)
+unit_entry p table outer b a code o u =
     record {
       block = u.block;
       chain = u.chain;
       stands = u.stands;
       opens = o;
-      known = λ e. absurd (cc e);
       passes =
           subst (λ own. Passes own (Expected false) (Some u.block.returning) outer.answers) (sym u.own) (λ v h. tt);
       counts = refl;
@@ -96,57 +85,57 @@ result_expected : (type : Option Y.LeafType) (v : Option BasicValue) → Answere
 result_expected None v h = tt
 result_expected (Some t) v h = h
 
-pub procedure_passes : (p : Y.Program) (g : Setting) (answers : Option Returning) (q : Y.Procedure)
-    (f : FineProcedure p g q)
+pub procedure_passes : (p : Y.Program) (table : Table) (answers : Option Returning) (q : Y.Procedure)
+    (f : FineProcedure p table q)
     → Passes (is_own_return f.block.head.kind) (Expected (is_some q.result)) (Some f.block.returning) answers
-procedure_passes p g answers q f =
+procedure_passes p table answers q f =
     subst (λ own. Passes own (Expected (is_some q.result)) (Some f.block.returning) answers) (sym f.own)
     (λ v h. result_expected q.result v (subst (λ r. Answered r v) f.returning h))
 
 -- ---- what stands around
 
 -- where a procedure may be called, the blocks around are those of the activation and of its static ancestors
-pub record Footing (p : Y.Program) (g : Setting) (fs : List Frame) (blocks : List W.Around) : Type 0 where
-  pub stands : Stands p fs (length fs) blocks
-  pub chain : Chain g.table blocks
+pub record Footing (table : Table) (fs : List Frame) (blocks : List W.Around) : Type 0 where
+  pub stands : Stands fs (length fs) blocks
+  pub chain : Chain table blocks
 
-abbrev pub FootingIf : Calls → Y.Program → Setting → List Frame → List W.Around → Type 0
-FootingIf AnyCall p g fs blocks = Footing p g fs blocks
-FootingIf NoCall p g fs blocks = ⊤
+abbrev pub FootingIf : Calls → Table → List Frame → List W.Around → Type 0
+FootingIf AnyCall table fs blocks = Footing table fs blocks
+FootingIf NoCall table fs blocks = ⊤
 
 pub record Ways : Type 0 where
   pub program : Y.Program
-  pub setting : Setting
+  pub table : Table
   pub bearing : Bearing
-  pub whole : Whole program setting
+  pub whole : Whole program table
   pub blocks : List W.Around
   pub returning : Returning
   pub calls : Calls
-  pub footing : FootingIf calls program setting bearing.frames blocks
+  pub footing : FootingIf calls table bearing.frames blocks
   pub opens : Every IsOpen bearing.frames
   pub line : ℕ
   pub enter : Enter
   pub turns : ℕ
   pub left : ℕ
-  pub keeps : (outer : Bearing) (e : Entry) → SoundEntry program setting outer e
-      → There (record { program = program; setting = setting; bearing = outer }) 0 1 left (Expected e.is_function)
+  pub keeps : (outer : Bearing) (e : Entry) → SoundEntry program table outer e
+      → There (record { program = program; table = table; bearing = outer }) 0 1 left (Expected e.is_function)
       (enter e)
   pub few : left < turns
 
 abbrev pub demand : Ways → Demand
-demand w = record { program = w.program; setting = w.setting; bearing = w.bearing }
+demand w = record { program = w.program; table = w.table; bearing = w.bearing }
 
 abbrev pub around : Ways → Around
 around w = record { program = w.program; enter = w.enter; turns = w.turns; line = w.line }
 
 abbrev pub here : Ways → Where
-here w = placed w.program w.setting.table w.blocks w.returning
+here w = placed w.program w.table w.blocks w.returning
 
 abbrev pub on_line : ℕ → Ways → Ways
 on_line line w =
     record {
       program = w.program;
-      setting = w.setting;
+      table = w.table;
       bearing = w.bearing;
       whole = w.whole;
       blocks = w.blocks;
@@ -167,7 +156,7 @@ abbrev pub elsewhere : List W.Around → Ways → Ways
 elsewhere blocks w =
     record {
       program = w.program;
-      setting = w.setting;
+      table = w.table;
       bearing = w.bearing;
       whole = w.whole;
       blocks = blocks;
@@ -188,7 +177,7 @@ abbrev pub smaller : (w : Ways) (c : ℕ) → c ≤ w.left → Ways
 smaller w c r =
     record {
       program = w.program;
-      setting = w.setting;
+      table = w.table;
       bearing = w.bearing;
       whole = w.whole;
       blocks = w.blocks;
@@ -215,10 +204,10 @@ every_at P [] n x h e = absurd (cc e)
 every_at P (y ∷ ys) zero x h e = let same : y ≡ x = cc e in subst P same h.0
 every_at P (y ∷ ys) (suc n) x h e = every_at P ys n x h.1 e
 
-pub declared_there : (p : Y.Program) (g : Setting) → Whole p g → (v : Y.Variable) (d : Y.DeclaredVariable)
-    → D.declared_variable p v ≡ Some d → Declares p g d
-declared_there p g whole v d e =
-    every_at (Declares p g) (D.variables_of_block p v.block) v.index d (whole.declares v.block) e
+pub declared_there : (p : Y.Program) (table : Table) → Whole p table → (v : Y.Variable) (d : Y.DeclaredVariable)
+    → D.declared_variable p v ≡ Some d → Declares p table d
+declared_there p table whole v d e =
+    every_at (Declares p table) (D.variables_of_block p v.block) v.index d (whole.declares v.block) e
 
 pub procedures_same : (n : ℕ) (ps : List Y.Procedure) → D.procedure_numbered n ps ≡ W.procedure_numbered n ps
 procedures_same n [] = refl
@@ -257,11 +246,11 @@ generation_kept d NullName change s h = h
 generation_kept d (VariableName serial) change s h = h
 generation_kept d (BasedName area offset) change s h = area_kept d area (changed_at offset change) s h
 
-binding_kept : (p : Y.Program) (g : Setting) (b : Binding) (fs : List Frame) (as' : List Activation)
-    → HasUnits p g fs as' → HasUnits p g fs (K.with_binding b as')
-binding_kept p g b [] as' h = tt
-binding_kept p g b (f ∷ fs) [] h = tt
-binding_kept p g b (f ∷ fs) (a ∷ as') h = h
+binding_kept : (p : Y.Program) (table : Table) (b : Binding) (fs : List Frame) (as' : List Activation)
+    → HasUnits p table fs as' → HasUnits p table fs (K.with_binding b as')
+binding_kept p table b [] as' h = tt
+binding_kept p table b (f ∷ fs) [] h = tt
+binding_kept p table b (f ∷ fs) (a ∷ as') h = h
 
 binding_heights : (b : Binding) (as' : List Activation) → skeleton (K.with_binding b as') ≡ skeleton as'
 binding_heights b [] = refl
@@ -271,7 +260,7 @@ pub bound_kept : (d : Demand) (variable : ℕ) (n : Name) (shape : Shape) (s : S
     → Kept d s → Kept d (K.bound variable n shape s)
 bound_kept d variable n shape s h =
     let b : Binding = record { variable = variable; name = n; shape = shape } in
-    (binding_kept d.program d.setting b d.bearing.frames s.activations h.0, binding_heights b s.activations ∙ h.1)
+    (binding_kept d.program d.table b d.bearing.frames s.activations h.0, binding_heights b s.activations ∙ h.1)
 
 pub variable_kept : (d : Demand) (variable : ℕ) (g : Generation) (s : State) → Kept d s
     → Kept d (K.with_variable variable g s)

@@ -1,3 +1,3 @@
 pub mod Plain
 pub mod Present
-pub mod Lost
+pub mod Caught

@@ -1,10 +1,6 @@
 -- Plain programs: without LBOUND, HBOUND and DIM, and with no aggregate in GET and PUT. What these come to stands on
--- the signatures of generations, of which nothing is said here. And those in which no GOTO of another block names a
--- label of the own list of a function that establishes on-units.
-use Rattle.std.specs.Prelude.{◌≡◌, ◌||◌, ◌&&◌, ℕ, Bool, true, false, List, [], ◌∷◌, ◌++◌, Option, Some, None}
-use Rattle.std.specs.Prelude.{is_some, cond, ⊤, ◌⊎◌}
-use Rattle.pli_meaning.specs.Control.{Label, is_among}
-use Rattle.pli_meaning.specs.Executing.{labels_in}
+-- the signatures of generations, of which nothing is said here.
+use Rattle.std.specs.Prelude.{Option, Some, None, ⊤}
 use Rattle.well_formed_trees.specs.Every.{Every}
 use Rattle.pli_typing.specs.TypedTree as Y
 
@@ -155,106 +151,47 @@ PlainGetPair k p = Every (PlainGetItem k) p.items
 abbrev pub PlainPutPair : Calls → Y.PutPair → Type 0
 PlainPutPair k p = Every (PlainPutItem k) p.items
 
--- ---- GOTO
-
--- The end of a function raises ERROR once its own list is left, so a unit that the function established may run then,
--- whose GOTO names a label there, and no list has it any more. So these are the labels of the own lists of functions
--- that establish on-units.
-
--- whether a statement establishes a unit for its own block
-abbrev mutual
-  pub establishes : Y.Stmt → Bool
-  establishes (Y.If condition unit line) = establishes unit
-  establishes (Y.IfElse condition unit otherwise line) = establishes unit || establishes otherwise
-  establishes (Y.Do body line) = any_establishes body
-  establishes (Y.DoWhile condition body line) = any_establishes body
-  establishes (Y.DoOnce target start condition body line) = any_establishes body
-  establishes (Y.DoCount counter start limit step condition body line) = any_establishes body
-  establishes (Y.OnUnit condition block line) = true
-  establishes _ = false
-
-  pub any_establishes : Y.Stmts → Bool
-  any_establishes (Y.EndOfList labels) = false
-  any_establishes (Y.StmtThen labels first rest) = establishes first || any_establishes rest
-
-abbrev pub establishes_in : Y.Block → Bool
-establishes_in (Y.BlockOf head body) = any_establishes body
-
-abbrev pub own_labels : Y.Block → List Label
-own_labels (Y.BlockOf head body) = labels_in body
-
-abbrev pub function_labels : List Y.Procedure → List Label
-function_labels [] = []
-function_labels (p ∷ ps) =
-    cond (is_some p.result && establishes_in p.block) (own_labels p.block ++ function_labels ps)
-    (function_labels ps)
-
--- any GOTO, or those alone that find their list carried out
-pub data Gotos : Type 0 where
-  AnyGoto CaughtGotos : Gotos
-
--- where a statement stands: which GOTO may be there, those labels of functions, and the level of its block
-pub record Standing : Type 0 where
-  pub gotos : Gotos
-  pub functions : List Label
-  pub level : ℕ
-
--- in a block
-abbrev pub in_block : Standing → Y.BlockHead → Standing
-in_block g head = record { gotos = g.gotos; functions = g.functions; level = head.level }
-
--- in its own block; or to a label that is none of those
-abbrev pub MayGo : Gotos → (functions : List Label) → (own level : ℕ) → Label → Type 0
-MayGo AnyGoto functions own level label = ⊤
-MayGo CaughtGotos functions own level label = (level ≡ own) ⊎ (is_among label functions ≡ false)
-
 -- ---- statements
 
 abbrev mutual
-  pub PlainStmt : Standing → Y.Stmt → Type 0
-  PlainStmt g (Y.Assign target source line) = PlainReference AnyCall target × PlainStored AnyCall source
-  PlainStmt g (Y.AssignElements target source line) = PlainReference AnyCall target × PlainStored AnyCall source
-  PlainStmt g (Y.AssignAggregate target source line) = PlainReference AnyCall target × PlainReference AnyCall source
-  PlainStmt g (Y.If condition unit line) = PlainBit AnyCall condition × PlainStmt g unit
-  PlainStmt g (Y.IfElse condition unit otherwise line) =
-      PlainBit AnyCall condition × (PlainStmt g unit × PlainStmt g otherwise)
-  PlainStmt g (Y.Do body line) = PlainStmts g body
-  PlainStmt g (Y.DoWhile condition body line) = PlainBit AnyCall condition × PlainStmts g body
-  PlainStmt g (Y.DoOnce target start condition body line) =
-      (PlainReference AnyCall target × PlainStored AnyCall start) × (PlainBitIf AnyCall condition × PlainStmts g body)
-  PlainStmt g (Y.DoCount counter start limit step condition body line) =
+  pub PlainStmt : Y.Stmt → Type 0
+  PlainStmt (Y.Assign target source line) = PlainReference AnyCall target × PlainStored AnyCall source
+  PlainStmt (Y.AssignElements target source line) = PlainReference AnyCall target × PlainStored AnyCall source
+  PlainStmt (Y.AssignAggregate target source line) = PlainReference AnyCall target × PlainReference AnyCall source
+  PlainStmt (Y.If condition unit line) = PlainBit AnyCall condition × PlainStmt unit
+  PlainStmt (Y.IfElse condition unit otherwise line) =
+      PlainBit AnyCall condition × (PlainStmt unit × PlainStmt otherwise)
+  PlainStmt (Y.Do body line) = PlainStmts body
+  PlainStmt (Y.DoWhile condition body line) = PlainBit AnyCall condition × PlainStmts body
+  PlainStmt (Y.DoOnce target start condition body line) =
+      (PlainReference AnyCall target × PlainStored AnyCall start) × (PlainBitIf AnyCall condition × PlainStmts body)
+  PlainStmt (Y.DoCount counter start limit step condition body line) =
       (PlainCounter AnyCall counter
       × (PlainValue AnyCall start × (PlainNumberIf AnyCall limit × PlainNumber AnyCall step)))
-      × (PlainBitIf AnyCall condition × PlainStmts g body)
-  PlainStmt g (Y.Begin (Y.BlockOf head body)) = PlainStmts (in_block g head) body
-  PlainStmt g (Y.OnUnit condition (Y.BlockOf head body) line) = PlainStmts (in_block g head) body
-  PlainStmt g (Y.CallProcedure c line) = PlainCall AnyCall c
-  PlainStmt g (Y.ReturnValue type s line) = PlainStored AnyCall s
-  PlainStmt g (Y.Goto level label line) = MayGo g.gotos g.functions g.level level label
-  PlainStmt g (Y.Allocate allocations line) = Every (PlainAllocation AnyCall) allocations
-  PlainStmt g (Y.Free freeings line) = Every (PlainFreeing AnyCall) freeings
-  PlainStmt g (Y.Get skip pairs line) = Every (PlainGetPair AnyCall) pairs
-  PlainStmt g (Y.Put skip pairs line) = Every (PlainPutPair AnyCall) pairs
-  PlainStmt g _ = ⊤
+      × (PlainBitIf AnyCall condition × PlainStmts body)
+  PlainStmt (Y.Begin (Y.BlockOf head body)) = PlainStmts body
+  PlainStmt (Y.OnUnit condition (Y.BlockOf head body) line) = PlainStmts body
+  PlainStmt (Y.CallProcedure c line) = PlainCall AnyCall c
+  PlainStmt (Y.ReturnValue type s line) = PlainStored AnyCall s
+  PlainStmt (Y.Allocate allocations line) = Every (PlainAllocation AnyCall) allocations
+  PlainStmt (Y.Free freeings line) = Every (PlainFreeing AnyCall) freeings
+  PlainStmt (Y.Get skip pairs line) = Every (PlainGetPair AnyCall) pairs
+  PlainStmt (Y.Put skip pairs line) = Every (PlainPutPair AnyCall) pairs
+  PlainStmt _ = ⊤
 
-  pub PlainStmts : Standing → Y.Stmts → Type 0
-  PlainStmts g (Y.EndOfList labels) = ⊤
-  PlainStmts g (Y.StmtThen labels first rest) = PlainStmt g first × PlainStmts g rest
+  pub PlainStmts : Y.Stmts → Type 0
+  PlainStmts (Y.EndOfList labels) = ⊤
+  PlainStmts (Y.StmtThen labels first rest) = PlainStmt first × PlainStmts rest
 
 -- ---- programs
 
-abbrev pub PlainBlock : Standing → Y.Block → Type 0
-PlainBlock g (Y.BlockOf head body) = PlainStmts (in_block g head) body
+abbrev pub PlainBlock : Y.Block → Type 0
+PlainBlock (Y.BlockOf head body) = PlainStmts body
 
 abbrev pub PlainVariable : Calls → Y.DeclaredVariable → Type 0
 PlainVariable k d = Every (λ e. PlainNumber k e.value) d.evaluations
 
--- where a program's procedures stand
-abbrev pub outermost : Gotos → Y.Program → Standing
-outermost gotos program =
-    record { gotos = gotos; functions = function_labels program.procedures; level = 0 }
-
 -- procedures, and what is evaluated for the extents of variables
-pub record IsPlain (gotos : Gotos) (program : Y.Program) : Type 0 where
-  pub procedures : Every (λ p. PlainBlock (outermost gotos program) p.block) program.procedures
+pub record IsPlain (program : Y.Program) : Type 0 where
+  pub procedures : Every (λ p. PlainBlock p.block) program.procedures
   pub variables : Every (Every (PlainVariable AnyCall)) program.variables

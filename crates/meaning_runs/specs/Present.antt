@@ -14,33 +14,27 @@ use Rattle.pli_meaning.specs.StorageState.{first_state}
 use Rattle.pli_meaning.specs.Control.{Flow, Normal, Jump, Return, Ended, Paused, Stuck}
 use Rattle.pli_meaning.specs.Executing.{run, meaning}
 use Rattle.well_formed_trees.specs.WellFormed.{IsWellFormed}
-use Rattle.meaning_runs.specs.Plain.{Gotos, AnyGoto, CaughtGotos, IsPlain}
+use Rattle.meaning_runs.specs.Plain.{IsPlain}
 
 abbrev pub IsOver : End → Type 0
 IsOver E.Running = ⊥
 IsOver _ = ⊤
 
--- whether a jump might find no list with its label
-abbrev pub JumpsOut : Gotos → Type 0
-JumpsOut AnyGoto = ⊤
-JumpsOut CaughtGotos = ⊥
-
--- what a run comes to with so many acts allowed: it is over with at most as many, or it pauses with exactly as many. A
--- jump to a label that stands in no list that is carried out would be a third.
-abbrev pub EndsOrPauses : {R : Type 0} → Gotos → (acts : ℕ) → Flow R → Type 0
-EndsOrPauses gotos k (Normal r s) = ⊥
-EndsOrPauses gotos k (Jump height label s) = JumpsOut gotos
-EndsOrPauses gotos k (Return v s) = ⊥
-EndsOrPauses gotos k (Ended s) = (s.world.acts ≤ k) × IsOver s.world.end
-EndsOrPauses gotos k (Paused s) = s.world.acts ≡ k
-EndsOrPauses gotos k Stuck = ⊥
+-- what a run comes to with so many acts allowed: it is over with at most as many, or it pauses with exactly as many
+abbrev pub EndsOrPauses : {R : Type 0} → (acts : ℕ) → Flow R → Type 0
+EndsOrPauses k (Normal r s) = ⊥
+EndsOrPauses k (Jump height label s) = ⊥
+EndsOrPauses k (Return v s) = ⊥
+EndsOrPauses k (Ended s) = (s.world.acts ≤ k) × IsOver s.world.end
+EndsOrPauses k (Paused s) = s.world.acts ≡ k
+EndsOrPauses k Stuck = ⊥
 
 -- ---- the laws
 
--- the run of a plain well-formed program is never stuck
+-- the run of a plain well-formed program is never stuck, and no jump goes out of it
 abbrev pub NeverStuck : Type 0
-NeverStuck = (program : Y.Program) (gotos : Gotos) (input : List ℕ) (k : ℕ) → IsWellFormed program
-    → IsPlain gotos program → EndsOrPauses gotos k (run program (suc k) k (first_state input))
+NeverStuck = (program : Y.Program) (input : List ℕ) (k : ℕ) → IsWellFormed program → IsPlain program
+    → EndsOrPauses k (run program (suc k) k (first_state input))
 
 -- a world, of at most so many acts, and of exactly as many where the run goes on behind them
 pub record IsMeant (program : Y.Program) (input : List ℕ) (k : ℕ) : Type 0 where
@@ -49,15 +43,14 @@ pub record IsMeant (program : Y.Program) (input : List ℕ) (k : ℕ) : Type 0 w
   pub few : world.acts ≤ k
   pub going_on : world.end ≡ E.Running → world.acts ≡ k
 
--- where no GOTO of another block names a label of the own list of a function that establishes on-units, the meaning is
--- there at every number of acts
+-- its meaning is there at every number of acts
 abbrev pub MeaningThere : Type 0
-MeaningThere = (program : Y.Program) (input : List ℕ) (k : ℕ) → IsWellFormed program → IsPlain CaughtGotos program
+MeaningThere = (program : Y.Program) (input : List ℕ) (k : ℕ) → IsWellFormed program → IsPlain program
     → IsMeant program input k
 
 -- so it is of each accepted source
 abbrev pub AcceptedMeaningThere : Type 0
 AcceptedMeaningThere =
     (s : List ℕ) (tokens : List Token) (tree : T.Tree) → Tokens s tokens → Spells s tokens tree
-    → declaring_faults tree ≡ [] → typing_faults tree ≡ [] → IsPlain CaughtGotos (typed_tree tree)
+    → declaring_faults tree ≡ [] → typing_faults tree ≡ [] → IsPlain (typed_tree tree)
     → (input : List ℕ) (k : ℕ) → IsMeant (typed_tree tree) input k

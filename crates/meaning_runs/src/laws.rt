@@ -1,30 +1,29 @@
 // Laws of the meaning of programs: each function's contract is one law, and calling it does nothing.
 
 ghost use Rattle.meaning_runs.specs.Present.{NeverStuck, MeaningThere, AcceptedMeaningThere};
-ghost use Rattle.meaning_runs.specs.Lost.{JumpLost};
+ghost use Rattle.meaning_runs.specs.Caught.{JumpCaught};
 
 use well_formed_trees::laws::accepted_well_formed;
 
-/// A run of a plain well-formed program is never stuck: it ends, pauses, or jumps to a label that no list has.
+/// A run of a plain well-formed program is never stuck, and no jump goes out of it: it ends or pauses.
 pub fn never_stuck()
     ensures { NeverStuck }
 {}
 
-/// A plain well-formed program, in which no GOTO of another block names a label of the own list of a function that
-/// establishes on-units, has a meaning at every number of acts.
+/// A plain well-formed program has a meaning at every number of acts.
 pub fn meaning_there()
     ensures { MeaningThere }
 {}
 
-/// So has each accepted source whose typed tree is plain, with such GOTO alone.
+/// So has each accepted source whose typed tree is plain.
 pub fn accepted_meaning_there()
     ensures { AcceptedMeaningThere }
 {
     accepted_well_formed();
 }
 
-/// Not each GOTO finds its list: a well-formed program in which a function's on-unit goes to the function's own list,
-/// once that is left, has no meaning.
-pub fn jump_lost()
-    ensures { JumpLost }
+/// A well-formed program in which a function ends without a value, and an on-unit for that goes back to a label of the
+/// function's list: the run goes on there.
+pub fn jump_caught()
+    ensures { JumpCaught }
 {}

@@ -1,0 +1,7 @@
+mod Answers
+mod Points
+mod AreaCode
+mod Meaning
+mod Emptying
+mod CopyRuns
+mod Copying

@@ -1,0 +1,14 @@
+// Laws of the definitions: each function's contract is one law, and calling it does nothing.
+
+ghost use Rattle.area_assignments.specs.Copying.{AreasCopied};
+ghost use Rattle.area_assignments.specs.Emptying.{AreasEmptied};
+
+/// EMPTY of an area variable does what it means, at each point of the block that declares it.
+pub fn areas_emptied()
+    ensures { AreasEmptied }
+{}
+
+/// An assignment of one area variable of the block to another does what it means.
+pub fn areas_copied()
+    ensures { AreasCopied }
+{}

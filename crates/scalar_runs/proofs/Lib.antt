@@ -1,0 +1,11 @@
+pub mod ScalarMeaning
+pub mod ScalarCode
+pub mod ScalarWords
+pub mod ScalarPoints
+pub mod AssignedScalars
+pub mod Narrowing
+pub mod Fitting
+pub mod Quotients
+pub mod Conversions
+pub mod Assignments
+pub mod Rows

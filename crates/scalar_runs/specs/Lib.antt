@@ -1,0 +1,5 @@
+pub mod Scalars
+pub mod Fitted
+pub mod Laws
+pub mod Assignments
+pub mod Rows
