@@ -84,6 +84,7 @@ release_image input acts =
       units = [];
       signatures = map template_of (table_of release_program);
       constants = no_constants;
+      fills = [];
       input = input;
       acts = acts;
       serials = 2;

@@ -24,6 +24,7 @@ release_layout =
       end = release_finish;
       units = [];
       constants = no_constants;
+      fills = [];
       serials = 2;
       made = newest_all parts release_variables;
     }
