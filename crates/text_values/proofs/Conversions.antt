@@ -1,5 +1,5 @@
 -- Texts and numbers of bits, and bits of texts.
-use Rattle.std.proofs.Common.{◌≡◌, ℕ, ◌+◌, ◌<◌, ◌≤◌, List, [], ◌∷◌, ◌++◌, Bool, true, false, refl, sym, ap, ◌∙◌, subst}
+use Rattle.std.proofs.Common.{◌≡◌, ℕ, ◌+◌, List, [], ◌∷◌, ◌++◌, Bool, true, false, refl, sym, ap, ◌∙◌, subst}
 use Rattle.std.proofs.Common.{arith, lit<}
 use Rattle.std.specs.Prelude.{ℤ, ◌==◌}
 use Rattle.rv_meaning.specs.Words.{flag, word}
@@ -34,7 +34,7 @@ use Rattle.block_runs.proofs.PointGrounds.{in_known, known_in, point_frame, poin
 use Rattle.pli_headline.proofs.TextNumbers.{bit_answer}
 use Rattle.program_runs.specs.Statements.{waiting, with_texts}
 use Rattle.program_runs.proofs.Waiting.{over_first, over_more, texts_among, texts_in}
-use Rattle.expression_runs.specs.Values.{HasWord, Setting, Stretch, behind, in_registers}
+use Rattle.expression_runs.specs.Values.{HasWord, Setting, behind, in_registers}
 use Rattle.expression_runs.proofs.Words.{known_word}
 use Rattle.text_runs.specs.Laws.{NumberDoes, TextDoes}
 use Rattle.text_runs.specs.Texts.{ErrorComes, IsShort, text_aims, value_aims}
