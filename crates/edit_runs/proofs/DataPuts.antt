@@ -4,7 +4,8 @@ use Rattle.pli_meaning.specs.Control.{Label}
 use Rattle.program_runs.specs.Statements.{Block, DoesWith}
 use Rattle.expression_runs.specs.Assignments.{setting_around}
 use Rattle.edit_runs.specs.TextEdits.{AreLists, DataList, DataPut, IsDataPut, IsList, ListDoes, ListsDo, NumberList}
-use Rattle.edit_runs.specs.TextEdits.{TextList, data_put, list_pair, list_pairs}
+use Rattle.edit_runs.specs.TextEdits.{ShownList, TextList, data_put, list_pair, list_pairs}
+use Rattle.edit_runs.proofs.NumberTexts.{shown_list}
 use Rattle.edit_runs.proofs.Puts.{ListGoes, ListsGo, lists_do, number_list}
 use Rattle.edit_runs.proofs.TextItems.{text_list}
 
@@ -13,6 +14,8 @@ list_goes :
     ListDoes (setting_around words k labels line most) need x → ListGoes words k labels line need most (list_pair x)
 list_goes words k labels line need most (NumberList x) is does =
     number_list words k labels line need most x is.0 is.1 does
+list_goes words k labels line need most (ShownList x) is does =
+    shown_list words k labels line need most x is.0 is.1 is.2 does
 list_goes words k labels line need most (TextList first more formats) is does =
     text_list words k labels line need most first more formats is.0 is.1 does
 

@@ -5,6 +5,7 @@ pub mod Controls
 pub mod Items
 pub mod Puts
 pub mod TextItems
+pub mod NumberTexts
 pub mod DataPuts
 pub mod SkipRows
 pub mod FormatRows

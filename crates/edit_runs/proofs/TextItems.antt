@@ -81,7 +81,7 @@ item_coded u texts a x =
     (a.fixed ∙ ap not texts)
 
 -- an A item of such a list
-an_item : (textual : Bool) (item : DataItem) → textual ≡ true → IsItem textual item →
+pub an_item : (textual : Bool) (item : DataItem) → textual ≡ true → IsItem textual item →
     (width : Option ℕ) × (item ≡ TextItem width)
 an_item true (TextItem width) e is = (width, refl)
 an_item true (FixedItem width) e is = absurd is
@@ -112,7 +112,7 @@ loop_of u text acts' credits index numbers =
     }
 
 -- the point behind the field, where the text is gone
-abbrev point_behind : Puts → (left' : List FormatItem) → (field : List ℕ) → Point → Point
+abbrev pub point_behind : Puts → (left' : List FormatItem) → (field : List ℕ) → Point → Point
 point_behind u left' field p =
     writing (with_field field) (putting (whole_in u) left' ∷ u.block.first.control.edits)
     (with_texts u.block.first.control.entries p)
@@ -133,38 +133,38 @@ behind_among u a text field rest left' o less =
     (over_place next first.entries first.edits first.layers a.over)) less
 
 -- where a text waits and an A item is next
-record Due : Type 0 where
-  text : List ℕ
-  rest : List FormatItem
-  left' : List FormatItem
-  width : Option ℕ
-  point : Point
-  numbers : ℕ → ℕ
-  credits : ℕ
-  index : ℕ
-  family : Family
+pub record Due : Type 0 where
+  pub text : List ℕ
+  pub rest : List FormatItem
+  pub left' : List FormatItem
+  pub width : Option ℕ
+  pub point : Point
+  pub numbers : ℕ → ℕ
+  pub credits : ℕ
+  pub index : ℕ
+  pub family : Family
 
-abbrev field_of : Due → List ℕ
+abbrev pub field_of : Due → List ℕ
 field_of d = E.text_field d.width d.text
 
-abbrev behind_due : Puts → Due → Point
+abbrev pub behind_due : Puts → Due → Point
 behind_due u d = point_behind u d.left' (field_of d) d.point
 
-record IsDue (u : Puts) (d : Due) (h : frame_of u.block d.point) : Type 0 where
-  among :
+pub record IsDue (u : Puts) (d : Due) (h : frame_of u.block d.point) : Type 0 where
+  pub among :
       IsAmong (placing (putting (whole_in u) d.rest) (waiting (TextEntry d.text ∷ []) u.block)) d.numbers d.point
-  line : d.point.control.line ≡ u.line
-  next : current (whole_in u) d.rest ≡ DataFormat (TextItem d.width) ∷ d.left'
-  are : AreItems u.textual d.left'
-  linked : Linked u.block.call.surroundings.links u.block.call.code d.index text_written
-  paid : d.credits + 2 ≤ cost u.block.call.code
-  there :
+  pub line : d.point.control.line ≡ u.line
+  pub next : current (whole_in u) d.rest ≡ DataFormat (TextItem d.width) ∷ d.left'
+  pub are : AreItems u.textual d.left'
+  pub linked : Linked u.block.call.surroundings.links u.block.call.code d.index text_written
+  pub paid : d.credits + 2 ≤ cost u.block.call.code
+  pub there :
       (b : Base) →
       At b d.index (Known (point_ground u.block.call.surroundings d.point h) (services_of d.point) d.numbers (λ j. 0)
       nothing b) (d.family b)
 
 -- it is written, an act
-field_comes :
+pub field_comes :
     (u : Puts) → ArePut u → (d : Due) (h : frame_of u.block d.point) → IsDue u d h → (acts' wanted i : ℕ) →
     acts' ≤ d.point.state.world.acts → d.index + 2 ≡ i →
     Comes u.block.call.code d.credits d.family (services_of d.point)

@@ -1,5 +1,5 @@
--- PUT EDIT of texts by A, with a width or without: some of the data lists, beside those of numbers by F.
-use Rattle.std.specs.Prelude.{ℕ, ◌+◌, ◌≤◌, ◌≡◌, List, [], ◌∷◌, Option, ⊤, false, true}
+-- PUT EDIT of texts and of numbers by A, with a width or without: some of the data lists, beside those of numbers by F.
+use Rattle.std.specs.Prelude.{ℕ, ◌+◌, ◌<◌, ◌≤◌, ◌≡◌, List, [], ◌∷◌, Option, ⊤, false, true}
 use Rattle.pli_language.specs.Tree as T
 use Rattle.pli_typing.specs.TypedTree as Y
 use Rattle.pli_meaning.specs.Control.{Label}
@@ -15,8 +15,8 @@ use Rattle.expression_runs.specs.Assignments.{setting_around}
 use Rattle.expression_runs.specs.Values.{Setting}
 use Rattle.text_runs.specs.Laws.{TextDoes}
 use Rattle.text_runs.specs.Texts.{ErrorComes}
-use Rattle.edit_runs.specs.Edits.{AreItems, IsFixed, IsSkipped, ItemsDo, KnowsFormats, Pair, has_data, put_items}
-use Rattle.edit_runs.specs.Edits.{within}
+use Rattle.edit_runs.specs.Edits.{AreItems, IsFixed, IsSkipped, Item, ItemsDo, KnowsFormats, Pair, has_data}
+use Rattle.edit_runs.specs.Edits.{put_items, within}
 
 -- a list of A items, one at least, and of control items
 pub record IsTextual (fs : T.Formats) : Type 0 where
@@ -27,9 +27,10 @@ pub record IsTextual (fs : T.Formats) : Type 0 where
 
 -- ---- the statement
 
--- one of its data lists: numbers by F, or texts by A
+-- one of its data lists: numbers by F, numbers by A, which shows their texts, or texts by A
 pub data DataList : Type 0 where
   NumberList : Pair → DataList
+  ShownList : Pair → DataList
   TextList : (first : Y.Text) → (more : List Y.Text) → T.Formats → DataList
 
 abbrev pub text_items : List Y.Text → List Y.PutItem
@@ -38,6 +39,7 @@ text_items (x ∷ xs) = Y.PutValue (Y.TextValue x) ∷ text_items xs
 
 abbrev pub list_pair : DataList → Y.PutPair
 list_pair (NumberList x) = record { items = put_items (x.first ∷ x.more); formats = x.formats }
+list_pair (ShownList x) = record { items = put_items (x.first ∷ x.more); formats = x.formats }
 list_pair (TextList first more formats) = record { items = text_items (first ∷ more); formats = formats }
 
 abbrev pub list_pairs : List DataList → List Y.PutPair
@@ -54,9 +56,15 @@ pub record DataPut : Type 0 where
 abbrev pub data_put : DataPut → Y.Stmt
 data_put x = Y.Put x.skip (list_pairs (x.first ∷ x.more)) x.line
 
+-- the language lets numbers have from 1 to 31 bits
+abbrev pub HavePrecisions : List Item → Type 0
+HavePrecisions [] = ⊤
+HavePrecisions (x ∷ xs) = ((0 < x.precision) × (x.precision ≤ 31)) × HavePrecisions xs
+
 -- the block knows the format list, which is one of the kind of its data
 abbrev pub IsList : Block → DataList → Type 0
 IsList k (NumberList x) = IsFixed x.formats × KnowsFormats k x.formats
+IsList k (ShownList x) = IsTextual x.formats × KnowsFormats k x.formats × HavePrecisions (x.first ∷ x.more)
 IsList k (TextList first more formats) = IsTextual formats × KnowsFormats k formats
 
 abbrev pub AreLists : Block → List DataList → Type 0
@@ -84,6 +92,7 @@ TextsDo s need (x ∷ xs) = ((place : EditPlace) → TextDoes [] (within place s
 
 abbrev pub ListDoes : Setting → (need : ℕ) → DataList → Type 0
 ListDoes s need (NumberList x) = ItemsDo s need (x.first ∷ x.more)
+ListDoes s need (ShownList x) = ItemsDo s need (x.first ∷ x.more)
 ListDoes s need (TextList first more formats) = TextsDo s need (first ∷ more)
 
 abbrev pub ListsDo : Setting → (need : ℕ) → List DataList → Type 0
