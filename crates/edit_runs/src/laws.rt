@@ -30,8 +30,8 @@ pub fn puts_do()
     ensures { PutsDo }
 {}
 
-/// PUT EDIT with some data lists of numbers by F and others of numbers or texts by A does what it means, in a block that
-/// knows the format lists.
+/// PUT EDIT with some data lists of numbers by F and others of numbers or texts by A does what it means, in a block
+/// that knows the format lists.
 pub fn data_puts_do()
     ensures { DataPutsDo }
 {}
