@@ -133,9 +133,9 @@ first_begun {g} {y} {made} h stands =
         more = omega (arith, same);
       };
       acts = omega (arith, same);
-      remains = remains_then (named_point y) (copied_point g y) first (remains_copied h.here)
-          (remains_then (copied_point g y) then' first (m.remains (copied_known h.here).0)
-          (remains_acted then' counted y.callee.procedure.head.line));
+      remains = remains_then (named_point y) then' first
+          (m.remains (named_point y) (omega arith) (copied_known h.here).0 (remains_copied h.here))
+          (remains_acted then' counted y.callee.procedure.head.line);
       outer = tt;
     }
 

@@ -195,10 +195,10 @@ giving_in k u = giving_code (u.level == k.environment.level) u.level
 abbrev pub last_of : GivenCall → Code
 last_of u = CallTo (ProcedureEntry u.callee.procedure.head.number) ∷ []
 
-abbrev coded_as : Block → GivenCall → (line : ℕ) → Code
+abbrev pub coded_as : Block → GivenCall → (line : ℕ) → Code
 coded_as k u line = act_code line ++ (value_of k u.source ++ (giving_in k u ++ last_of u))
 
-coded :
+pub coded :
     (k : Block) (u : GivenCall) (line : ℕ) →
     stmt_code k.environment none_taken (given_call u line) ≡ coded_as k u line
 coded k u line =

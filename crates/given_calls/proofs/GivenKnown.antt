@@ -1,25 +1,23 @@
 -- What the statements of a procedure or a function with a copied argument know, and that one which declares nothing
 -- beside its parameter makes nothing.
-use Rattle.std.proofs.Common.{◌≡◌, ℕ, ℤ, ◌+◌, ◌-◌, ◌*◌, ◌^◌, ◌≤◌, List, [], ◌∷◌, length, Option, Some}
-use Rattle.std.proofs.Common.{refl, sym, ap, ◌∙◌, subst, arith}
+use Rattle.std.proofs.Common.{◌≡◌, ℕ, ℤ, ◌+◌, ◌-◌, ◌*◌, ◌^◌, ◌≤◌, List, [], ◌∷◌, length, Option, Some, refl, sym, ap}
+use Rattle.std.proofs.Common.{◌∙◌, subst, arith}
 use Rattle.std.proofs.lemmas.Bool.{eq-eqb}
 use Rattle.std.specs.Prelude.{cond}
+use Rattle.pli_typing.specs.TypedTree as Y
 use Rattle.pli_meaning.specs.BasicValues.{VariableName}
 use Rattle.pli_meaning.specs.Control.{Normal}
 use Rattle.pli_meaning.specs.Executing as M
-use Rattle.pli_meaning.specs.Making.{living_at}
 use Rattle.pli_meaning.specs.Raising.{at_line}
 use Rattle.pli_meaning.specs.StorageState.{Living, ancestor, binding_in, living_of, newest_height}
-use Rattle.pli_meaning.specs.World.{counted}
 use Rattle.pli_coding.specs.Assembly.{size_of}
 use Rattle.activation_relation.specs.Chains.{AreActive, frame_at}
 use Rattle.activation_relation.specs.FrameLaws.{with_waits}
 use Rattle.activation_relation.specs.Frames.{frame_under, lower_end}
 use Rattle.activation_relation.specs.Landing.{resumed, with_units}
 use Rattle.activation_relation.specs.Layers.{Layer, Point, services_of}
-use Rattle.activation_relation.specs.Points.{Stands}
-use Rattle.activation_relation.specs.Remaining.{LivesOn, Remains}
-use Rattle.activation_relation.proofs.Remaining.{remains_acted, remains_same, remains_then, shapes_remain}
+use Rattle.activation_relation.specs.Remaining.{LivesOn}
+use Rattle.activation_relation.proofs.Remaining.{shapes_remain}
 use Rattle.activation_relation.proofs.Serials.{few_small}
 use Rattle.run_steps.proofs.Reach.{reach_with, stay}
 use Rattle.block_runs.specs.Bodies.{Function}
@@ -27,6 +25,7 @@ use Rattle.block_runs.specs.Machines.{AreIn, IsIn}
 use Rattle.block_runs.proofs.Places.{bounds}
 use Rattle.program_runs.specs.Statements.{Block, IsBegun}
 use Rattle.expression_runs.specs.Variables.{IsNumber, Spot}
+use Rattle.variable_runs.specs.Known.{IsKnown}
 use Rattle.argument_runs.specs.Copies.{copy_generation}
 use Rattle.argument_runs.specs.CopyCalls.{CopyCall, IsOwnParameter, beginning_of, called_of, copied_point, copy_in}
 use Rattle.argument_runs.specs.CopyCalls.{listed_layer}
@@ -34,8 +33,8 @@ use Rattle.argument_runs.specs.Lists.{list_under, named_waits}
 use Rattle.argument_runs.specs.Parameters.{IsParameter, parameter_binding}
 use Rattle.argument_runs.proofs.CopyBlocks.{room_here}
 use Rattle.nested_calls.specs.Nested.{IsNested}
-use Rattle.nested_calls.proofs.NestedVariables.{Over, ancestor_itself, over_nested, over_number}
-use Rattle.given_calls.specs.Given.{AreBeside, act_index, given_block}
+use Rattle.nested_calls.proofs.NestedVariables.{Over, ancestor_itself, over_known, over_nested, over_number}
+use Rattle.given_calls.specs.Given.{AreBeside, act_index, copy_living, given_block}
 use Rattle.given_calls.specs.GivenCalls.{GivenCall, PassesNone, called_with}
 use Rattle.given_calls.specs.GivenKnown.{Begins}
 use Rattle.given_calls.proofs.GivenCalls.{room_among}
@@ -109,18 +108,23 @@ given_number g k u more p numbers z x h less is =
     (given_over g k u more p numbers z h) h.declared.nested h.declared.begun h.among h.declared.around_it less
     h.inner.program h.inner.parts is
 
--- ---- its parameter
+-- of whatever type it is
+pub given_variable :
+    (g : Option Function) (k : Block) (u : GivenCall) (more : ℕ) (p : Point) (numbers : ℕ → ℕ) (z : ℤ) (x : Spot)
+    (d : Y.DeclaredVariable) → Begins g k u more p numbers z → x.level ≤ u.level → IsKnown k x d →
+    IsKnown (given_block g (called_with k u p numbers z) u.made) x d
+given_variable g k u more p numbers z x d h less is =
+    over_known {k = k} {inner = given_block g (called_with k u p numbers z) u.made} {numbers = numbers} x d
+    (given_over g k u more p numbers z h) h.declared.nested h.declared.begun h.among h.declared.around_it less
+    h.inner.program h.inner.parts is
 
-abbrev living_in : CopyCall → Living
-living_in y =
-    living_at (y.point.state.serials + 1) (length y.point.state.activations + 1) (copy_generation (copy_in y))
+-- ---- its parameter
 
 pub given_parameter :
     (g : Option Function) (k : Block) (u : GivenCall) (more : ℕ) (p : Point) (numbers : ℕ → ℕ) (z : ℤ) (x : Spot) →
-    Begins g k u more p numbers z → PassesNone k.first u.callee →
-    Stands k.call.surroundings (copied_point g (called_with k u p numbers z)) → IsOwnParameter u.callee x →
+    Begins g k u more p numbers z → PassesNone k.first u.callee → IsOwnParameter u.callee x →
     IsParameter (given_block g (called_with k u p numbers z) u.made) x
-given_parameter g k u more p numbers z x h none stands own =
+given_parameter g k u more p numbers z x h none own =
     let y = called_with k u p numbers z in
     let w = k.call.surroundings in
     let inner = given_block g y u.made in
@@ -133,13 +137,9 @@ given_parameter g k u more p numbers z x h none stands own =
     let a = with_units m.own m.activation in
     let serial = p.state.serials + 1 in
     let place = (listed_layer y).lower - 16 in
-    let to : Remains q inner.first = remains_then q (u.made q) inner.first (m.remains stands)
-    (remains_acted (u.made q) counted u.callee.procedure.head.line) in
-    let copy = living_in y in
-    let on : LivesOn copy (living_of inner.first.state.living serial) = to.living serial copy
-    (ap (λ t. cond t (Some copy) (living_of p.state.living serial)) (eq-eqb serial serial refl)) in
+    let on = m.copy in
     let there : inner.first.places.at serial ≡ place =
-    to.at serial (omega arith) ∙ ap (λ t. cond t place (p.places.at serial)) (eq-eqb serial serial refl) in
+    m.placed ∙ ap (λ t. cond t place (p.places.at serial)) (eq-eqb serial serial refl) in
     let level = own.level in
     let few = h.inner.few in
     let fits = room_here y room in
@@ -186,12 +186,15 @@ given_parameter g k u more p numbers z x h none stands own =
       words = room.words;
       small = (let less = few_small w p o.stands o.few d.small in omega (arith, less));
       number = room.number;
-      numbered = shapes_remain to u.callee.number _ room.shape;
+      numbered = shapes_remain h.begun.remains u.callee.number _ room.shape;
       low = subst (λ n. 2 ^ 22 ≤ n) (sym there) (omega (arith, high, low, above, fits, same, same'));
       inside = subst (λ n. n + 4 ≤ 15 * 2 ^ 20) (sym there) (omega (arith, last, end, same));
     }
 
 -- ---- one that declares nothing else
+
+pub lives_on : (l : Living) (o : Option Living) → o ≡ Some l → LivesOn l o
+lives_on l o e = record { there = l; lives = e; owner = refl; shape = refl }
 
 pub none_beside :
     (g : Option Function) (y : CopyCall) → y.callee.procedure.variables ≡ [] → 1 ≤ y.surroundings.serials →
@@ -233,6 +236,11 @@ none_beside g y empty each means =
       activations = refl;
       idle = refl;
       world = refl;
-      remains = λ stands. remains_same q;
+      remains = λ p low stands remains. remains;
+      copy = lives_on (copy_living y)
+          (living_of q.state.living (y.point.state.serials + 1))
+          (ap (λ t. cond t (Some (copy_living y)) (living_of y.point.state.living (y.point.state.serials + 1)))
+          (eq-eqb (y.point.state.serials + 1) (y.point.state.serials + 1) refl));
+      placed = refl;
       few = omega (arith, each);
     }

@@ -1,13 +1,14 @@
 -- A procedure or a function with one parameter, which is copied, and variables of its own beside it: its code, and the
 -- block in which its statements run.
-use Rattle.std.specs.Prelude.{ℕ, ℤ, ◌+◌, ◌*◌, ◌^◌, ◌<◌, ◌≤◌, ◌≡◌, List, [], ◌∷◌, ◌++◌, Option, None, Some}
+use Rattle.std.specs.Prelude.{ℕ, ℤ, ◌+◌, ◌*◌, ◌^◌, ◌<◌, ◌≤◌, ◌≡◌, List, [], ◌∷◌, ◌++◌, length, Option, None, Some}
 use Rattle.rv_meaning.specs.declared.instr.Instr.{Instr}
 use Rattle.pli_language.specs.declared.condition.Condition.{Condition}
 use Rattle.pli_typing.specs.TypedTree as Y
 use Rattle.pli_meaning.specs.Control.{Normal, finish}
 use Rattle.pli_meaning.specs.Executing.{block_variables_made}
 use Rattle.pli_meaning.specs.Raising.{at_line}
-use Rattle.pli_meaning.specs.StorageState.{Activation, OnUnit, State, binding_in}
+use Rattle.pli_meaning.specs.Making.{living_at}
+use Rattle.pli_meaning.specs.StorageState.{Activation, Living, OnUnit, State, binding_in, living_of}
 use Rattle.pli_meaning.specs.declared.outcome.End.TheVariants as E
 use Rattle.pli_meaning.specs.declared.outcome.Limit.TheVariants as L
 use Rattle.pli_coding.specs.Allocating.{act_code}
@@ -19,7 +20,7 @@ use Rattle.pli_coding.specs.Statements.{stmts_code}
 use Rattle.activation_relation.specs.Landing.{Changed, resumed, with_units}
 use Rattle.activation_relation.specs.Layers.{Point, services_of}
 use Rattle.activation_relation.specs.Points.{Stands, Surroundings}
-use Rattle.activation_relation.specs.Remaining.{Remains}
+use Rattle.activation_relation.specs.Remaining.{LivesOn, Remains}
 use Rattle.run_steps.specs.Items.{Linked}
 use Rattle.run_steps.specs.Reach.{Family, Reach, cost}
 use Rattle.block_runs.specs.Bodies.{Function}
@@ -27,8 +28,8 @@ use Rattle.block_runs.specs.Machines.{AreIn, IsImage, IsIn, acted}
 use Rattle.program_runs.specs.Procedures.{IsCoded, Procedure, end_of}
 use Rattle.program_runs.specs.Statements.{AreMarked, Block}
 use Rattle.expression_runs.specs.Variables.{Spot}
-use Rattle.argument_runs.specs.Copies.{IsCopied}
-use Rattle.argument_runs.specs.CopyCalls.{CopyCall, Copying, called_of, copied_point, copies_index, copy_for}
+use Rattle.argument_runs.specs.Copies.{IsCopied, copy_generation}
+use Rattle.argument_runs.specs.CopyCalls.{CopyCall, Copying, called_of, copied_point, copies_index, copy_for, copy_in}
 use Rattle.argument_runs.specs.CopyCalls.{listing_of, named_point}
 use Rattle.argument_runs.specs.Parameters.{parameter_binding}
 use Rattle.nested_calls.specs.FullVariables.{Over}
@@ -81,6 +82,11 @@ given_block g y made =
       outers = [];
     }
 
+-- the copy as it lives there
+abbrev pub copy_living : CopyCall → Living
+copy_living y =
+    living_at (y.point.state.serials + 1) (length y.point.state.activations + 1) (copy_generation (copy_in y))
+
 abbrev pub first_spot : Spot
 first_spot = record { block = 0; level = 0; index = 0 }
 
@@ -114,8 +120,16 @@ pub record AreBeside (g : Option Function) (y : CopyCall) (made : Point → Poin
       (made (copied_point g y)).state.activations ≡ with_units own activation ∷ y.point.state.activations
   pub idle : (made (copied_point g y)).control.waiting ≡ None
   pub world : (made (copied_point g y)).state.world ≡ y.point.state.world
-  -- what lived where the copy has been made lives on, and an act pays for the serials, the copy's too
-  pub remains : Stands y.surroundings (copied_point g y) → Remains (copied_point g y) (made (copied_point g y))
+  -- what remained of a point below the block remains, the copy lives on where it stands, and an act pays for the
+  -- serials
+  pub remains :
+      (p : Point) → length p.state.activations ≤ length y.point.state.activations →
+      Stands y.surroundings (copied_point g y) → Remains p (copied_point g y) → Remains p (made (copied_point g y))
+  pub copy :
+      LivesOn (copy_living y) (living_of (made (copied_point g y)).state.living (y.point.state.serials + 1))
+  pub placed :
+      (made (copied_point g y)).places.at (y.point.state.serials + 1)
+      ≡ (copied_point g y).places.at (y.point.state.serials + 1)
   pub few : (made (copied_point g y)).state.serials ≤ y.point.state.serials + y.surroundings.serials
 
 -- or they pass the limit on what is AUTOMATIC: the run ends where the first of them that does would be made

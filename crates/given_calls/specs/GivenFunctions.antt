@@ -1,6 +1,6 @@
 -- Calls in expressions with an argument that is copied, of a function that the running block or one around it declares.
-use Rattle.std.specs.Prelude.{ℕ, ℤ, suc, ◌+◌, ◌*◌, ◌^◌, ◌<◌, ◌≤◌, ◌≡◌, List, [], ◌∷◌, ◌++◌, Some, true}
-use Rattle.std.specs.Prelude.{false, length, nat_lt}
+use Rattle.std.specs.Prelude.{ℕ, ℤ, suc, ◌+◌, ◌*◌, ◌^◌, ◌<◌, ◌≤◌, ◌≡◌, List, [], ◌∷◌, ◌++◌, Some, true, false, length}
+use Rattle.std.specs.Prelude.{nat_lt}
 use Rattle.rv_meaning.specs.declared.instr.Instr.{Instr}
 use Rattle.pli_language.specs.declared.condition.Condition.TheVariants as C
 use Rattle.pli_typing.specs.TypedTree as Y
@@ -30,8 +30,7 @@ use Rattle.argument_runs.specs.Copies.{IsCopied}
 use Rattle.argument_runs.specs.CopyCalls.{CopyCall, Copying, copy_for}
 use Rattle.argument_runs.specs.CopyFunctions.{called_by, number_function, setting_in}
 use Rattle.given_calls.specs.Given.{AreBeside, AreFullBeside, body_index, given_block, given_code}
-use Rattle.given_calls.specs.GivenCalls.{GivenCall, IsDeclared, PassesLimit, PassesNone, called_with}
-use Rattle.given_calls.specs.GivenCalls.{calling_of}
+use Rattle.given_calls.specs.GivenCalls.{GivenCall, IsDeclared, PassesLimit, PassesNone, called_with, calling_of}
 
 abbrev pub given_value : GivenCall → Y.Number
 given_value u = Y.NumberFrom (calling_of u)

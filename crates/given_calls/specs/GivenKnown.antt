@@ -1,13 +1,14 @@
 -- What the statements of a procedure or a function with a copied argument know: its static ancestors, the variables of
 -- the blocks around it, and its parameter.
 use Rattle.std.specs.Prelude.{ℕ, ℤ, ◌<◌, ◌≤◌, ◌≡◌, Option}
+use Rattle.pli_typing.specs.TypedTree as Y
 use Rattle.activation_relation.specs.CodeStores.{most_levels}
 use Rattle.activation_relation.specs.Layers.{Point}
-use Rattle.activation_relation.specs.Points.{Stands}
 use Rattle.block_runs.specs.Bodies.{Function}
 use Rattle.program_runs.specs.Statements.{Block, IsAmong, IsBegun}
 use Rattle.expression_runs.specs.Variables.{IsNumber, Spot}
-use Rattle.argument_runs.specs.CopyCalls.{IsOwnParameter, copied_point}
+use Rattle.variable_runs.specs.Known.{IsKnown}
+use Rattle.argument_runs.specs.CopyCalls.{IsOwnParameter}
 use Rattle.argument_runs.specs.Parameters.{IsParameter}
 use Rattle.nested_calls.specs.Nested.{IsNested}
 use Rattle.given_calls.specs.Given.{AreBeside, given_block}
@@ -40,9 +41,13 @@ pub record GivenKnown : Type 0 where
       (g : Option Function) (k : Block) (u : GivenCall) (more : ℕ) (p : Point) (numbers : ℕ → ℕ) (z : ℤ) (x : Spot) →
       Begins g k u more p numbers z → x.level ≤ u.level → IsNumber k x →
       IsNumber (given_block g (called_with k u p numbers z) u.made) x
+  -- of whatever type it is
+  pub known :
+      (g : Option Function) (k : Block) (u : GivenCall) (more : ℕ) (p : Point) (numbers : ℕ → ℕ) (z : ℤ) (x : Spot)
+      (d : Y.DeclaredVariable) → Begins g k u more p numbers z → x.level ≤ u.level → IsKnown k x d →
+      IsKnown (given_block g (called_with k u p numbers z) u.made) x d
   -- and its parameter stands for the copy
   pub own :
       (g : Option Function) (k : Block) (u : GivenCall) (more : ℕ) (p : Point) (numbers : ℕ → ℕ) (z : ℤ) (x : Spot) →
-      Begins g k u more p numbers z → PassesNone k.first u.callee →
-      Stands k.call.surroundings (copied_point g (called_with k u p numbers z)) → IsOwnParameter u.callee x →
+      Begins g k u more p numbers z → PassesNone k.first u.callee → IsOwnParameter u.callee x →
       IsParameter (given_block g (called_with k u p numbers z) u.made) x

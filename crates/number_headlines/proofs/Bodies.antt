@@ -1,39 +1,35 @@
 -- The statements of each block of a program of the class do what they mean, and so do the calls in them, as deep as
 -- they go.
-use Rattle.std.proofs.Common.{◌≡◌, ℕ, zero, suc, ◌+◌, ◌^◌, ◌<◌, ◌≤◌, List, [], ◌∷◌, ◌++◌, length}
-use Rattle.std.proofs.Common.{Bool, true, false, refl, sym, ap, subst, arith}
-use Rattle.std.specs.Prelude.{cond, nat_le, nat_lt, ◌==◌}
+use Rattle.std.proofs.Common.{◌≡◌, ℕ, zero, suc, ◌+◌, ◌^◌, ◌<◌, ◌≤◌, List, [], ◌∷◌, ◌++◌, length, Bool, true, false}
+use Rattle.std.proofs.Common.{refl, sym, ap, subst, arith}
+use Rattle.std.specs.Prelude.{nat_le, nat_lt}
 use Rattle.std.proofs.lemmas.Bool.{leb-true}
 use Rattle.std.proofs.lemmas.Bool.Decides.{nat_tests}
 use Rattle.pli_language.specs.declared.condition.Condition.TheVariants as C
 use Rattle.pli_typing.specs.TypedTree as Y
 use Rattle.pli_meaning.specs.Control.{Label}
-use Rattle.pli_meaning.specs.DeclaredShapes.{head_of, variables_of_block}
+use Rattle.pli_meaning.specs.DeclaredShapes.{variables_of_block}
 use Rattle.pli_meaning.specs.Executing.{labels_in}
 use Rattle.pli_meaning.specs.StorageState.{automatic_in_use, most_activations, most_automatic}
 use Rattle.pli_coding.specs.Allocating.{act_code}
 use Rattle.pli_coding.specs.Assembly.{size_of}
-use Rattle.pli_coding.specs.Environments.{Environment}
 use Rattle.pli_coding.specs.Images.{linked_code}
-use Rattle.pli_coding.specs.Procedures.{procedure_of_block}
 use Rattle.pli_coding.specs.Statements.{stmt_code}
 use Rattle.code_marks.specs.CodeMarks.{MarkedOnce}
 use Rattle.activation_relation.specs.Frames.{lower_end, upper_top}
 use Rattle.activation_relation.specs.FrameLaws.{with_waits}
-use Rattle.activation_relation.specs.Layers.{Layer, Point}
+use Rattle.activation_relation.specs.Layers.{Layer}
 use Rattle.run_steps.specs.Items.{Linked}
 use Rattle.run_steps.proofs.Jumps.{back_of}
 use Rattle.run_steps.proofs.Linking.{size_append}
-use Rattle.program_places.specs.Programs.{IsProcedure, body_for, code_for, entry_among, environment_for, links_for}
-use Rattle.program_places.specs.Programs.{procedures_index, program_environment}
-use Rattle.program_places.proofs.Blocks.{own_block}
-use Rattle.program_places.proofs.Callees.{callee_stands, end_is}
+use Rattle.program_places.specs.Programs.{code_for, environment_for, links_for, procedures_index, program_environment}
+use Rattle.program_places.proofs.Callees.{callee_stands}
 use Rattle.program_places.proofs.Found.{known}
-use Rattle.program_places.proofs.Functions.{function_end_is, function_stands}
-use Rattle.program_places.proofs.Procedures.{body_placed, raise_routines}
+use Rattle.program_places.proofs.Functions.{function_stands}
+use Rattle.program_places.proofs.Procedures.{raise_routines}
 use Rattle.program_runs.specs.Calls.{left_over}
 use Rattle.program_runs.specs.Starts.{image_parts}
-use Rattle.program_runs.specs.Statements.{DoesWith, EachDoes, IsBegun, IsOwn, set_aside}
+use Rattle.program_runs.specs.Statements.{DoesWith, EachDoes, IsOwn, set_aside}
 use Rattle.expression_runs.specs.Assignments.{setting_around}
 use Rattle.expression_runs.specs.Laws as L
 use Rattle.nested_calls.specs.NestedCalls.{HasFrame, IsNestedCall}
@@ -43,60 +39,60 @@ use Rattle.nested_calls.proofs.FullCalls.{full_call_ends, full_function_ends}
 use Rattle.nested_calls.proofs.NestedCalls.{call_coded, call_of, given_in, nested_call_does}
 use Rattle.nested_calls.proofs.NestedFunctions.{deep_function_ends, nested_function_does}
 use Rattle.number_runs.specs.Knowledge as Left
-use Rattle.number_runs.specs.Knowledge.{IsReady, IsUnraised, IsValued, KnowsCalls, KnowsPuts, KnowsRaises}
-use Rattle.number_runs.specs.Knowledge.{call_number, call_statement, most_set}
+use Rattle.number_runs.specs.Knowledge.{IsReady, IsUnraised, IsValued, KnowsCalls, KnowsPuts, KnowsRaises, call_number}
+use Rattle.number_runs.specs.Knowledge.{call_statement, most_set}
 use Rattle.number_runs.specs.Statements.{statements_set}
 use Rattle.number_runs.specs.Variables.{bytes_of}
-use Rattle.number_runs.proofs.Statements.{body_does, none_raised}
+use Rattle.number_runs.proofs.Homes.{none_raised}
+use Rattle.number_runs.proofs.Statements.{body_does}
 use Rattle.number_runs.proofs.Puts.{puts_known}
 use Rattle.number_runs.proofs.Takes.{registers_held}
 use Rattle.number_headlines.specs.Programs.{scope_of}
-use Rattle.number_headlines.proofs.Entered.{are_made, entered, entered_at, inner_set, unraised_there}
+use Rattle.number_headlines.proofs.Deciding.{by_decision, entry_low}
+use Rattle.number_headlines.proofs.Entered.{are_made, callee_in, entered, entered_at, inner_set, site_in}
+use Rattle.number_headlines.proofs.Entered.{unraised_there}
 use Rattle.number_headlines.proofs.Full.{are_full}
+use Rattle.number_headlines.proofs.GivenBodies.{knows_given}
 use Rattle.number_headlines.proofs.Inner.{Inner, inner_is}
 use Rattle.number_headlines.proofs.Mains.{Main, most_for, result_of, run_for}
 use Rattle.number_headlines.proofs.Puts.{error_routine, lists_known}
-use Rattle.number_headlines.proofs.Running.{IsEntered, IsRunning, Running, block_of_run, callee_of, site_of, told_run}
+use Rattle.number_headlines.proofs.Running.{EachBody, EachGiven, IsEntered, IsRunning, Running, block_of_run, told_run}
 use Rattle.number_headlines.proofs.Running.{told_running}
-use Rattle.number_headlines.proofs.Tables.{block_plain}
+use Rattle.number_headlines.proofs.Tables.{block_known}
 
 -- ---- at the end of a block
 
 returns_by :
-    MarkedOnce → {program : Y.Program} (m : Main program) (input : List ℕ) (acts : ℕ) (valued : Bool) (more : ℕ)
-    (a : Running) → IsProcedure program a.head a.body (result_of valued) →
-    IsBegun (block_of_run program input acts valued more a) → valued ≡ false →
+    {program : Y.Program} (m : Main program) (input : List ℕ) (acts : ℕ) (valued : Bool) (more : ℕ) (a : Running)
+    (blocks : ℕ) → IsRunning m input acts valued more a blocks → valued ≡ false →
     IsOwn (block_of_run program input acts valued more a) left_over
-returns_by once {program} m input acts false more a is b e =
-    let end = end_is once program a.head a.body m.loadable is in
+returns_by m input acts false more a blocks h e =
     record {
       owner = refl;
-      end = end.place;
-      near = end.near;
+      end = h.ends.place;
+      near = h.ends.near;
       enough = omega arith;
       function = refl;
-      begun = b;
-      kind = refl;
-      registers = omega arith;
+      begun = h.begun;
+      kind = h.kind;
+      registers = h.saved;
     }
-returns_by once m input acts true more a is b e = absurd (cc e)
+returns_by m input acts true more a blocks h e = absurd (cc e)
 
--- the main procedure is no function
 values_by :
-    MarkedOnce → {program : Y.Program} (m : Main program) (input : List ℕ) (acts : ℕ) (valued : Bool) (more : ℕ)
-    (a : Running) → IsProcedure program a.head a.body (result_of valued) → (valued ≡ true → 1 ≤ a.head.level) →
-    valued ≡ true → IsValued (block_of_run program input acts valued more a) left_over
-values_by once m input acts false more a is inner e = absurd (cc e)
-values_by once {program} m input acts true more a is inner e =
-    let end = function_end_is once program a.head a.body 31 m.loadable is (inner refl) in
+    {program : Y.Program} (m : Main program) (input : List ℕ) (acts : ℕ) (valued : Bool) (more : ℕ) (a : Running)
+    (blocks : ℕ) → IsRunning m input acts valued more a blocks → valued ≡ true →
+    IsValued (block_of_run program input acts valued more a) left_over
+values_by m input acts false more a blocks h e = absurd (cc e)
+values_by m input acts true more a blocks h e =
     record {
       owner = refl;
-      end = end.place;
-      near = end.near;
+      end = h.ends.place;
+      near = h.ends.near;
       enough = omega arith;
       function = refl;
-      kind = refl;
-      saved = omega arith;
+      kind = h.kind;
+      saved = h.saved;
     }
 
 -- ---- its statements, if the calls in them do what they mean
@@ -122,23 +118,24 @@ unraised_of once {program} m input acts valued more a blocks few h =
 raises_of :
     MarkedOnce → {program : Y.Program} (m : Main program) (input : List ℕ) (acts : ℕ) (valued : Bool) (more : ℕ)
     (a : Running) (blocks : ℕ) → acts + 1 < 2 ^ 64 → IsRunning m input acts valued more a blocks →
-    KnowsRaises (scope_of program m.called a.head) (block_of_run program input acts valued more a)
+    KnowsRaises (scope_of program m.called a.head a.body) (block_of_run program input acts valued more a)
     (labels_in a.body ++ []) (most_for program)
 raises_of once {program} m input acts valued more a blocks few h =
-    none_raised (scope_of program m.called a.head) (block_of_run program input acts valued more a)
+    none_raised (scope_of program m.called a.head a.body) (block_of_run program input acts valued more a)
     (labels_in a.body ++ []) (most_for program) (unraised_of once m input acts valued more a blocks few h)
 
 -- numbers are written by the lists of the program
 puts_of :
     MarkedOnce → {program : Y.Program} (m : Main program) (input : List ℕ) (acts : ℕ) (valued : Bool) (more : ℕ)
     (a : Running) (blocks : ℕ) → acts + 1 < 2 ^ 64 → IsRunning m input acts valued more a blocks →
-    KnowsPuts (scope_of program m.called a.head) (block_of_run program input acts valued more a) (most_for program)
+    KnowsPuts (scope_of program m.called a.head a.body) (block_of_run program input acts valued more a)
+    (most_for program)
 unfolding unraised_of
 puts_of once {program} m input acts valued more a blocks few h =
     let k = block_of_run program input acts valued more a in
-    puts_known (scope_of program m.called a.head) k (most_for program) h.begun
+    puts_known (scope_of program m.called a.head a.body) k (most_for program) h.begun
     (unraised_of once m input acts valued more a blocks few h) h.variables (λ may. h.arrays)
-    (lists_known program k m.memory h.told)
+    h.parameters (lists_known program k m.memory h.told)
 
 -- wherever limits wait in words of its frame, calls do what they mean
 abbrev EachCall : {program : Y.Program} → Main program → (input : List ℕ) → (acts : ℕ) → (valued : Bool) →
@@ -146,17 +143,17 @@ abbrev EachCall : {program : Y.Program} → Main program → (input : List ℕ) 
 EachCall {program} m input acts valued more a blocks =
     (layers : List Layer → List Layer) →
     IsRunning m input acts valued more (record a { layers = layers }) blocks →
-    KnowsCalls (scope_of program m.called a.head)
+    KnowsCalls (scope_of program m.called a.head a.body)
     (block_of_run program input acts valued more (record a { layers = layers })) (labels_in a.body ++ [])
     (most_for program) left_over
 
 ready :
     MarkedOnce → {program : Y.Program} (m : Main program) (input : List ℕ) (acts : ℕ) (valued : Bool) (more : ℕ)
-    (a : Running) (blocks : ℕ) → acts + 1 < 2 ^ 64 → (valued ≡ true → 1 ≤ a.head.level) →
-    IsEntered m input acts valued more a blocks → EachCall m input acts valued more a blocks →
-    IsReady (scope_of program m.called a.head) valued (block_of_run program input acts valued more a)
+    (a : Running) (blocks : ℕ) → acts + 1 < 2 ^ 64 → IsEntered m input acts valued more a blocks →
+    EachCall m input acts valued more a blocks → EachGiven m input acts valued more a →
+    IsReady (scope_of program m.called a.head a.body) valued (block_of_run program input acts valued more a)
     (labels_in a.body ++ []) (most_for program) left_over
-ready once {program} m input acts valued more a blocks few inner e calls =
+ready once {program} m input acts valued more a blocks few e calls given =
     let h = e.running in
     let enough = h.enough in
     let φ = h.free.layer in
@@ -171,7 +168,9 @@ ready once {program} m input acts valued more a blocks few inner e calls =
       raises = raises_of once m input acts valued more a blocks few h;
       variables = h.variables;
       arrays = λ may. h.arrays;
+      parameters = h.parameters;
       calls = calls a.layers h;
+      given = given;
       jumps = λ labels level label line index includes out. absurd (cc out);
       puts = λ may. puts_of once m input acts valued more a blocks few h;
       loops = λ may. record {
@@ -180,7 +179,7 @@ ready once {program} m input acts valued more a blocks few inner e calls =
         newest = h.free.newest;
         few = omega (arith, words, waiting);
         behind = 0;
-        free = λ n behind. e.clear n;
+        free = λ n behind. ap (λ (ψ : Layer). ψ.waits n) (sym e.clear);
         raises = λ waits.
             raises_of once m input acts valued more (told_run a waits φ φs) blocks few (told_running h waits);
         calls = λ waits. calls (λ ls. with_waits waits φ ∷ φs) (told_running h waits);
@@ -191,57 +190,48 @@ ready once {program} m input acts valued more a blocks few inner e calls =
       room = omega arith;
       home = λ may. record {
         level = refl;
-        own = refl;
-        block = own_block program a.head a.body (result_of valued) h.is;
-        returns = λ e. returns_by once m input acts valued more a h.is h.begun e;
-        values = λ e. values_by once m input acts valued more a h.is inner e;
+        own = h.level;
+        block = h.own;
+        returns = λ e. returns_by m input acts valued more a blocks h e;
+        values = λ e. values_by m input acts valued more a blocks h e;
       };
     }
 
 -- its frame has the words that its loops set aside
 frame_left :
     (once : MarkedOnce) {program : Y.Program} (m : Main program) (input : List ℕ) (acts : ℕ) (valued : Bool) (more : ℕ)
-    (a : Running) (blocks : ℕ) (few : acts + 1 < 2 ^ 64) (inner : valued ≡ true → 1 ≤ a.head.level)
-    (e : IsEntered m input acts valued more a blocks) (calls : EachCall m input acts valued more a blocks) →
-    Left.HasFrame (ready once m input acts valued more a blocks few inner e calls) 0 (statements_set a.body)
+    (a : Running) (blocks : ℕ) (few : acts + 1 < 2 ^ 64) (e : IsEntered m input acts valued more a blocks)
+    (calls : EachCall m input acts valued more a blocks) (given : EachGiven m input acts valued more a) →
+    Left.HasFrame (ready once m input acts valued more a blocks few e calls given) 0 (statements_set a.body)
 unfolding ready
-frame_left once m input acts valued more a blocks few inner e calls may =
+frame_left once m input acts valued more a blocks few e calls given may =
     let words = e.words in
     (omega arith, omega (arith, words))
 
 body_each :
     MarkedOnce → {program : Y.Program} (m : Main program) (input : List ℕ) (acts : ℕ) (valued : Bool) (more : ℕ)
-    (a : Running) (blocks : ℕ) → acts + 1 < 2 ^ 64 → (valued ≡ true → 1 ≤ a.head.level) →
-    IsEntered m input acts valued more a blocks → EachCall m input acts valued more a blocks →
-    EachDoes (block_of_run program input acts valued more a) (labels_in a.body ++ []) a.body
-    (body_for program a.head a.body) left_over
-body_each once {program} m input acts valued more a blocks few inner e calls =
+    (a : Running) (blocks : ℕ) → acts + 1 < 2 ^ 64 → IsEntered m input acts valued more a blocks →
+    EachCall m input acts valued more a blocks → EachGiven m input acts valued more a →
+    EachDoes (block_of_run program input acts valued more a) (labels_in a.body ++ []) a.body a.index left_over
+body_each once {program} m input acts valued more a blocks few e calls given =
     let h = e.running in
-    let s = scope_of program m.called a.head in
-    let plain = block_plain program.variables a.head.number m.plain in
-    body_does s valued (block_of_run program input acts valued more a) a.body (body_for program a.head a.body)
-    (most_for program) left_over (ready once m input acts valued more a blocks few inner e calls) h.statements
-    (registers_held s valued (environment_for program a.head) a.head.number a.body plain.plain h.statements h.fits)
-    (frame_left once m input acts valued more a blocks few inner e calls)
-    (body_placed once program a.head a.body (result_of valued) m.loadable h.is)
+    let s = scope_of program m.called a.head a.body in
+    let known' = (block_known program.variables a.head.number m.known).known in
+    body_does s valued (block_of_run program input acts valued more a) a.body a.index
+    (most_for program) left_over (ready once m input acts valued more a blocks few e calls given) h.statements
+    (registers_held s valued (environment_for program a.head) a.head.number a.body known' h.statements h.fits)
+    (frame_left once m input acts valued more a blocks few e calls given) h.placed
 
 -- ---- calls, if the statements of blocks that may be entered one level less deep do what they mean
-
-abbrev EachBody : {program : Y.Program} → Main program → (input : List ℕ) → (acts more : ℕ) → Type 0
-EachBody {program} m input acts more =
-    (valued : Bool) (a : Running) (blocks : ℕ) → (valued ≡ true → 1 ≤ a.head.level) →
-    IsEntered m input acts valued more a blocks →
-    EachDoes (block_of_run program input acts valued more a) (labels_in a.body ++ []) a.body
-    (body_for program a.head a.body) left_over
 
 -- the frame of what is called has room
 frame_fits :
     {program : Y.Program} (m : Main program) (input : List ℕ) (acts : ℕ) (valued : Bool) (more b : ℕ) (a : Running) →
     IsRunning m input acts valued (suc more) a (suc b) → {v : Bool} {level number : ℕ}
-    (i : Inner m a.head v level number) (call : ℕ) (p : Point) (numbers : ℕ → ℕ) →
+    (i : Inner m a.head false v level number) (call : ℕ) →
     HasFrame (block_of_run program input acts valued (suc more) a)
-    (callee_of program v more (entered_at i (block_of_run program input acts valued (suc more) a) call p numbers))
-frame_fits {program} m input acts valued more b a h {v} i call p numbers =
+    (callee_in i more (block_of_run program input acts valued (suc more) a) call)
+frame_fits {program} m input acts valued more b a h {v} i call =
     let words = inner_set m i in
     let waiting = i.waiting in
     let level = (known program i.head i.body (result_of v) m.loadable.well_formed i.is).level in
@@ -251,10 +241,6 @@ frame_fits {program} m input acts valued more b a h {v} i call p numbers =
     let low = ap (λ ls. lower_end image_parts ls) h.free.newest in
     omega (arith, words, waiting, level, fits, used, top, low)
 
-by_decision : (q : Bool) {P : Type 0} → (q ≡ true → P) → (q ≡ false → P) → P
-by_decision true one other = one refl
-by_decision false one other = other refl
-
 past : (used : ℕ) → nat_le used most_automatic ≡ false → most_automatic < used
 past used e = grind (arith, e, nat_tests)
 
@@ -262,7 +248,7 @@ call_by :
     MarkedOnce → {program : Y.Program} (m : Main program) (input : List ℕ) (acts : ℕ) (valued : Bool) (more b : ℕ)
     (a : Running) → acts + 1 < 2 ^ 64 → IsRunning m input acts valued (suc more) a (suc b) →
     EachBody m input acts more → (words : ℕ) → words ≤ most_set →
-    (labels : List Label) (level number line index : ℕ) → Inner m a.head false level number → line < 2 ^ 31 →
+    (labels : List Label) (level number line index : ℕ) → Inner m a.head false false level number → line < 2 ^ 31 →
     Linked (links_for program) (linked_code (code_for program)) index
     (stmt_code (environment_for program a.head) (set_aside words) (call_statement level number line)) →
     DoesWith words (block_of_run program input acts valued (suc more) a) labels (call_statement level number line) index
@@ -272,7 +258,7 @@ call_by once {program} m input acts valued more b a few h each words set labels 
     let used = automatic_in_use k.first.state.living + bytes_of (variables_of_block program i.head.number) in
     let one = act_code line in
     let given' = given_in words k level in
-    let c0 = callee_of program false more (entered_at i k 0 k.first (λ n. 0)) in
+    let c0 = callee_in i more k 0 in
     let last = call_of c0 in
     let l0 = subst (λ n. Linked (links_for program) (linked_code (code_for program)) index
     (stmt_code (environment_for program a.head) (set_aside words) (call_statement level n line))) (sym i.numbered) l in
@@ -282,14 +268,14 @@ call_by once {program} m input acts valued more b a few h each words set labels 
     let n0 = size_append one (given' ++ last) in
     let n1 = size_append given' last in
     let call = index + size_of one + size_of given' in
-    let c = callee_of program false more (entered_at i k call k.first (λ n. 0)) in
+    let c = callee_in i more k call in
     let is : IsNestedCall words k c level line index more = record {
       low = omega (arith, set);
       line_fits = less;
-      callee = callee_stands once program i.head i.body (run_for input acts)
-          (site_of program more (entered_at i k call k.first (λ n. 0))) m.loadable i.is
+      callee = callee_stands once program i.head i.body (run_for program input acts)
+          (site_in i more k call) m.loadable i.is
           (back_of given' last (back_of one (given' ++ last) l')) few;
-      frame = frame_fits m input acts valued more b a h i call k.first (λ n. 0);
+      frame = frame_fits m input acts valued more b a h i call;
       idle = h.idle;
       statement = l0;
       call = omega (arith, size, n0, n1);
@@ -311,52 +297,34 @@ call_by once {program} m input acts valued more b a few h each words set labels 
     nested_call_does words k c level line index left_over more is shallow
     (λ p numbers o. are_made m (record { running = h; among = o }) i call pass)
     (λ p numbers o b'.
-    each false (entered_at i k call p numbers) b (λ e'. absurd (cc e'))
-    (entered m (record { running = h; among = o }) i call pass shallow b')) h.begun labels)
+    each false (entered_at i k call p numbers) b
+    (entered once m (record { running = h; among = o }) i call pass shallow b')) h.begun labels)
     (λ e.
     full_call_ends words k c level line index left_over more is shallow
     (λ p numbers o. are_full m (record { running = h; among = o }) i call few (past used e)) h.begun labels))
     (λ deep. deep_call_ends words k c level line index left_over more is deep h.begun labels))
 
--- procedures stand behind the start and the routines of raises
-entry_low :
-    (e : Environment) (number : ℕ) (ps : List Y.Procedure) (index : ℕ) → index ≤ entry_among e number ps index
-entry_low e number [] index = omega arith
-entry_low e number (p ∷ ps) index =
-    by ((head_of p.block).number == number)
-    (entry_low e number ps (index + size_of (procedure_of_block e p.block p.parameters p.result)))
-  where
-    by :
-        (q : Bool) →
-        index + size_of (procedure_of_block e p.block p.parameters p.result)
-        ≤ entry_among e number ps (index + size_of (procedure_of_block e p.block p.parameters p.result)) →
-        index
-        ≤ cond q index
-        (entry_among e number ps (index + size_of (procedure_of_block e p.block p.parameters p.result)))
-    by true more = omega arith
-    by false more = omega (arith, more)
-
 value_by :
     MarkedOnce → {program : Y.Program} (m : Main program) (input : List ℕ) (acts : ℕ) (valued : Bool) (more b : ℕ)
     (a : Running) → acts + 1 < 2 ^ 64 → IsRunning m input acts valued (suc more) a (suc b) →
     EachBody m input acts more → (words : ℕ) → words ≤ most_set →
-    (labels : List Label) (line level number : ℕ) → Inner m a.head true level number →
+    (labels : List Label) (line level number : ℕ) → Inner m a.head false true level number →
     L.Does (setting_around words (block_of_run program input acts valued (suc more) a) labels line (most_for program)) 0
     (call_number level number)
 value_by once {program} m input acts valued more b a few h each words set labels line level number i =
     let k = block_of_run program input acts valued (suc more) a in
     let z = setting_around words k labels line (most_for program) in
     let used = automatic_in_use k.first.state.living + bytes_of (variables_of_block program i.head.number) in
-    let c = callee_of program true more (entered_at i k 0 k.first (λ n. 0)) in
+    let c = callee_in i more k 0 in
     let inside = i.inside in
-    let stands = function_stands once program i.head i.body 31 (run_for input acts)
-    (site_of program more (entered_at i k 0 k.first (λ n. 0))) m.loadable i.is (omega (arith, inside)) few in
+    let stands = function_stands once program i.head i.body 31 (run_for program input acts)
+    (site_in i more k 0) m.loadable i.is (omega (arith, inside)) few in
     let within = stands.stands.inside in
     let low = entry_low (program_environment program) i.head.number program.procedures (procedures_index program) in
     let is : IsNestedFunction z c level more = record {
       begun = h.begun;
       function = stands;
-      frame = frame_fits m input acts valued more b a h i 0 k.first (λ n. 0);
+      frame = frame_fits m input acts valued more b a h i 0;
       idle = h.idle;
       nested = h.nested;
       around_it = i.around_it;
@@ -381,8 +349,8 @@ value_by once {program} m input acts valued more b a few h each words set labels
       unraised_there m (record { running = h; among = o }) i call C.Error,
     ))
     (λ call p numbers o b'.
-    each true (entered_at i k call p numbers) b (λ e'. omega (arith, inside))
-    (entered m (record { running = h; among = o }) i call pass shallow b')))
+    each true (entered_at i k call p numbers) b
+    (entered once m (record { running = h; among = o }) i call pass shallow b')))
     (λ e.
     full_function_ends z c level more is shallow
     (λ call p numbers o. are_full m (record { running = h; among = o }) i call few (past used e))))
@@ -394,7 +362,7 @@ knows_calls :
     MarkedOnce → {program : Y.Program} (m : Main program) (input : List ℕ) (acts : ℕ) (valued : Bool)
     (more blocks : ℕ) (a : Running) → acts + 1 < 2 ^ 64 → IsRunning m input acts valued (suc more) a blocks →
     EachBody m input acts more →
-    KnowsCalls (scope_of program m.called a.head) (block_of_run program input acts valued (suc more) a)
+    KnowsCalls (scope_of program m.called a.head a.body) (block_of_run program input acts valued (suc more) a)
     (labels_in a.body ++ []) (most_for program) left_over
 knows_calls once m input acts valued more zero a few h each =
     let some = h.depth.some in absurd (omega (arith, some))
@@ -402,21 +370,22 @@ knows_calls once m input acts valued more (suc b) a few h each =
     record {
       functions = λ words set labels line level n includes f.
           value_by once m input acts valued more b a few h each words set.0 labels line level n
-          (inner_is m a.head true level n f);
+          (inner_is m a.head false true level n f);
       procedures = λ words set labels level n line index includes f less l.
           call_by once m input acts valued more b a few h each words set.0 labels level n line index
-          (inner_is m a.head false level n f) less l;
+          (inner_is m a.head false false level n f) less l;
     }
 
 pub each_body :
     MarkedOnce → {program : Y.Program} (m : Main program) (input : List ℕ) (acts : ℕ) → acts + 1 < 2 ^ 64 →
     (more : ℕ) → EachBody m input acts more
-each_body once m input acts few zero valued a blocks inner h =
+each_body once m input acts few zero valued a blocks h =
     let enough = h.running.enough in
     let allowed = h.running.begun.resumes.stands.allowed in
     absurd (omega (arith, enough, allowed))
-each_body once m input acts few (suc more) valued a blocks inner h =
-    body_each once m input acts valued (suc more) a blocks few inner h
+each_body once m input acts few (suc more) valued a blocks h =
+    body_each once m input acts valued (suc more) a blocks few h
     (λ layers is.
     knows_calls once m input acts valued more blocks (record a { layers = layers }) few is
     (each_body once m input acts few more))
+    (knows_given once m input acts valued more blocks a few h (each_body once m input acts few more))

@@ -1,7 +1,7 @@
 -- A block of the class that is called from another: its variables are made, and what is known there is known of it.
-use Rattle.std.proofs.Common.{◌≡◌, ◌⊎◌, inl, inr, ℕ, suc, ◌+◌, ◌<◌, ◌≤◌, List, [], ◌∷◌, length}
-use Rattle.std.proofs.Common.{Bool, true, false, refl, sym, ap, ◌∙◌, subst, arith}
-use Rattle.std.specs.Prelude.{nat_le, nat_lt}
+use Rattle.std.proofs.Common.{◌≡◌, ◌⊎◌, inl, inr, ℕ, suc, ◌+◌, ◌<◌, ◌≤◌, List, [], ◌∷◌, length, Option, Bool, true}
+use Rattle.std.proofs.Common.{false, refl, sym, ap, ◌∙◌, subst, arith}
+use Rattle.std.specs.Prelude.{◌&&◌, ◌==◌, nat_le, nat_lt, if◌then◌else◌}
 use Rattle.std.specs.List.{list_any}
 use Rattle.std.proofs.lemmas.Bool.{and_from, and_parts, leb-true, ltb-true}
 use Rattle.std.proofs.lemmas.Bool.Decides.{nat_tests}
@@ -11,16 +11,25 @@ use Rattle.pli_typing.specs.TypedTree as Y
 use Rattle.pli_meaning.specs.DeclaredShapes.{declared_variable, variables_of_block}
 use Rattle.pli_meaning.specs.StorageState.{Activation, automatic_in_use, force, most_activations, most_automatic}
 use Rattle.pli_meaning.specs.World.{World}
+use Rattle.pli_coding.specs.Assembly.{size_of}
 use Rattle.pli_coding.specs.Environments.{block_around}
 use Rattle.pli_coding.specs.Frames.{fixed_size, parameters_in, temporary_bytes}
 use Rattle.pli_coding.specs.Images.{linked_code}
+use Rattle.pli_coding.specs.Procedures.{no_value}
+use Rattle.code_marks.specs.CodeMarks.{MarkedOnce}
+use Rattle.activation_relation.specs.FrameLaws.{with_waits}
 use Rattle.activation_relation.specs.Frames.{lower_end, upper_top}
 use Rattle.activation_relation.specs.Layers.{Layer, Point}
 use Rattle.activation_relation.specs.ServiceLaws.{IsSystem}
 use Rattle.activation_relation.proofs.Returning.{in_use_later}
-use Rattle.program_places.specs.Programs.{code_for, environment_for, procedure_for}
+use Rattle.program_places.specs.Laws.{IsEnd}
+use Rattle.program_places.specs.Programs.{IsProcedure, Site, behind_body, body_for, callee_at, code_for}
+use Rattle.program_places.specs.Programs.{environment_for, links_for, procedure_for}
 use Rattle.program_places.proofs.Blocks.{own_block}
+use Rattle.program_places.proofs.Callees.{end_is}
 use Rattle.program_places.proofs.Found.{known}
+use Rattle.program_places.proofs.Functions.{function_end_is}
+use Rattle.program_places.proofs.Procedures.{body_placed}
 use Rattle.program_runs.specs.Calls.{AreMade, Callee, begun_at}
 use Rattle.program_runs.specs.Procedures.{Procedure, layer_for}
 use Rattle.program_runs.specs.Starts.{image_parts}
@@ -31,27 +40,28 @@ use Rattle.element_runs.specs.Arrays.{IsArray}
 use Rattle.element_runs.proofs.Outer.{outer_array}
 use Rattle.variable_runs.specs.Lists.{AreAll, all_made, behind_made, layer_after, layer_behind}
 use Rattle.variable_runs.proofs.Lists.{all_procedure}
+use Rattle.argument_runs.specs.Parameters.{parameter_of}
 use Rattle.block_headlines.proofs.Constants.{called_of_program}
 use Rattle.nested_calls.specs.Nested.{IsNested, parent_at}
 use Rattle.nested_calls.specs.NestedVariables.{IsInside}
 use Rattle.nested_calls.proofs.NestedVariables.{function_known, function_nested, function_number, procedure_known}
 use Rattle.nested_calls.proofs.NestedVariables.{procedure_nested, procedure_number}
 use Rattle.number_runs.specs.Arrays.{bounds_if, is_array_if}
-use Rattle.number_runs.specs.Numbers.{is_array_known, is_known, is_place, is_plain_if}
+use Rattle.number_runs.specs.Numbers.{is_array_known, is_known, is_parameter_if, is_place, is_plain_if, is_received}
 use Rattle.number_runs.specs.Statements.{statements_set}
 use Rattle.number_runs.specs.Variables.{HasWords, HaveRoom, bytes_of, words_in}
 use Rattle.number_runs.proofs.Takes.{words_set}
 use Rattle.number_runs.proofs.Words.{all_words, function_array, function_word, own_array, own_word, room_behind}
 use Rattle.number_runs.proofs.Words.{room_fewer}
-use Rattle.number_headlines.specs.Programs.{places_to, scope_of}
+use Rattle.number_headlines.specs.Programs.{is_first_alone, places_to, receivers_of, scope_of}
 use Rattle.number_headlines.proofs.FullWords.{words_at, words_count, words_lower}
 use Rattle.number_headlines.proofs.Inner.{Inner}
 use Rattle.number_headlines.proofs.Loops.{after_waits, after_words}
-use Rattle.number_headlines.proofs.Mains.{Main, made_system, result_of, surroundings_for}
+use Rattle.number_headlines.proofs.Mains.{Main, made_for, made_system, result_of, surroundings_for}
 use Rattle.number_headlines.proofs.Places.{alike_at, around_is, is_around}
-use Rattle.number_headlines.proofs.Running.{IsEntered, IsRunning, Running, block_of_run, callee_of, free_among}
+use Rattle.number_headlines.proofs.Running.{IsEntered, IsRunning, Running, around_for, block_of_run, free_among, run_of}
 use Rattle.number_headlines.proofs.Running.{table_later}
-use Rattle.number_headlines.proofs.Tables.{block_plain}
+use Rattle.number_headlines.proofs.Tables.{block_known, plain_block, serials_enough}
 
 -- ---- what is called at a point of a block
 
@@ -61,33 +71,46 @@ pub record Moment {program : Y.Program} (m : Main program) (input : List ℕ) (a
     pub running : IsRunning m input acts valued more a blocks
     pub among : IsAmong (block_of_run program input acts valued more a) numbers p
 
-abbrev pub entered_at :
+-- where its statements end: behind a function's stands what raises ERROR
+abbrev pub end_by : (valued : Bool) → Y.Program → Y.BlockHead → Y.Stmts → ℕ
+end_by false program head body = behind_body program head body
+end_by true program head body = behind_body program head body + size_of (no_value head.line)
+
+abbrev pub site_in :
     {program : Y.Program} → {m : Main program} → {caller : Y.BlockHead} → {valued : Bool} → {level number : ℕ} →
-    Inner m caller valued level number → Block → (call : ℕ) → Point → (numbers : ℕ → ℕ) → Running
-entered_at {level = level} i k call p numbers =
+    Inner m caller false valued level number → (more : ℕ) → Block → (call : ℕ) → Site
+site_in {program} {level = level} i more k call =
     record {
-      head = i.head;
-      body = i.body;
       parent = parent_at k level;
       call = call;
-      point = p;
-      numbers = numbers;
-      layers = λ ls. ls;
+      around = around_for program more;
+      made = made_for program i.head;
     }
+
+abbrev pub callee_in :
+    {program : Y.Program} → {m : Main program} → {caller : Y.BlockHead} → {valued : Bool} → {level number : ℕ} →
+    Inner m caller false valued level number → (more : ℕ) → Block → (call : ℕ) → Callee
+callee_in {program} {valued = valued} i more k call =
+    callee_at program i.head i.body (site_in i more k call) (end_by valued program i.head i.body)
+
+abbrev pub entered_at :
+    {program : Y.Program} → {m : Main program} → {caller : Y.BlockHead} → {valued : Bool} → {level number : ℕ} →
+    Inner m caller false valued level number → Block → (call : ℕ) → Point → (numbers : ℕ → ℕ) → Running
+entered_at {program} {valued = valued} i k call p numbers =
+    run_of valued k.call.surroundings (callee_in i 0 k call) (body_for program i.head i.body) p numbers
 
 -- ---- its words
 
 pub inner_set :
-    {program : Y.Program} (m : Main program) {caller : Y.BlockHead} {valued : Bool} {level number : ℕ}
-    (i : Inner m caller valued level number) → (procedure_for program i.head i.body).words ≡ statements_set i.body
+    {program : Y.Program} (m : Main program) {caller : Y.BlockHead} {given valued : Bool} {level number : ℕ}
+    (i : Inner m caller given valued level number) → (procedure_for program i.head i.body).words ≡ statements_set i.body
 inner_set {program} m {valued = valued} i =
-    let plain = block_plain program.variables i.head.number m.plain in
-    words_set (scope_of program m.called i.head) valued (environment_for program i.head) i.head.number i.body
-    plain.plain i.statements i.fits
+    words_set (scope_of program m.called i.head i.body) valued (environment_for program i.head) i.head.number i.body
+    (block_known program.variables i.head.number m.known).known i.statements i.fits
 
 -- they don't pass the limit on what is AUTOMATIC
 abbrev pub DontPass : {program : Y.Program} → Block → {m : Main program} → {caller : Y.BlockHead} → {valued : Bool} →
-    {level number : ℕ} → Inner m caller valued level number → Type 0
+    {level number : ℕ} → Inner m caller false valued level number → Type 0
 DontPass {program} k i =
     automatic_in_use k.first.state.living + bytes_of (variables_of_block program i.head.number) ≤ most_automatic
 
@@ -95,7 +118,7 @@ DontPass {program} k i =
 pub begun_room :
     {program : Y.Program} (m : Main program) {input : List ℕ} {acts : ℕ} {valued : Bool} {more b : ℕ} {a : Running}
     {p : Point} {numbers : ℕ → ℕ} (o : Moment m input acts valued (suc more) a (suc b) p numbers)
-    {v : Bool} {level number : ℕ} (i : Inner m a.head v level number) (c : Callee) →
+    {v : Bool} {level number : ℕ} (i : Inner m a.head false v level number) (c : Callee) →
     c.procedure ≡ procedure_for program i.head i.body →
     DontPass (block_of_run program input acts valued (suc more) a) i →
     HaveRoom (surroundings_for program input acts) (begun_at (surroundings_for program input acts) c p numbers)
@@ -111,7 +134,7 @@ begun_room {program} m {input} {acts} {valued} {more} {b} {a} {p} {numbers} o {v
     let waiting = i.waiting in
     let inside = ap (λ (x : Procedure). x.head.level) is in
     let level = (known program i.head i.body (result_of v) m.loadable.well_formed i.is).level in
-    let few = (block_plain program.variables i.head.number m.plain).room in
+    let few = (plain_block program.variables i.head.number m.known i.own).room in
     let fits = f.fits in
     let even = f.even in
     let top = ap (λ ls. upper_top image_parts ls) f.newest in
@@ -130,17 +153,17 @@ begun_room {program} m {input} {acts} {valued} {more} {b} {a} {p} {numbers} o {v
 pub has_words :
     {program : Y.Program} (m : Main program) {input : List ℕ} {acts : ℕ} {valued : Bool} {more b : ℕ} {a : Running}
     {p : Point} {numbers : ℕ → ℕ} (o : Moment m input acts valued (suc more) a (suc b) p numbers)
-    {v : Bool} {level number : ℕ} (i : Inner m a.head v level number) (call : ℕ) →
+    {v : Bool} {level number : ℕ} (i : Inner m a.head false v level number) (call : ℕ) →
     DontPass (block_of_run program input acts valued (suc more) a) i →
     HasWords (surroundings_for program input acts)
-    (callee_of program v more (entered_at i (block_of_run program input acts valued (suc more) a) call p numbers)) p
+    (callee_in i more (block_of_run program input acts valued (suc more) a) call) p
     numbers
 has_words {program} m {input} {acts} {valued} {more} {b} {a} {p = p} {numbers = numbers} o {v = v} i call pass =
     let w = surroundings_for program input acts in
     let k = block_of_run program input acts valued (suc more) a in
-    let c = callee_of program v more (entered_at i k call p numbers) in
+    let c = callee_in i more k call in
     let n = bytes_of (variables_of_block program i.head.number) in
-    let plain = block_plain program.variables i.head.number m.plain in
+    let plain = plain_block program.variables i.head.number m.known i.own in
     record {
       kind = (known program i.head i.body (result_of v) m.loadable.well_formed i.is).kind;
       code = refl;
@@ -151,7 +174,7 @@ has_words {program} m {input} {acts} {valued} {more} {b} {a} {p = p} {numbers = 
       bare = ap parameters_in i.is;
       made = refl;
       plain = plain.plain;
-      few = plain.few;
+      few = serials_enough program i.head.number m.known;
       tabled = table_later program o.among.later.remains o.running.tabled i.head;
       room = room_fewer w (begun_at w c p numbers) (layer_for w p numbers c.procedure c.calling) p.control.layers
           (fixed_size i.head.level 0) n (n + 0) (omega arith) (begun_room m o i c refl pass);
@@ -160,27 +183,27 @@ has_words {program} m {input} {acts} {valued} {more} {b} {a} {p = p} {numbers = 
 pub has_all :
     {program : Y.Program} (m : Main program) {input : List ℕ} {acts : ℕ} {valued : Bool} {more b : ℕ} {a : Running}
     {p : Point} {numbers : ℕ → ℕ} (o : Moment m input acts valued (suc more) a (suc b) p numbers)
-    {v : Bool} {level number : ℕ} (i : Inner m a.head v level number) (call : ℕ) →
+    {v : Bool} {level number : ℕ} (i : Inner m a.head false v level number) (call : ℕ) →
     DontPass (block_of_run program input acts valued (suc more) a) i →
     AreAll (surroundings_for program input acts)
-    (callee_of program v more (entered_at i (block_of_run program input acts valued (suc more) a) call p numbers)) p
+    (callee_in i more (block_of_run program input acts valued (suc more) a) call) p
     numbers (words_in (environment_for program i.head))
 has_all {program} m {input} {acts} {valued} {more} {a = a} {p = p} {numbers = numbers} o {v = v} i call pass =
     all_words (surroundings_for program input acts)
-    (callee_of program v more (entered_at i (block_of_run program input acts valued (suc more) a) call p numbers)) p
+    (callee_in i more (block_of_run program input acts valued (suc more) a) call) p
     numbers (has_words m o i call pass)
 
 pub are_made :
     {program : Y.Program} (m : Main program) {input : List ℕ} {acts : ℕ} {valued : Bool} {more b : ℕ} {a : Running}
     {p : Point} {numbers : ℕ → ℕ} (o : Moment m input acts valued (suc more) a (suc b) p numbers)
-    {v : Bool} {level number : ℕ} (i : Inner m a.head v level number) (call : ℕ) →
+    {v : Bool} {level number : ℕ} (i : Inner m a.head false v level number) (call : ℕ) →
     DontPass (block_of_run program input acts valued (suc more) a) i →
     AreMade (surroundings_for program input acts) (linked_code (code_for program))
-    (callee_of program v more (entered_at i (block_of_run program input acts valued (suc more) a) call p numbers)) p
+    (callee_in i more (block_of_run program input acts valued (suc more) a) call) p
     numbers
 are_made {program} m {input} {acts} {valued} {more} {a = a} {p = p} {numbers = numbers} o {v = v} i call pass =
     all_procedure (surroundings_for program input acts) (linked_code (code_for program))
-    (callee_of program v more (entered_at i (block_of_run program input acts valued (suc more) a) call p numbers)) p
+    (callee_in i more (block_of_run program input acts valued (suc more) a) call) p
     numbers (words_in (environment_for program i.head)) (has_all m o i call pass)
 
 -- ---- what stays as it is while variables are made
@@ -197,9 +220,9 @@ pub is_inside :
     {program : Y.Program} (m : Main program) {input : List ℕ} {acts : ℕ} {valued : Bool} {more blocks : ℕ}
     {a : Running} {p : Point} {numbers : ℕ → ℕ}
     (o : Moment m input acts valued (suc more) a blocks p numbers) {v : Bool} {level number : ℕ}
-    (i : Inner m a.head v level number) (call : ℕ) →
+    (i : Inner m a.head false v level number) (call : ℕ) →
     IsInside (block_of_run program input acts valued (suc more) a)
-    (callee_of program v more (entered_at i (block_of_run program input acts valued (suc more) a) call p numbers)) level
+    (callee_in i more (block_of_run program input acts valued (suc more) a) call) level
 is_inside {program} m o {v = v} i call =
     let level = (known program i.head i.body (result_of v) m.loadable.well_formed i.is).level in
     record {
@@ -218,7 +241,7 @@ nested_by :
     (v : Bool) {program : Y.Program} (m : Main program) {input : List ℕ} {acts : ℕ} {valued : Bool} {more b : ℕ}
     {a : Running} {p : Point} {numbers : ℕ → ℕ}
     (o : Moment m input acts valued (suc more) a (suc b) p numbers) {level number : ℕ}
-    (i : Inner m a.head v level number) (call : ℕ) →
+    (i : Inner m a.head false v level number) (call : ℕ) →
     DontPass (block_of_run program input acts valued (suc more) a) i →
     IsBegun (block_of_run program input acts v more
     (entered_at i (block_of_run program input acts valued (suc more) a) call p numbers)) →
@@ -227,12 +250,12 @@ nested_by :
 nested_by false {program} m {input} {acts} {valued} {more} {a = a} {p = p} {numbers = numbers} o {level} i call pass
     b' =
     let k = block_of_run program input acts valued (suc more) a in
-    procedure_nested k (callee_of program false more (entered_at i k call p numbers)) level (is_inside m o i call) p
+    procedure_nested k (callee_in i more k call) level (is_inside m o i call) p
     numbers o.among (are_made m o i call pass) b'
 nested_by true {program} m {input} {acts} {valued} {more} {a = a} {p = p} {numbers = numbers} o {level} i call pass
     b' =
     let k = block_of_run program input acts valued (suc more) a in
-    function_nested k (callee_of program true more (entered_at i k call p numbers)) level (is_inside m o i call) p
+    function_nested k (callee_in i more k call) level (is_inside m o i call) p
     numbers o.among (are_made m o i call pass) b'
 
 -- a variable of a block around is the one of the calling block
@@ -240,7 +263,7 @@ outer_by :
     (v : Bool) {program : Y.Program} (m : Main program) {input : List ℕ} {acts : ℕ} {valued : Bool} {more b : ℕ}
     {a : Running} {p : Point} {numbers : ℕ → ℕ}
     (o : Moment m input acts valued (suc more) a (suc b) p numbers) {level number : ℕ}
-    (i : Inner m a.head v level number) (call : ℕ) →
+    (i : Inner m a.head false v level number) (call : ℕ) →
     DontPass (block_of_run program input acts valued (suc more) a) i →
     IsBegun (block_of_run program input acts v more
     (entered_at i (block_of_run program input acts valued (suc more) a) call p numbers)) → (x : Spot) →
@@ -250,12 +273,12 @@ outer_by :
 outer_by false {program} m {input} {acts} {valued} {more} {a = a} {p = p} {numbers = numbers} o {level} i call pass
     b' x low is =
     let k = block_of_run program input acts valued (suc more) a in
-    procedure_number k (callee_of program false more (entered_at i k call p numbers)) level x (is_inside m o i call) low
+    procedure_number k (callee_in i more k call) level x (is_inside m o i call) low
     is p numbers o.among (are_made m o i call pass) b'
 outer_by true {program} m {input} {acts} {valued} {more} {a = a} {p = p} {numbers = numbers} o {level} i call pass
     b' x low is =
     let k = block_of_run program input acts valued (suc more) a in
-    function_number k (callee_of program true more (entered_at i k call p numbers)) level x (is_inside m o i call) low
+    function_number k (callee_in i more k call) level x (is_inside m o i call) low
     is p numbers o.among (are_made m o i call pass) b'
 
 -- one of its own stands in its frame
@@ -263,7 +286,7 @@ own_by :
     (v : Bool) {program : Y.Program} (m : Main program) {input : List ℕ} {acts : ℕ} {valued : Bool} {more b : ℕ}
     {a : Running} {p : Point} {numbers : ℕ → ℕ}
     (o : Moment m input acts valued (suc more) a (suc b) p numbers) {level number : ℕ}
-    (i : Inner m a.head v level number) (call : ℕ) →
+    (i : Inner m a.head false v level number) (call : ℕ) →
     DontPass (block_of_run program input acts valued (suc more) a) i →
     IsBegun (block_of_run program input acts v more
     (entered_at i (block_of_run program input acts valued (suc more) a) call p numbers)) → (x : Spot) →
@@ -275,14 +298,14 @@ own_by false {program} m {input} {acts} {valued} {more} {a = a} {p = p} {numbers
     plain =
     let k = block_of_run program input acts valued (suc more) a in
     own_word (surroundings_for program input acts) (linked_code (code_for program))
-    (callee_of program false more (entered_at i k call p numbers)) p p numbers x
+    (callee_in i more k call) p p numbers x
     (record { high = omega arith; inside = omega arith }) (has_words m o i call pass, has_all m o i call pass)
     (record { block = is.0; level = is.1; plain = plain }) b'
 own_by true {program} m {input} {acts} {valued} {more} {a = a} {p = p} {numbers = numbers} o i call pass b' x is
     plain =
     let k = block_of_run program input acts valued (suc more) a in
     function_word (surroundings_for program input acts) (linked_code (code_for program))
-    (callee_of program true more (entered_at i k call p numbers)) p p numbers x
+    (callee_in i more k call) p p numbers x
     (record { high = omega arith; inside = omega arith }) (has_words m o i call pass, has_all m o i call pass)
     (record { block = is.0; level = is.1; plain = plain }) b'
 
@@ -293,7 +316,7 @@ outer_array_by :
     (v : Bool) {program : Y.Program} (m : Main program) {input : List ℕ} {acts : ℕ} {valued : Bool} {more b : ℕ}
     {a : Running} {p : Point} {numbers : ℕ → ℕ}
     (o : Moment m input acts valued (suc more) a (suc b) p numbers) {level number : ℕ}
-    (i : Inner m a.head v level number) (call : ℕ) →
+    (i : Inner m a.head false v level number) (call : ℕ) →
     DontPass (block_of_run program input acts valued (suc more) a) i →
     IsBegun (block_of_run program input acts v more
     (entered_at i (block_of_run program input acts valued (suc more) a) call p numbers)) → (x : Spot) (s : Bounds) →
@@ -305,14 +328,14 @@ outer_array_by false {program} m {input} {acts} {valued} {more} {a = a} {p = p} 
     let k = block_of_run program input acts valued (suc more) a in
     let r = entered_at i k call p numbers in
     outer_array k (block_of_run program input acts false more r) x s
-    (λ d known'. procedure_known k (callee_of program false more r) level x d (is_inside m o i call) low known' p
+    (λ d known'. procedure_known k (callee_in i more k call) level x d (is_inside m o i call) low known' p
     numbers o.among (are_made m o i call pass) b') is
 outer_array_by true {program} m {input} {acts} {valued} {more} {a = a} {p = p} {numbers = numbers} o {level} i call
     pass b' x s low is =
     let k = block_of_run program input acts valued (suc more) a in
     let r = entered_at i k call p numbers in
     outer_array k (block_of_run program input acts true more r) x s
-    (λ d known'. function_known k (callee_of program true more r) level x d (is_inside m o i call) low known' p
+    (λ d known'. function_known k (callee_in i more k call) level x d (is_inside m o i call) low known' p
     numbers o.among (are_made m o i call pass) b') is
 
 -- one of its own stands in its frame
@@ -320,7 +343,7 @@ own_array_by :
     (v : Bool) {program : Y.Program} (m : Main program) {input : List ℕ} {acts : ℕ} {valued : Bool} {more b : ℕ}
     {a : Running} {p : Point} {numbers : ℕ → ℕ}
     (o : Moment m input acts valued (suc more) a (suc b) p numbers) {level number : ℕ}
-    (i : Inner m a.head v level number) (call : ℕ) →
+    (i : Inner m a.head false v level number) (call : ℕ) →
     DontPass (block_of_run program input acts valued (suc more) a) i →
     IsBegun (block_of_run program input acts v more
     (entered_at i (block_of_run program input acts valued (suc more) a) call p numbers)) → (x : Spot) →
@@ -333,33 +356,33 @@ own_array_by false {program} m {input} {acts} {valued} {more} {a = a} {p = p} {n
     array =
     let k = block_of_run program input acts valued (suc more) a in
     own_array (surroundings_for program input acts) (linked_code (code_for program))
-    (callee_of program false more (entered_at i k call p numbers)) p p numbers x
+    (callee_in i more k call) p p numbers x
     (record { high = omega arith; inside = omega arith }) (has_words m o i call pass, has_all m o i call pass)
     (record { block = is.0; level = is.1; array = array }) b'
 own_array_by true {program} m {input} {acts} {valued} {more} {a = a} {p = p} {numbers = numbers} o i call pass b' x is
     array =
     let k = block_of_run program input acts valued (suc more) a in
     function_array (surroundings_for program input acts) (linked_code (code_for program))
-    (callee_of program true more (entered_at i k call p numbers)) p p numbers x
+    (callee_in i more k call) p p numbers x
     (record { high = omega arith; inside = omega arith }) (has_words m o i call pass, has_all m o i call pass)
     (record { block = is.0; level = is.1; array = array }) b'
 
 -- ---- what it may name
 
 -- where the block that declares it stands: around the calling block too, or it is the block that is entered
-record StandsAt {program : Y.Program} {m : Main program} {caller : Y.BlockHead} {v : Bool} {level number : ℕ}
-    (i : Inner m caller v level number) (x : Spot) : Type 0
+pub record StandsAt {program : Y.Program} {m : Main program} {caller : Y.BlockHead} {g v : Bool} {level number : ℕ}
+    (i : Inner m caller g v level number) (x : Spot) : Type 0
   where
-    at :
+    pub at :
         ((x.level ≤ level)
         × (list_any (is_place x) (places_to (environment_for program caller) caller.level) ≡ true))
         ⊎ ((x.block ≡ i.head.number) × (x.level ≡ i.head.level))
 
-stands_at :
-    {program : Y.Program} {m : Main program} {caller : Y.BlockHead} {v : Bool} {level number : ℕ}
-    (i : Inner m caller v level number) (x : Spot) →
+pub stands_at :
+    {program : Y.Program} {m : Main program} {caller : Y.BlockHead} {g v : Bool} {level number : ℕ}
+    (i : Inner m caller g v level number) (x : Spot) →
     list_any (is_place x) (places_to (environment_for program i.head) i.head.level) ≡ true → StandsAt i x
-stands_at {program} {caller = caller} {v} {level} i x h =
+stands_at {program} {caller = caller} {v = v} {level = level} i x h =
     record { at = by (nat_le x.level level) refl }
   where
     there : (x.level ≤ i.head.level) × (x.block ≡ block_around (environment_for program i.head) x.level)
@@ -395,11 +418,11 @@ each_number :
     {program : Y.Program} (m : Main program) {input : List ℕ} {acts : ℕ} {valued : Bool} {more b : ℕ}
     {a : Running} {p : Point} {numbers : ℕ → ℕ}
     (o : Moment m input acts valued (suc more) a (suc b) p numbers) {v : Bool} {level number : ℕ}
-    (i : Inner m a.head v level number) (call : ℕ) →
+    (i : Inner m a.head false v level number) (call : ℕ) →
     DontPass (block_of_run program input acts valued (suc more) a) i →
     IsBegun (block_of_run program input acts v more
     (entered_at i (block_of_run program input acts valued (suc more) a) call p numbers)) → (x : Spot) →
-    is_known (scope_of program m.called i.head) x ≡ true →
+    is_known (scope_of program m.called i.head i.body) x ≡ true →
     IsNumber (block_of_run program input acts v more
     (entered_at i (block_of_run program input acts valued (suc more) a) call p numbers)) x
 each_number {program} m {input} {acts} {valued} {more} {b} {a} {p} {numbers} o {v} {level} i call pass b' x h =
@@ -429,11 +452,11 @@ each_array :
     {program : Y.Program} (m : Main program) {input : List ℕ} {acts : ℕ} {valued : Bool} {more b : ℕ}
     {a : Running} {p : Point} {numbers : ℕ → ℕ}
     (o : Moment m input acts valued (suc more) a (suc b) p numbers) {v : Bool} {level number : ℕ}
-    (i : Inner m a.head v level number) (call : ℕ) →
+    (i : Inner m a.head false v level number) (call : ℕ) →
     DontPass (block_of_run program input acts valued (suc more) a) i →
     IsBegun (block_of_run program input acts v more
     (entered_at i (block_of_run program input acts valued (suc more) a) call p numbers)) → (x : Spot) →
-    is_array_known (scope_of program m.called i.head) x ≡ true →
+    is_array_known (scope_of program m.called i.head i.body) x ≡ true →
     IsArray (block_of_run program input acts v more
     (entered_at i (block_of_run program input acts valued (suc more) a) call p numbers)) x
     (bounds_if (declared_variable program (variable_of x)))
@@ -466,7 +489,7 @@ pub unraised_there :
     {program : Y.Program} (m : Main program) {input : List ℕ} {acts : ℕ} {valued : Bool} {more blocks : ℕ}
     {a : Running} {p : Point} {numbers : ℕ → ℕ}
     (o : Moment m input acts valued (suc more) a blocks p numbers) {v : Bool} {level number : ℕ}
-    (i : Inner m a.head v level number) (call : ℕ) (c : Condition) →
+    (i : Inner m a.head false v level number) (call : ℕ) (c : Condition) →
     IsSystem (force (block_of_run program input acts v more
     (entered_at i (block_of_run program input acts valued (suc more) a) call p numbers)).first.state.activations c)
 unraised_there {program} m o i call c =
@@ -475,20 +498,42 @@ unraised_there {program} m o i call c =
 
 -- ---- all of it
 
+ends_by :
+    (v : Bool) → MarkedOnce → {program : Y.Program} (m : Main program) {caller : Y.BlockHead} {level number : ℕ}
+    (i : Inner m caller false v level number) →
+    IsEnd (links_for program) i.head.number (end_by v program i.head i.body)
+ends_by false once {program} m i = end_is once program i.head i.body m.loadable i.is
+ends_by true once {program} m i =
+    let inside = i.inside in
+    function_end_is once program i.head i.body 31 m.loadable i.is (omega (arith, inside))
+
+-- without a parameter it names none
+pub none_received :
+    (program : Y.Program) (ns : List ℕ) (head : Y.BlockHead) (body : Y.Stmts) (result : Option Y.LeafType) (x : Spot) →
+    IsProcedure program head body result → is_received (scope_of program ns head body) x ≡ true → ⊥
+none_received program ns head body result x is h =
+    let rest = (x.index == 0) && is_parameter_if (declared_variable program (parameter_of x)) in
+    let none = ap parameters_in is in
+    let some : (list_any (is_place x) (receivers_of program head) && rest) ≡ true = h in
+    cc (subst (λ qs.
+    (list_any (is_place x)
+    (if is_first_alone qs then record { number = head.number; level = head.level } ∷ [] else []) && rest) ≡ true) none
+    some)
+
 pub entered :
-    {program : Y.Program} (m : Main program) {input : List ℕ} {acts : ℕ} {valued : Bool} {more b : ℕ}
+    MarkedOnce → {program : Y.Program} (m : Main program) {input : List ℕ} {acts : ℕ} {valued : Bool} {more b : ℕ}
     {a : Running} {p : Point} {numbers : ℕ → ℕ} (o : Moment m input acts valued (suc more) a (suc b) p numbers)
-    {v : Bool} {level number : ℕ} (i : Inner m a.head v level number) (call : ℕ) →
+    {v : Bool} {level number : ℕ} (i : Inner m a.head false v level number) (call : ℕ) →
     DontPass (block_of_run program input acts valued (suc more) a) i →
     nat_lt (length (block_of_run program input acts valued (suc more) a).first.state.activations) most_activations
     ≡ true →
     IsBegun (block_of_run program input acts v more
     (entered_at i (block_of_run program input acts valued (suc more) a) call p numbers)) →
     IsEntered m input acts v more (entered_at i (block_of_run program input acts valued (suc more) a) call p numbers) b
-entered {program} m {input} {acts} {valued} {more} {b} {a} {p} {numbers} o {v} i call pass few b' =
+entered once {program} m {input} {acts} {valued} {more} {b} {a} {p} {numbers} o {v} i call pass few b' =
     let w = surroundings_for program input acts in
     let k = block_of_run program input acts valued (suc more) a in
-    let c = callee_of program v more (entered_at i k call p numbers) in
+    let c = callee_in i more k call in
     let φ = layer_for w p numbers c.procedure c.calling in
     let start = begun_at w c p numbers in
     let ds = variables_of_block program i.head.number in
@@ -505,13 +550,14 @@ entered {program} m {input} {acts} {valued} {more} {b} {a} {p} {numbers} o {v} i
     let deep = o.running.depth.all in
     let begun' = begun_room m o i c refl pass in
     let e = environment_for program i.head in
-    let plain = (block_plain program.variables i.head.number m.plain).plain in
+    let plain = i.own in
     let room = room_behind w start φ p.control.layers e first 0 0 ds plain begun' in
     let f = free_among (suc b) o.running.begun o.among o.running.free in
     let words = inner_set m i in
     let waiting = i.waiting in
     let level = (known program i.head i.body (result_of v) m.loadable.well_formed i.is).level in
     let used = f.used in
+    let under = f.under in
     let fits = f.fits in
     let top = ap (λ ls. upper_top image_parts ls) f.newest in
     let low = ap (λ ls. lower_end image_parts ls) f.newest in
@@ -523,7 +569,13 @@ entered {program} m {input} {acts} {valued} {more} {b} {a} {p} {numbers} o {v} i
     (record { activation = _; below = _; active = refl; some = omega arith }) in
     record {
       running = record {
-        is = i.is;
+        own = own_block program i.head i.body (result_of v) i.is;
+        shallow = omega (arith, level);
+        kind = refl;
+        level = refl;
+        saved = omega arith;
+        ends = ends_by v once m i;
+        placed = body_placed once program i.head i.body (result_of v) m.loadable i.is;
         statements = i.statements;
         fits = i.fits;
         waiting = i.waiting;
@@ -532,6 +584,7 @@ entered {program} m {input} {acts} {valued} {more} {b} {a} {p} {numbers} o {v} i
         nested = nested_by v m o i call pass b';
         variables = λ x h. each_number m o i call pass b' x h;
         arrays = λ x h. each_array m o i call pass b' x h;
+        parameters = λ x h. absurd (none_received program m.called i.head i.body (result_of v) x i.is h);
         unraised = λ condition. unraised_there m o i call condition;
         idle = made_idle φ xs start;
         told = called_of_program program k (block_of_run program input acts v more (entered_at i k call p numbers))
@@ -541,6 +594,7 @@ entered {program} m {input} {acts} {valued} {more} {b} {a} {p} {numbers} o {v} i
           below = _;
           newest = room.newest;
           even = room.even;
+          under = omega (arith, lower, low, under);
           low = room.low;
           used = omega (arith, counts, limit);
           fits = omega (arith, words, waiting, level, fits, top, low, place, at, lower, counts);
@@ -552,5 +606,5 @@ entered {program} m {input} {acts} {valued} {more} {b} {a} {p} {numbers} o {v} i
         };
       };
       words = after_words serial φ xs ∙ inner_set m i;
-      clear = λ n. ap (λ waits. waits n) (after_waits serial φ xs);
+      clear = ap (λ waits. with_waits waits (layer_after image_parts serial φ xs)) (sym (after_waits serial φ xs));
     }

@@ -1,5 +1,5 @@
 -- What is called where its variables pass the limit on what is AUTOMATIC: making them ends the run.
-use Rattle.std.proofs.Common.{◌≡◌, ℕ, suc, ◌+◌, ◌^◌, ◌<◌, List, length, Bool, refl, ap, ◌∙◌, subst, arith}
+use Rattle.std.proofs.Common.{◌≡◌, ℕ, suc, ◌+◌, ◌^◌, ◌<◌, List, length, Bool, false, refl, ap, ◌∙◌, subst, arith}
 use Rattle.pli_typing.specs.TypedTree as Y
 use Rattle.pli_meaning.specs.DeclaredShapes.{variables_of_block}
 use Rattle.pli_meaning.specs.Executing as M
@@ -21,28 +21,28 @@ use Rattle.program_runs.specs.Starts.{image_parts}
 use Rattle.nested_calls.specs.FullVariables.{AreFull}
 use Rattle.number_runs.specs.Variables.{bytes_of}
 use Rattle.number_runs.proofs.Words.{places_are, words_code}
-use Rattle.number_headlines.proofs.Entered.{Moment, entered_at, inner_set}
+use Rattle.number_headlines.proofs.Entered.{Moment, callee_in, inner_set}
 use Rattle.number_headlines.proofs.FullWords.{words_over}
 use Rattle.number_headlines.proofs.Inner.{Inner}
 use Rattle.number_headlines.proofs.Mains.{Main, result_of, surroundings_for}
-use Rattle.number_headlines.proofs.Running.{Running, block_of_run, callee_of, free_among, table_later}
-use Rattle.number_headlines.proofs.Tables.{block_plain}
+use Rattle.number_headlines.proofs.Running.{Running, block_of_run, free_among, table_later}
+use Rattle.number_headlines.proofs.Tables.{plain_block}
 
 pub are_full :
     {program : Y.Program} (m : Main program) {input : List ℕ} {acts : ℕ} {valued : Bool} {more b : ℕ}
     {a : Running} {p : Point} {numbers : ℕ → ℕ} (o : Moment m input acts valued (suc more) a (suc b) p numbers)
-    {v : Bool} {level number : ℕ} (i : Inner m a.head v level number) (call : ℕ) → acts + 1 < 2 ^ 64 →
+    {v : Bool} {level number : ℕ} (i : Inner m a.head false v level number) (call : ℕ) → acts + 1 < 2 ^ 64 →
     most_automatic < automatic_in_use (block_of_run program input acts valued (suc more) a).first.state.living
     + bytes_of (variables_of_block program i.head.number) →
     AreFull (surroundings_for program input acts) (linked_code (code_for program))
-    (callee_of program v more (entered_at i (block_of_run program input acts valued (suc more) a) call p numbers)) p
+    (callee_in i more (block_of_run program input acts valued (suc more) a) call) p
     numbers
 unfolding M.block_variables_made
 are_full {program} m {input} {acts} {valued} {more} {b} {a} {p} {numbers} o {v} i call few past =
     let w = surroundings_for program input acts in
     let code = linked_code (code_for program) in
     let k = block_of_run program input acts valued (suc more) a in
-    let c = callee_of program v more (entered_at i k call p numbers) in
+    let c = callee_in i more k call in
     let e = environment_for program i.head in
     let head = i.head in
     let φ = layer_for w p numbers c.procedure c.calling in
@@ -50,7 +50,7 @@ are_full {program} m {input} {acts} {valued} {more} {b} {a} {p} {numbers} o {v} 
     let ds = variables_of_block program i.head.number in
     let first = fixed_size i.head.level 0 in
     let around = at_line c.around head.line in
-    let plain = block_plain program.variables i.head.number m.plain in
+    let plain = plain_block program.variables i.head.number m.known i.own in
     let count = plain.room in
     let is = known program i.head i.body (result_of v) m.loadable.well_formed i.is in
     let kind = is.kind in

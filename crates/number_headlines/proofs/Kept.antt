@@ -18,15 +18,18 @@ use Rattle.pli_coding.specs.Images.{linked_code, picture_of}
 use Rattle.code_marks.specs.CodeMarks.{MarkedOnce}
 use Rattle.pli_coding.specs.SignatureTable.{table_of}
 use Rattle.storage_relation.specs.ServiceLaws.{TableDiffers}
+use Rattle.activation_relation.specs.FrameLaws.{with_waits}
 use Rattle.activation_relation.specs.Layers.{Layer, Point}
 use Rattle.program_places.specs.Constants.{constants_in}
 use Rattle.program_places.specs.Programs.{IsLoadable, behind_body, body_for, code_for, entry_for, environment_for}
 use Rattle.program_places.specs.Programs.{procedure_for}
 use Rattle.program_places.proofs.Blocks.{own_block}
+use Rattle.program_places.proofs.Callees.{end_is}
 use Rattle.program_places.proofs.Memory.{first_length}
+use Rattle.program_places.proofs.Procedures.{body_placed}
 use Rattle.program_places.proofs.Starts.{main_found, whole_stands}
 use Rattle.program_runs.specs.Calls.{left_over}
-use Rattle.program_runs.specs.Starts.{call_index, image_parts, no_numbers}
+use Rattle.program_runs.specs.Starts.{image_parts, no_numbers}
 use Rattle.program_runs.specs.Statements.{EachDoes, IsBegun}
 use Rattle.program_runs.specs.Variables.{Declared, generation_for}
 use Rattle.expression_runs.specs.Variables.{IsNumber, Spot, variable_of}
@@ -42,9 +45,9 @@ use Rattle.number_runs.specs.Numbers.{is_array_known, is_known, is_place, is_pla
 use Rattle.number_runs.specs.Variables.{words_in}
 use Rattle.number_runs.proofs.Words.{room_behind}
 use Rattle.number_headlines.specs.Headlines.{IsNumberProgram}
-use Rattle.number_headlines.specs.Programs.{are_all_plain, has_main, most_words, places_to, scope_of}
+use Rattle.number_headlines.specs.Programs.{are_all_known, has_main, places_to, scope_of, serials_for}
 use Rattle.number_headlines.proofs.Bodies.{each_body}
-use Rattle.number_headlines.proofs.Entered.{made_idle}
+use Rattle.number_headlines.proofs.Entered.{made_idle, none_received}
 use Rattle.number_headlines.proofs.FullWords.{words_at, words_count, words_lower}
 use Rattle.number_headlines.proofs.Mains.{Main, block_for, level_of, made_for, made_system, main_all, main_begun}
 use Rattle.number_headlines.proofs.Loops.{after_waits, after_words}
@@ -53,22 +56,15 @@ use Rattle.number_headlines.proofs.Mains.{main_is, main_layer, main_number, main
 use Rattle.number_headlines.proofs.Mains.{placed, run_for}
 use Rattle.number_headlines.proofs.Mains.{spare, start_for, surroundings_for}
 use Rattle.number_headlines.proofs.Places.{around_is}
-use Rattle.number_headlines.proofs.Running.{IsEntered, Running, table_later}
-use Rattle.number_headlines.proofs.Tables.{block_plain, has_start, has_table}
+use Rattle.number_headlines.proofs.Running.{IsEntered, Running, run_of, table_later}
+use Rattle.number_headlines.proofs.Tables.{has_start, has_table, plain_block}
 
 -- ---- the main procedure as the first block that runs
 
 abbrev main_run : {program : Y.Program} → Main program → (input : List ℕ) → (acts : ℕ) → Running
 main_run {program} m input acts =
-    record {
-      head = m.head;
-      body = m.body;
-      parent = 0;
-      call = call_index;
-      point = start_for program input acts;
-      numbers = no_numbers;
-      layers = λ ls. ls;
-    }
+    run_of false (surroundings_for program input acts) (main_for m input acts) (body_for program m.head m.body)
+    (start_for program input acts) no_numbers
 
 -- the one activation, with the variables that it has by then
 abbrev lone : (level : ℕ) → List Binding → List Activation
@@ -143,7 +139,7 @@ main_owns {program} m x h =
 
 main_variable :
     {program : Y.Program} (m : Main program) (input : List ℕ) (acts : ℕ) → IsBegun (block_for m input acts) →
-    (x : Spot) → is_known (scope_of program m.called m.head) x ≡ true → IsNumber (block_for m input acts) x
+    (x : Spot) → is_known (scope_of program m.called m.head m.body) x ≡ true → IsNumber (block_for m input acts) x
 main_variable {program} m input acts b x h =
     let plain = is_plain_if (declared_variable program (variable_of x)) in
     let a = and_parts (list_any (is_place x) (places_to (environment_for program m.head) m.head.level)) plain h in
@@ -152,7 +148,7 @@ main_variable {program} m input acts b x h =
 
 main_element :
     {program : Y.Program} (m : Main program) (input : List ℕ) (acts : ℕ) → IsBegun (block_for m input acts) →
-    (x : Spot) → is_array_known (scope_of program m.called m.head) x ≡ true →
+    (x : Spot) → is_array_known (scope_of program m.called m.head m.body) x ≡ true →
     IsArray (block_for m input acts) x (bounds_if (declared_variable program (variable_of x)))
 main_element {program} m input acts b x h =
     let array = is_array_if (declared_variable program (variable_of x)) in
@@ -161,9 +157,10 @@ main_element {program} m input acts b x h =
     main_array m input acts x (record { block = own.0; level = own.1; array = a.1 }) b
 
 main_running :
-    {program : Y.Program} (m : Main program) (input : List ℕ) (acts : ℕ) → IsBegun (block_for m input acts) →
+    MarkedOnce → {program : Y.Program} (m : Main program) (input : List ℕ) (acts : ℕ) →
+    IsBegun (block_for m input acts) →
     IsEntered m input acts false acts (main_run m input acts) most_activations
-main_running {program} m input acts b =
+main_running once {program} m input acts b =
     let w = surroundings_for program input acts in
     let start = main_begun m input acts in
     let φ = main_layer m input acts in
@@ -176,7 +173,7 @@ main_running {program} m input acts b =
     let e = environment_for program m.head in
     let spot = fixed_size m.head.level 0 in
     let spared = main_spare m input acts in
-    let plain = block_plain program.variables m.head.number m.plain in
+    let plain = plain_block program.variables m.head.number m.known m.own in
     let room = room_behind w start φ [] e spot 0 spare ds plain.plain spared in
     let place = room.here in
     let lower = words_lower image_parts (start.state.serials + 1) φ xs in
@@ -187,9 +184,16 @@ main_running {program} m input acts b =
     let level = level_of m in
     let words = own_words m in
     let waiting = m.waiting in
+    let found = main_found program (placed m) m.main in
     record {
       running = record {
-        is = main_found program (placed m) m.main;
+        own = own_block program m.head m.body None found;
+        shallow = omega (arith, level);
+        kind = refl;
+        level = refl;
+        saved = omega arith;
+        ends = end_is once program m.head m.body m.loadable found;
+        placed = body_placed once program m.head m.body None m.loadable found;
         statements = m.statements;
         fits = m.fits;
         waiting = m.waiting;
@@ -198,6 +202,7 @@ main_running {program} m input acts b =
         nested = main_nested m input acts;
         variables = λ x h. main_variable m input acts b x h;
         arrays = λ x h. main_element m input acts b x h;
+        parameters = λ x h. absurd (none_received program m.called m.head m.body None x found h);
         unraised = λ c. made_system image_parts _ xs _ c tt;
         idle = made_idle φ xs start;
         told = main_told m input acts b;
@@ -206,15 +211,16 @@ main_running {program} m input acts b =
           below = _;
           newest = room.newest;
           even = room.even;
+          under = omega (arith, lower);
           low = room.low;
           used = omega (arith, counts, few);
           fits = omega (arith, words, waiting, level, place, at, lower, counts);
         };
-        tabled = table_later program b.remains (λ head. has_table program head m.plain);
+        tabled = table_later program b.remains (λ head. has_table program head m.known);
         depth = record { some = omega arith; all = omega (arith, long) };
       };
       words = after_words serial φ xs ∙ own_words m;
-      clear = λ n. ap (λ waits. waits n) (after_waits serial φ xs);
+      clear = ap (λ waits. with_waits waits (layer_after image_parts serial φ xs)) (sym (after_waits serial φ xs));
     }
 
 main_each :
@@ -222,8 +228,8 @@ main_each :
     IsBegun (block_for m input acts) →
     EachDoes (block_for m input acts) (labels_in m.body ++ []) m.body (body_for program m.head m.body) left_over
 main_each once {program} m input acts few b =
-    each_body once m input acts few acts false (main_run m input acts) most_activations (λ e. absurd (cc e))
-    (main_running m input acts b)
+    each_body once m input acts few acts false (main_run m input acts) most_activations
+    (main_running once m input acts b)
 
 -- ---- the whole
 
@@ -237,7 +243,7 @@ layout_for {program} m =
       end = behind_body program m.head m.body;
       units = [];
       constants = constants_in (code_for program);
-      serials = most_words;
+      serials = serials_for program;
       made = made_for program m.head;
     }
 
@@ -247,8 +253,8 @@ program_runs :
 program_runs once tables {program} m fits =
     record {
       whole = λ input acts few.
-          whole_stands once tables program (placed m) (run_for input acts) (made_for program m.head)
-          (first_bytes (picture_of parts program)) m.loadable (has_start program m.plain) m.main
+          whole_stands once tables program (placed m) (run_for program input acts) (made_for program m.head)
+          (first_bytes (picture_of parts program)) m.loadable (has_start program m.known) m.main
           (first_length (picture_of parts program) m.loadable.fits fits.statics_fit)
           (constants_stand (code_for program) fits) few
           (all_procedure (surroundings_for program input acts) (linked_code (code_for program))
@@ -264,7 +270,7 @@ pub headline_kept :
     FitsMemory (picture_of parts program) →
     Headline program (picture_of parts program) (table_of program)
 headline_kept once tables kept program h fits =
-    let a = and_parts (are_all_plain program.variables) (has_main program program.procedures) h.numbers in
+    let a = and_parts (are_all_known program.variables) (has_main program program.procedures) h.numbers in
     let load : IsLoadable program = record { well_formed = h.well_formed; fits = fits.code_fits } in
     let m = main_is program program.procedures refl a.0 load fits a.1 in
     kept program (layout_for m) (program_runs once tables m fits)

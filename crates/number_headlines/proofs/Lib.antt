@@ -8,6 +8,10 @@ pub mod Inner
 pub mod FullWords
 pub mod Entered
 pub mod Full
+pub mod GivenPlaces
+pub mod GivenEntered
+pub mod Deciding
+pub mod GivenBodies
 pub mod Bodies
 pub mod Kept
 pub mod Rows
@@ -16,3 +20,4 @@ pub mod CountRows
 pub mod NestRows
 pub mod PutRows
 pub mod ArrayRows
+pub mod GivenRows

@@ -1,9 +1,8 @@
 -- The main procedure of a program of the class where it begins: its variables are made, and there is room for more.
-use Rattle.std.proofs.Common.{◌≡◌, ℕ, ◌+◌, ◌*◌, ◌≤◌, List, [], ◌∷◌, ◌++◌, Option, None, Some}
-use Rattle.std.proofs.Common.{true, false}
-use Rattle.std.proofs.Common.{length, refl, sym, ap, ◌∙◌, subst, arith}
+use Rattle.std.proofs.Common.{◌≡◌, ℕ, ◌+◌, ◌*◌, ◌≤◌, List, [], ◌∷◌, ◌++◌, Option, None, Some, true, false, length, refl}
+use Rattle.std.proofs.Common.{sym, ap, ◌∙◌, subst, arith}
 use Rattle.std.specs.Prelude.{◌&&◌, Bool, nat_le}
-use Rattle.std.proofs.lemmas.Bool.{and_parts, leb-true}
+use Rattle.std.proofs.lemmas.Bool.{and_parts, eqb-true, leb-true}
 use Rattle.pli_language.specs.declared.condition.Condition.{Condition}
 use Rattle.pli_typing.specs.TypedTree as Y
 use Rattle.pli_meaning.specs.DeclaredShapes.{head_of, variables_of_block}
@@ -17,8 +16,8 @@ use Rattle.pli_coding.specs.Registers.{held_registers}
 use Rattle.activation_relation.specs.Chains.{HasParent}
 use Rattle.activation_relation.specs.Layers.{Layer, Point}
 use Rattle.activation_relation.specs.ServiceLaws.{IsSystem}
-use Rattle.program_places.specs.Programs.{IsLoadable, IsMain, Run, code_for, environment_for, image_for}
-use Rattle.program_places.specs.Programs.{procedure_for, whole_for}
+use Rattle.program_places.specs.Programs.{IsLoadable, IsMain, Run, code_for, environment_for, image_for, procedure_for}
+use Rattle.program_places.specs.Programs.{whole_for}
 use Rattle.program_places.specs.Programs as Placed
 use Rattle.program_places.proofs.Found.{known}
 use Rattle.program_places.proofs.Starts.{main_found}
@@ -38,13 +37,14 @@ use Rattle.block_headlines.proofs.Constants.{main_of_program}
 use Rattle.element_runs.specs.Arrays.{IsArray}
 use Rattle.number_runs.specs.Numbers.{has_none}
 use Rattle.number_runs.specs.Statements.{are_statements, statements_need, statements_set}
-use Rattle.number_runs.specs.Variables.{HasWords, HaveRoom, IsOwnArray, IsOwnWord, bytes_of, own_bounds, words_in}
-use Rattle.number_runs.proofs.Takes.{words_set}
+use Rattle.number_runs.specs.Variables.{HasWords, HaveRoom, IsOwnArray, IsOwnWord, are_plain, bytes_of, own_bounds}
+use Rattle.number_runs.specs.Variables.{words_in}
+use Rattle.number_runs.proofs.Takes.{plain_known, words_set}
 use Rattle.number_runs.proofs.Words.{all_words, own_array, own_word, room_fewer}
 use Rattle.number_runs.proofs.Variables.{fixed_is}
-use Rattle.number_headlines.specs.Programs.{are_all_plain, are_inner, body_of, callable_ones, has_main, has_result}
-use Rattle.number_headlines.specs.Programs.{is_body, most_bytes, most_waiting, most_words, scope_of}
-use Rattle.number_headlines.proofs.Tables.{block_plain, has_table}
+use Rattle.number_headlines.specs.Programs.{are_all_known, are_inner, body_of, callable_ones, has_main, has_parameters}
+use Rattle.number_headlines.specs.Programs.{has_result, is_body, most_bytes, most_waiting, scope_of, serials_for}
+use Rattle.number_headlines.proofs.Tables.{has_table, plain_block, serials_enough}
 
 -- ---- no unit comes with variables
 
@@ -88,17 +88,38 @@ result_is true (Some t) h = ap (λ u. Some u) (fixed_is t h)
 block_is : (b : Y.Block) → b ≡ Y.BlockOf (head_of b) (body_of b)
 block_is (Y.BlockOf head body) = refl
 
-pub procedure_is :
-    (valued : Bool) (p : Y.Procedure) → has_none p.parameters ≡ true → has_result valued p.result ≡ true →
-    p ≡ record { block = Y.BlockOf (head_of p.block) (body_of p.block); parameters = []; result = result_of valued }
-procedure_is valued p h g =
+abbrev pub parameters_by : (given : Bool) → List ℕ
+parameters_by false = []
+parameters_by true = 0 ∷ []
+
+parameters_are : (given : Bool) (ns : List ℕ) → has_parameters given ns ≡ true → ns ≡ parameters_by given
+parameters_are false ns h = none_of ns h
+parameters_are true [] h = absurd (cc h)
+parameters_are true (n ∷ []) h = ap (λ i. i ∷ []) (eqb-true n 0 h)
+parameters_are true (n ∷ i ∷ ns) h = absurd (cc h)
+
+pub received_is :
+    (given valued : Bool) (p : Y.Procedure) → has_parameters given p.parameters ≡ true →
+    has_result valued p.result ≡ true →
+    p
+    ≡ record {
+      block = Y.BlockOf (head_of p.block) (body_of p.block);
+      parameters = parameters_by given;
+      result = result_of valued;
+    }
+received_is given valued p h g =
     let head = head_of p.block in
     let body = body_of p.block in
     ap (λ x. record p { block = x }) (block_is p.block)
-    ∙ ap (λ x. record p { block = Y.BlockOf head body; parameters = x }) (none_of p.parameters h)
+    ∙ ap (λ x. record p { block = Y.BlockOf head body; parameters = x }) (parameters_are given p.parameters h)
     ∙ ap (λ (x : Option Y.LeafType).
-    let q : Y.Procedure = record { block = Y.BlockOf head body; parameters = []; result = x } in q)
+    let q : Y.Procedure = record { block = Y.BlockOf head body; parameters = parameters_by given; result = x } in q)
     (result_is valued p.result g)
+
+pub procedure_is :
+    (valued : Bool) (p : Y.Procedure) → has_none p.parameters ≡ true → has_result valued p.result ≡ true →
+    p ≡ record { block = Y.BlockOf (head_of p.block) (body_of p.block); parameters = []; result = result_of valued }
+procedure_is valued p h g = received_is false valued p h g
 
 -- its program, with what the class says of it
 pub record Main (program : Y.Program) : Type 0 where
@@ -106,12 +127,13 @@ pub record Main (program : Y.Program) : Type 0 where
   pub body : Y.Stmts
   pub others : List Y.Procedure
   pub main : IsMain program (record { head = head; body = body; others = others })
-  pub plain : are_all_plain program.variables ≡ true
+  pub known : are_all_known program.variables ≡ true
+  pub own : are_plain (variables_of_block program head.number) ≡ true
   pub loadable : IsLoadable program
   pub memory : FitsMemory (picture_of parts program)
   -- the numbers of the procedures that it calls, and that they call
   pub called : List ℕ
-  pub statements : are_statements (scope_of program called head) false (labels_in body ++ []) body ≡ true
+  pub statements : are_statements (scope_of program called head body) false (labels_in body ++ []) body ≡ true
   pub fits : statements_need body ≤ held_registers
   pub waiting : statements_set body ≤ most_waiting
   pub inners : are_inner program called called ≡ true
@@ -122,18 +144,21 @@ placed m = record { head = m.head; body = m.body; others = m.others }
 
 pub main_is :
     (program : Y.Program) (ps : List Y.Procedure) → program.procedures ≡ ps →
-    are_all_plain program.variables ≡ true → IsLoadable program → FitsMemory (picture_of parts program) →
+    are_all_known program.variables ≡ true → IsLoadable program → FitsMemory (picture_of parts program) →
     has_main program ps ≡ true → Main program
-main_is program [] e plain load fits h = absurd (cc h)
-main_is program (p ∷ ps) e plain load fits h =
+main_is program [] e known load fits h = absurd (cc h)
+main_is program (p ∷ ps) e known load fits h =
     let head = head_of p.block in
     let body = body_of p.block in
     let called = callable_ones program in
-    let s = scope_of program called head in
+    let s = scope_of program called head body in
+    let plain = are_plain (variables_of_block program head.number) in
     let all = are_inner program called called in
-    let a = and_parts (has_none p.parameters) (has_result false p.result && (is_body s false body && all)) h in
-    let b = and_parts (has_result false p.result) (is_body s false body && all) a.1 in
-    let c = and_parts (is_body s false body) all b.1 in
+    let a = and_parts (has_none p.parameters) (has_result false p.result && (plain && (is_body s false body && all))) h
+    in
+    let b = and_parts (has_result false p.result) (plain && (is_body s false body && all)) a.1 in
+    let d = and_parts plain (is_body s false body && all) b.1 in
+    let c = and_parts (is_body s false body) all d.1 in
     let f = and_parts (are_statements s false (labels_in body ++ []) body)
     (nat_le (statements_need body) held_registers && nat_le (statements_set body) most_waiting) c.0 in
     let g = and_parts (nat_le (statements_need body) held_registers) (nat_le (statements_set body) most_waiting) f.1 in
@@ -142,7 +167,8 @@ main_is program (p ∷ ps) e plain load fits h =
       body = body;
       others = ps;
       main = e ∙ ap (λ x. x ∷ ps) (procedure_is false p a.0 b.0);
-      plain = plain;
+      known = known;
+      own = d.0;
       loadable = load;
       memory = fits;
       called = called;
@@ -154,21 +180,21 @@ main_is program (p ∷ ps) e plain load fits h =
 
 -- ---- in a run
 
-abbrev pub run_for : (input : List ℕ) → (acts : ℕ) → Run
-run_for input acts = record { units = []; input = input; acts = acts; serials = most_words }
+abbrev pub run_for : Y.Program → (input : List ℕ) → (acts : ℕ) → Run
+run_for program input acts = record { units = []; input = input; acts = acts; serials = serials_for program }
 
 abbrev pub made_for : Y.Program → Y.BlockHead → Point → Point
 made_for program head = newest_all image_parts (words_in (environment_for program head))
 
 abbrev pub surroundings_for : Y.Program → (input : List ℕ) → (acts : ℕ) → Surroundings
-surroundings_for program input acts = surroundings_of (image_for program (run_for input acts))
+surroundings_for program input acts = surroundings_of (image_for program (run_for program input acts))
 
 abbrev pub start_for : Y.Program → (input : List ℕ) → (acts : ℕ) → Point
-start_for program input acts = start_point (image_for program (run_for input acts))
+start_for program input acts = start_point (image_for program (run_for program input acts))
 
 abbrev pub main_for : {program : Y.Program} → Main program → (input : List ℕ) → (acts : ℕ) → Callee
 main_for {program} m input acts =
-    main_of (whole_for program (placed m) (run_for input acts) (made_for program m.head))
+    main_of (whole_for program (placed m) (run_for program input acts) (made_for program m.head))
 
 pub level_of : {program : Y.Program} (m : Main program) → m.head.level ≡ 0
 level_of {program} m = (subst HasMain m.main m.loadable.well_formed.main).0
@@ -176,9 +202,9 @@ level_of {program} m = (subst HasMain m.main m.loadable.well_formed.main).0
 pub own_words :
     {program : Y.Program} (m : Main program) → (procedure_for program m.head m.body).words ≡ statements_set m.body
 own_words {program} m =
-    let plain = block_plain program.variables m.head.number m.plain in
-    words_set (scope_of program m.called m.head) false (environment_for program m.head) m.head.number m.body
-    plain.plain m.statements m.fits
+    let plain = plain_block program.variables m.head.number m.known m.own in
+    words_set (scope_of program m.called m.head m.body) false (environment_for program m.head) m.head.number m.body
+    (plain_known (variables_of_block program m.head.number) plain.plain) m.statements m.fits
 
 parented : (level parent : ℕ) → level ≡ 0 → HasParent level parent []
 parented level parent e = subst (λ n. HasParent n parent []) (sym e) tt
@@ -224,7 +250,7 @@ main_spare {program} m input acts =
     let words = own_words m in
     let waiting = m.waiting in
     let level = level_of m in
-    let few = (block_plain program.variables m.head.number m.plain).room in
+    let few = (plain_block program.variables m.head.number m.known m.own).room in
     let code = m.loadable.fits in
     record {
       newest = refl;
@@ -244,7 +270,7 @@ pub main_words :
 main_words {program} m input acts =
     let found = main_found program (placed m) m.main in
     let kind = (known program m.head m.body None m.loadable.well_formed found).kind in
-    let plain = block_plain program.variables m.head.number m.plain in
+    let plain = plain_block program.variables m.head.number m.known m.own in
     let n = bytes_of (variables_of_block program m.head.number) in
     record {
       kind = kind;
@@ -256,8 +282,8 @@ main_words {program} m input acts =
       bare = ap parameters_in found;
       made = refl;
       plain = plain.plain;
-      few = plain.few;
-      tabled = has_table program m.head m.plain;
+      few = serials_enough program m.head.number m.known;
+      tabled = has_table program m.head m.known;
       room = room_fewer (surroundings_for program input acts) (main_begun m input acts)
           (main_layer m input acts) [] (fixed_size m.head.level 0) n (n + spare) (omega arith)
           (main_spare m input acts);
@@ -306,4 +332,4 @@ pub main_told :
     {program : Y.Program} (m : Main program) (input : List ℕ) (acts : ℕ) → IsBegun (block_for m input acts) →
     IsOf program (block_for m input acts)
 main_told {program} m input acts b =
-    main_of_program program (run_for input acts) (block_for m input acts) refl refl refl b
+    main_of_program program (run_for program input acts) (block_for m input acts) refl refl refl b

@@ -1,22 +1,21 @@
 -- A block of a program of the class where it runs: what is known at its first statement.
-use Rattle.std.proofs.Common.{◌≡◌, ℕ, suc, ◌+◌, ◌*◌, ◌%◌, ◌<◌, ◌≤◌, List, [], ◌∷◌, ◌++◌, length, Option, None}
-use Rattle.std.proofs.Common.{Some, Bool, true, false, refl, sym, ◌∙◌, subst, arith}
-use Rattle.rv_meaning.specs.declared.instr.Instr.{Instr}
+use Rattle.std.proofs.Common.{◌≡◌, ℕ, suc, ◌+◌, ◌*◌, ◌%◌, ◌<◌, ◌≤◌, List, [], ◌∷◌, ◌++◌, length, Option, None, Some}
+use Rattle.std.proofs.Common.{Bool, true, false, refl, sym, ◌∙◌, subst, arith}
 use Rattle.pli_language.specs.declared.condition.Condition.{Condition}
 use Rattle.pli_typing.specs.Signatures.{Fixed}
 use Rattle.pli_typing.specs.TypedTree as Y
 use Rattle.pli_meaning.specs.DeclaredShapes.{shape_of, variables_of_block}
 use Rattle.pli_meaning.specs.Executing.{begun, entered, labels_in}
-use Rattle.pli_meaning.specs.Raising.{Entry, at_line}
+use Rattle.pli_meaning.specs.Raising.{Around, Entry, at_line}
 use Rattle.pli_meaning.specs.StorageState.{automatic_in_use, force, most_activations, most_automatic}
-use Rattle.pli_coding.specs.Assembly.{size_of}
-use Rattle.pli_coding.specs.Environments.{Environment}
+use Rattle.pli_coding.specs.Environments.{Environment, block_around, none_taken}
 use Rattle.pli_coding.specs.Frames.{result}
 use Rattle.pli_coding.specs.Images.{linked_code}
 use Rattle.pli_coding.specs.Locating.{table_number}
-use Rattle.pli_coding.specs.Procedures.{no_value}
 use Rattle.pli_coding.specs.Registers.{held_registers}
+use Rattle.pli_coding.specs.Statements.{stmts_code}
 use Rattle.activation_relation.specs.FrameLaws.{with_waits}
+use Rattle.activation_relation.specs.Landing.{is_begin}
 use Rattle.activation_relation.specs.Layers.{Layer, Point}
 use Rattle.activation_relation.specs.Points.{Surroundings}
 use Rattle.activation_relation.specs.Remaining.{Remains}
@@ -25,22 +24,27 @@ use Rattle.activation_relation.proofs.Returning.{in_use_later}
 use Rattle.activation_relation.proofs.Remaining.{shapes_remain}
 use Rattle.block_runs.specs.Bodies.{Function}
 use Rattle.block_runs.specs.Machines.{acted}
-use Rattle.program_places.specs.Programs.{IsProcedure, Site, behind_body, callee_at, code_for, environment_for}
-use Rattle.program_runs.specs.Calls.{Callee, begun_at}
+use Rattle.program_places.specs.Laws.{IsEnd}
+use Rattle.program_places.specs.Placed.{Placed}
+use Rattle.program_places.specs.Programs.{code_for, entry_for, environment_for, links_for, procedure_for}
+use Rattle.program_runs.specs.Calls.{Callee, begun_at, left_over}
 use Rattle.program_runs.specs.Procedures.{Procedure, block_of, layer_for}
-use Rattle.program_runs.specs.Statements.{Block, IsAmong, IsBegun}
+use Rattle.program_runs.specs.Statements.{Block, EachDoes, IsAmong, IsBegun}
 use Rattle.expression_runs.specs.Variables.{IsNumber, Spot}
 use Rattle.element_runs.specs.Arrays.{IsArray}
 use Rattle.function_runs.specs.Functions.{function_entry}
+use Rattle.argument_runs.specs.Parameters.{IsParameter}
 use Rattle.counter_runs.proofs.Known.{array_told, number_told}
 use Rattle.counter_runs.proofs.Words.{begun_telling}
 use Rattle.block_headlines.specs.Constants.{IsOf}
 use Rattle.nested_calls.specs.Nested.{IsNested}
-use Rattle.number_runs.specs.Numbers.{bounds_known, is_array_known, is_known}
+use Rattle.number_runs.specs.Knowledge.{KnowsGivenCalls}
+use Rattle.number_runs.specs.Numbers.{bounds_known, is_array_known, is_known, is_received}
 use Rattle.number_runs.specs.Statements.{are_statements, statements_need, statements_set}
 use Rattle.number_runs.specs.Variables.{AreTabled}
+use Rattle.number_runs.proofs.Received.{parameter_told}
 use Rattle.number_headlines.specs.Programs.{most_waiting, scope_of}
-use Rattle.number_headlines.proofs.Mains.{Main, made_for, result_of, surroundings_for}
+use Rattle.number_headlines.proofs.Mains.{Main, most_for, surroundings_for}
 
 -- ---- the block of a procedure or of a function
 
@@ -52,75 +56,72 @@ abbrev pub function_by : (valued : Bool) → Option Function
 function_by false = None
 function_by true = Some (record { place = result; kind = Fixed 31 })
 
-abbrev pub called_block : (valued : Bool) → Surroundings → List Instr → Callee → Point → (numbers : ℕ → ℕ) → Block
-called_block valued w code c p numbers =
-    record {
-      call = record {
-        surroundings = w;
-        code = code;
-        point = p;
-        numbers = numbers;
-        beginning = record {
-          head = c.procedure.head;
-          entry = entry_by valued c.procedure c.calling.parent;
-          layer = layer_for w p numbers c.procedure c.calling;
-          texts = 0;
-        };
-        call = c.calling.call;
-        entry = c.calling.entry;
-        end = c.calling.end;
-        function = function_by valued;
-      };
-      first = acted c.procedure.head.line (c.made (begun_at w c p numbers));
-      environment = c.environment;
-      around = at_line c.around c.procedure.head.line;
-      registers = c.procedure.saved;
-      outers = [];
-    }
-
 -- the block, with other layers told at its first statement
 abbrev pub with_layers : (List Layer → List Layer) → Block → Block
 with_layers layers k =
     record k { first = record k.first { control = record k.first.control { layers = layers k.first.control.layers } } }
 
--- where it ends: behind a function's statements stands what raises ERROR
-abbrev pub end_by : (valued : Bool) → Y.Program → Y.BlockHead → Y.Stmts → ℕ
-end_by false program head body = behind_body program head body
-end_by true program head body = behind_body program head body + size_of (no_value head.line)
-
 -- ---- as it is called
 
--- the height of its static parent, the index of its call, and the point there, with what waits in registers; and what
+-- with what it is entered, the layer with which it begins, the indices of its call, of its first statement and of its
+-- end, the point of its call, with what waits in registers, and the point where its variables have been made; and what
 -- is known of the layers at its first statement: as they are, or the newest with what waits in words of its frame
 pub record Running : Type 0 where
   pub head : Y.BlockHead
   pub body : Y.Stmts
-  pub parent : ℕ
+  pub entry : Entry
+  pub layer : Layer
   pub call : ℕ
+  pub index : ℕ
+  pub end : ℕ
   pub point : Point
   pub numbers : ℕ → ℕ
+  pub made : Point
   pub layers : List Layer → List Layer
 
 -- blocks may be entered so many deep inside it
-abbrev pub site_of : Y.Program → (more : ℕ) → Running → Site
-site_of program more a =
-    record {
-      parent = a.parent;
-      call = a.call;
-      around = record { program = program; enter = entered program more; turns = suc more; line = 0 };
-      made = made_for program a.head;
-    }
-
-abbrev pub callee_of : Y.Program → (valued : Bool) → (more : ℕ) → Running → Callee
-callee_of program valued more a =
-    callee_at program a.head a.body (site_of program more a) (end_by valued program a.head a.body)
+abbrev pub around_for : Y.Program → (more : ℕ) → Around
+around_for program more = record { program = program; enter = entered program more; turns = suc more; line = 0 }
 
 abbrev pub block_of_run :
     Y.Program → (input : List ℕ) → (acts : ℕ) → (valued : Bool) → (more : ℕ) → Running → Block
 block_of_run program input acts valued more a =
     with_layers a.layers
-    (called_block valued (surroundings_for program input acts) (linked_code (code_for program))
-    (callee_of program valued more a) a.point a.numbers)
+    (record {
+      call = record {
+        surroundings = surroundings_for program input acts;
+        code = linked_code (code_for program);
+        point = a.point;
+        numbers = a.numbers;
+        beginning = record { head = a.head; entry = a.entry; layer = a.layer; texts = 0 };
+        call = a.call;
+        entry = entry_for program a.head.number;
+        end = a.end;
+        function = function_by valued;
+      };
+      first = acted a.head.line a.made;
+      environment = environment_for program a.head;
+      around = at_line (around_for program more) a.head.line;
+      registers = (procedure_for program a.head a.body).saved;
+      outers = [];
+    })
+
+-- one without a parameter
+abbrev pub run_of : (valued : Bool) → Surroundings → Callee → (index : ℕ) → Point → (numbers : ℕ → ℕ) → Running
+run_of valued w c index p numbers =
+    record {
+      head = c.procedure.head;
+      body = c.procedure.body;
+      entry = entry_by valued c.procedure c.calling.parent;
+      layer = layer_for w p numbers c.procedure c.calling;
+      call = c.calling.call;
+      index = index;
+      end = c.calling.end;
+      point = p;
+      numbers = numbers;
+      made = c.made (begun_at w c p numbers);
+      layers = λ ls. ls;
+    }
 
 -- ---- what is known there
 
@@ -134,6 +135,7 @@ pub record Free (w : Surroundings) (q : Point) (blocks : ℕ) : Type 0 where
   pub below : List Layer
   pub newest : q.control.layers ≡ layer ∷ below
   pub even : layer.top % 16 ≡ 0
+  pub under : layer.lower % 16 ≡ 0
   pub low : q.places.low ≤ w.parts.stack_start
   pub used : automatic_in_use q.state.living ≤ most_automatic
   pub fits :
@@ -153,20 +155,32 @@ pub record HasDepth (q : Point) (blocks : ℕ) : Type 0 where
 pub record IsRunning {program : Y.Program} (m : Main program) (input : List ℕ) (acts : ℕ) (valued : Bool) (more : ℕ)
     (a : Running) (blocks : ℕ) : Type 0
   where
-    pub is : IsProcedure program a.head a.body (result_of valued)
-    pub statements : are_statements (scope_of program m.called a.head) valued (labels_in a.body ++ []) a.body ≡ true
+    pub own : block_around (environment_for program a.head) a.head.level ≡ a.head.number
+    pub shallow : a.head.level < 16
+    pub kind : is_begin a.layer.kind ≡ false
+    pub level : a.head.level ≡ a.layer.level
+    pub saved : (procedure_for program a.head a.body).saved ≤ a.layer.saved
+    pub ends : IsEnd (links_for program) a.head.number a.end
+    pub placed :
+        Placed (links_for program) (linked_code (code_for program)) a.index
+        (stmts_code (environment_for program a.head) none_taken a.body)
+    pub statements :
+        are_statements (scope_of program m.called a.head a.body) valued (labels_in a.body ++ []) a.body ≡ true
     pub fits : statements_need a.body ≤ held_registers
     pub waiting : statements_set a.body ≤ most_waiting
     pub begun : IsBegun (block_of_run program input acts valued more a)
     pub enough : acts < more + (block_of_run program input acts valued more a).first.state.world.acts
     pub nested : IsNested (block_of_run program input acts valued more a)
     pub variables :
-        (x : Spot) → is_known (scope_of program m.called a.head) x ≡ true →
+        (x : Spot) → is_known (scope_of program m.called a.head a.body) x ≡ true →
         IsNumber (block_of_run program input acts valued more a) x
     pub arrays :
-        (x : Spot) → is_array_known (scope_of program m.called a.head) x ≡ true →
+        (x : Spot) → is_array_known (scope_of program m.called a.head a.body) x ≡ true →
         IsArray (block_of_run program input acts valued more a) x
-        (bounds_known (scope_of program m.called a.head) x)
+        (bounds_known (scope_of program m.called a.head a.body) x)
+    pub parameters :
+        (x : Spot) → is_received (scope_of program m.called a.head a.body) x ≡ true →
+        IsParameter (block_of_run program input acts valued more a) x
     pub unraised :
         (c : Condition) → IsSystem (force (block_of_run program input acts valued more a).first.state.activations c)
     pub idle : (block_of_run program input acts valued more a).first.control.waiting ≡ None
@@ -183,7 +197,21 @@ pub record IsEntered {program : Y.Program} (m : Main program) (input : List ℕ)
   where
     pub running : IsRunning m input acts valued more a blocks
     pub words : running.free.layer.words ≡ statements_set a.body
-    pub clear : (n : ℕ) → running.free.layer.waits n ≡ None
+    pub clear : with_waits (λ n. None) running.free.layer ≡ running.free.layer
+
+-- the statements of each block that may be entered so many deep do what they mean
+abbrev pub EachBody : {program : Y.Program} → Main program → (input : List ℕ) → (acts more : ℕ) → Type 0
+EachBody {program} m input acts more =
+    (valued : Bool) (a : Running) (blocks : ℕ) → IsEntered m input acts valued more a blocks →
+    EachDoes (block_of_run program input acts valued more a) (labels_in a.body ++ []) a.body a.index left_over
+
+-- and so do the calls with an argument in a block, where nothing waits
+abbrev pub EachGiven : {program : Y.Program} → Main program → (input : List ℕ) → (acts : ℕ) → (valued : Bool) →
+    (more : ℕ) → Running → Type 0
+EachGiven {program} m input acts valued more a =
+    (scope_of program m.called a.head a.body).gives ≡ true →
+    KnowsGivenCalls (scope_of program m.called a.head a.body) (block_of_run program input acts valued more a)
+    (labels_in a.body ++ []) (most_for program) left_over
 
 -- at each of its points there is as much room
 pub free_among :
@@ -199,6 +227,7 @@ free_among {k} {p = p} blocks b o f =
       below = f.below;
       newest = o.later.layers ∙ f.newest;
       even = f.even;
+      under = f.under;
       low = subst (λ n. n ≤ w.parts.stack_start) (sym o.later.remains.low) f.low;
       used = omega (arith, used, same);
       fits = omega (arith, fits, same);
@@ -234,7 +263,13 @@ told_running {program} {m} {input} {acts} {valued} {more} {a} {blocks} h waits =
     let k = block_of_run program input acts valued more a in
     let free = h.free in
     record {
-      is = h.is;
+      own = h.own;
+      shallow = h.shallow;
+      kind = h.kind;
+      level = h.level;
+      saved = h.saved;
+      ends = h.ends;
+      placed = h.placed;
       statements = h.statements;
       fits = h.fits;
       waiting = h.waiting;
@@ -243,7 +278,9 @@ told_running {program} {m} {input} {acts} {valued} {more} {a} {blocks} h waits =
       nested = record { own = h.nested.own; few = h.nested.few; some = h.nested.some; same = h.nested.same };
       variables = λ x is. number_told k φ φs waits free.newest x (h.variables x is);
       arrays = λ x is.
-          array_told k φ φs waits free.newest x (bounds_known (scope_of program m.called a.head) x) (h.arrays x is);
+          array_told k φ φs waits free.newest x (bounds_known (scope_of program m.called a.head a.body) x)
+          (h.arrays x is);
+      parameters = λ x is. parameter_told k φ φs waits free.newest x (h.parameters x is);
       unraised = h.unraised;
       idle = h.idle;
       told = record { code = h.told.code; links = h.told.links; constants = h.told.constants };
@@ -252,6 +289,7 @@ told_running {program} {m} {input} {acts} {valued} {more} {a} {blocks} h waits =
         below = φs;
         newest = refl;
         even = free.even;
+        under = free.under;
         low = free.low;
         used = free.used;
         fits = free.fits;

@@ -1,20 +1,20 @@
--- The table of a program whose variables are all FIXED BINARY(31), scalars and arrays: each signature is there once,
--- and its number leads to it.
-use Rattle.std.proofs.Common.{◌≡◌, ℕ, zero, suc, ◌+◌, ◌*◌, ◌^◌, ◌<◌, ◌≤◌, List, [], ◌∷◌, ◌++◌, Some, true, length, map}
-use Rattle.std.proofs.Common.{refl, sym, ap, ◌∙◌, subst, arith, rules}
-use Rattle.std.specs.Prelude.{◌&&◌, nat_le, nat_lt, slice_get, unwrap_or}
+-- The table of a program whose variables are all FIXED BINARY(31), scalars and arrays, and parameters: each signature
+-- is there once, and its number leads to it.
+use Rattle.std.proofs.Common.{◌≡◌, ◌⊎◌, inl, inr, ℕ, zero, suc, ◌+◌, ◌*◌, ◌<◌, ◌≤◌, List, [], ◌∷◌, ◌++◌, length, Bool}
+use Rattle.std.proofs.Common.{true, false, map, refl, sym, ap, subst, arith, rules}
+use Rattle.std.specs.Prelude.{◌&&◌, ◌||◌, nat_le, nat_lt, slice_get, unwrap_or, if◌then◌else◌}
 use Rattle.std.specs.List.{flat_map}
-use Rattle.std.proofs.lemmas.Bool.{and_parts, leb-true, ltb-true}
-use Rattle.rv_meaning.specs.Tables.{AreSignatures, IsSignature, TableSignature}
+use Rattle.std.proofs.lemmas.Bool.{and_from, and_parts, leb-true, ltb-true, or_cases}
+use Rattle.rv_meaning.specs.Tables.{AreSignatures, TableSignature}
 use Rattle.run_steps.proofs.Numbers.{word_small}
 use Rattle.pli_typing.specs.Signatures.{Bounds}
 use Rattle.pli_typing.specs.TypedTree as Y
-use Rattle.pli_meaning.specs.DeclaredShapes.{shape_of, variables_of_block}
-use Rattle.pli_serving.specs.Templates.{shape_at, template_of}
+use Rattle.pli_meaning.specs.DeclaredShapes.{variables_of_block}
+use Rattle.pli_serving.specs.Templates.{template_of}
 use Rattle.pli_coding.specs.Environments.{Environment}
 use Rattle.pli_coding.specs.SignatureTable.{number_in_table, signature_of, table_of, with_signatures}
 use Rattle.well_formed_trees.specs.Every.{Every}
-use Rattle.storage_relation.specs.Tables.{AreLeaves, AreRuled}
+use Rattle.storage_relation.specs.Tables.{AreRuled}
 use Rattle.pli_headline.specs.ProvedSoFar.{Kind}
 use Rattle.pli_headline.proofs.ArraySignatures.{array_kept}
 use Rattle.pli_headline.proofs.PlainNumbers.{Numbered, numbered_shape}
@@ -24,51 +24,135 @@ use Rattle.pli_headline.proofs.SignaturesOnce.{found_any, has_every}
 use Rattle.program_places.specs.Programs.{HasStart, IsUnstatic, environment_for}
 use Rattle.program_places.specs.Tables.{IsRuled}
 use Rattle.program_places.proofs.Tables.{table_ruled}
-use Rattle.expression_runs.specs.Variables.{number_declared}
 use Rattle.element_runs.specs.Arrays.{IsBounds, array_declared}
-use Rattle.number_runs.specs.Variables.{AreTabled, IsTabled, are_plain, bytes_of, is_declared}
+use Rattle.number_runs.specs.Numbers.{is_parameter}
+use Rattle.number_runs.specs.Variables.{AreTabled, IsTabled, are_known, are_plain, bytes_of, is_declared}
+use Rattle.number_runs.specs.Variables.{variable_bytes}
 use Rattle.number_runs.proofs.Declared.{of_declared, sized}
-use Rattle.number_headlines.specs.Programs.{are_all_plain, are_blocks_plain, most_bytes, most_signatures, most_words}
+use Rattle.number_runs.proofs.Takes.{plain_known}
+use Rattle.number_runs.proofs.Variables.{parameter_declared_is}
+use Rattle.number_headlines.specs.Programs.{are_all_known, are_all_plain, are_blocks_known, are_blocks_plain}
+use Rattle.number_headlines.specs.Programs.{are_single, most_bytes, most_signatures, most_words, serials_for}
 
 -- ---- the variables of each block
 
+-- a variable that a block makes, or a parameter
+one_of : (d : Y.DeclaredVariable) → (is_declared d || is_parameter d) ≡ true →
+    (is_declared d ≡ true) ⊎ (is_parameter d ≡ true)
+one_of d h = or_cases (is_declared d) (is_parameter d) h
+
+takes_some : (d : Y.DeclaredVariable) → (is_declared d ≡ true) ⊎ (is_parameter d ≡ true) → 32 ≤ variable_bytes d
+takes_some d (inl h) = (sized d h).some
+takes_some d (inr h) = subst (λ d'. 32 ≤ variable_bytes d') (sym (parameter_declared_is d h)) (omega arith)
+
 -- so many bytes hold no more variables than that
-few_variables : (ds : List Y.DeclaredVariable) → are_plain ds ≡ true → 32 * length ds ≤ bytes_of ds
+few_variables : (ds : List Y.DeclaredVariable) → are_known ds ≡ true → 32 * length ds ≤ bytes_of ds
 few_variables [] h = omega arith
 few_variables (d ∷ ds) h =
-    let a = and_parts (is_declared d) (are_plain ds) h in
-    let one = (sized d a.0).some in
+    let a = and_parts (is_declared d || is_parameter d) (are_known ds) h in
+    let one = takes_some d (one_of d a.0) in
     let rest = few_variables ds a.1 in
     omega (arith, one, rest)
 
+pub record IsKnownBlock (ds : List Y.DeclaredVariable) : Type 0 where
+  pub known : are_known ds ≡ true
+  pub room : bytes_of ds ≤ most_bytes
+  pub few : length ds ≤ most_words
+
+-- without a parameter
 pub record IsPlainBlock (ds : List Y.DeclaredVariable) : Type 0 where
   pub plain : are_plain ds ≡ true
   pub room : bytes_of ds ≤ most_bytes
   pub few : length ds ≤ most_words
 
 by_blocks :
-    (vs : List (List Y.DeclaredVariable)) (n : ℕ) → are_blocks_plain vs ≡ true →
-    IsPlainBlock (unwrap_or (slice_get vs n) [])
-by_blocks [] n h = record { plain = refl; room = omega arith; few = omega arith }
+    (vs : List (List Y.DeclaredVariable)) (n : ℕ) → are_blocks_known vs ≡ true →
+    IsKnownBlock (unwrap_or (slice_get vs n) [])
+by_blocks [] n h = record { known = refl; room = omega arith; few = omega arith }
 by_blocks (ds ∷ vs) zero h =
-    let a = and_parts (nat_le (bytes_of ds) most_bytes && are_plain ds) (are_blocks_plain vs) h in
-    let b = and_parts (nat_le (bytes_of ds) most_bytes) (are_plain ds) a.0 in
+    let a = and_parts (nat_le (bytes_of ds) most_bytes && are_known ds) (are_blocks_known vs) h in
+    let b = and_parts (nat_le (bytes_of ds) most_bytes) (are_known ds) a.0 in
     let room = leb-true (bytes_of ds) most_bytes b.0 in
     let many = few_variables ds b.1 in
-    record { plain = b.1; room = room; few = omega (arith, room, many) }
+    record { known = b.1; room = room; few = omega (arith, room, many) }
 by_blocks (ds ∷ vs) (suc n) h =
-    let a = and_parts (nat_le (bytes_of ds) most_bytes && are_plain ds) (are_blocks_plain vs) h in
+    let a = and_parts (nat_le (bytes_of ds) most_bytes && are_known ds) (are_blocks_known vs) h in
     by_blocks vs n a.1
 
-blocks_of : (vs : List (List Y.DeclaredVariable)) → are_all_plain vs ≡ true → are_blocks_plain vs ≡ true
+blocks_of : (vs : List (List Y.DeclaredVariable)) → are_all_known vs ≡ true → are_blocks_known vs ≡ true
 blocks_of vs h =
-    (and_parts (nat_lt (length (with_signatures (flat_map (λ ds. ds) vs) [])) most_signatures) (are_blocks_plain vs)
+    (and_parts (nat_lt (length (with_signatures (flat_map (λ ds. ds) vs) [])) most_signatures) (are_blocks_known vs)
     h).1
+
+pub block_known :
+    (vs : List (List Y.DeclaredVariable)) (n : ℕ) → are_all_known vs ≡ true →
+    IsKnownBlock (unwrap_or (slice_get vs n) [])
+block_known vs n h = by_blocks vs n (blocks_of vs h)
+
+pub plain_block :
+    (vs : List (List Y.DeclaredVariable)) (n : ℕ) → are_all_known vs ≡ true →
+    are_plain (unwrap_or (slice_get vs n) []) ≡ true → IsPlainBlock (unwrap_or (slice_get vs n) [])
+plain_block vs n h plain =
+    let b = block_known vs n h in record { plain = plain; room = b.room; few = b.few }
+
+-- where each is plain
+
+plain_from :
+    (vs : List (List Y.DeclaredVariable)) (n : ℕ) → are_blocks_plain vs ≡ true →
+    are_plain (unwrap_or (slice_get vs n) []) ≡ true
+plain_from [] n h = refl
+plain_from (ds ∷ vs) zero h =
+    let a = and_parts (nat_le (bytes_of ds) most_bytes && are_plain ds) (are_blocks_plain vs) h in
+    (and_parts (nat_le (bytes_of ds) most_bytes) (are_plain ds) a.0).1
+plain_from (ds ∷ vs) (suc n) h =
+    let a = and_parts (nat_le (bytes_of ds) most_bytes && are_plain ds) (are_blocks_plain vs) h in
+    plain_from vs n a.1
+
+blocks_known : (vs : List (List Y.DeclaredVariable)) → are_blocks_plain vs ≡ true → are_blocks_known vs ≡ true
+blocks_known [] h = refl
+blocks_known (ds ∷ vs) h =
+    let a = and_parts (nat_le (bytes_of ds) most_bytes && are_plain ds) (are_blocks_plain vs) h in
+    let b = and_parts (nat_le (bytes_of ds) most_bytes) (are_plain ds) a.0 in
+    and_from (nat_le (bytes_of ds) most_bytes && are_known ds) (are_blocks_known vs)
+    (and_from (nat_le (bytes_of ds) most_bytes) (are_known ds) b.0 (plain_known ds b.1)) (blocks_known vs a.1)
+
+pub all_known : (vs : List (List Y.DeclaredVariable)) → are_all_plain vs ≡ true → are_all_known vs ≡ true
+all_known vs h =
+    let few = nat_lt (length (with_signatures (flat_map (λ ds. ds) vs) [])) most_signatures in
+    let a = and_parts few (are_blocks_plain vs) h in
+    and_from few (are_blocks_known vs) a.0 (blocks_known vs a.1)
 
 pub block_plain :
     (vs : List (List Y.DeclaredVariable)) (n : ℕ) → are_all_plain vs ≡ true →
     IsPlainBlock (unwrap_or (slice_get vs n) [])
-block_plain vs n h = by_blocks vs n (blocks_of vs h)
+block_plain vs n h =
+    let a = and_parts (nat_lt (length (with_signatures (flat_map (λ ds. ds) vs) [])) most_signatures)
+    (are_blocks_plain vs) h in
+    plain_block vs n (all_known vs h) (plain_from vs n a.1)
+
+-- ---- serial numbers
+
+single_by :
+    (vs : List (List Y.DeclaredVariable)) (n : ℕ) → are_single vs ≡ true → length (unwrap_or (slice_get vs n) []) ≤ 1
+single_by [] n h = omega arith
+single_by (ds ∷ vs) zero h =
+    leb-true (length ds) 1 (and_parts (nat_le (length ds) 1) (are_single vs) h).0
+single_by (ds ∷ vs) (suc n) h = single_by vs n (and_parts (nat_le (length ds) 1) (are_single vs) h).1
+
+-- an act pays for those of a block
+pub serials_enough :
+    (program : Y.Program) (n : ℕ) → are_all_known program.variables ≡ true →
+    length (variables_of_block program n) ≤ serials_for program
+serials_enough program n h = by (are_single program.variables) refl
+  where
+    by :
+        (q : Bool) → are_single program.variables ≡ q →
+        length (variables_of_block program n) ≤ (if q then 1 else most_words)
+    by true e = single_by program.variables n e
+    by false e = (block_known program.variables n h).few
+
+pub one_serial : (program : Y.Program) → are_single program.variables ≡ true → serials_for program ≡ 1
+one_serial program e = ap (λ q. if q then 1 else most_words) e
 
 -- ---- the table
 
@@ -132,24 +216,35 @@ one_tabled e d is few =
     record { small = omega (arith, small); shape = numbered_shape e.table (array_kind b) n })
     d is
 
+known_tabled :
+    (e : Environment) (d : Y.DeclaredVariable) → (is_declared d ≡ true) ⊎ (is_parameter d ≡ true) →
+    length e.table < most_signatures → HasSignature (signature_of d) e.table → IsTabled e (map template_of e.table) d
+known_tabled e d (inl is) few has = one_tabled e d is few has
+known_tabled e d (inr is) few has =
+    let same = parameter_declared_is d is in
+    let n = number_numbered e.table few (subst (λ d'. HasSignature (signature_of d') e.table) same has) in
+    let small = n.few in
+    subst (λ d'. IsTabled e (map template_of e.table) d') (sym same)
+    (record { small = omega (arith, small); shape = numbered_shape e.table number_kind n })
+
 all_tabled :
-    (e : Environment) (ds : List Y.DeclaredVariable) → are_plain ds ≡ true → length e.table < most_signatures →
+    (e : Environment) (ds : List Y.DeclaredVariable) → are_known ds ≡ true → length e.table < most_signatures →
     HasAll ds e.table → AreTabled e (map template_of e.table) ds
 all_tabled e [] h few has = tt
 all_tabled e (d ∷ ds) h few has =
-    let a = and_parts (is_declared d) (are_plain ds) h in
-    (one_tabled e d a.0 few has.0, all_tabled e ds a.1 few has.1)
+    let a = and_parts (is_declared d || is_parameter d) (are_known ds) h in
+    (known_tabled e d (one_of d a.0) few has.0, all_tabled e ds a.1 few has.1)
 
 -- the variables of a block in the table of their program
 pub has_table :
-    (program : Y.Program) (head : Y.BlockHead) → are_all_plain program.variables ≡ true →
+    (program : Y.Program) (head : Y.BlockHead) → are_all_known program.variables ≡ true →
     AreTabled (environment_for program head) (map template_of (table_of program))
     (variables_of_block program head.number)
 has_table program head h =
     let every = flat_map (λ ds. ds) program.variables in
-    let a = and_parts (nat_lt (length (table_of program)) most_signatures) (are_blocks_plain program.variables) h in
+    let a = and_parts (nat_lt (length (table_of program)) most_signatures) (are_blocks_known program.variables) h in
     all_tabled (environment_for program head) (variables_of_block program head.number)
-    (block_plain program.variables head.number h).plain (ltb-true (length (table_of program)) most_signatures a.0)
+    (block_known program.variables head.number h).known (ltb-true (length (table_of program)) most_signatures a.0)
     (block_has program.variables head.number (table_of program) (has_every every []))
 
 -- ---- its rules
@@ -160,42 +255,51 @@ array_ruled b is = (
   ((word_small b.lower is.lower, word_small b.upper is.upper, tt), tt),
 )
 
-each_ruled : (ds : List Y.DeclaredVariable) → are_plain ds ≡ true → Every IsRuled ds
+known_ruled : (d : Y.DeclaredVariable) → (is_declared d ≡ true) ⊎ (is_parameter d ≡ true) → IsRuled d
+known_ruled d (inl h) =
+    of_declared IsRuled (record { headed = search rules; leaved = search rules }, (tt, tt)) array_ruled d h
+known_ruled d (inr h) =
+    subst IsRuled (sym (parameter_declared_is d h))
+    (record { headed = search rules; leaved = search rules }, (tt, tt))
+
+each_ruled : (ds : List Y.DeclaredVariable) → are_known ds ≡ true → Every IsRuled ds
 each_ruled [] h = tt
 each_ruled (d ∷ ds) h =
-    let a = and_parts (is_declared d) (are_plain ds) h in (
-      of_declared IsRuled (record { headed = search rules; leaved = search rules }, (tt, tt)) array_ruled d a.0,
-      each_ruled ds a.1,
-    )
+    let a = and_parts (is_declared d || is_parameter d) (are_known ds) h in
+    (known_ruled d (one_of d a.0), each_ruled ds a.1)
 
 all_ruled :
-    (vs : List (List Y.DeclaredVariable)) → are_blocks_plain vs ≡ true → Every (Every IsRuled) vs
+    (vs : List (List Y.DeclaredVariable)) → are_blocks_known vs ≡ true → Every (Every IsRuled) vs
 all_ruled [] h = tt
 all_ruled (ds ∷ vs) h =
-    let a = and_parts (nat_le (bytes_of ds) most_bytes && are_plain ds) (are_blocks_plain vs) h in
-    let b = and_parts (nat_le (bytes_of ds) most_bytes) (are_plain ds) a.0 in
+    let a = and_parts (nat_le (bytes_of ds) most_bytes && are_known ds) (are_blocks_known vs) h in
+    let b = and_parts (nat_le (bytes_of ds) most_bytes) (are_known ds) a.0 in
     (each_ruled ds b.1, all_ruled vs a.1)
 
-rules_kept : (program : Y.Program) → are_all_plain program.variables ≡ true → AreRuled (table_of program)
+rules_kept : (program : Y.Program) → are_all_known program.variables ≡ true → AreRuled (table_of program)
 rules_kept program h = table_ruled program (all_ruled program.variables (blocks_of program.variables h))
 
 -- ---- none is STATIC
 
-each_unstatic : (ds : List Y.DeclaredVariable) → are_plain ds ≡ true → Every IsUnstatic ds
+known_unstatic : (d : Y.DeclaredVariable) → (is_declared d ≡ true) ⊎ (is_parameter d ≡ true) → IsUnstatic d
+known_unstatic d (inl h) = of_declared IsUnstatic (tt, refl) (λ b is. (tt, refl)) d h
+known_unstatic d (inr h) = subst IsUnstatic (sym (parameter_declared_is d h)) (tt, refl)
+
+each_unstatic : (ds : List Y.DeclaredVariable) → are_known ds ≡ true → Every IsUnstatic ds
 each_unstatic [] h = tt
 each_unstatic (d ∷ ds) h =
-    let a = and_parts (is_declared d) (are_plain ds) h in
-    (of_declared IsUnstatic (tt, refl) (λ b is. (tt, refl)) d a.0, each_unstatic ds a.1)
+    let a = and_parts (is_declared d || is_parameter d) (are_known ds) h in
+    (known_unstatic d (one_of d a.0), each_unstatic ds a.1)
 
 all_unstatic :
-    (vs : List (List Y.DeclaredVariable)) → are_blocks_plain vs ≡ true → Every (Every IsUnstatic) vs
+    (vs : List (List Y.DeclaredVariable)) → are_blocks_known vs ≡ true → Every (Every IsUnstatic) vs
 all_unstatic [] h = tt
 all_unstatic (ds ∷ vs) h =
-    let a = and_parts (nat_le (bytes_of ds) most_bytes && are_plain ds) (are_blocks_plain vs) h in
-    let b = and_parts (nat_le (bytes_of ds) most_bytes) (are_plain ds) a.0 in
+    let a = and_parts (nat_le (bytes_of ds) most_bytes && are_known ds) (are_blocks_known vs) h in
+    let b = and_parts (nat_le (bytes_of ds) most_bytes) (are_known ds) a.0 in
     (each_unstatic ds b.1, all_unstatic vs a.1)
 
-pub has_start : (program : Y.Program) → are_all_plain program.variables ≡ true → HasStart program
+pub has_start : (program : Y.Program) → are_all_known program.variables ≡ true → HasStart program
 has_start program h =
     record {
       variables = all_unstatic program.variables (blocks_of program.variables h);
@@ -209,5 +313,5 @@ ruled_fit [] h = tt
 ruled_fit (g ∷ gs) h = (h.0, ruled_fit gs h.2)
 
 pub number_table_fits :
-    (program : Y.Program) → are_all_plain program.variables ≡ true → AreSignatures (table_of program)
+    (program : Y.Program) → are_all_known program.variables ≡ true → AreSignatures (table_of program)
 number_table_fits program h = ruled_fit (table_of program) (rules_kept program h)

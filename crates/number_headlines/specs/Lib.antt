@@ -6,3 +6,4 @@ pub mod CountRows
 pub mod NestRows
 pub mod PutRows
 pub mod ArrayRows
+pub mod GivenRows

@@ -3,6 +3,7 @@
 ghost use Rattle.number_headlines.specs.ArrayRows.{SieveKept};
 ghost use Rattle.number_headlines.specs.CallRows.{CallingKept};
 ghost use Rattle.number_headlines.specs.CountRows.{CountingKept};
+ghost use Rattle.number_headlines.specs.GivenRows.{FactKept};
 ghost use Rattle.number_headlines.specs.Headlines.{NumberHeadlinesKept};
 ghost use Rattle.number_headlines.specs.NestRows.{NestKept};
 ghost use Rattle.number_headlines.specs.PutRows.{SquaresKept};
@@ -59,6 +60,13 @@ pub fn sieve_kept()
 /// A worked row with loops that count: one stands in the turns of the other, where a function is called.
 pub fn counting_kept()
     ensures { CountingKept }
+{
+    number_headlines_kept();
+}
+
+/// A worked row with arguments: a function calls itself with a copy, and a procedure changes its parameter.
+pub fn fact_kept()
+    ensures { FactKept }
 {
     number_headlines_kept();
 }

@@ -1,8 +1,8 @@
 -- Arrays that the class admits: what is declared, references to elements, and their subscripts.
-use Rattle.std.proofs.Common.{◌≡◌, inl, inr, ℕ, ◌+◌, ◌^◌, ◌≤◌, List, [], ◌∷◌, Option, None, Some, false, true}
+use Rattle.std.proofs.Common.{◌≡◌, ◌⊎◌, inl, inr, ℕ, ◌+◌, ◌^◌, ◌≤◌, List, [], ◌∷◌, Option, None, Some, false, true}
 use Rattle.std.proofs.Common.{refl, ap, ◌∙◌}
 use Rattle.std.specs.Prelude.{◌&&◌, ◌==◌, int_le, max}
-use Rattle.std.proofs.lemmas.Bool.{and_parts, eqb-true, ltb-true}
+use Rattle.std.proofs.lemmas.Bool.{and_parts, eqb-true, ltb-true, or_cases}
 use Rattle.pli_language.specs.Tree as T
 use Rattle.pli_typing.specs.TypedTree as Y
 use Rattle.pli_meaning.specs.Numbers.{is_of_precision}
@@ -15,9 +15,9 @@ use Rattle.element_runs.specs.Arrays.{IsBounds, array_declared, array_leaf, cons
 use Rattle.element_runs.specs.Subscripts.{IsSubscript}
 use Rattle.number_runs.specs.Arrays.{are_bounds, array_bounds, bounds_in, first_bounds, is_array, is_array_of, is_row}
 use Rattle.number_runs.specs.Knowledge.{KnowsNumbers}
-use Rattle.number_runs.specs.Numbers.{Scope, is_array_known, is_automatic, is_element, is_number, number_needs}
-use Rattle.number_runs.specs.Numbers.{spot_of}
-use Rattle.number_runs.proofs.Variables.{automatic_is, part_is, variable_is}
+use Rattle.number_runs.specs.Numbers.{Scope, is_array_known, is_automatic, is_element, is_given, is_number, is_variable}
+use Rattle.number_runs.specs.Numbers.{number_needs, spot_of}
+use Rattle.number_runs.proofs.Variables.{automatic_is, parameter_is, part_is, variable_is}
 
 -- ---- declarations
 
@@ -133,6 +133,17 @@ waits :
 waits k taken need x other enough does =
     inl (record { waits = other; first = number_needs x; does = does; enough = enough })
 
+scalar_given :
+    (s : Scope) (k : Setting) (taken need : ℕ) (r : Y.Reference) → KnowsNumbers s k →
+    (is_variable s r ≡ true) ⊎ (is_given s r ≡ true) → taken + max (number_needs (Y.NumberIn r)) 1 ≤ need →
+    Does k (number_needs (Y.NumberIn r)) (Y.NumberIn r) → IsSubscript k taken need (Y.NumberIn r)
+scalar_given s k taken need r h (inl is) enough does =
+    let w = variable_is s r is in
+    inr (inr (record { spot = w.spot; is = ap (λ q. Y.NumberIn q) w.is; number = h.variables w.spot w.known }))
+scalar_given s k taken need r h (inr is) enough does =
+    let w = parameter_is s r is in
+    waits k taken need (Y.NumberIn r) (ap (λ q. is_simple k.block.environment (Y.NumberIn q)) w.is) enough does
+
 -- a constant, and a variable, come into their register by themselves; any other waits
 pub subscript_given :
     (s : Scope) (k : Setting) (taken need : ℕ) (x : Y.Number) → KnowsNumbers s k → is_number s x ≡ true →
@@ -140,8 +151,8 @@ pub subscript_given :
 subscript_given s k taken need (Y.NumberConstant n) h is enough does =
     inr (inl (record { value = n; is = refl; few = ltb-true n (2 ^ 31) is }))
 subscript_given s k taken need (Y.NumberIn (Y.Referring v Y.NotLocated part Y.NoNumber)) h is enough does =
-    let w = variable_is s (Y.Referring v Y.NotLocated part Y.NoNumber) is in
-    inr (inr (record { spot = w.spot; is = ap (λ r. Y.NumberIn r) w.is; number = h.variables w.spot w.known }))
+    let r = Y.Referring v Y.NotLocated part Y.NoNumber in
+    scalar_given s k taken need r h (or_cases (is_variable s r) (is_given s r) is) enough does
 subscript_given s k taken need (Y.NumberIn (Y.Referring v Y.NotLocated part (Y.NumberThen first rest))) h is enough
     does =
     waits k taken need (Y.NumberIn (Y.Referring v Y.NotLocated part (Y.NumberThen first rest))) refl enough does

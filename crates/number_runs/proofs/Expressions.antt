@@ -1,7 +1,7 @@
 -- Numbers and tests of the class: each leaves what it means, by the law of its form.
-use Rattle.std.proofs.Common.{◌≡◌, ℕ, ◌^◌, ◌≤◌, true, sym, subst, arith}
+use Rattle.std.proofs.Common.{◌≡◌, ◌⊎◌, inl, inr, ℕ, ◌^◌, ◌≤◌, true, sym, subst, arith}
 use Rattle.std.specs.Prelude.{◌&&◌, ◌==◌, max, suc}
-use Rattle.std.proofs.lemmas.Bool.{and_parts, eqb-true, ltb-true}
+use Rattle.std.proofs.lemmas.Bool.{and_parts, eqb-true, ltb-true, or_cases}
 use Rattle.pli_typing.specs.TypedTree as Y
 use Rattle.expression_runs.specs.Laws.{Does}
 use Rattle.expression_runs.specs.Values.{Setting}
@@ -17,11 +17,15 @@ use Rattle.operator_runs.proofs.Signs.{absolute_does, negative_does, positive_do
 use Rattle.test_runs.specs.Tests.{Tests}
 use Rattle.test_runs.proofs.Bits.{and_tests, bits_tests, constant_tests, negated_tests, numbers_tests, or_tests}
 use Rattle.element_runs.proofs.Elements.{element_does}
-use Rattle.number_runs.specs.Knowledge.{KnowsNumbers}
-use Rattle.number_runs.specs.Numbers.{Scope, are_numbers, bounds_known, is_element, is_number, is_reference, is_test}
+use Rattle.argument_runs.specs.CopyFunctions.{setting_in}
+use Rattle.argument_runs.proofs.Parameters.{parameter_does}
+use Rattle.number_runs.specs.Knowledge.{KnowsGiven, KnowsNumbers, given_number}
+use Rattle.number_runs.specs.Numbers.{Scope, are_numbers, argument_needs, bounds_known, call_needs, is_argument}
+use Rattle.number_runs.specs.Numbers.{is_element, is_fixed, is_given, is_number, is_reference, is_test, is_variable}
 use Rattle.number_runs.specs.Numbers.{may_calculate, number_needs, numbers_need, reference_needs, test_needs}
+use Rattle.number_runs.specs.Numbers.{without_given}
 use Rattle.number_runs.proofs.Arrays.{element_is, subscript_given}
-use Rattle.number_runs.proofs.Variables.{variable_is}
+use Rattle.number_runs.proofs.Variables.{argument_is, parameter_is, variable_is}
 
 -- with more registers, too
 pub more_registers : (k : Setting) (m n : ℕ) (x : Y.Number) → m ≤ n → Does k m x → Does k n x
@@ -53,19 +57,39 @@ calculated_does s k Y.Quotient left right m n h may l r =
     let a = and_parts s.overflows s.divides may in
     quotient_does k left right m n (h.overflow a.0) (h.divisor a.1) l r
 
-called_does :
-    (s : Scope) (k : Setting) (c : Y.Call) → KnowsNumbers s k → is_number s (Y.NumberFrom c) ≡ true →
-    Does k 0 (Y.NumberFrom c)
-called_does s k (Y.Calling number level Y.NoArgument) h is =
-    h.functions level number is
-called_does s k (Y.Calling number level (Y.ArgumentThen first rest)) h is = absurd (cc is)
+-- all of a variable or of a parameter
+scalar_does :
+    (s : Scope) (k : Setting) (r : Y.Reference) → KnowsNumbers s k →
+    (is_variable s r ≡ true) ⊎ (is_given s r ≡ true) → Does k 0 (Y.NumberIn r)
+scalar_does s k r h (inl is) =
+    let w = variable_is s r is in
+    subst (λ q. Does k 0 (Y.NumberIn q)) (sym w.is) (variable_does k w.spot h.begun (h.variables w.spot w.known))
+scalar_does s k r h (inr is) =
+    let w = parameter_is s r is in
+    subst (λ q. Does k 0 (Y.NumberIn q)) (sym w.is) (parameter_does k w.spot (h.parameters w.spot w.known))
+
+-- what is known around an argument
+inside :
+    (s : Scope) (k : Setting) → KnowsNumbers s k → KnowsGiven s k → KnowsNumbers (without_given s) (setting_in k)
+inside s k h g =
+    record {
+      begun = h.begun;
+      overflow = g.overflow;
+      divisor = g.divisor;
+      subscript = g.subscript;
+      variables = h.variables;
+      arrays = h.arrays;
+      parameters = h.parameters;
+      functions = g.functions;
+      given = λ may. absurd (cc may);
+    }
 
 mutual
   pub number_does :
       (s : Scope) (k : Setting) (x : Y.Number) → KnowsNumbers s k → is_number s x ≡ true → Does k (number_needs x) x
   number_does s k (Y.NumberConstant n) h is = constant_does k n (ltb-true n (2 ^ 31) is)
   number_does s k (Y.NumberIn r) h is = reference_does s k r h is
-  number_does s k (Y.NumberFrom c) h is = called_does s k c h is
+  number_does s k (Y.NumberFrom c) h is = call_does s k c h is
   number_does s k (Y.Signed sign x) h is =
       let a = and_parts s.overflows (is_number s x) is in
       signed_does s k sign x (number_needs x) h a.0 (number_does s k x h a.1)
@@ -108,12 +132,45 @@ mutual
   number_does s k (Y.AllocationsOf v) h is = absurd (cc is)
   number_does s k Y.OnCode h is = absurd (cc is)
 
+  call_does :
+      (s : Scope) (k : Setting) (c : Y.Call) → KnowsNumbers s k → is_number s (Y.NumberFrom c) ≡ true →
+      Does k (call_needs c) (Y.NumberFrom c)
+  call_does s k (Y.Calling number level Y.NoArgument) h is = h.functions level number is
+  call_does s k (Y.Calling number level (Y.ArgumentThen argument Y.NoArgument)) h is =
+      let known = s.is_given_function level number && is_argument (without_given s) argument in
+      let a = and_parts s.gives known is in
+      let b = and_parts (s.is_given_function level number) (is_argument (without_given s) argument) a.1 in
+      let x = argument_is (without_given s) argument b.1 in
+      let g = h.given a.0 in
+      let given : Does (setting_in k) (argument_needs argument) x.number =
+      argument_does (without_given s) (setting_in k) argument (inside s k h g) b.1 in
+      subst (λ q. Does k (max (argument_needs argument) 1)
+      (Y.NumberFrom (Y.Calling number level (Y.ArgumentThen q Y.NoArgument)))) (sym x.is)
+      (more_registers k (argument_needs argument) (max (argument_needs argument) 1)
+      (given_number level number x.number) (omega arith)
+      (g.given level number (argument_needs argument) x.number b.0 given))
+  call_does s k (Y.Calling number level (Y.ArgumentThen argument (Y.ArgumentThen second rest))) h is = absurd (cc is)
+
+  pub argument_does :
+      (s : Scope) (k : Setting) (x : Y.Argument) → KnowsNumbers s k → (is : is_argument s x ≡ true) →
+      Does k (argument_needs x) (argument_is s x is).number
+  argument_does s k (Y.ByCopy type (Y.StoredNumber precision x)) h is =
+      let a = and_parts (is_fixed type) ((precision == 31) && is_number s x) is in
+      number_does s k x h (and_parts (precision == 31) (is_number s x) a.1).1
+  argument_does s k (Y.ByCopy type (Y.StoredText x)) h is = absurd (cc is)
+  argument_does s k (Y.ByCopy type (Y.StoredBit x)) h is = absurd (cc is)
+  argument_does s k (Y.ByCopy type (Y.StoredPointer x)) h is = absurd (cc is)
+  argument_does s k (Y.ByCopy type (Y.StoredOffset x)) h is = absurd (cc is)
+  argument_does s k (Y.ByReference r) h is = absurd (cc is)
+  argument_does s k (Y.ByOffsetInParameter p parameter) h is = absurd (cc is)
+  argument_does s k (Y.ByOffsetInAutomatic p) h is = absurd (cc is)
+
   reference_does :
       (s : Scope) (k : Setting) (r : Y.Reference) → KnowsNumbers s k → is_reference s r ≡ true →
       Does k (reference_needs r) (Y.NumberIn r)
   reference_does s k (Y.Referring v Y.NotLocated part Y.NoNumber) h is =
-      let w = variable_is s (Y.Referring v Y.NotLocated part Y.NoNumber) is in
-      subst (λ r. Does k 0 (Y.NumberIn r)) (sym w.is) (variable_does k w.spot h.begun (h.variables w.spot w.known))
+      let r = Y.Referring v Y.NotLocated part Y.NoNumber in
+      scalar_does s k r h (or_cases (is_variable s r) (is_given s r) is)
   reference_does s k (Y.Referring v Y.NotLocated part (Y.NumberThen subscript Y.NoNumber)) h is =
       let a = and_parts (is_element s v part) (is_number s subscript) is in
       let w = element_is s v part subscript a.0 in

@@ -2,12 +2,15 @@ pub mod Variables
 pub mod Arrays
 pub mod Declared
 pub mod Words
+pub mod Unset
 pub mod Takes
 pub mod Expressions
+pub mod Received
 pub mod Formats
 pub mod Puts
 pub mod Labels
 pub mod Counters
 pub mod Turns
+pub mod Homes
 pub mod Statements
 pub mod Uncounted

@@ -1,6 +1,6 @@
 -- PUT SKIP, and PUT EDIT of numbers by lists of F items, do what they mean.
-use Rattle.std.proofs.Common.{◌≡◌, ℕ, zero, ◌+◌, ◌*◌, ◌≤◌, List, [], ◌∷◌, ◌++◌, true, refl, sym, ap}
-use Rattle.std.proofs.Common.{◌∙◌, subst, arith, inl, None, Some}
+use Rattle.std.proofs.Common.{◌≡◌, ℕ, ◌+◌, ◌≤◌, List, [], ◌∷◌, ◌++◌, true, refl, sym, ap, ◌∙◌, subst, arith, inl, None}
+use Rattle.std.proofs.Common.{Some}
 use Rattle.std.specs.Prelude.{◌&&◌, map, max, nat_le, Option}
 use Rattle.std.proofs.lemmas.Bool.{and_parts, leb-true}
 use Rattle.pli_language.specs.Formats.{is_times}
@@ -26,17 +26,20 @@ use Rattle.element_runs.specs.Arrays.{IsArray}
 use Rattle.element_runs.proofs.Outside.{subscripts_end}
 use Rattle.operator_runs.proofs.Divisors.{zero_divide_ends}
 use Rattle.text_runs.proofs.Errors.{error_ends}
-use Rattle.edit_runs.specs.Edits.{AreListed, IsSkipped, Item, ItemsDo, Pair, PairsDo, Put}
-use Rattle.edit_runs.specs.Edits.{placing, put_items, put_pairs, within}
+use Rattle.argument_runs.specs.Parameters.{IsParameter}
+use Rattle.edit_runs.specs.Edits.{AreListed, IsSkipped, Item, ItemsDo, Pair, PairsDo, Put, placing, put_items}
+use Rattle.edit_runs.specs.Edits.{put_pairs, within}
 use Rattle.edit_runs.proofs.Places.{begun_placed, number_placed}
 use Rattle.edit_runs.proofs.Puts.{put_does}
 use Rattle.edit_runs.proofs.Skips.{skip_does}
 use Rattle.number_runs.specs.Knowledge.{IsUnraised, KnowsLists, KnowsNumbers, KnowsPuts, MayBeSet}
-use Rattle.number_runs.specs.Numbers.{Scope, bounds_known, is_array_known, is_known, is_number, number_needs}
-use Rattle.number_runs.specs.Puts.{are_pairs, are_put_items, is_fixed_list, is_put, is_put_item}
-use Rattle.number_runs.specs.Puts.{is_put_list, is_skip, put_items_need, put_needs, without_calls}
+use Rattle.number_runs.specs.Numbers.{Scope, bounds_known, is_array_known, is_known, is_number, is_received}
+use Rattle.number_runs.specs.Numbers.{number_needs}
+use Rattle.number_runs.specs.Puts.{are_pairs, are_put_items, is_fixed_list, is_put, is_put_item, is_put_list, is_skip}
+use Rattle.number_runs.specs.Puts.{put_items_need, put_needs, without_calls}
 use Rattle.number_runs.proofs.Expressions.{more_registers, number_does}
 use Rattle.number_runs.proofs.Formats.{list_fixed}
+use Rattle.number_runs.proofs.Received.{parameter_placed}
 
 times_are : (n : ℕ) → is_times n ≡ true → (1 ≤ n) × (n ≤ 1000)
 times_are n h =
@@ -262,9 +265,9 @@ array_placed k place x b is =
 pub puts_known :
     (s : Scope) (k : Block) (most : ℕ) → IsBegun k → IsUnraised k most →
     ((x : Spot) → is_known s x ≡ true → IsNumber k x) →
-    (s.elements ≡ true → (x : Spot) → is_array_known s x ≡ true → IsArray k x (bounds_known s x)) → KnowsLists k →
-    KnowsPuts s k most
-puts_known s k most b u variables arrays lists =
+    (s.elements ≡ true → (x : Spot) → is_array_known s x ≡ true → IsArray k x (bounds_known s x)) →
+    ((x : Spot) → is_received s x ≡ true → IsParameter k x) → KnowsLists k → KnowsPuts s k most
+puts_known s k most b u variables arrays parameters lists =
     let few = u.few in
     record {
       numbers = λ words may place labels line.
@@ -294,7 +297,9 @@ puts_known s k most b u variables arrays lists =
             });
             variables = λ x is. number_placed k place x (variables x is);
             arrays = λ may x is. array_placed k place x (bounds_known s x) (arrays may x is);
+            parameters = λ x is. parameter_placed k place x (parameters x is);
             functions = λ level n is. absurd (cc is);
+            given = λ may. absurd (cc may);
           };
       error = λ words may place labels line.
           error_ends (List ℕ) (within place (setting_around words k labels line most)) (record {

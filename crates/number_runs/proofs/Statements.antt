@@ -1,9 +1,9 @@
 -- Statements of the class: each does what it means, by the law of its form.
-use Rattle.std.proofs.Common.{◌≡◌, ℕ, ◌+◌, ◌^◌, ◌≤◌, List, [], ◌∷◌, ◌++◌, true, false, refl, sym, ap}
-use Rattle.std.proofs.Common.{◌∙◌, ◌⊎◌, inl, inr, None, subst, arith}
-use Rattle.std.specs.Prelude.{◌&&◌, ◌||◌, ◌==◌, Bool, ℤ, max, not, suc, Option}
+use Rattle.std.proofs.Common.{◌≡◌, ℕ, ◌+◌, ◌≤◌, List, [], ◌∷◌, ◌++◌, true, false, refl, sym, ap, ◌∙◌, None, subst}
+use Rattle.std.proofs.Common.{arith}
+use Rattle.std.specs.Prelude.{◌&&◌, ◌||◌, ◌==◌, Bool, ℤ, max, not, Option}
 use Rattle.rv_meaning.specs.Words.{word}
-use Rattle.std.proofs.lemmas.Bool.{and_parts, eqb-true, ltb-true, or_cases}
+use Rattle.std.proofs.lemmas.Bool.{and_parts}
 use Rattle.pli_typing.specs.TypedTree as Y
 use Rattle.pli_meaning.specs.Control.{Label, is_among}
 use Rattle.pli_meaning.specs.Executing.{labels_in}
@@ -11,29 +11,18 @@ use Rattle.pli_coding.specs.Allocating.{act_code}
 use Rattle.pli_coding.specs.Assembly.{JumpAhead, JumpBack, size_of}
 use Rattle.pli_coding.specs.Expressions.{bit_code}
 use Rattle.pli_coding.specs.Statements.{if_met, marked, one_of, stmt_code, stmts_code, while_met}
-use Rattle.run_steps.specs.Items.{Linked}
-use Rattle.run_steps.specs.Reach.{cost}
 use Rattle.run_steps.proofs.Linking.{size_append}
 use Rattle.program_places.specs.Placed.{Placed}
 use Rattle.program_places.proofs.Labels.{marked_with}
 use Rattle.program_places.proofs.Marks.{placed_back, placed_front}
 use Rattle.program_runs.specs.Statements.{AreMarked, AreMarkedWith, Block, Does, DoesWith, EachDoes, EachDoesWith}
-use Rattle.program_runs.specs.Statements.{HasAct, set_aside, size_with}
-use Rattle.program_runs.proofs.Gotos.{goto_does}
+use Rattle.program_runs.specs.Statements.{set_aside}
 use Rattle.program_runs.proofs.Statements.{null_does, return_does, stop_does}
-use Rattle.expression_runs.specs.Assignments.{assignment, setting_around}
+use Rattle.expression_runs.specs.Assignments.{setting_around}
 use Rattle.expression_runs.specs.Variables.{whole}
-use Rattle.expression_runs.proofs.Assignments.{assign_with}
-use Rattle.expression_runs.proofs.Raises.{overflow_ends}
-use Rattle.operator_runs.proofs.Divisors.{zero_divide_ends}
 use Rattle.group_runs.specs.Groups.{list_index}
 use Rattle.group_runs.proofs.Groups.{group_with}
-use Rattle.function_runs.specs.Returns.{return_of}
-use Rattle.function_runs.proofs.ReturnValues as W
-use Rattle.element_runs.specs.Arrays.{element}
-use Rattle.element_runs.proofs.Assignments as A
-use Rattle.element_runs.proofs.Outside.{subscripts_end}
-use Rattle.test_runs.specs.Choices.{HasTestWith, behind_act, behind_choice_with, behind_test_with, body_index_with}
+use Rattle.test_runs.specs.Choices.{behind_act, behind_choice_with, behind_test_with, body_index_with}
 use Rattle.test_runs.proofs.Chosen.{met_size, past}
 use Rattle.test_runs.proofs.Ifs.{met_with, one_of_with}
 use Rattle.test_runs.proofs.Loops.{loop_with}
@@ -44,297 +33,20 @@ use Rattle.counter_runs.proofs.Counts.{count_does}
 use Rattle.counter_runs.proofs.Needs.{does_more}
 use Rattle.counter_runs.proofs.Scalars.{number_counts}
 use Rattle.number_runs.specs.Counting.{count_needs, is_count, limit_needs, start_needs}
-use Rattle.number_runs.specs.Knowledge.{AreAround, AreStanding, AreStandingWith, HasFrame, Includes, IsReady}
-use Rattle.number_runs.specs.Knowledge.{IsUnraised, KnowsNumbers, KnowsRaises, MayBeSet, Standing, StandingWith}
-use Rattle.number_runs.specs.Numbers.{Scope, bounds_known, is_element, is_fixed, is_number, is_reference, is_test}
-use Rattle.number_runs.specs.Numbers.{is_variable, number_needs, reference_needs, test_needs}
+use Rattle.number_runs.specs.Knowledge.{AreAround, AreStanding, AreStandingWith, HasFrame, IsReady, MayBeSet, Standing}
+use Rattle.number_runs.specs.Knowledge.{StandingWith}
+use Rattle.number_runs.specs.Numbers.{Scope, is_argument, is_fixed, is_reference, is_test, number_needs, test_needs}
+use Rattle.number_runs.specs.Numbers.{test_sets, without_given}
 use Rattle.number_runs.specs.Puts.{is_put}
 use Rattle.number_runs.specs.Statements.{are_statements, is_line, is_statement, is_stored, statement_needs}
-use Rattle.number_runs.specs.Statements.{statement_sets, statements_need, statements_set, stored_needs}
-use Rattle.number_runs.proofs.Arrays.{element_is, subscript_given}
+use Rattle.number_runs.specs.Statements.{statement_sets, statements_need, statements_set}
 use Rattle.number_runs.proofs.Counters.{IsCounting, counting_is, counting_of, statement_is}
 use Rattle.number_runs.proofs.Expressions.{number_does, test_does}
+use Rattle.number_runs.proofs.Homes.{Home, act_of, paid_for, knows, knows_in, has_test, given_does, returned_does}
+use Rattle.number_runs.proofs.Homes.{gone_does, calls_does, passed_does, not_true}
 use Rattle.number_runs.proofs.Labels.{placed_in, placed_with}
 use Rattle.number_runs.proofs.Puts.{put_statement_does}
-use Rattle.number_runs.proofs.Turns.{frame_told, free_above, ready_told, turn_stands}
-use Rattle.number_runs.proofs.Variables.{fixed_is, variable_is}
-
--- a block, with all that is known around its statements, and how many words are set aside
-pub record Home : Type 0 where
-  pub words : ℕ
-  pub scope : Scope
-  pub set : MayBeSet scope words
-  pub valued : Bool
-  pub block : Block
-  pub own : List Label
-  pub most : ℕ
-  pub left' : ℕ
-  pub ready : IsReady scope valued block own most left'
-
--- without units raises end the run
-pub none_raised :
-    (s : Scope) (k : Block) (own : List Label) (most : ℕ) → IsUnraised k most → KnowsRaises s k own most
-none_raised s k own most u =
-    record {
-      overflow = λ may words set labels line includes.
-          overflow_ends (setting_around words k labels line most) (record {
-            routines = u.routines;
-            overflow = u.overflow;
-            error = u.error;
-            acts = u.acts;
-            most = u.few;
-          });
-      divisor = λ may words set labels line includes.
-          zero_divide_ends (setting_around words k labels line most) (record {
-            routines = u.routines;
-            divisor = u.divisor;
-            error = u.error;
-            acts = u.acts;
-            most = u.few;
-          });
-      subscript = λ may words set labels line includes.
-          subscripts_end (setting_around words k labels line most) (record {
-            routines = u.routines;
-            place = u.place;
-            error = u.error;
-            acts = u.acts;
-            most = u.few;
-          });
-    }
-
--- ---- what the laws of single forms ask for
-
-act_of : (h : Home) (line : ℕ) → is_line line ≡ true → HasAct h.block line
-act_of h line is = record { line_fits = ltb-true line (2 ^ 31) is; acts = h.ready.acts }
-
-paid_for :
-    (h : Home) (stmt : Y.Stmt) (index : ℕ) →
-    Linked h.block.call.surroundings.links h.block.call.code index (stmt_code h.block.environment
-    (set_aside h.words) stmt) → size_with h.words h.block stmt + h.most ≤ cost h.block.call.code
-paid_for h stmt index l = let inside = l.inside in let room = h.ready.room in omega (arith, inside, room)
-
-knows_in :
-    {s : Scope} {valued : Bool} {k : Block} {own : List Label} {most left' : ℕ} → IsReady s valued k own most left' →
-    (words : ℕ) → MayBeSet s words → (labels : List Label) (line : ℕ) → Includes own labels →
-    KnowsNumbers s (setting_around words k labels line most)
-knows_in r words set labels line includes =
-    record {
-      begun = r.begun;
-      overflow = λ may. r.raises.overflow may words set labels line includes;
-      divisor = λ may. r.raises.divisor may words set labels line includes;
-      subscript = λ may. r.raises.subscript may words set labels line includes;
-      variables = r.variables;
-      arrays = r.arrays;
-      functions = λ level n is. r.calls.functions words set labels line level n includes is;
-    }
-
-knows :
-    (h : Home) (labels : List Label) (line : ℕ) → Includes h.own labels →
-    KnowsNumbers h.scope (setting_around h.words h.block labels line h.most)
-knows h labels line includes = knows_in h.ready h.words h.set labels line includes
-
-has_test :
-    (h : Home) (stmt : Y.Stmt) (condition : Y.Bit) (line index : ℕ) → is_line line ≡ true →
-    test_needs condition ≤ h.block.registers →
-    Linked h.block.call.surroundings.links h.block.call.code index (stmt_code h.block.environment
-    (set_aside h.words) stmt) → HasTestWith h.words h.block stmt line index (test_needs condition) h.most
-has_test h stmt condition line index is fits l =
-    record {
-      act = act_of h line is;
-      registers = fits;
-      held = h.ready.held;
-      statement = l;
-      paid = paid_for h stmt index l;
-    }
-
--- ---- numbers that are stored
-
-record Storing (s : Scope) (x : Y.Stored) : Type 0 where
-  number : Y.Number
-  is : x ≡ Y.StoredNumber 31 number
-  known : is_number s number ≡ true
-  needs : stored_needs x ≡ number_needs number
-
-storing : (s : Scope) (x : Y.Stored) → is_stored s x ≡ true → Storing s x
-storing s (Y.StoredNumber precision x) h =
-    let a = and_parts (precision == 31) (is_number s x) h in
-    record { number = x; is = ap (λ n. Y.StoredNumber n x) (eqb-true precision 31 a.0); known = a.1; needs = refl }
-storing s (Y.StoredText x) h = absurd (cc h)
-storing s (Y.StoredBit x) h = absurd (cc h)
-storing s (Y.StoredPointer x) h = absurd (cc h)
-storing s (Y.StoredOffset x) h = absurd (cc h)
-
-abbrev Coded : Home → List Label → Y.Stmt → (index : ℕ) → Type 0
-Coded h labels stmt index =
-    Linked h.block.call.surroundings.links h.block.call.code index (stmt_code h.block.environment
-    (set_aside h.words) stmt) → DoesWith h.words h.block labels stmt index h.left'
-
-assigned_does :
-    (h : Home) (labels : List Label) (target : Y.Reference) (source : Y.Stored) (line index : ℕ) →
-    Includes h.own labels → is_line line ≡ true → is_variable h.scope target ≡ true →
-    is_stored h.scope source ≡ true →
-    stored_needs source ≤ h.block.registers → Coded h labels (Y.Assign target source line) index
-assigned_does h labels target source line index includes is one two fits =
-    let v = variable_is h.scope target one in
-    let x = storing h.scope source two in
-    let need = number_needs x.number in
-    let needs = x.needs in
-    let stmt = assignment v.spot x.number line in
-    subst (λ t. Coded h labels (Y.Assign t source line) index) (sym v.is)
-    (subst (λ q. Coded h labels (Y.Assign (whole v.spot) q line) index) (sym x.is)
-    (λ l. assign_with h.words h.block labels v.spot x.number line index h.left' need h.most
-    (record {
-      act = act_of h line is;
-      begun = h.ready.begun;
-      number = h.ready.variables v.spot v.known;
-      registers = omega (arith, fits, needs);
-      held = h.ready.held;
-      statement = l;
-      paid = paid_for h stmt index l;
-    })
-    (number_does h.scope (setting_around h.words h.block labels line h.most) x.number
-    (knows h labels line includes) x.known)))
-
--- into an element: the value waits while the subscript is computed
-element_given :
-    (h : Home) (labels : List Label) (v : Y.Variable) (part : Y.Part) (subscript : Y.Number) (source : Y.Stored)
-    (line index : ℕ) → Includes h.own labels → is_line line ≡ true → is_element h.scope v part ≡ true →
-    is_number h.scope subscript ≡ true → is_stored h.scope source ≡ true → stored_needs source ≤ h.block.registers →
-    suc (max (number_needs subscript) 1) ≤ h.block.registers →
-    Coded h labels (Y.Assign (Y.Referring v Y.NotLocated part (Y.NumberThen subscript Y.NoNumber)) source line) index
-element_given h labels v part subscript source line index includes is one number two fits more =
-    let s = h.scope in
-    let t = element_is s v part subscript one in
-    let x = storing s source two in
-    let first = number_needs x.number in
-    let second = suc (max (number_needs subscript) 1) in
-    let needs = x.needs in
-    let k = setting_around h.words h.block labels line h.most in
-    let knows' = knows h labels line includes in
-    subst (λ r. Coded h labels (Y.Assign r source line) index) (sym t.is)
-    (subst (λ q. Coded h labels (Y.Assign (element t.spot subscript) q line) index) (sym x.is)
-    (λ l. A.assign_with h.words h.block labels t.spot (bounds_known s t.spot) subscript x.number line index h.left'
-    first second h.most
-    (record {
-      act = act_of h line is;
-      begun = h.ready.begun;
-      array = h.ready.arrays t.may t.spot t.known;
-      registers = omega (arith, fits, needs, more);
-      held = h.ready.held;
-      statement = l;
-      paid = paid_for h (Y.Assign (element t.spot subscript) (Y.StoredNumber 31 x.number) line) index l;
-    })
-    (knows'.subscript t.may) (number_does s k x.number knows' x.known)
-    (subscript_given s k 1 second subscript knows' number (omega arith) (number_does s k subscript knows' number))))
-
-given_does :
-    (h : Home) (labels : List Label) (target : Y.Reference) (source : Y.Stored) (line index : ℕ) →
-    Includes h.own labels → is_line line ≡ true → is_reference h.scope target ≡ true →
-    is_stored h.scope source ≡ true →
-    max (stored_needs source) (suc (reference_needs target)) ≤ h.block.registers →
-    Coded h labels (Y.Assign target source line) index
-given_does h labels (Y.Referring v Y.NotLocated part Y.NoNumber) source line index includes is one two fits =
-    assigned_does h labels (Y.Referring v Y.NotLocated part Y.NoNumber) source line index includes is one two
-    (omega (arith, fits))
-given_does h labels (Y.Referring v Y.NotLocated part (Y.NumberThen subscript Y.NoNumber)) source line index includes is
-    one two fits =
-    let a = and_parts (is_element h.scope v part) (is_number h.scope subscript) one in
-    element_given h labels v part subscript source line index includes is a.0 a.1 two (omega (arith, fits))
-    (omega (arith, fits))
-given_does h labels (Y.Referring v Y.NotLocated part (Y.NumberThen first (Y.NumberThen second rest))) source line index
-    includes is one two fits =
-    absurd (cc one)
-given_does h labels (Y.Referring v (Y.LocatedBy p) part Y.NoNumber) source line index includes is one two fits =
-    absurd (cc one)
-given_does h labels (Y.Referring v (Y.LocatedBy p) part (Y.NumberThen first rest)) source line index includes is one two
-    fits =
-    absurd (cc one)
-
-returned_does :
-    (h : Home) (labels : List Label) (type : Y.LeafType) (source : Y.Stored) (line index : ℕ) →
-    Includes h.own labels → is_line line ≡ true → h.scope.own ≡ true → h.valued ≡ true →
-    is_fixed type ≡ true → is_stored h.scope source ≡ true → stored_needs source ≤ h.block.registers →
-    Coded h labels (Y.ReturnValue type source line) index
-returned_does h labels type source line index includes is own valued one two fits =
-    let x = storing h.scope source two in
-    let need = number_needs x.number in
-    let needs = x.needs in
-    let stmt = return_of x.number line in
-    let v = (h.ready.home own).values valued in
-    subst (λ t. Coded h labels (Y.ReturnValue t source line) index) (sym (fixed_is type one))
-    (subst (λ q. Coded h labels (Y.ReturnValue (Y.FixedLeaf 31) q line) index) (sym x.is)
-    (λ l. W.return_with h.words h.block labels x.number line index h.left' need h.most
-    (record {
-      act = act_of h line is;
-      begun = h.ready.begun;
-      owner = v.owner;
-      end = v.end;
-      near = v.near;
-      enough = v.enough;
-      function = v.function;
-      registers = omega (arith, fits, needs);
-      held = h.ready.held;
-      kind = v.kind;
-      saved = v.saved;
-      statement = l;
-      paid = paid_for h stmt index l;
-    })
-    (number_does h.scope (setting_around h.words h.block labels line h.most) x.number
-    (knows h labels line includes) x.known)))
-
--- ---- jumps and calls
-
-jumps_does :
-    (h : Home) (labels : List Label) (level : ℕ) (label : Label) (line index : ℕ) →
-    AreAround h.block h.own labels → is_line line ≡ true → h.scope.own ≡ true →
-    (level == h.scope.level) ≡ true → is_among label labels ≡ true → Coded h labels (Y.Goto level label line) index
-jumps_does h labels level label line index placed is own same among =
-    let r = h.ready.home own in
-    let at = placed.at label among in
-    subst (λ n. Coded h labels (Y.Goto n label line) index) (r.level ∙ sym (eqb-true level h.scope.level same))
-    (λ l. goto_does h.block labels label line index h.left' (act_of h line is)
-    (record {
-      begun = h.ready.begun;
-      carried = among;
-      level = r.own;
-      block = r.block;
-      at = at.at;
-      place = at.place;
-      near = at.near;
-    })
-    l)
-
--- to a label of its own lists, or out
-gone_does :
-    (h : Home) (labels : List Label) (level : ℕ) (label : Label) (line index : ℕ) → AreAround h.block h.own labels →
-    is_line line ≡ true →
-    ((h.scope.own && ((level == h.scope.level) && is_among label labels)) || h.scope.is_outer level label) ≡ true →
-    Coded h labels (Y.Goto level label line) index
-gone_does h labels level label line index placed is to =
-    let near = (level == h.scope.level) && is_among label labels in
-    by (or_cases (h.scope.own && near) (h.scope.is_outer level label) to)
-  where
-    by :
-        ((h.scope.own && ((level == h.scope.level) && is_among label labels)) ≡ true)
-        ⊎ (h.scope.is_outer level label ≡ true) →
-        Coded h labels (Y.Goto level label line) index
-    by (inl own) =
-        let a = and_parts h.scope.own ((level == h.scope.level) && is_among label labels) own in
-        let b = and_parts (level == h.scope.level) (is_among label labels) a.1 in
-        jumps_does h labels level label line index placed is a.0 b.0 b.1
-    by (inr outer) =
-        λ l. h.ready.jumps labels level label line index placed.includes outer (ltb-true line (2 ^ 31) is) l
-
-calls_does :
-    (h : Home) (labels : List Label) (number level line index : ℕ) → Includes h.own labels → is_line line ≡ true →
-    h.scope.is_procedure level number ≡ true →
-    Coded h labels (Y.CallProcedure (Y.Calling number level Y.NoArgument) line) index
-calls_does h labels number level line index includes is known l =
-    h.ready.calls.procedures h.words h.set labels level number line index includes known (ltb-true line (2 ^ 31) is) l
-
-not_true : (q : Bool) → not q ≡ true → q ≡ false
-not_true true h = absurd (cc h)
-not_true false h = refl
+use Rattle.number_runs.proofs.Turns.{frame_told, frame_without, free_above, ready_told, ready_without, turn_stands}
 
 -- ---- parts of choices and loops
 
@@ -435,8 +147,9 @@ turn_free h c sets y =
     free_above l.layer.waits l.behind h.words (word y) (h.words + 2) l.free (sets c).0 (omega arith)
 
 -- the block in a turn, and what stays set aside there
-abbrev in_turn : (h : Home) → h.scope.counts ≡ true → HasFrame h.ready h.words 3 → (y : ℤ) → Home
-in_turn h c sets y =
+abbrev in_turn :
+    (h : Home) → h.scope.counts ≡ true → h.scope.gives ≡ false → HasFrame h.ready h.words 3 → (y : ℤ) → Home
+in_turn h c none sets y =
     let l = h.ready.loops c in
     let q = sets c in
     let room = q.1 in
@@ -444,13 +157,30 @@ in_turn h c sets y =
     record {
       words = h.words + 2;
       scope = h.scope;
-      set = (omega (arith, room, most), λ none. counts_not c none);
+      set = (omega (arith, room, most), λ none'. counts_not c none');
+      bare = λ may. absurd (cc (sym none ∙ may));
       valued = h.valued;
       block = N.turning h.words l.layer l.others h.block y;
       own = h.own;
       most = h.most;
       left' = h.left';
-      ready = ready_told h.ready c (with_word h.words (word y) l.layer.waits) (h.words + 2) (turn_free h c sets y);
+      ready = ready_told h.ready c none (with_word h.words (word y) l.layer.waits) (h.words + 2) (turn_free h c sets y);
+    }
+
+-- the block where no words may be set aside for lists of arguments
+abbrev without_list : Home → Home
+without_list h =
+    record {
+      words = h.words;
+      scope = without_given h.scope;
+      set = h.set;
+      bare = λ may. absurd (cc may);
+      valued = h.valued;
+      block = h.block;
+      own = h.own;
+      most = h.most;
+      left' = h.left';
+      ready = ready_without h.ready;
     }
 
 -- what is known of its statements
@@ -467,11 +197,12 @@ Goes h labels index stmt =
 counts_by :
     (h : Home) (labels : List Label) {k : Y.Counter} {v : Y.Value} {o : Option Y.Number} {n : Y.Number}
     {w : Option Y.Bit} (x : IsCounting h.scope k v o n w) (body : Y.Stmts) (line index : ℕ) → PlacedIn h labels →
-    is_line line ≡ true → (c : h.scope.counts ≡ true) → count_needs v o ≤ h.block.registers →
+    is_line line ≡ true → (c : h.scope.counts ≡ true) → (none : h.scope.gives ≡ false) →
+    count_needs v o ≤ h.block.registers →
     HasFrame h.ready h.words (max 3 (2 + statements_set body)) → (sets : HasFrame h.ready h.words 3) →
-    ((y : ℤ) → TurnStands (in_turn h c sets y) labels body) →
+    ((y : ℤ) → TurnStands (in_turn h c none sets y) labels body) →
     Goes h labels index (N.count_of (counting_of x body line))
-counts_by h labels {v = v} {o = o} x body line index placed is c fits all sets each at =
+counts_by h labels {v = v} {o = o} x body line index placed is c none fits all sets each at =
     let count = counting_of x body line in
     let l = h.ready.loops c in
     let q = all c in
@@ -482,7 +213,8 @@ counts_by h labels {v = v} {o = o} x body line index placed is c fits all sets e
     let first : start_needs v ≡ number_needs x.first = ap start_needs x.start in
     let last : limit_needs o ≡ number_needs x.last = ap limit_needs x.limit in
     let three = h.words + 3 in
-    let few : MayBeSet h.scope three = (omega (arith, room, most'), λ none. counts_not c none) in
+    let few : MayBeSet h.scope three = (omega (arith, room, most'), λ none'. counts_not c none') in
+    let bare : h.scope.gives ≡ true → three ≡ 0 = λ may. absurd (cc (sym none ∙ may)) in
     count_does h.words h.block count l.layer l.others labels index h.left' need h.most
     (record {
       act = act_of h line is;
@@ -501,40 +233,41 @@ counts_by h labels {v = v} {o = o} x body line index placed is c fits all sets e
     })
     (let k' = N.setting_with h.block labels line h.most three in
     does_more k' (number_needs x.first) need x.first (omega (arith, first))
-    (number_does h.scope k' x.first (knows_in h.ready three few labels line placed.includes) x.first_known))
+    (number_does h.scope k' x.first (knows_in h.ready three few bare labels line placed.includes) x.first_known))
     (λ z wide. let k' = N.setting_with (N.starting h.words l.layer l.others h.block z) labels line h.most three in
     let free = free_above l.layer.waits l.behind (h.words + 2) (word z) three l.free (omega (arith, low)) (omega arith)
     in
     does_more k' (number_needs x.last) need x.last (omega (arith, last))
     (number_does h.scope k' x.last
-    (knows_in (ready_told h.ready c (with_word (h.words + 2) (word z) l.layer.waits) three free) three few labels line
-    placed.includes) x.last_known))
-    (λ y wide. let t = in_turn h c sets y in
+    (knows_in (ready_told h.ready c none (with_word (h.words + 2) (word z) l.layer.waits) three free) three few bare
+    labels line placed.includes) x.last_known))
+    (λ y wide. let t = in_turn h c none sets y in
     number_counts (N.setting_with t.block labels line h.most (h.words + 2)) x.spot need t.ready.begun
     (t.ready.variables x.spot x.known))
-    (λ y wide. let t = in_turn h c sets y in
-    (knows_in t.ready (h.words + 2) t.set labels line placed.includes).overflow x.overflows)
-    (λ y wide. let t = in_turn h c sets y in
+    (λ y wide. let t = in_turn h c none sets y in
+    (knows_in t.ready (h.words + 2) t.set t.bare labels line placed.includes).overflow x.overflows)
+    (λ y wide. let t = in_turn h c none sets y in
     let i = N.body_index h.words h.block count index in
     let stands = turn_stands h.words h.block count index x.step at in
     turn_does h.words t.block labels body i h.left'
     (record { begun = t.ready.begun; turns = h.ready.turns; marked = marked_in t body i stands })
     (each y i (placed_in t.words t.block t.own body i labels stands
     (record { at = placed.at; includes = placed.includes }))
-    (frame_told h.ready c (with_word h.words (word y) l.layer.waits) (h.words + 2) (turn_free h c sets y) (h.words + 2)
-    (statements_set body) (omega arith) (omega (arith, room)))
+    (frame_told h.ready c none (with_word h.words (word y) l.layer.waits) (h.words + 2) (turn_free h c sets y)
+    (h.words + 2) (statements_set body) (omega arith) (omega (arith, room)))
     stands))
 
 counted_does :
     (h : Home) (labels : List Label) {k : Y.Counter} {v : Y.Value} {o : Option Y.Number} {n : Y.Number}
     {w : Option Y.Bit} (x : IsCounting h.scope k v o n w) (body : Y.Stmts) (line index : ℕ) → PlacedIn h labels →
-    is_line line ≡ true → (c : h.scope.counts ≡ true) → count_needs v o ≤ h.block.registers →
+    is_line line ≡ true → (c : h.scope.counts ≡ true) → (none : h.scope.gives ≡ false) →
+    count_needs v o ≤ h.block.registers →
     HasFrame h.ready h.words (max 3 (2 + statements_set body)) → (sets : HasFrame h.ready h.words 3) →
-    ((y : ℤ) → TurnStands (in_turn h c sets y) labels body) →
+    ((y : ℤ) → TurnStands (in_turn h c none sets y) labels body) →
     Goes h labels index (Y.DoCount k v o n w body line)
-counted_does h labels x body line index placed is c fits all sets each =
+counted_does h labels x body line index placed is c none fits all sets each =
     subst (Goes h labels index) (sym (statement_is x body line))
-    (counts_by h labels x body line index placed is c fits all sets each)
+    (counts_by h labels x body line index placed is c none fits all sets each)
 
 -- ---- all forms
 
@@ -559,7 +292,9 @@ mutual
       (test_does h.scope (setting_around h.words h.block labels line h.most) condition
       (knows h labels line placed.includes) b.0)
       (statement_does h labels unit (behind_test_with h.words h.block condition (behind_act line index)) placed b.1
-      (omega (arith, fits)) sets (unit_stands h condition unit line index at))
+      (omega (arith, fits))
+      (fewer h (statement_sets unit) (max (test_sets condition) (statement_sets unit)) (omega arith) sets)
+      (unit_stands h condition unit line index at))
   statement_does h labels (Y.IfElse condition unit otherwise line) index placed is fits sets at =
       let first = is_statement h.scope h.valued labels unit in
       let second = is_statement h.scope h.valued labels otherwise in
@@ -572,11 +307,13 @@ mutual
       (test_does h.scope (setting_around h.words h.block labels line h.most) condition
       (knows h labels line placed.includes) b.0)
       (statement_does h labels unit chosen placed c.0 (omega (arith, fits))
-      (fewer h (statement_sets unit) (max (statement_sets unit) (statement_sets otherwise)) (omega arith) sets)
+      (fewer h (statement_sets unit) (max (test_sets condition) (max (statement_sets unit) (statement_sets otherwise)))
+      (omega arith) sets)
       (first_stands h condition unit otherwise line index at))
       (statement_does h labels otherwise (behind_choice_with h.words h.block unit chosen) placed c.1
       (omega (arith, fits))
-      (fewer h (statement_sets otherwise) (max (statement_sets unit) (statement_sets otherwise)) (omega arith) sets)
+      (fewer h (statement_sets otherwise)
+      (max (test_sets condition) (max (statement_sets unit) (statement_sets otherwise))) (omega arith) sets)
       (second_stands h condition unit otherwise line index at))
   statement_does h labels (Y.Do body line) index placed is fits sets at =
       let inner = are_statements h.scope h.valued (labels_in body ++ labels) body in
@@ -605,13 +342,22 @@ mutual
       (knows h labels line placed.includes) b.0)
       (record { begun = h.ready.begun; turns = h.ready.turns; marked = marked_in h body i in' })
       (statements_do h (labels_in body ++ labels) body i
-      (placed_in h.words h.block h.own body i labels in' placed) b.1
-      (omega (arith, fits)) sets in')
+      (placed_in h.words h.block h.own body i labels in' placed) b.1 (omega (arith, fits))
+      (fewer h (statements_set body) (max (test_sets condition) (statements_set body)) (omega arith) sets) in')
   statement_does h labels (Y.CallProcedure (Y.Calling number level Y.NoArgument) line) index placed is fits sets at =
       let a = and_parts (is_line line) (h.scope.is_procedure level number) is in
       calls_does h labels number level line index placed.includes a.0 a.1 at.linked
-  statement_does h labels (Y.CallProcedure (Y.Calling number level (Y.ArgumentThen first rest)) line) index placed is
-      fits sets at =
+  statement_does h labels (Y.CallProcedure (Y.Calling number level (Y.ArgumentThen argument Y.NoArgument)) line) index
+      placed is fits sets at =
+      let known = h.scope.is_given_procedure level number in
+      let one = is_argument (without_given h.scope) argument in
+      let a = and_parts (is_line line) (h.scope.gives && (known && one)) is in
+      let b = and_parts h.scope.gives (known && one) a.1 in
+      let c = and_parts known one b.1 in
+      passed_does h labels number level argument line index placed.includes a.0 b.0 c.0 c.1 fits at.linked
+  statement_does h labels
+      (Y.CallProcedure (Y.Calling number level (Y.ArgumentThen argument (Y.ArgumentThen second rest))) line) index
+      placed is fits sets at =
       absurd (cc is)
   statement_does h labels (Y.Return line) index placed is fits sets at =
       let a = and_parts (is_line line) (h.scope.own && not h.valued) is in
@@ -637,17 +383,19 @@ mutual
   statement_does h labels (Y.EmptyArea target line) index placed is fits sets at = absurd (cc is)
   statement_does h labels (Y.DoOnce variable start condition body line) index placed is fits sets at = absurd (cc is)
   statement_does h labels (Y.DoCount counter start limit step condition body line) index placed is fits sets at =
-      let inner = are_statements h.scope h.valued (labels_in body ++ labels) body in
-      let counts' = is_count h.scope counter start limit step condition in
+      let g = without_list h in
+      let inner = are_statements g.scope h.valued (labels_in body ++ labels) body in
+      let counts' = is_count g.scope counter start limit step condition in
       let a = and_parts (is_line line) (h.scope.counts && (counts' && inner)) is in
       let b = and_parts h.scope.counts (counts' && inner) a.1 in
       let c = and_parts counts' inner b.1 in
-      let x = counting_is h.scope counter start limit step condition c.0 in
-      let three = fewer h 3 (max 3 (2 + statements_set body)) (omega arith) sets in
-      counted_does h labels x body line index placed a.0 b.0 (omega (arith, fits)) sets three
+      let x = counting_is g.scope counter start limit step condition c.0 in
+      let all = frame_without h.ready h.words (max 3 (2 + statements_set body)) sets in
+      let three = fewer g 3 (max 3 (2 + statements_set body)) (omega arith) all in
+      counted_does g labels x body line index placed a.0 b.0 refl (omega (arith, fits)) all three
       (λ y i placed' sets' at'.
-      statements_do (in_turn h b.0 three y) (labels_in body ++ labels) body i placed' c.1 (omega (arith, fits)) sets'
-      at') at
+      statements_do (in_turn g b.0 refl three y) (labels_in body ++ labels) body i placed' c.1 (omega (arith, fits))
+      sets' at') at
   statement_does h labels (Y.Begin block) index placed is fits sets at = absurd (cc is)
   statement_does h labels (Y.OnSystem condition line) index placed is fits sets at = absurd (cc is)
   statement_does h labels (Y.OnUnit condition unit line) index placed is fits sets at = absurd (cc is)
@@ -702,6 +450,7 @@ home_of s valued k own most left' ready =
       words = 0;
       scope = s;
       set = (omega arith, λ none. refl);
+      bare = λ may. refl;
       valued = valued;
       block = k;
       own = own;

@@ -1,6 +1,6 @@
 -- A block while limits wait in words of its frame: it is as ready as it was, and the statements of a turn stand there.
-use Rattle.std.proofs.Common.{◌≡◌, ℕ, ◌+◌, ◌<◌, ◌≤◌, List, [], ◌∷◌, ◌++◌, Bool, true, None, Option, Some}
-use Rattle.std.proofs.Common.{refl, ap, ◌∙◌, subst, arith}
+use Rattle.std.proofs.Common.{◌≡◌, ℕ, ◌+◌, ◌<◌, ◌≤◌, List, [], ◌∷◌, ◌++◌, Bool, true, false, None, Option, Some, refl}
+use Rattle.std.proofs.Common.{sym, ap, ◌∙◌, subst, arith}
 use Rattle.std.specs.Prelude.{cond}
 use Rattle.pli_typing.specs.TypedTree as Y
 use Rattle.pli_meaning.specs.Control.{Label}
@@ -22,8 +22,10 @@ use Rattle.counter_runs.proofs.Known.{array_told, number_told}
 use Rattle.counter_runs.proofs.Limits.{limit_size}
 use Rattle.counter_runs.proofs.Turns.{coded, starts_code}
 use Rattle.counter_runs.proofs.Words.{begun_telling}
-use Rattle.number_runs.specs.Knowledge.{AreStandingWith, HasFrame, IsHome, IsReady, StandingWith}
-use Rattle.number_runs.specs.Numbers.{Scope, bounds_known}
+use Rattle.number_runs.specs.Knowledge.{AreStandingWith, HasFrame, IsHome, IsReady, KnowsCalls, KnowsPuts, KnowsRaises}
+use Rattle.number_runs.specs.Knowledge.{StandingWith}
+use Rattle.number_runs.specs.Numbers.{Scope, bounds_known, without_given}
+use Rattle.number_runs.proofs.Received.{parameter_told}
 
 -- ---- words in which nothing waits
 
@@ -73,10 +75,10 @@ home_told φ φs waits b h =
 
 pub ready_told :
     {s : Scope} {valued : Bool} {k : Block} {labels : List Label} {most left' : ℕ}
-    (r : IsReady s valued k labels most left') (c : s.counts ≡ true) (waits : ℕ → Option ℕ) (behind : ℕ) →
-    ((n : ℕ) → behind ≤ n → waits n ≡ None) →
+    (r : IsReady s valued k labels most left') (c : s.counts ≡ true) → s.gives ≡ false → (waits : ℕ → Option ℕ)
+    (behind : ℕ) → ((n : ℕ) → behind ≤ n → waits n ≡ None) →
     IsReady s valued (telling waits (r.loops c).layer (r.loops c).others k) labels most left'
-ready_told {s} {k = k} r c waits behind free =
+ready_told {s} {k = k} r c none waits behind free =
     let l = r.loops c in
     let b = begun_telling k l.layer l.others waits l.newest r.begun in
     record {
@@ -87,7 +89,9 @@ ready_told {s} {k = k} r c waits behind free =
       raises = l.raises waits;
       variables = λ x is. number_told k l.layer l.others waits l.newest x (r.variables x is);
       arrays = λ may x is. array_told k l.layer l.others waits l.newest x (bounds_known s x) (r.arrays may x is);
+      parameters = λ x is. parameter_told k l.layer l.others waits l.newest x (r.parameters x is);
       calls = l.calls waits;
+      given = λ may. absurd (cc (sym none ∙ may));
       jumps = l.jumps waits;
       puts = l.puts waits;
       loops = λ c'. record {
@@ -109,12 +113,74 @@ ready_told {s} {k = k} r c waits behind free =
 -- in which its frame has as many words left as it had
 pub frame_told :
     {s : Scope} {valued : Bool} {k : Block} {labels : List Label} {most left' : ℕ}
-    (r : IsReady s valued k labels most left') (c : s.counts ≡ true) (waits : ℕ → Option ℕ) (behind : ℕ)
-    (free : (n : ℕ) → behind ≤ n → waits n ≡ None) (words count : ℕ) → behind ≤ words →
+    (r : IsReady s valued k labels most left') (c : s.counts ≡ true) (none : s.gives ≡ false) (waits : ℕ → Option ℕ)
+    (behind : ℕ) (free : (n : ℕ) → behind ≤ n → waits n ≡ None) (words count : ℕ) → behind ≤ words →
     words + count ≤ (r.loops c).layer.words →
-    HasFrame (ready_told r c waits behind free) words count
+    HasFrame (ready_told r c none waits behind free) words count
 unfolding ready_told
-frame_told r c waits behind free words count low room c' = (low, room)
+frame_told r c none waits behind free words count low room c' = (low, room)
+
+-- ---- where calls have no arguments
+
+raises_without :
+    {s : Scope} {k : Block} {own : List Label} {most : ℕ} → KnowsRaises s k own most →
+    KnowsRaises (without_given s) k own most
+raises_without h = record { overflow = h.overflow; divisor = h.divisor; subscript = h.subscript }
+
+calls_without :
+    {s : Scope} {k : Block} {own : List Label} {most left' : ℕ} → KnowsCalls s k own most left' →
+    KnowsCalls (without_given s) k own most left'
+calls_without h = record { functions = h.functions; procedures = h.procedures }
+
+puts_without : {s : Scope} {k : Block} {most : ℕ} → KnowsPuts s k most → KnowsPuts (without_given s) k most
+puts_without h = record { numbers = h.numbers; error = h.error; lists = h.lists }
+
+home_without :
+    {s : Scope} {valued : Bool} {k : Block} {left' : ℕ} → IsHome s valued k left' →
+    IsHome (without_given s) valued k left'
+home_without h =
+    record { level = h.level; own = h.own; block = h.block; returns = h.returns; values = h.values }
+
+-- as much else is known
+pub ready_without :
+    {s : Scope} {valued : Bool} {k : Block} {labels : List Label} {most left' : ℕ} →
+    IsReady s valued k labels most left' → IsReady (without_given s) valued k labels most left'
+ready_without r =
+    record {
+      begun = r.begun;
+      acts = r.acts;
+      turns = r.turns;
+      held = r.held;
+      raises = raises_without r.raises;
+      variables = r.variables;
+      arrays = r.arrays;
+      parameters = r.parameters;
+      calls = calls_without r.calls;
+      given = λ may. absurd (cc may);
+      jumps = r.jumps;
+      puts = λ may. puts_without (r.puts may);
+      loops = λ may. let l = r.loops may in record {
+        layer = l.layer;
+        others = l.others;
+        newest = l.newest;
+        few = l.few;
+        behind = l.behind;
+        free = l.free;
+        raises = λ waits. raises_without (l.raises waits);
+        calls = λ waits. calls_without (l.calls waits);
+        jumps = l.jumps;
+        puts = λ waits may'. puts_without (l.puts waits may');
+      };
+      room = r.room;
+      home = λ may. home_without (r.home may);
+    }
+
+pub frame_without :
+    {s : Scope} {valued : Bool} {k : Block} {labels : List Label} {most left' : ℕ}
+    (r : IsReady s valued k labels most left') (words count : ℕ) → HasFrame r words count →
+    HasFrame (ready_without r) words count
+unfolding ready_without
+frame_without r words count h c = h c
 
 -- ---- the statements of a turn
 

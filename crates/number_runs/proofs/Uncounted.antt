@@ -1,6 +1,6 @@
--- Where no loop may count, statements set no words of the frame aside.
+-- Where no loop may count, and no call has an argument, statements set no words of the frame aside.
 use Rattle.std.proofs.Common.{◌≡◌, ℕ, ◌≤◌, List, [], ◌++◌, true, false, refl, sym, ◌∙◌, arith}
-use Rattle.std.specs.Prelude.{◌&&◌, Bool}
+use Rattle.std.specs.Prelude.{◌&&◌, ◌==◌, Bool}
 use Rattle.std.proofs.lemmas.Bool.{and_parts}
 use Rattle.pli_typing.specs.TypedTree as Y
 use Rattle.pli_meaning.specs.Control.{Label}
@@ -8,23 +8,35 @@ use Rattle.pli_meaning.specs.DeclaredShapes.{variables_of_block}
 use Rattle.pli_meaning.specs.Executing.{labels_in}
 use Rattle.pli_coding.specs.Environments.{Environment, none_taken}
 use Rattle.pli_coding.specs.Registers.{held_registers}
-use Rattle.pli_coding.specs.Statements.{block_takes, block_words, stmt_takes}
-use Rattle.pli_coding.specs.Statements.{stmts_take}
+use Rattle.pli_coding.specs.Statements.{block_takes, block_words, stmt_takes, stmts_take}
 use Rattle.number_runs.specs.Counting.{is_count}
-use Rattle.number_runs.specs.Numbers.{Scope, is_test}
-use Rattle.number_runs.specs.Statements.{are_statements, is_line, is_statement, statement_needs, statement_sets}
-use Rattle.number_runs.specs.Statements.{statements_need, statements_set}
+use Rattle.number_runs.specs.Numbers.{Scope, is_argument, is_fixed, is_number, is_reference, is_test, without_given}
+use Rattle.number_runs.specs.Statements.{are_statements, is_line, is_statement, is_stored, statement_needs}
+use Rattle.number_runs.specs.Statements.{statement_sets, statements_need, statements_set, stored_sets}
 use Rattle.number_runs.specs.Variables.{are_plain}
-use Rattle.number_runs.proofs.Takes.{Takes, block_sets, statement_taken, statements_taken}
+use Rattle.number_runs.proofs.Takes.{Takes, block_sets, plain_known, statement_taken, statements_taken}
+use Rattle.number_runs.proofs.Unset.{number_unset, reference_unset, test_unset}
+
+stored_unset : (s : Scope) (x : Y.Stored) → s.gives ≡ false → is_stored s x ≡ true → stored_sets x ≡ 0
+stored_unset s (Y.StoredNumber precision x) none h =
+    number_unset s x none (and_parts (precision == 31) (is_number s x) h).1
+stored_unset s (Y.StoredText x) none h = refl
+stored_unset s (Y.StoredBit x) none h = refl
+stored_unset s (Y.StoredPointer x) none h = refl
+stored_unset s (Y.StoredOffset x) none h = refl
 
 mutual
   statement_uncounted :
-      (s : Scope) (valued : Bool) (labels : List Label) (x : Y.Stmt) → s.counts ≡ false →
+      (s : Scope) (valued : Bool) (labels : List Label) (x : Y.Stmt) →
+      (s.counts ≡ false) × (s.gives ≡ false) →
       is_statement s valued labels x ≡ true → statement_sets x ≡ 0
   statement_uncounted s valued labels (Y.If condition unit line) none h =
       let inner = is_statement s valued labels unit in
       let a = and_parts (is_line line) (is_test s condition && inner) h in
-      statement_uncounted s valued labels unit none (and_parts (is_test s condition) inner a.1).1
+      let b = and_parts (is_test s condition) inner a.1 in
+      let m = test_unset s condition none.1 b.0 in
+      let n = statement_uncounted s valued labels unit none b.1 in
+      omega (arith, m, n)
   statement_uncounted s valued labels (Y.IfElse condition unit otherwise line) none h =
       let first = is_statement s valued labels unit in
       let second = is_statement s valued labels otherwise in
@@ -33,20 +45,24 @@ mutual
       let c = and_parts first second b.1 in
       let m = statement_uncounted s valued labels unit none c.0 in
       let n = statement_uncounted s valued labels otherwise none c.1 in
-      omega (arith, m, n)
+      let o = test_unset s condition none.1 b.0 in
+      omega (arith, m, n, o)
   statement_uncounted s valued labels (Y.Do body line) none h =
       let a = and_parts (is_line line) (are_statements s valued (labels_in body ++ labels) body) h in
       statements_uncounted s valued (labels_in body ++ labels) body none a.1
   statement_uncounted s valued labels (Y.DoWhile condition body line) none h =
       let inner = are_statements s valued (labels_in body ++ labels) body in
       let a = and_parts (is_line line) (is_test s condition && inner) h in
-      statements_uncounted s valued (labels_in body ++ labels) body none (and_parts (is_test s condition) inner a.1).1
+      let b = and_parts (is_test s condition) inner a.1 in
+      let m = test_unset s condition none.1 b.0 in
+      let n = statements_uncounted s valued (labels_in body ++ labels) body none b.1 in
+      omega (arith, m, n)
   statement_uncounted s valued labels (Y.DoCount counter start limit step condition body line) none h =
-      let inner = are_statements s valued (labels_in body ++ labels) body in
-      let counts' = is_count s counter start limit step condition in
+      let inner = are_statements (without_given s) valued (labels_in body ++ labels) body in
+      let counts' = is_count (without_given s) counter start limit step condition in
       let a = and_parts (is_line line) (s.counts && (counts' && inner)) h in
       let b = and_parts s.counts (counts' && inner) a.1 in
-      absurd (cc (sym none ∙ b.0))
+      absurd (cc (sym none.0 ∙ b.0))
   statement_uncounted s valued labels (Y.AssignElements target source line) none h = refl
   statement_uncounted s valued labels (Y.AssignAggregate target source line) none h = refl
   statement_uncounted s valued labels (Y.AssignArea target source line) none h = refl
@@ -62,15 +78,34 @@ mutual
   statement_uncounted s valued labels (Y.Get skip pairs line) none h = refl
   statement_uncounted s valued labels (Y.Put skip pairs line) none h = refl
   statement_uncounted s valued labels (Y.Null line) none h = refl
-  statement_uncounted s valued labels (Y.Assign target source line) none h = refl
-  statement_uncounted s valued labels (Y.CallProcedure call line) none h = refl
+  statement_uncounted s valued labels (Y.Assign target source line) none h =
+      let a = and_parts (is_line line) (is_reference s target && is_stored s source) h in
+      let b = and_parts (is_reference s target) (is_stored s source) a.1 in
+      let m = reference_unset s target none.1 b.0 in
+      let n = stored_unset s source none.1 b.1 in
+      omega (arith, m, n)
+  statement_uncounted s valued labels (Y.CallProcedure (Y.Calling number level Y.NoArgument) line) none h = refl
+  statement_uncounted s valued labels
+      (Y.CallProcedure (Y.Calling number level (Y.ArgumentThen argument Y.NoArgument)) line) none h =
+      let known = s.is_given_procedure level number && is_argument (without_given s) argument in
+      let a = and_parts (is_line line) (s.gives && known) h in
+      absurd (cc (sym none.1 ∙ (and_parts s.gives known a.1).0))
+  statement_uncounted s valued labels
+      (Y.CallProcedure (Y.Calling number level (Y.ArgumentThen argument (Y.ArgumentThen second rest))) line) none h =
+      absurd (cc h)
   statement_uncounted s valued labels (Y.Return line) none h = refl
-  statement_uncounted s valued labels (Y.ReturnValue type source line) none h = refl
+  statement_uncounted s valued labels (Y.ReturnValue type source line) none h =
+      let rest = is_fixed type && is_stored s source in
+      let a = and_parts (is_line line) (s.own && (valued && rest)) h in
+      let c = and_parts s.own (valued && rest) a.1 in
+      let b = and_parts valued rest c.1 in
+      stored_unset s source none.1 (and_parts (is_fixed type) (is_stored s source) b.1).1
   statement_uncounted s valued labels (Y.Goto level label line) none h = refl
   statement_uncounted s valued labels (Y.Stop line) none h = refl
 
   statements_uncounted :
-      (s : Scope) (valued : Bool) (labels : List Label) (xs : Y.Stmts) → s.counts ≡ false →
+      (s : Scope) (valued : Bool) (labels : List Label) (xs : Y.Stmts) →
+      (s.counts ≡ false) × (s.gives ≡ false) →
       are_statements s valued labels xs ≡ true → statements_set xs ≡ 0
   statements_uncounted s valued labels (Y.EndOfList own) none h = refl
   statements_uncounted s valued labels (Y.StmtThen own first rest) none h =
@@ -81,7 +116,8 @@ mutual
 
 -- so they take registers alone
 pub statement_takes :
-    (s : Scope) (valued : Bool) (labels : List Label) (x : Y.Stmt) → s.counts ≡ false →
+    (s : Scope) (valued : Bool) (labels : List Label) (x : Y.Stmt) →
+    (s.counts ≡ false) × (s.gives ≡ false) →
     is_statement s valued labels x ≡ true → statement_needs x ≤ held_registers →
     Takes (statement_needs x) none_taken (stmt_takes none_taken x)
 statement_takes s valued labels x none h fits =
@@ -92,7 +128,8 @@ statement_takes s valued labels x none h fits =
     record { registers = omega (arith, p); words = omega (arith, u, v) }
 
 pub statements_take :
-    (s : Scope) (valued : Bool) (labels : List Label) (xs : Y.Stmts) → s.counts ≡ false →
+    (s : Scope) (valued : Bool) (labels : List Label) (xs : Y.Stmts) →
+    (s.counts ≡ false) × (s.gives ≡ false) →
     are_statements s valued labels xs ≡ true → statements_need xs ≤ held_registers →
     Takes (statements_need xs) none_taken (stmts_take none_taken xs)
 statements_take s valued labels xs none h fits =
@@ -104,19 +141,21 @@ statements_take s valued labels xs none h fits =
 
 -- and the frame of their block has no words
 pub block_taken :
-    (s : Scope) (valued : Bool) (program : Y.Program) (block : ℕ) (body : Y.Stmts) → s.counts ≡ false →
+    (s : Scope) (valued : Bool) (program : Y.Program) (block : ℕ) (body : Y.Stmts) →
+    (s.counts ≡ false) × (s.gives ≡ false) →
     are_plain (variables_of_block program block) ≡ true →
     are_statements s valued (labels_in body ++ []) body ≡ true → statements_need body ≤ held_registers →
     Takes (statements_need body) none_taken (block_takes program block body)
 block_taken s valued program block body none plain h fits =
-    let x = block_sets s valued program block body plain h fits in
+    let x = block_sets s valued program block body (plain_known (variables_of_block program block) plain) h fits in
     let p = x.registers in
     let u = x.words in
     let v = statements_uncounted s valued (labels_in body ++ []) body none h in
     record { registers = omega (arith, p); words = omega (arith, u, v) }
 
 pub words_none :
-    (s : Scope) (valued : Bool) (e : Environment) (block : ℕ) (body : Y.Stmts) → s.counts ≡ false →
+    (s : Scope) (valued : Bool) (e : Environment) (block : ℕ) (body : Y.Stmts) →
+    (s.counts ≡ false) × (s.gives ≡ false) →
     are_plain (variables_of_block e.program block) ≡ true →
     are_statements s valued (labels_in body ++ []) body ≡ true → statements_need body ≤ held_registers →
     block_words e block body ≡ 0

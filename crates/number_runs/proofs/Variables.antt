@@ -4,8 +4,10 @@ use Rattle.std.specs.Prelude.{◌&&◌, ◌==◌}
 use Rattle.std.proofs.lemmas.Bool.{and_parts, eqb-true}
 use Rattle.pli_typing.specs.TypedTree as Y
 use Rattle.expression_runs.specs.Variables.{Spot, number_declared, number_leaf, variable_of, whole, whole_part}
-use Rattle.number_runs.specs.Numbers.{Scope, has_none, is_absent, is_automatic, is_fixed, is_known, is_one_word}
-use Rattle.number_runs.specs.Numbers.{is_plain, is_scalar, is_variable, is_word, spot_of}
+use Rattle.argument_runs.specs.Parameters.{parameter, parameter_declared, parameter_of}
+use Rattle.number_runs.specs.Numbers.{Scope, has_none, is_absent, is_automatic, is_fixed, is_given, is_known}
+use Rattle.number_runs.specs.Numbers.{is_argument, is_number, is_one_word, is_parameter, is_parameter_class, is_plain}
+use Rattle.number_runs.specs.Numbers.{is_received, is_scalar, is_variable, is_word, spot_of}
 
 -- ---- references
 
@@ -42,6 +44,35 @@ variable_is s (Y.Referring v Y.NotLocated part Y.NoNumber) h =
     }
 variable_is s (Y.Referring v Y.NotLocated part (Y.NumberThen first rest)) h = absurd (cc h)
 variable_is s (Y.Referring v (Y.LocatedBy p) part subscripts) h = absurd (cc h)
+
+-- all of a parameter
+pub record IsReceived (s : Scope) (r : Y.Reference) : Type 0 where
+  pub spot : Spot
+  pub is : r ≡ parameter spot
+  pub known : is_received s spot ≡ true
+
+received_class : (c : Y.StorageClass) → is_parameter_class c ≡ true → c ≡ Y.ParameterClass
+received_class Y.ParameterClass h = refl
+received_class Y.AutomaticClass h = absurd (cc h)
+received_class Y.StaticClass h = absurd (cc h)
+received_class Y.BasedClass h = absurd (cc h)
+received_class Y.ControlledClass h = absurd (cc h)
+
+pub parameter_is : (s : Scope) (r : Y.Reference) → is_given s r ≡ true → IsReceived s r
+parameter_is s (Y.Referring v Y.NotLocated part Y.NoNumber) h =
+    let known = is_received s (spot_of v) in
+    let a = and_parts (is_parameter_class v.class) ((part.first == 0) && ((part.count == 1) && known)) h in
+    let b = and_parts (part.first == 0) ((part.count == 1) && known) a.1 in
+    let c = and_parts (part.count == 1) known b.1 in
+    record {
+      spot = spot_of v;
+      is =
+          ap (λ k. Y.Referring (record v { class = k }) Y.NotLocated part Y.NoNumber) (received_class v.class a.0)
+          ∙ ap (λ p. Y.Referring (parameter_of (spot_of v)) Y.NotLocated p Y.NoNumber) (part_is part b.0 c.0);
+      known = c.1;
+    }
+parameter_is s (Y.Referring v Y.NotLocated part (Y.NumberThen first rest)) h = absurd (cc h)
+parameter_is s (Y.Referring v (Y.LocatedBy p) part subscripts) h = absurd (cc h)
 
 -- ---- declarations
 
@@ -104,3 +135,45 @@ plain_is d h =
     (absent_is d.refer e.0)
     ∙ ap (λ es. let d' : Y.DeclaredVariable = record (number_declared []) { evaluations = es } in d')
     (none_is d.evaluations e.1)
+
+pub parameter_declared_is : (d : Y.DeclaredVariable) → is_parameter d ≡ true → d ≡ parameter_declared
+parameter_declared_is d h =
+    let one = is_one_word d.leaves in
+    let absent = is_absent d.refer in
+    let last = has_none d.evaluations in
+    let a = and_parts (is_parameter_class d.class) (is_scalar d.members && (one && (absent && last))) h in
+    let b = and_parts (is_scalar d.members) (one && (absent && last)) a.1 in
+    let c = and_parts one (absent && last) b.1 in
+    let e = and_parts absent last c.1 in
+    ap (λ k. record d { class = k }) (received_class d.class a.0)
+    ∙ ap (λ ms. record d { class = Y.ParameterClass; members = ms }) (scalar_is d.members b.0)
+    ∙ ap (λ ls. record d { class = Y.ParameterClass; members = plain_members; leaves = ls }) (leaves_are d.leaves c.0)
+    ∙ ap (λ r. let d' : Y.DeclaredVariable = record parameter_declared { refer = r; evaluations = d.evaluations } in d')
+    (absent_is d.refer e.0)
+    ∙ ap (λ es. let d' : Y.DeclaredVariable = record parameter_declared { evaluations = es } in d')
+    (none_is d.evaluations e.1)
+
+-- ---- arguments
+
+-- the copy of a number
+pub record IsCopy (s : Scope) (x : Y.Argument) : Type 0 where
+  pub number : Y.Number
+  pub is : x ≡ Y.ByCopy (Y.FixedLeaf 31) (Y.StoredNumber 31 number)
+
+abbrev pub argument_is : (s : Scope) (x : Y.Argument) → is_argument s x ≡ true → IsCopy s x
+argument_is s (Y.ByCopy type (Y.StoredNumber precision x)) h =
+    let a = and_parts (is_fixed type) ((precision == 31) && is_number s x) h in
+    let b = and_parts (precision == 31) (is_number s x) a.1 in
+    record {
+      number = x;
+      is =
+          ap (λ t. Y.ByCopy t (Y.StoredNumber precision x)) (fixed_is type a.0)
+          ∙ ap (λ n. Y.ByCopy (Y.FixedLeaf 31) (Y.StoredNumber n x)) (eqb-true precision 31 b.0);
+    }
+argument_is s (Y.ByCopy type (Y.StoredText x)) h = absurd (cc h)
+argument_is s (Y.ByCopy type (Y.StoredBit x)) h = absurd (cc h)
+argument_is s (Y.ByCopy type (Y.StoredPointer x)) h = absurd (cc h)
+argument_is s (Y.ByCopy type (Y.StoredOffset x)) h = absurd (cc h)
+argument_is s (Y.ByReference r) h = absurd (cc h)
+argument_is s (Y.ByOffsetInParameter p parameter) h = absurd (cc h)
+argument_is s (Y.ByOffsetInAutomatic p) h = absurd (cc h)

@@ -1,6 +1,5 @@
 -- What is known around the expressions and the statements of such a block.
-use Rattle.std.specs.Prelude.{ℕ, ◌+◌, ◌*◌, ◌^◌, ◌<◌, ◌≤◌, ◌≡◌, ◌∷◌, Bool, false, true, List, length, Option, None}
-use Rattle.std.specs.Prelude.{Some}
+use Rattle.std.specs.Prelude.{ℕ, ◌+◌, ◌*◌, ◌^◌, ◌<◌, ◌≤◌, ◌≡◌, ◌∷◌, Bool, false, true, List, length, Option, None, Some}
 use Rattle.pli_language.specs.declared.condition.Condition.TheVariants as C
 use Rattle.pli_language.specs.Tree as T
 use Rattle.pli_typing.specs.Signatures.{Fixed}
@@ -35,7 +34,9 @@ use Rattle.program_places.specs.Placed.{Placed}
 use Rattle.counter_runs.specs.Words.{telling}
 use Rattle.element_runs.specs.Arrays.{IsArray}
 use Rattle.element_runs.specs.Subscripts.{SubscriptComes}
-use Rattle.number_runs.specs.Numbers.{Scope, bounds_known, is_array_known, is_known}
+use Rattle.argument_runs.specs.CopyFunctions.{setting_in}
+use Rattle.argument_runs.specs.Parameters.{IsParameter}
+use Rattle.number_runs.specs.Numbers.{Scope, bounds_known, is_array_known, is_known, is_received, list_sets}
 use Rattle.number_runs.specs.Puts.{is_fixed_list, without_calls}
 
 -- ---- around expressions
@@ -43,8 +44,27 @@ use Rattle.number_runs.specs.Puts.{is_fixed_list, without_calls}
 abbrev pub call_number : (level number : ℕ) → Y.Number
 call_number level n = Y.NumberFrom (Y.Calling n level Y.NoArgument)
 
+-- with the copy of a number
+abbrev pub given_call : (level number : ℕ) → Y.Number → Y.Call
+given_call level n x =
+    Y.Calling n level (Y.ArgumentThen (Y.ByCopy (Y.FixedLeaf 31) (Y.StoredNumber 31 x)) Y.NoArgument)
+
+abbrev pub given_number : (level number : ℕ) → Y.Number → Y.Number
+given_number level n x = Y.NumberFrom (given_call level n x)
+
+-- around an argument, where the words of the list are set aside: raises and calls do what they mean, and so does a call
+-- with an argument that does
+pub record KnowsGiven (s : Scope) (k : Setting) : Type 0 where
+  pub overflow : s.overflows ≡ true → OverflowComes (setting_in k)
+  pub divisor : s.divides ≡ true → ZeroDivideComes (setting_in k)
+  pub subscript : s.elements ≡ true → SubscriptComes (setting_in k)
+  pub functions : (level n : ℕ) → s.is_function level n ≡ true → L.Does (setting_in k) 0 (call_number level n)
+  pub given :
+      (level n need : ℕ) (x : Y.Number) → s.is_given_function level n ≡ true → L.Does (setting_in k) need x →
+      L.Does k need (given_number level n x)
+
 -- raises come to what they mean where there may be any, each variable that may be named is a number of the block, or an
--- array of it, and calls of functions that may be called leave what they mean
+-- array of it, or a parameter, and calls of functions that may be called leave what they mean
 pub record KnowsNumbers (s : Scope) (k : Setting) : Type 0 where
   pub begun : IsBegun k.block
   pub overflow : s.overflows ≡ true → OverflowComes k
@@ -52,7 +72,9 @@ pub record KnowsNumbers (s : Scope) (k : Setting) : Type 0 where
   pub subscript : s.elements ≡ true → SubscriptComes k
   pub variables : (x : Spot) → is_known s x ≡ true → IsNumber k.block x
   pub arrays : s.elements ≡ true → (x : Spot) → is_array_known s x ≡ true → IsArray k.block x (bounds_known s x)
+  pub parameters : (x : Spot) → is_received s x ≡ true → IsParameter k.block x
   pub functions : (level n : ℕ) → s.is_function level n ≡ true → L.Does k 0 (call_number level n)
+  pub given : s.gives ≡ true → KnowsGiven s k
 
 -- each list of F items that static data have is known
 abbrev pub KnowsLists : Block → Type 0
@@ -117,6 +139,9 @@ pub record AreAround (k : Block) (own labels : List Label) : Type 0 where
 abbrev pub call_statement : (level number line : ℕ) → Y.Stmt
 call_statement level n line = Y.CallProcedure (Y.Calling n level Y.NoArgument) line
 
+abbrev pub given_statement : (level number line : ℕ) → Y.Number → Y.Stmt
+given_statement level n line x = Y.CallProcedure (given_call level n x) line
+
 -- the most words that the frame of a block has for temporaries
 abbrev pub most_set : ℕ
 most_set = 2 ^ 16
@@ -161,6 +186,21 @@ pub record KnowsCalls (s : Scope) (k : Block) (own : List Label) (most left' : �
       (stmt_code k.environment (set_aside words) (call_statement level n line)) →
       DoesWith words k labels (call_statement level n line) index left'
 
+-- so do those with an argument, around which no words are set aside, if the argument does where the list's are
+pub record KnowsGivenCalls (s : Scope) (k : Block) (own : List Label) (most left' : ℕ) : Type 0 where
+  pub set : MayBeSet s list_sets
+  pub functions :
+      (labels : List Label) (line level n need : ℕ) (x : Y.Number) → Includes own labels →
+      s.is_given_function level n ≡ true → L.Does (setting_around list_sets k labels line most) need x →
+      L.Does (setting_around 0 k labels line most) need (given_number level n x)
+  pub procedures :
+      (labels : List Label) (level n line index need : ℕ) (x : Y.Number) → Includes own labels →
+      s.is_given_procedure level n ≡ true → line < 2 ^ 31 → need ≤ k.registers →
+      Linked k.call.surroundings.links k.call.code index
+      (stmt_code k.environment none_taken (given_statement level n line x)) →
+      L.Does (setting_around list_sets k labels line most) need x →
+      Does k labels (given_statement level n line x) index left'
+
 -- jumps out come to what they mean
 abbrev pub KnowsJumps : Scope → Block → (own : List Label) → (left' : ℕ) → Type 0
 KnowsJumps s k own left' =
@@ -201,7 +241,9 @@ pub record IsReady (s : Scope) (valued : Bool) (k : Block) (labels : List Label)
   pub raises : KnowsRaises s k labels most
   pub variables : (x : Spot) → is_known s x ≡ true → IsNumber k x
   pub arrays : s.elements ≡ true → (x : Spot) → is_array_known s x ≡ true → IsArray k x (bounds_known s x)
+  pub parameters : (x : Spot) → is_received s x ≡ true → IsParameter k x
   pub calls : KnowsCalls s k labels most left'
+  pub given : s.gives ≡ true → KnowsGivenCalls s k labels most left'
   pub jumps : KnowsJumps s k labels left'
   pub puts : s.puts ≡ true → KnowsPuts s k most
   pub loops : s.counts ≡ true → KnowsLoops s k labels most left'

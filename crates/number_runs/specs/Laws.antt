@@ -12,14 +12,15 @@ use Rattle.expression_runs.specs.Laws as L
 use Rattle.expression_runs.specs.Values.{Setting}
 use Rattle.expression_runs.specs.Variables.{IsNumber, Spot}
 use Rattle.element_runs.specs.Arrays.{IsArray}
+use Rattle.argument_runs.specs.Parameters.{IsParameter}
 use Rattle.test_runs.specs.Tests.{Tests}
-use Rattle.number_runs.specs.Knowledge.{AreAround, AreStanding, HasFrame, IsReady, IsUnraised, KnowsLists}
-use Rattle.number_runs.specs.Knowledge.{KnowsNumbers, KnowsPuts, KnowsRaises, Standing}
-use Rattle.number_runs.specs.Numbers.{Scope, bounds_known, is_array_known, is_known, is_number, is_test}
+use Rattle.number_runs.specs.Knowledge.{AreAround, AreStanding, HasFrame, IsReady, IsUnraised, KnowsLists, KnowsNumbers}
+use Rattle.number_runs.specs.Knowledge.{KnowsPuts, KnowsRaises, Standing}
+use Rattle.number_runs.specs.Numbers.{Scope, bounds_known, is_array_known, is_known, is_number, is_received, is_test}
 use Rattle.number_runs.specs.Numbers.{number_needs, test_needs}
-use Rattle.number_runs.specs.Statements.{are_statements, is_statement, statement_needs, statement_sets}
-use Rattle.number_runs.specs.Statements.{statements_need, statements_set}
-use Rattle.number_runs.specs.Variables.{are_plain}
+use Rattle.number_runs.specs.Statements.{are_statements, is_statement, statement_needs, statement_sets, statements_need}
+use Rattle.number_runs.specs.Statements.{statements_set}
+use Rattle.number_runs.specs.Variables.{are_known}
 
 pub record ExpressionsDo : Type 0 where
   pub numbers :
@@ -54,18 +55,18 @@ pub record BodiesDo : Type 0 where
       (s : Scope) (k : Block) (most : ℕ) → IsBegun k → IsUnraised k most →
       ((x : Spot) → is_known s x ≡ true → IsNumber k x) →
       (s.elements ≡ true → (x : Spot) → is_array_known s x ≡ true → IsArray k x (bounds_known s x)) →
-      KnowsLists k → KnowsPuts s k most
+      ((x : Spot) → is_received s x ≡ true → IsParameter k x) → KnowsLists k → KnowsPuts s k most
 
 -- a block whose variables and statements are these, and whose temporaries fit registers: its frame has the words that
--- loops set aside and no others, and they take no register that it doesn't save
+-- loops set aside, and those of lists of arguments, and no others, and they take no register that it doesn't save
 pub record TemporariesFit : Type 0 where
   pub words :
       (s : Scope) (valued : Bool) (e : Environment) (block : ℕ) (body : Y.Stmts) →
-      are_plain (variables_of_block e.program block) ≡ true →
+      are_known (variables_of_block e.program block) ≡ true →
       are_statements s valued (labels_in body ++ []) body ≡ true → statements_need body ≤ held_registers →
       block_words e block body ≡ statements_set body
   pub registers :
       (s : Scope) (valued : Bool) (e : Environment) (block : ℕ) (body : Y.Stmts) →
-      are_plain (variables_of_block e.program block) ≡ true →
+      are_known (variables_of_block e.program block) ≡ true →
       are_statements s valued (labels_in body ++ []) body ≡ true → statements_need body ≤ held_registers →
       statements_need body ≤ block_held e block body

@@ -1,6 +1,6 @@
 -- Expressions of FIXED BINARY(31) numbers and tests of them, as a class that is computed from typed trees.
-use Rattle.std.specs.Prelude.{ℕ, suc, ◌^◌, ◌==◌, ◌&&◌, Bool, true, false, List, [], ◌∷◌, max, nat_lt, Option, None}
-use Rattle.std.specs.Prelude.{Some}
+use Rattle.std.specs.Prelude.{ℕ, suc, ◌+◌, ◌^◌, ◌==◌, ◌&&◌, ◌||◌, Bool, true, false, List, [], ◌∷◌, max, nat_lt, Option}
+use Rattle.std.specs.Prelude.{None, Some}
 use Rattle.std.specs.List.{list_any}
 use Rattle.pli_typing.specs.Signatures.{Bounds}
 use Rattle.pli_typing.specs.TypedTree as Y
@@ -8,19 +8,25 @@ use Rattle.pli_meaning.specs.Control.{Label}
 use Rattle.pli_meaning.specs.DeclaredShapes.{declared_variable}
 use Rattle.pli_coding.specs.Environments.{BlockPlace}
 use Rattle.expression_runs.specs.Variables.{Spot, variable_of}
+use Rattle.argument_runs.specs.Parameters.{parameter_of}
 use Rattle.number_runs.specs.Arrays.{bounds_if, is_array_if}
 
 -- ---- what an expression may name
 
--- the program, the level of the block whose expressions these are, the blocks whose variables they may name, and the
--- functions and the procedures without parameters that it may call: by the level of the block that declares one, and
--- its number
+-- the program, the level of the block whose expressions these are, the blocks whose variables they may name, those
+-- whose parameters they may, and the functions and the procedures without parameters that it may call: by the level of
+-- the block that declares one, and its number
 pub record Scope : Type 0 where
   pub program : Y.Program
   pub level : ℕ
   pub blocks : List BlockPlace
+  pub receivers : List BlockPlace
   pub is_function : (level number : ℕ) → Bool
   pub is_procedure : (level number : ℕ) → Bool
+  -- whether calls may have an argument, which is copied, and the functions and the procedures with a parameter
+  pub gives : Bool
+  pub is_given_function : (level number : ℕ) → Bool
+  pub is_given_procedure : (level number : ℕ) → Bool
   -- whether its loops may count
   pub counts : Bool
   -- whether statements may write numbers by format lists
@@ -91,6 +97,34 @@ is_variable s (Y.Referring v Y.NotLocated part Y.NoNumber) =
     is_automatic v.class && ((part.first == 0) && ((part.count == 1) && is_known s (spot_of v)))
 is_variable s _ = false
 
+-- ---- parameters
+
+abbrev pub is_parameter_class : Y.StorageClass → Bool
+is_parameter_class Y.ParameterClass = true
+is_parameter_class _ = false
+
+-- a FIXED BINARY(31) parameter
+abbrev pub is_parameter : Y.DeclaredVariable → Bool
+is_parameter d =
+    is_parameter_class d.class
+    && (is_scalar d.members && (is_one_word d.leaves && (is_absent d.refer && has_none d.evaluations)))
+
+abbrev pub is_parameter_if : Option Y.DeclaredVariable → Bool
+is_parameter_if None = false
+is_parameter_if (Some d) = is_parameter d
+
+-- the first parameter of one of these blocks
+abbrev pub is_received : Scope → Spot → Bool
+is_received s x =
+    list_any (is_place x) s.receivers
+    && ((x.index == 0) && is_parameter_if (declared_variable s.program (parameter_of x)))
+
+-- all of one
+abbrev pub is_given : Scope → Y.Reference → Bool
+is_given s (Y.Referring v Y.NotLocated part Y.NoNumber) =
+    is_parameter_class v.class && ((part.first == 0) && ((part.count == 1) && is_received s (spot_of v)))
+is_given s _ = false
+
 -- ---- arrays
 
 -- one that is declared in one of these blocks, and its bounds
@@ -108,6 +142,10 @@ is_element s v part =
 
 -- ---- numbers
 
+-- where words of the frame are set aside calls have no arguments
+abbrev pub without_given : Scope → Scope
+without_given s = record s { gives = false }
+
 -- what an operator may raise
 abbrev pub may_calculate : Scope → Y.ArithmeticOperator → Bool
 may_calculate s Y.Quotient = s.overflows && s.divides
@@ -118,6 +156,8 @@ abbrev mutual
   is_number s (Y.NumberConstant n) = nat_lt n (2 ^ 31)
   is_number s (Y.NumberIn r) = is_reference s r
   is_number s (Y.NumberFrom (Y.Calling number level Y.NoArgument)) = s.is_function level number
+  is_number s (Y.NumberFrom (Y.Calling number level (Y.ArgumentThen argument Y.NoArgument))) =
+      s.gives && (s.is_given_function level number && is_argument (without_given s) argument)
   is_number s (Y.Signed sign x) = s.overflows && is_number s x
   is_number s (Y.Calculated operator left right) =
       may_calculate s operator && (is_number s left && is_number s right)
@@ -129,11 +169,16 @@ abbrev mutual
       (s.overflows && s.divides) && ((precision == 31) && (is_number s dividend && is_number s divisor))
   is_number s _ = false
 
-  -- a variable, or an element of an array
+  -- a variable, a parameter, or an element of an array
   pub is_reference : Scope → Y.Reference → Bool
   is_reference s (Y.Referring v Y.NotLocated part (Y.NumberThen subscript Y.NoNumber)) =
       is_element s v part && is_number s subscript
-  is_reference s r = is_variable s r
+  is_reference s r = is_variable s r || is_given s r
+
+  -- a number that is copied
+  pub is_argument : Scope → Y.Argument → Bool
+  is_argument s (Y.ByCopy type (Y.StoredNumber precision x)) = is_fixed type && ((precision == 31) && is_number s x)
+  is_argument s _ = false
 
   pub are_numbers : Scope → Y.Numbers → Bool
   are_numbers s Y.NoNumber = true
@@ -143,6 +188,7 @@ abbrev mutual
 abbrev mutual
   pub number_needs : Y.Number → ℕ
   number_needs (Y.NumberIn r) = reference_needs r
+  number_needs (Y.NumberFrom c) = call_needs c
   number_needs (Y.Signed sign x) = max (number_needs x) 1
   number_needs (Y.Calculated operator left right) = max (number_needs left) (suc (number_needs right))
   number_needs (Y.Absolute x) = max (number_needs x) 1
@@ -155,6 +201,15 @@ abbrev mutual
   pub reference_needs : Y.Reference → ℕ
   reference_needs (Y.Referring v locator part subscripts) = subscripts_need subscripts
 
+  -- a value waits on its way into the list
+  pub call_needs : Y.Call → ℕ
+  call_needs (Y.Calling number level Y.NoArgument) = 0
+  call_needs (Y.Calling number level (Y.ArgumentThen argument rest)) = max (argument_needs argument) 1
+
+  pub argument_needs : Y.Argument → ℕ
+  argument_needs (Y.ByCopy type (Y.StoredNumber precision x)) = number_needs x
+  argument_needs _ = 0
+
   -- all of them wait
   pub subscripts_need : Y.Numbers → ℕ
   subscripts_need Y.NoNumber = 0
@@ -164,6 +219,38 @@ abbrev mutual
   pub numbers_need : Y.Numbers → ℕ
   numbers_need Y.NoNumber = 0
   numbers_need (Y.NumberThen first rest) = max (number_needs first) (numbers_need rest)
+
+-- how many words of the frame their lists of arguments take
+abbrev pub list_sets : ℕ
+list_sets = 6
+
+abbrev mutual
+  pub number_sets : Y.Number → ℕ
+  number_sets (Y.NumberIn r) = reference_sets r
+  number_sets (Y.NumberFrom c) = call_sets c
+  number_sets (Y.Signed sign x) = number_sets x
+  number_sets (Y.Calculated operator left right) = max (number_sets left) (number_sets right)
+  number_sets (Y.Absolute x) = number_sets x
+  number_sets (Y.SignOf x) = number_sets x
+  number_sets (Y.Extreme extremum first more) = max (number_sets first) (numbers_set more)
+  number_sets (Y.Modulo dividend divisor) = max (number_sets dividend) (number_sets divisor)
+  number_sets (Y.Divided precision dividend divisor) = max (number_sets dividend) (number_sets divisor)
+  number_sets _ = 0
+
+  pub reference_sets : Y.Reference → ℕ
+  reference_sets (Y.Referring v locator part subscripts) = numbers_set subscripts
+
+  pub call_sets : Y.Call → ℕ
+  call_sets (Y.Calling number level Y.NoArgument) = 0
+  call_sets (Y.Calling number level (Y.ArgumentThen argument rest)) = list_sets + argument_sets argument
+
+  pub argument_sets : Y.Argument → ℕ
+  argument_sets (Y.ByCopy type (Y.StoredNumber precision x)) = number_sets x
+  argument_sets _ = 0
+
+  pub numbers_set : Y.Numbers → ℕ
+  numbers_set Y.NoNumber = 0
+  numbers_set (Y.NumberThen first rest) = max (number_sets first) (numbers_set rest)
 
 -- ---- tests
 
@@ -181,3 +268,10 @@ test_needs (Y.Combined operator left right) = max (test_needs left) (suc (test_n
 test_needs (Y.NumbersCompared comparison left right) = max (number_needs left) (suc (number_needs right))
 test_needs (Y.BitsCompared comparison left right) = max (test_needs left) (suc (test_needs right))
 test_needs _ = 0
+
+abbrev pub test_sets : Y.Bit → ℕ
+test_sets (Y.Negated x) = test_sets x
+test_sets (Y.Combined operator left right) = max (test_sets left) (test_sets right)
+test_sets (Y.NumbersCompared comparison left right) = max (number_sets left) (number_sets right)
+test_sets (Y.BitsCompared comparison left right) = max (test_sets left) (test_sets right)
+test_sets _ = 0

@@ -36,7 +36,7 @@ is_fixed_list formats = are_formats formats && has_fixed formats
 
 -- what is written calls no function: it is evaluated while a place in a format list is in use
 abbrev pub without_calls : Scope → Scope
-without_calls s = record s { is_function = λ level n. false }
+without_calls s = record s { is_function = λ level n. false; gives = false }
 
 abbrev pub is_put_item : Scope → Y.PutItem → Bool
 is_put_item s (Y.PutValue (Y.NumberValue precision x)) = is_number (without_calls s) x

@@ -4,8 +4,9 @@ use Rattle.pli_typing.specs.TypedTree as Y
 use Rattle.pli_meaning.specs.Control.{Label, is_among}
 use Rattle.pli_meaning.specs.Executing.{labels_in}
 use Rattle.number_runs.specs.Counting.{count_needs, is_count}
-use Rattle.number_runs.specs.Numbers.{Scope, is_fixed, is_number, is_reference, is_test, number_needs}
-use Rattle.number_runs.specs.Numbers.{reference_needs, test_needs}
+use Rattle.number_runs.specs.Numbers.{Scope, call_needs, call_sets, is_argument, is_fixed, is_number, is_reference}
+use Rattle.number_runs.specs.Numbers.{is_test, number_needs, number_sets, reference_needs, reference_sets, test_needs}
+use Rattle.number_runs.specs.Numbers.{test_sets, without_given}
 use Rattle.number_runs.specs.Puts.{is_put, put_needs}
 
 -- a line fits a register
@@ -20,6 +21,10 @@ is_stored s _ = false
 abbrev pub stored_needs : Y.Stored → ℕ
 stored_needs (Y.StoredNumber precision x) = number_needs x
 stored_needs _ = 0
+
+abbrev pub stored_sets : Y.Stored → ℕ
+stored_sets (Y.StoredNumber precision x) = number_sets x
+stored_sets _ = 0
 
 -- in a block that returns a number or none; a GOTO may name these labels, those of the lists around it in its block, or
 -- one further out
@@ -40,9 +45,13 @@ abbrev mutual
   is_statement s valued labels (Y.DoCount counter start limit step condition body line) =
       is_line line
       && (s.counts
-      && (is_count s counter start limit step condition && are_statements s valued (labels_in body ++ labels) body))
+      && (is_count (without_given s) counter start limit step condition
+      && are_statements (without_given s) valued (labels_in body ++ labels) body))
   is_statement s valued labels (Y.CallProcedure (Y.Calling number level Y.NoArgument) line) =
       is_line line && s.is_procedure level number
+  is_statement s valued labels
+      (Y.CallProcedure (Y.Calling number level (Y.ArgumentThen argument Y.NoArgument)) line) =
+      is_line line && (s.gives && (s.is_given_procedure level number && is_argument (without_given s) argument))
   is_statement s valued labels (Y.Return line) = is_line line && (s.own && not valued)
   is_statement s valued labels (Y.ReturnValue type source line) =
       is_line line && (s.own && (valued && (is_fixed type && is_stored s source)))
@@ -69,6 +78,7 @@ abbrev mutual
   statement_needs (Y.DoWhile condition body line) = max (test_needs condition) (statements_need body)
   statement_needs (Y.DoCount counter start limit step condition body line) =
       max (count_needs start limit) (statements_need body)
+  statement_needs (Y.CallProcedure call line) = call_needs call
   statement_needs (Y.ReturnValue type source line) = stored_needs source
   statement_needs (Y.Put skip pairs line) = put_needs pairs
   statement_needs _ = 0
@@ -77,14 +87,19 @@ abbrev mutual
   statements_need (Y.EndOfList own) = 0
   statements_need (Y.StmtThen own first rest) = max (statement_needs first) (statements_need rest)
 
--- how many words of the frame their loops set aside: limit, step and start before the first turn, and two in each turn
+-- how many words of the frame are set aside: by loops for limit, step and start before the first turn, and two in each
+-- turn, and by calls for lists of arguments
 abbrev mutual
   pub statement_sets : Y.Stmt → ℕ
-  statement_sets (Y.If condition unit line) = statement_sets unit
-  statement_sets (Y.IfElse condition unit otherwise line) = max (statement_sets unit) (statement_sets otherwise)
+  statement_sets (Y.Assign target source line) = max (stored_sets source) (reference_sets target)
+  statement_sets (Y.If condition unit line) = max (test_sets condition) (statement_sets unit)
+  statement_sets (Y.IfElse condition unit otherwise line) =
+      max (test_sets condition) (max (statement_sets unit) (statement_sets otherwise))
   statement_sets (Y.Do body line) = statements_set body
-  statement_sets (Y.DoWhile condition body line) = statements_set body
+  statement_sets (Y.DoWhile condition body line) = max (test_sets condition) (statements_set body)
   statement_sets (Y.DoCount counter start limit step condition body line) = max 3 (2 + statements_set body)
+  statement_sets (Y.CallProcedure call line) = call_sets call
+  statement_sets (Y.ReturnValue type source line) = stored_sets source
   statement_sets _ = 0
 
   pub statements_set : Y.Stmts → ℕ

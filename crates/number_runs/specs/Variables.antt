@@ -1,6 +1,5 @@
 -- The variables of a procedure's block: FIXED BINARY(31) scalars and arrays of one dimension, without INITIAL.
-use Rattle.std.specs.Prelude.{ℕ, ◌+◌, ◌%◌, ◌^◌, ◌<◌, ◌≤◌, ◌≡◌, ◌&&◌, ◌||◌, Bool, true, List, [], ◌∷◌, length, Some}
-use Rattle.std.specs.Prelude.{⊤}
+use Rattle.std.specs.Prelude.{ℕ, ◌+◌, ◌%◌, ◌^◌, ◌<◌, ◌≤◌, ◌≡◌, ◌&&◌, ◌||◌, Bool, true, List, [], ◌∷◌, length, Some, ⊤}
 use Rattle.rv_meaning.specs.declared.instr.Instr.{Instr}
 use Rattle.pli_typing.specs.Signatures.{Bounds, data_size, footprint}
 use Rattle.pli_typing.specs.TypedTree as Y
@@ -24,7 +23,7 @@ use Rattle.variable_runs.specs.Lists.{AreAll, newest_all}
 use Rattle.function_runs.specs.Functions.{function_block}
 use Rattle.element_runs.specs.Arrays.{IsArray}
 use Rattle.number_runs.specs.Arrays.{bounds_if, is_array, is_array_if}
-use Rattle.number_runs.specs.Numbers.{is_plain, is_plain_if}
+use Rattle.number_runs.specs.Numbers.{is_parameter, is_plain, is_plain_if}
 
 -- a scalar, or an array
 abbrev pub is_declared : Y.DeclaredVariable → Bool
@@ -33,6 +32,11 @@ is_declared d = is_plain d || is_array d
 abbrev pub are_plain : List Y.DeclaredVariable → Bool
 are_plain [] = true
 are_plain (d ∷ ds) = is_declared d && are_plain ds
+
+-- parameters among them, too
+abbrev pub are_known : List Y.DeclaredVariable → Bool
+are_known [] = true
+are_known (d ∷ ds) = (is_declared d || is_parameter d) && are_known ds
 
 -- ---- as they are made
 

@@ -9,7 +9,7 @@ use Rattle.pli_typing.specs.TypedTree as Y
 use Rattle.pli_meaning.specs.DeclaredShapes.{head_of, procedure_numbered}
 use Rattle.pli_coding.specs.Environments.{BlockPlace, block_around, last_of_level}
 use Rattle.pli_coding.specs.Images.{blocks_of, blocks_of_procedure, place_of_head, with_block, with_blocks}
-use Rattle.program_places.specs.Programs.{IsProcedure, environment_for}
+use Rattle.program_places.specs.Programs.{IsReceiving, environment_for}
 
 -- ---- what is among them
 
@@ -162,8 +162,9 @@ found_among number x (p ∷ ps) e =
     (λ e'. found_among number x ps e')
 
 pub own_block :
-    (program : Y.Program) (head : Y.BlockHead) (body : Y.Stmts) (result : Option Y.LeafType) →
-    IsProcedure program head body result → block_around (environment_for program head) head.level ≡ head.number
-own_block program head body result is =
+    (program : Y.Program) (head : Y.BlockHead) (body : Y.Stmts) {parameters : List ℕ} (result : Option Y.LeafType) →
+    IsReceiving program head body parameters result →
+    block_around (environment_for program head) head.level ≡ head.number
+own_block program head body {parameters} result is =
     last_is (place_of_head head) 0 (blocks_of program.procedures) (all_in_order program.procedures)
     (found_among head.number _ program.procedures is)

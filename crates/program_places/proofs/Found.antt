@@ -12,7 +12,7 @@ use Rattle.well_formed_trees.specs.Ranges.{IsLine}
 use Rattle.well_formed_trees.specs.Surroundings.{level_here}
 use Rattle.well_formed_trees.specs.WellFormed.{IsWellFormed, SoundProcedure, procedure_around}
 use Rattle.well_formed_trees.proofs.Counts.{times_append}
-use Rattle.program_places.specs.Programs.{IsProcedure}
+use Rattle.program_places.specs.Programs.{IsReceiving}
 
 found_by :
     (P : Y.Procedure → Type 0) (q : Bool) (p x : Y.Procedure) (o : Option Y.Procedure) → cond q (Some p) o ≡ Some x →
@@ -50,9 +50,10 @@ positive zero h = absurd (h refl)
 positive (suc n) h = omega arith
 
 number_positive :
-    (program : Y.Program) (head : Y.BlockHead) (body : Y.Stmts) (result : Option Y.LeafType) → IsWellFormed program →
-    IsProcedure program head body result → head.kind ≡ Y.ProcedureBlock → 1 ≤ head.number
-number_positive program head body result well is kind =
+    (program : Y.Program) (head : Y.BlockHead) (body : Y.Stmts) {parameters : List ℕ} (result : Option Y.LeafType) →
+    IsWellFormed program → IsReceiving program head body parameters result → head.kind ≡ Y.ProcedureBlock →
+    1 ≤ head.number
+number_positive program head body {parameters} result well is kind =
     positive head.number
     (λ zero'.
     let all = times_found 0 head.number _ program.procedures is in
@@ -70,9 +71,9 @@ pub record Known (program : Y.Program) (head : Y.BlockHead) : Type 0 where
   pub level : head.level < 16
 
 pub known :
-    (program : Y.Program) (head : Y.BlockHead) (body : Y.Stmts) (result : Option Y.LeafType) → IsWellFormed program →
-    IsProcedure program head body result → Known program head
-known program head body result well is =
+    (program : Y.Program) (head : Y.BlockHead) (body : Y.Stmts) {parameters : List ℕ} (result : Option Y.LeafType) →
+    IsWellFormed program → IsReceiving program head body parameters result → Known program head
+known program head body {parameters} result well is =
     let h = every_found (SoundProcedure well.table program) head.number _ program.procedures is well.procedures in
     let same : head ≡ h.head = ap head_of h.is in
     let kind : head.kind ≡ Y.ProcedureBlock =

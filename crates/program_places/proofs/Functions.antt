@@ -1,6 +1,6 @@
 -- Functions without parameters that return FIXED BINARY, wherever they are called.
-use Rattle.std.proofs.Common.{◌≡◌, ℕ, ◌+◌, ◌^◌, ◌<◌, ◌≤◌, List, [], ◌∷◌, ◌++◌, Some, Option, Bool, true, false}
-use Rattle.std.proofs.Common.{refl, ap, ◌∙◌, arith}
+use Rattle.std.proofs.Common.{◌≡◌, ℕ, ◌+◌, ◌^◌, ◌<◌, ◌≤◌, List, [], ◌∷◌, ◌++◌, Some, Option, Bool, true, false, refl}
+use Rattle.std.proofs.Common.{ap, ◌∙◌, arith}
 use Rattle.std.specs.Prelude.{cond, ◌==◌, pos}
 use Rattle.std.proofs.lemmas.List.{append_assoc}
 use Rattle.std.proofs.lemmas.Option.{same_Some}
@@ -23,8 +23,9 @@ use Rattle.pli_coding.specs.Allocating.{act_code}
 use Rattle.function_runs.specs.Functions.{IsFunction, function_code, function_end, function_tail}
 use Rattle.program_places.specs.Laws.{IsEnd}
 use Rattle.program_places.specs.Placed.{Placed}
-use Rattle.program_places.specs.Programs.{IsLoadable, IsProcedure, Run, Site, behind_body, body_for, code_for}
-use Rattle.program_places.specs.Programs.{entry_for, environment_for, function_for, image_for, links_for, procedure_for}
+use Rattle.program_places.specs.Programs.{IsLoadable, IsProcedure, IsReceiving, Run, Site, behind_body, body_for}
+use Rattle.program_places.specs.Programs.{code_for, entry_for, environment_for, function_for, image_for, links_for}
+use Rattle.program_places.specs.Programs.{procedure_for}
 use Rattle.program_places.proofs.Callees.{few_saved}
 use Rattle.program_places.proofs.Found.{known}
 use Rattle.program_places.proofs.Labels.{are_marked}
@@ -61,12 +62,12 @@ no_main variables number x (p ∷ ps) main e inner =
 
 -- ---- its end
 
-function_ended :
-    (program : Y.Program) (head : Y.BlockHead) (body : Y.Stmts) (precision : ℕ) → IsLoadable program →
-    IsProcedure program head body (Some (Y.FixedLeaf precision)) → 1 ≤ head.level →
+pub function_ended :
+    (program : Y.Program) (head : Y.BlockHead) (body : Y.Stmts) {parameters : List ℕ} (precision : ℕ) →
+    IsLoadable program → IsReceiving program head body parameters (Some (Y.FixedLeaf precision)) → 1 ≤ head.level →
     ended_code (environment_for program head) (procedure_for program head body) (Some (Y.FixedLeaf precision))
     ≡ function_tail (procedure_for program head body)
-function_ended program head body precision h is inner =
+function_ended program head body {parameters} precision h is inner =
     let x = procedure_for program head body in
     let load = load_word a0 frame_register (pos result) in
     let last : Code = frame_returned x.words x.saved in

@@ -1,6 +1,6 @@
 -- Where the parts of a program's code stand: the routines of raises, and each procedure and function.
-use Rattle.std.proofs.Common.{◌≡◌, ℕ, ◌+◌, ◌*◌, List, [], ◌∷◌, ◌++◌, Some, Option, Bool}
-use Rattle.std.proofs.Common.{true, false, refl, ap, ◌∙◌, subst, arith}
+use Rattle.std.proofs.Common.{◌≡◌, ℕ, ◌+◌, ◌*◌, List, [], ◌∷◌, ◌++◌, Some, Option, Bool, true, false, refl, ap, ◌∙◌}
+use Rattle.std.proofs.Common.{subst, arith}
 use Rattle.std.specs.Prelude.{cond, ◌==◌}
 use Rattle.std.proofs.lemmas.List.{append_assoc}
 use Rattle.std.proofs.lemmas.Option.{same_Some}
@@ -26,8 +26,8 @@ use Rattle.program_runs.specs.Procedures.{Procedure, begin_of}
 use Rattle.program_runs.specs.Starts.{image_parts}
 use Rattle.expression_runs.specs.Raises.{Routines}
 use Rattle.program_places.specs.Placed.{Placed}
-use Rattle.program_places.specs.Programs.{IsLoadable, IsProcedure, body_for, code_for, entry_among, entry_for}
-use Rattle.program_places.specs.Programs.{environment_for, links_for, procedure_for, procedures_index}
+use Rattle.program_places.specs.Programs.{IsLoadable, IsProcedure, IsReceiving, body_for, code_for, entry_among}
+use Rattle.program_places.specs.Programs.{entry_for, environment_for, links_for, procedure_for, procedures_index}
 use Rattle.program_places.specs.Programs.{program_environment, raises_index}
 use Rattle.program_places.proofs.Marks.{behind_mark, placed_as, placed_at, placed_back, placed_front, whole_placed}
 
@@ -112,6 +112,16 @@ procedure_is e x result same =
     (join_code frame (move u5 a1) (move a3 a2) (block_entered 0 line) (x.variables ++ act_code line) rest)
     ∙ ap (λ u. entry ∷ (begin_of x ++ u)) (append_assoc x.variables (act_code line) rest)
 
+-- as it stands with any parameters
+pub receiving_placed :
+    MarkedOnce → (program : Y.Program) (head : Y.BlockHead) (body : Y.Stmts) (parameters : List ℕ)
+    (result : Option Y.LeafType) → IsLoadable program → IsReceiving program head body parameters result →
+    Placed (links_for program) (linked_code (code_for program)) (entry_for program head.number)
+    (procedure_of_block (program_environment program) (Y.BlockOf head body) parameters result)
+receiving_placed once program head body parameters result h is =
+    found_placed (program_environment program) head.number _ program.procedures (procedures_index program) is
+    (procedures_placed once program h)
+
 pub entry_placed :
     MarkedOnce → (program : Y.Program) (head : Y.BlockHead) (body : Y.Stmts) (result : Option Y.LeafType) →
     IsLoadable program → IsProcedure program head body result →
@@ -123,8 +133,7 @@ entry_placed once program head body result h is =
     (Mark (ProcedureEntry head.number)
     ∷ behind_entry (environment_for program head) (procedure_for program head body) result)
     (procedure_is (environment_for program head) (procedure_for program head body) result refl)
-    (found_placed (program_environment program) head.number _ program.procedures (procedures_index program) is
-    (procedures_placed once program h))
+    (receiving_placed once program head body [] result h is)
 
 -- its statements and its end
 pub rest_placed :

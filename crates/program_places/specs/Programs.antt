@@ -85,11 +85,15 @@ pub record HasStart (program : Y.Program) : Type 0 where
 
 -- ---- its procedures
 
--- what a call finds by the number: it has no parameters, and returns what is said
-abbrev pub IsProcedure : Y.Program → Y.BlockHead → Y.Stmts → Option Y.LeafType → Type 0
-IsProcedure program head body result =
+-- what a call finds by the number: it has these parameters, and returns what is said
+abbrev pub IsReceiving : Y.Program → Y.BlockHead → Y.Stmts → (parameters : List ℕ) → Option Y.LeafType → Type 0
+IsReceiving program head body parameters result =
     procedure_numbered head.number program.procedures
-    ≡ Some (record { block = Y.BlockOf head body; parameters = []; result = result })
+    ≡ Some (record { block = Y.BlockOf head body; parameters = parameters; result = result })
+
+-- or none
+abbrev pub IsProcedure : Y.Program → Y.BlockHead → Y.Stmts → Option Y.LeafType → Type 0
+IsProcedure program head body result = IsReceiving program head body [] result
 
 -- the first is the main one, which returns nothing
 pub record Main : Type 0 where

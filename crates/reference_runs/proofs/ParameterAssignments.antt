@@ -21,7 +21,7 @@ use Rattle.pli_meaning.specs.World.{counted}
 use Rattle.pli_serving.specs.ServiceState.{Services}
 use Rattle.pli_coding.specs.Allocating.{act_code}
 use Rattle.pli_coding.specs.Assembly.{Code, size_of}
-use Rattle.pli_coding.specs.Environments.{Environment, fetch, no_declaration, none_taken, save, with_number}
+use Rattle.pli_coding.specs.Environments.{Environment, Taken, fetch, no_declaration, save, with_number}
 use Rattle.pli_coding.specs.Expressions.{number_code, reference_code}
 use Rattle.pli_coding.specs.Instructions.{store_word}
 use Rattle.pli_coding.specs.Locating as C
@@ -46,10 +46,10 @@ use Rattle.block_runs.specs.Machines.{IsIn, acted}
 use Rattle.block_runs.proofs.CallStatements.{comes_map}
 use Rattle.block_runs.proofs.PointActs.{act_comes}
 use Rattle.block_runs.proofs.PointGrounds.{StandsIn, in_known, point_frame, point_ground}
-use Rattle.program_runs.specs.Statements.{Block, Does, IsAmong, size_in, statement_aims}
+use Rattle.program_runs.specs.Statements.{Block, Does, DoesWith, IsAmong, set_aside, size_with, statement_aims}
 use Rattle.program_runs.proofs.JumpsOut.{jumps_repaid, jumps_since}
 use Rattle.program_runs.proofs.Statements.{acted_among, goes_here, statement_closed}
-use Rattle.expression_runs.specs.Assignments.{setting_of}
+use Rattle.expression_runs.specs.Assignments.{setting_around, setting_of}
 use Rattle.expression_runs.specs.Laws as L
 use Rattle.expression_runs.specs.Values.{HasRegisters, HasWord, Setting, Stretch, behind, number_aims}
 use Rattle.expression_runs.specs.Variables.{Spot}
@@ -64,27 +64,31 @@ use Rattle.argument_runs.specs.Parameters.{IsParameter, most_parameters, paramet
 use Rattle.argument_runs.proofs.ParameterCode as W
 use Rattle.argument_runs.proofs.ParameterCode.{designated_is, found_code, found_coded}
 use Rattle.argument_runs.proofs.Parameters.{CopyAt, copy_at, found_comes, found_regs, there_at, word_there}
-use Rattle.reference_runs.specs.ParameterAssignments.{IsAssignment, assignment}
+use Rattle.reference_runs.specs.ParameterAssignments.{IsAssignment, IsAssignmentWith, assignment}
 
 -- ---- the code of the store
 
 abbrev value_stored : Code
 value_stored = store_word u3 a0 (pos 0)
 
-abbrev put_code : (level place : ℕ) → Code
-put_code level place = save a0 none_taken ++ (found_code level place ++ (fetch a0 none_taken ++ value_stored))
+abbrev put_code : (words level place : ℕ) → Code
+put_code words level place =
+    save a0 (set_aside words) ++ (found_code level place ++ (fetch a0 (set_aside words) ++ value_stored))
 
 put_coded :
-    (e : Environment) (n : Spot) (place : ℕ) →
+    (words : ℕ) (e : Environment) (n : Spot) (place : ℕ) →
     declared_variable e.program (parameter_of n) ≡ Some parameter_declared →
     number_of_parameter e (parameter_of n) ≡ place → place < most_parameters → (n.level == e.level) ≡ true →
-    word_stored e none_taken (parameter n) ≡ put_code n.level place
-put_coded e n place declared first near own =
-    ap (λ o. save a0 none_taken ++ (reference_code e (with_number none_taken) (parameter n)
-    ++ (fetch a0 none_taken ++ C.stored (leaf_of o).type a0 (record { register = u3; displacement = pos 0 })))) declared
-    ∙ ap (λ u. save a0 none_taken ++ (u ++ (fetch a0 none_taken ++ value_stored)))
-    (found_coded e (with_number none_taken) n place declared first near own)
+    word_stored e (set_aside words) (parameter n) ≡ put_code words n.level place
+put_coded words e n place declared first near own =
+    ap (λ o. save a0 t ++ (reference_code e (with_number t) (parameter n)
+    ++ (fetch a0 t ++ C.stored (leaf_of o).type a0 (record { register = u3; displacement = pos 0 })))) declared
+    ∙ ap (λ u. save a0 t ++ (u ++ (fetch a0 t ++ value_stored)))
+    (found_coded e (with_number t) n place declared first near own)
   where
+    t : Taken
+    t = set_aside words
+
     leaf_of : Option Y.DeclaredVariable → Y.Leaf
     leaf_of o = unwrap_or (slice_get (unwrap_or o no_declaration).leaves 0) no_leaf
 
@@ -149,15 +153,15 @@ value_goes {k} {x} {is} {numbers} {p} o n h c f z wide even l there =
 -- the value waits while the parameter is found: from there to the point behind
 put_reaches :
     (k' : Setting) {x : Spot} (is : IsParameter k'.block x) {numbers : ℕ → ℕ} {p : Point} {index : ℕ} →
-    k'.words ≡ 0 → HasRegisters k' 0 1 → IsAmong k'.block numbers p → (c : ℕ) (f : Family) (z : ℤ)
+    HasRegisters k' 0 1 → IsAmong k'.block numbers p → (c : ℕ) (f : Family) (z : ℤ)
     (wide : is_of_precision 31 z ≡ true) (n : CopyAt k'.block x is p) →
-    Linked k'.block.call.surroundings.links k'.block.call.code index (put_code x.level is.place) →
+    Linked k'.block.call.surroundings.links k'.block.call.code index (put_code k'.words x.level is.place) →
     ((b : Base) → IsIn k'.block.call.surroundings p numbers index b (f b) × (value (f b).machine a0 ≡ word z)) →
-    Reach k'.block.call.code c f (services_of p) (c + size_of (put_code x.level is.place))
+    Reach k'.block.call.code c f (services_of p) (c + size_of (put_code k'.words x.level is.place))
     (services_of (behind_assigned p (assigning n z wide)))
     (λ b y. IsIn k'.block.call.surroundings (behind_assigned p (assigning n z wide)) (held_after numbers 0 (word z))
-    (index + size_of (put_code x.level is.place)) b y)
-put_reaches k' {x} is {numbers} {p} {index} none registers o c f z wide n l there =
+    (index + size_of (put_code k'.words x.level is.place)) b y)
+put_reaches k' {x} is {numbers} {p} {index} registers o c f z wide n l there =
     let k = k'.block in
     let w = k.call.surroundings in
     let h = point_frame o.stands o.image in
@@ -166,39 +170,29 @@ put_reaches k' {x} is {numbers} {p} {index} none registers o c f z wide n l ther
     let small' = word_small z wide in
     let o' = held_among k' 0 1 (word z) registers (omega arith) small' o in
     let finds = found_code x.level is.place in
-    let saves = save a0 none_taken in
-    let back = fetch a0 none_taken in
+    let t = set_aside k'.words in
+    let saves = save a0 t in
+    let back = fetch a0 t in
     let l1 = back_of saves (finds ++ (back ++ value_stored)) l in
     let l2 = back_of finds (back ++ value_stored) l1 in
     let n1 = size_append finds (back ++ value_stored) in
     let even = (n.tells (f first_base).machine.memory (there first_base).0.at.storage).1 in
-    let r1 = subst (λ j. (Linked w.links k.call.code index (save a0 (record { registers = 0; words = j }))) →
-    Reach k.call.code c f (services_of p) (c + size_of (save a0 (record { registers = 0; words = j }))) (services_of p)
-    (λ b y. At b (index + size_of (save a0 (record { registers = 0; words = j })))
-    (Known (point_ground w p h) (services_of p) (held_after numbers 0 (word z)) (λ i. 0) nothing b) y)) none
-    (λ l'. saved_reach k' 0 0 h registers c f (word z) small' l' (λ b. known_word k h (there b)))
-    (front_of saves (finds ++ (back ++ value_stored)) l) in
+    let r1 = saved_reach k' 0 0 h registers c f (word z) small' (front_of saves (finds ++ (back ++ value_stored)) l)
+    (λ b. known_word k h (there b)) in
     let r2 = found_comes is o' n h (c + size_of saves) (reached r1) (front_of finds (back ++ value_stored) l1)
     (λ b. in_known h o.image.parts (reached_holds r1 b)) in
-    let r3 = subst (λ j. (Linked w.links k.call.code (index + size_of saves + size_of finds)
-    (fetch a0 (record { registers = 0; words = j }))) →
-    Reach k.call.code (c + size_of saves + size_of finds) (reached r2) (services_of p)
-    (c + size_of saves + size_of finds + size_of (fetch a0 (record { registers = 0; words = j }))) (services_of p)
-    (λ b y. At b (index + size_of saves + size_of finds + size_of (fetch a0 (record { registers = 0; words = j })))
-    (Known (point_ground w p h) (services_of p) (held_after numbers 0 (word z)) (λ i. 0)
-    (λ b'. (10, word z) ∷ found_regs is b') b) y)) none
-    (λ l'. fetched_reach k' 0 0 h registers (c + size_of saves + size_of finds) (reached r2) a0 (word z) small'
+    let r3 = fetched_reach k' 0 0 h registers (c + size_of saves + size_of finds) (reached r2) a0 (word z) small'
     (held_is_given numbers 0 (word z))
     (record { reserved_stay = λ y u. refl; known_stay = λ b y u s. s; set = λ y u. refl })
-    (record { reserved_stay = λ y u. refl; known_stay = λ b y u s. s; set = λ y u. refl }) l' (reached_holds r2))
-    (front_of back value_stored l2) in
+    (record { reserved_stay = λ y u. refl; known_stay = λ b y u s. s; set = λ y u. refl })
+    (front_of back value_stored l2) (reached_holds r2) in
     let r4 = value_goes o' n h (c + size_of saves + size_of finds + size_of back) (reached r3) z wide even
     (back_of back value_stored l2) (reached_holds r3) in
-    let all = reach_moved {c'' = c + size_of (put_code x.level is.place)}
-    {i'' = index + size_of (put_code x.level is.place)}
+    let all = reach_moved {c'' = c + size_of (put_code k'.words x.level is.place)}
+    {i'' = index + size_of (put_code k'.words x.level is.place)}
     (omega (arith, n1)) (omega (arith, n1)) (reach_then r1 (reach_then r2 (reach_then r3 r4))) in
-    subst (λ v. Reach k.call.code c f (services_of p) (c + size_of (put_code x.level is.place)) v
-    (λ b y. IsIn w q (held_after numbers 0 (word z)) (index + size_of (put_code x.level is.place)) b y))
+    subst (λ v. Reach k.call.code c f (services_of p) (c + size_of (put_code k'.words x.level is.place)) v
+    (λ b y. IsIn w q (held_after numbers 0 (word z)) (index + size_of (put_code k'.words x.level is.place)) b y))
     (sym (services_same p a))
     (reach_map _ all (λ b y s.
     in_known {t = λ j. 0} {rs = nothing} h o.image.parts
@@ -230,15 +224,16 @@ put_in k x line v = M.assigned (at_line k.around line) (parameter x) v
 -- ---- the statement
 
 stored_goes :
-    (k : Block) (labels : List Label) (x : Spot) (source : Y.Number) (line index left' need most : ℕ)
-    (h : IsAssignment k x source line index need most) (acts wanted debt i : ℕ) (c' : ℕ) (f' : Family)
+    (words : ℕ) (k : Block) (labels : List Label) (x : Spot) (source : Y.Number) (line index left' need most : ℕ)
+    (h : IsAssignmentWith words k x source line index need most) (acts wanted debt i : ℕ) (c' : ℕ) (f' : Family)
     (v' : Services) (z : ℤ) (s : State) (y : Stretch) → acts ≤ y.acts → is_of_precision 31 z ≡ true →
-    HasWord k y (word z) c' f' v' s → y.wanted + size_of (put_code x.level h.number.place) ≤ wanted + debt →
-    y.index + size_of (put_code x.level h.number.place) ≡ i →
-    Linked k.call.surroundings.links k.call.code y.index (put_code x.level h.number.place) →
+    HasWord k y (word z) c' f' v' s → y.wanted + size_of (put_code words x.level h.number.place) ≤ wanted + debt →
+    y.index + size_of (put_code words x.level h.number.place) ≡ i →
+    Linked k.call.surroundings.links k.call.code y.index (put_code words x.level h.number.place) →
     Comes k.call.code c' f' v' (owing k.call.code debt (statement_aims k labels acts i wanted left'))
     (put_in k x line (BasicNumber z) k.call.surroundings.acts s)
-stored_goes k labels x source line index left' need most h acts wanted debt i c' f' v' z s y since wide q paid end l =
+stored_goes words k labels x source line index left' need most h acts wanted debt i c' f' v' z s y since wide q paid
+    end l =
     let w = k.call.surroundings in
     let code = k.call.code in
     let aims = statement_aims k labels acts i wanted left' in
@@ -247,14 +242,15 @@ stored_goes k labels x source line index left' need most h acts wanted debt i c'
     let around' = at_line k.around line in
     let some = h.some in
     let small' = word_small z wide in
-    let o' = held_among (setting_of k labels line most) {numbers = q.numbers} 0 1 (word z) (some, h.held) (omega arith)
-    small' q.among in
+    let o' = held_among (setting_around words k labels line most) {numbers = q.numbers} 0 1 (word z) (some, h.held)
+    (omega arith) small' q.among in
     subst (λ u. Comes code c' f' v' (owing code debt aims) (put_in k x line (BasicNumber z) w.acts u)) (sym q.state)
     (onward (owing_closed code debt aims) q.reach
     (λ g at.
     let n = copy_at x h.number q.among g (λ b. (at b).0) in
     let a = assigning n z wide in
-    let r = put_reaches (setting_of k labels line most) h.number refl (some, h.held) q.among y.wanted g z wide n l at in
+    let r = put_reaches (setting_around words k labels line most) h.number (some, h.held) q.among y.wanted g z wide n l
+    at in
     subst (λ flow. Comes code y.wanted g (services_of p) (owing code debt aims) flow)
     (sym (assigned_is around' w.acts z n.holds))
     (record {
@@ -263,22 +259,23 @@ stored_goes k labels x source line index left' need most h acts wanted debt i c'
           (λ b. subst (λ j. IsIn w (behind_assigned p a) (held_after q.numbers 0 (word z)) j b (g' b)) end (at' b)));
     })))
 
-pub assign_does :
-    (k : Block) (labels : List Label) (x : Spot) (source : Y.Number) (line index left' need most : ℕ) →
-    IsAssignment k x source line index need most → L.Does (setting_of k labels line most) need source →
-    Does k labels (assignment x source line) index left'
+pub assign_with :
+    (words : ℕ) (k : Block) (labels : List Label) (x : Spot) (source : Y.Number) (line index left' need most : ℕ) →
+    IsAssignmentWith words k x source line index need most →
+    L.Does (setting_around words k labels line most) need source →
+    DoesWith words k labels (assignment x source line) index left'
 unfolding M.statement V.stored_value ◌>>=◌ ◌>>◌
-assign_does k labels x source line index left' need most h ev p numbers c wanted f o paid there =
+assign_with words k labels x source line index left' need most h ev p numbers c wanted f o paid there =
     let w = k.call.surroundings in
     let code = k.call.code in
     let e = k.environment in
     let stmt = assignment x source line in
     let around' = at_line k.around line in
     let one = act_code line in
-    let value' = number_code e none_taken source in
-    let store' = word_stored e none_taken (parameter x) in
-    let puts = put_code x.level h.number.place in
-    let coded = put_coded e x h.number.place h.number.declared h.number.numbered_so h.number.near h.number.own in
+    let value' = number_code e (set_aside words) source in
+    let store' = word_stored e (set_aside words) (parameter x) in
+    let puts = put_code words x.level h.number.place in
+    let coded = put_coded words e x h.number.place h.number.declared h.number.numbered_so h.number.near h.number.own in
     let n0 = size_append one ((value' ++ []) ++ store') in
     let n1 = size_append (value' ++ []) store' in
     let n2 = size_append value' [] in
@@ -290,7 +287,7 @@ assign_does k labels x source line index left' need most h ev p numbers c wanted
     (back_of (value' ++ []) store' l1) in
     let debt = size_of value' + size_of store' in
     let acts = p.state.world.acts in
-    let aims = statement_aims k labels acts (index + size_in k stmt) wanted left' in
+    let aims = statement_aims k labels acts (index + size_with words k stmt) wanted left' in
     let owed = owing code debt aims in
     let closed = owing_closed code debt aims in
     let source' = V.stored_value around' (Y.StoredNumber 31 source) in
@@ -315,8 +312,8 @@ assign_does k labels x source line index left' need most h ev p numbers c wanted
     subst (Comes code c' f' v' (before code owed w.acts (λ v. put_in k x line v)))
     (sym (fit_is around' z w.acts s q.0))
     (record {
-      to = stored_goes k labels x source line index left' need most h acts wanted debt (index + size_in k stmt) c' f'
-          v' z s y (omega arith) q.0 q.1 (omega (arith, n2, n3)) (omega (arith, n0, n1, n2, n3))
+      to = stored_goes words k labels x source line index left' need most h acts wanted debt
+          (index + size_with words k stmt) c' f' v' z s y (omega arith) q.0 q.1 (omega (arith, n2, n3)) (omega (arith, n0, n1, n2, n3))
           (linked_at (index + size_of one + size_of value') puts (omega (arith, n2)) ls);
     }))
     (λ c' f' v' height label s q.
@@ -324,3 +321,11 @@ assign_does k labels x source line index left' need most h ev p numbers c wanted
     (λ c' f' v' r s q. absurd q)
     (ev p' numbers 0 0 (index + size_of one) g o' refl (let room = h.registers in omega (arith, room), h.held) lv
     (omega (arith, all, n0, n1, n2)) at))))))
+
+-- where no words are set aside
+pub assign_does :
+    (k : Block) (labels : List Label) (x : Spot) (source : Y.Number) (line index left' need most : ℕ) →
+    IsAssignment k x source line index need most → L.Does (setting_of k labels line most) need source →
+    Does k labels (assignment x source line) index left'
+assign_does k labels x source line index left' need most h ev =
+    assign_with 0 k labels x source line index left' need most h ev

@@ -20,7 +20,7 @@ use Rattle.block_headlines.specs.Headlines.{Layout, UnitHeadlinesKept, UnitsRun}
 use Rattle.number_runs.specs.Variables.{words_in}
 use Rattle.number_headlines.specs.Programs.{are_all_plain, most_words}
 use Rattle.number_headlines.proofs.Mains.{made_for}
-use Rattle.number_headlines.proofs.Tables.{has_start}
+use Rattle.number_headlines.proofs.Tables.{all_known, has_start}
 use Rattle.unit_numbers.specs.Headlines.{IsUnitProgram}
 use Rattle.unit_numbers.specs.Programs.{has_unit_main}
 use Rattle.unit_numbers.proofs.Bodies.{main_ends}
@@ -48,7 +48,7 @@ units_run once tables {program} m fits =
     record {
       whole = λ input acts few.
           whole_stands once tables program (placed m) (run_for m input acts) (made_for program m.head)
-          (first_bytes (picture_of parts program)) m.loadable (has_start program m.plain) m.main
+          (first_bytes (picture_of parts program)) m.loadable (has_start program (all_known program.variables m.plain)) m.main
           (first_length (picture_of parts program) m.loadable.fits fits.statics_fit)
           (constants_stand (code_for program) fits) few
           (all_procedure (surroundings_for m input acts) (linked_code (code_for program)) (main_for m input acts)

@@ -1,4 +1,5 @@
-use Rattle.number_runs.proofs.Statements.{body_does, body_marked, form_does, none_raised}
+use Rattle.number_runs.proofs.Homes.{none_raised}
+use Rattle.number_runs.proofs.Statements.{body_does, body_marked, form_does}
 use Rattle.number_runs.proofs.Puts.{puts_known}
 use Rattle.number_runs.proofs.laws.bodies_do.Goals as goal
 

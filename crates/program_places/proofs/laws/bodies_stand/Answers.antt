@@ -7,6 +7,6 @@ pub returns : goal.returns
 returns c =
     record {
       placed = body_placed c.marked_once.ensures;
-      around = own_block;
+      around = λ program head body result is. own_block program head body result is;
       outermost = λ program m e h main same below. outermost_block program m e h.well_formed main same below;
     }

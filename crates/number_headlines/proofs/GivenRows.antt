@@ -1,0 +1,486 @@
+-- The worked row with arguments: a program of the class, which is computed from its tree.
+use Rattle.std.proofs.Common.{◌≡◌, ℕ, zero, suc, ◌≤◌, ◌<◌, List, [], ◌∷◌, Some, None, refl, subst, inl, inr, arith}
+use Rattle.std.specs.Prelude.{slice_get}
+use Rattle.pli_language.specs.Formats.{Putting, format_moves_data, formats_move_data}
+use Rattle.pli_typing.specs.TypedTree as Y
+use Rattle.pli_meaning.specs.declared.outcome.End.TheVariants as E
+use Rattle.pli_meaning.specs.Control as F
+use Rattle.pli_meaning.specs.Evaluating as V
+use Rattle.pli_meaning.specs.Executing as M
+use Rattle.pli_meaning.specs.Making as K
+use Rattle.pli_meaning.specs.Placing as P
+use Rattle.pli_meaning.specs.Raising as R
+use Rattle.pli_meaning.specs.Streaming as S
+use Rattle.pli_coding.specs.Images.{code_of, picture_of}
+use Rattle.pli_coding.specs.Linking.{links_of}
+use Rattle.well_formed_trees.specs.Blocks.{times}
+use Rattle.well_formed_trees.specs.Declarations.{SoundVariable}
+use Rattle.well_formed_trees.specs.Expressions.{IsScalarParameter}
+use Rattle.well_formed_trees.specs.Ranges.{IsFormatList}
+use Rattle.well_formed_trees.specs.References.{Designates, IsNumberScalar, IsScalar}
+use Rattle.well_formed_trees.specs.Surroundings.{Around, Returns, Table, Where}
+use Rattle.well_formed_trees.specs.WellFormed.{AreNested, AreNumbered, DeclaresSound, IsBehind, IsEntry, IsWellFormed}
+use Rattle.well_formed_trees.specs.WellFormed.{SoundProcedure}
+use Rattle.storage_relation.proofs.Holders.{eqb-other}
+use Rattle.run_steps.proofs.Linking.{linked_length}
+use Rattle.expression_runs.specs.Variables.{number_declared, whole}
+use Rattle.argument_runs.specs.Parameters.{parameter, parameter_declared}
+use Rattle.pli_headline.specs.Headline.{FitsMemory, parts}
+use Rattle.number_headlines.specs.GivenRows.{fact_body, fact_function, fact_main, fact_main_body, fact_program}
+use Rattle.number_headlines.specs.GivenRows.{fact_spot, head_at, result_spot, tell_body, tell_formats, tell_procedure}
+use Rattle.number_headlines.specs.GivenRows.{tell_spot}
+use Rattle.number_headlines.specs.Headlines.{IsNumberProgram}
+
+-- ---- it is well formed
+
+abbrev main_entry : Around
+main_entry = record { number = 1; level = 0; outermost = []; inner = [] }
+
+abbrev fact_entry : Around
+fact_entry = record { number = 2; level = 1; outermost = []; inner = [] }
+
+abbrev tell_entry : Around
+tell_entry = record { number = 3; level = 1; outermost = []; inner = [] }
+
+abbrev table : Table
+table = [] ∷ (main_entry ∷ []) ∷ (fact_entry ∷ main_entry ∷ []) ∷ (tell_entry ∷ main_entry ∷ []) ∷ []
+
+abbrev in_main : Where
+in_main = record { program = fact_program; table = table; around = main_entry ∷ []; returning = Returns None }
+
+abbrev in_fact : Where
+in_fact =
+    record {
+      program = fact_program;
+      table = table;
+      around = fact_entry ∷ main_entry ∷ [];
+      returning = Returns (Some (Y.FixedLeaf 31));
+    }
+
+abbrev in_tell : Where
+in_tell =
+    record { program = fact_program; table = table; around = tell_entry ∷ main_entry ∷ []; returning = Returns None }
+
+abbrev result_is : Designates in_main (whole result_spot)
+result_is = record {
+  d = number_declared [];
+  declared = record { found = refl; same_class = refl; block_around = inl (refl, refl) };
+  dimensions = 0;
+  member = record { place = 0; dimensions_are = refl; part_is = refl; some = omega arith; within = omega arith };
+  subscripted = inl refl;
+}
+
+result_is_scalar : IsScalar in_main (Y.FixedLeaf 31) (whole result_spot)
+result_is_scalar = record {
+  designates = result_is;
+  leaf = record { type = Y.FixedLeaf 31; bounds = []; initial = [] };
+  one = record { one = refl; leaf_is = refl };
+  type_is = refl;
+  many = refl;
+}
+
+result_is_number : IsNumberScalar in_main (whole result_spot)
+result_is_number = record { precision = 31; scalar = result_is_scalar }
+
+abbrev fact_is : Designates in_fact (parameter fact_spot)
+fact_is = record {
+  d = parameter_declared;
+  declared = record { found = refl; same_class = refl; block_around = inl (refl, refl) };
+  dimensions = 0;
+  member = record { place = 0; dimensions_are = refl; part_is = refl; some = omega arith; within = omega arith };
+  subscripted = inl refl;
+}
+
+fact_is_scalar : IsScalar in_fact (Y.FixedLeaf 31) (parameter fact_spot)
+fact_is_scalar = record {
+  designates = fact_is;
+  leaf = record { type = Y.FixedLeaf 31; bounds = []; initial = [] };
+  one = record { one = refl; leaf_is = refl };
+  type_is = refl;
+  many = refl;
+}
+
+fact_is_number : IsNumberScalar in_fact (parameter fact_spot)
+fact_is_number = record { precision = 31; scalar = fact_is_scalar }
+
+abbrev tell_is : Designates in_tell (parameter tell_spot)
+tell_is = record {
+  d = parameter_declared;
+  declared = record { found = refl; same_class = refl; block_around = inl (refl, refl) };
+  dimensions = 0;
+  member = record { place = 0; dimensions_are = refl; part_is = refl; some = omega arith; within = omega arith };
+  subscripted = inl refl;
+}
+
+tell_is_scalar : IsScalar in_tell (Y.FixedLeaf 31) (parameter tell_spot)
+tell_is_scalar = record {
+  designates = tell_is;
+  leaf = record { type = Y.FixedLeaf 31; bounds = []; initial = [] };
+  one = record { one = refl; leaf_is = refl };
+  type_is = refl;
+  many = refl;
+}
+
+tell_is_number : IsNumberScalar in_tell (parameter tell_spot)
+tell_is_number = record { precision = 31; scalar = tell_is_scalar }
+
+taken : IsScalarParameter parameter_declared (Y.FixedLeaf 31)
+taken = record {
+  leaf = record { type = Y.FixedLeaf 31; bounds = []; initial = [] };
+  one = refl;
+  type_is = refl;
+  none = refl;
+}
+
+main_sound : SoundProcedure table fact_program fact_main
+main_sound = record {
+  head = head_at 1 0 1;
+  body = fact_main_body;
+  is = refl;
+  kind = refl;
+  line = omega arith;
+  outer = [];
+  held = refl;
+  listed = refl;
+  statements = (
+    (
+      record { type = Y.FixedLeaf 31; scalar = result_is_scalar; fits = refl },
+      (
+        (result_is, (tt, (tt, tt))),
+        (
+          (
+            (omega arith, omega arith),
+            (
+              (fact_function, refl, tt),
+              (
+                record {
+                  procedure = fact_function;
+                  is = record {
+                    found = refl;
+                    level_is = refl;
+                    kind = refl;
+                    own = fact_entry;
+                    holder = main_entry;
+                    outer = [];
+                    entry = refl;
+                    holder_around = inl (refl, refl);
+                  };
+                  passed = ((parameter_declared, refl, (taken, refl)), tt);
+                },
+                (((omega arith, omega arith), omega arith), tt),
+              ),
+            ),
+          ),
+          omega arith,
+        ),
+      ),
+    ),
+    (
+      (
+        (tell_procedure, refl, refl),
+        (
+          (
+            record {
+              procedure = tell_procedure;
+              is = record {
+                found = refl;
+                level_is = refl;
+                kind = refl;
+                own = tell_entry;
+                holder = main_entry;
+                outer = [];
+                entry = refl;
+                holder_around = inl (refl, refl);
+              };
+              passed = ((parameter_declared, refl, (taken, refl)), tt);
+            },
+            (
+              (
+                (omega arith, omega arith),
+                ((result_is_number, (result_is, (tt, (tt, tt)))), omega arith),
+              ),
+              tt,
+            ),
+          ),
+          omega arith,
+        ),
+      ),
+      tt,
+    ),
+  );
+  labels = (tt, (tt, (tt, tt)));
+  parameters = tt;
+  apart = tt;
+  result = tt;
+}
+
+fact_sound : SoundProcedure table fact_program fact_function
+fact_sound = record {
+  head = head_at 2 1 2;
+  body = fact_body;
+  is = refl;
+  kind = refl;
+  line = omega arith;
+  outer = main_entry ∷ [];
+  held = (refl, refl);
+  listed = refl;
+  statements = (
+    (
+      ((fact_is_number, (fact_is, (tt, (tt, tt)))), omega arith),
+      ((refl, (refl, (((omega arith, omega arith), omega arith), omega arith))), omega arith),
+    ),
+    (
+      (
+        refl,
+        (
+          refl,
+          (
+            (
+              (omega arith, omega arith),
+              (
+                (fact_is_number, (fact_is, (tt, (tt, tt)))),
+                (
+                  (fact_function, refl, tt),
+                  (
+                    record {
+                      procedure = fact_function;
+                      is = record {
+                        found = refl;
+                        level_is = refl;
+                        kind = refl;
+                        own = fact_entry;
+                        holder = main_entry;
+                        outer = [];
+                        entry = refl;
+                        holder_around = inr (inl (refl, refl));
+                      };
+                      passed = ((parameter_declared, refl, (taken, refl)), tt);
+                    },
+                    (
+                      (
+                        (omega arith, omega arith),
+                        ((fact_is_number, (fact_is, (tt, (tt, tt)))), omega arith),
+                      ),
+                      tt,
+                    ),
+                  ),
+                ),
+              ),
+            ),
+            omega arith,
+          ),
+        ),
+      ),
+      tt,
+    ),
+  );
+  labels = (tt, (tt, (tt, tt)));
+  parameters = (record { d = parameter_declared; found = refl; class_is = refl }, tt);
+  apart = (refl, tt);
+  result = (omega arith, omega arith);
+}
+
+tell_format : IsFormatList Putting tell_formats
+unfolding formats_move_data format_moves_data
+tell_format = record {
+  formats_are = ((omega arith, omega arith), ((omega arith, omega arith), tt));
+  moves_data = refl;
+}
+
+tell_sound : SoundProcedure table fact_program tell_procedure
+tell_sound = record {
+  head = head_at 3 1 6;
+  body = tell_body;
+  is = refl;
+  kind = refl;
+  line = omega arith;
+  outer = main_entry ∷ [];
+  held = (refl, refl);
+  listed = refl;
+  statements = (
+    (
+      record { type = Y.FixedLeaf 31; scalar = tell_is_scalar; fits = refl },
+      (
+        (tell_is, (tt, (tt, tt))),
+        (
+          (
+            (omega arith, omega arith),
+            ((tell_is_number, (tell_is, (tt, (tt, tt)))), (tell_is_number, (tell_is, (tt, (tt, tt))))),
+          ),
+          omega arith,
+        ),
+      ),
+    ),
+    (
+      (
+        tt,
+        (
+          (
+            (
+              tell_format,
+              (((omega arith, omega arith), (tell_is_number, (tell_is, (tt, (tt, tt))))), tt),
+            ),
+            tt,
+          ),
+          omega arith,
+        ),
+      ),
+      tt,
+    ),
+  );
+  labels = (tt, (tt, (tt, tt)));
+  parameters = (record { d = parameter_declared; found = refl; class_is = refl }, tt);
+  apart = (refl, tt);
+  result = tt;
+}
+
+fact_entries : (number : ℕ) → 1 ≤ number → number < 4 → IsEntry table number
+fact_entries zero low high = absurd (omega (arith, low))
+fact_entries (suc zero) low high =
+    record { own = main_entry; outer = []; entry = refl; number_is = refl; shallow = omega arith }
+fact_entries (suc (suc zero)) low high =
+    record { own = fact_entry; outer = main_entry ∷ []; entry = refl; number_is = refl; shallow = omega arith }
+fact_entries (suc (suc (suc zero))) low high =
+    record { own = tell_entry; outer = main_entry ∷ []; entry = refl; number_is = refl; shallow = omega arith }
+fact_entries (suc (suc (suc (suc n)))) low high = absurd (omega (arith, high))
+
+-- between the main procedure and one in it stand those of its level and none further out
+none_between :
+    (high m : ℕ) (a : Around) (more : List Around) → high < 4 → 1 < m → m ≤ high →
+    slice_get table m ≡ Some (a ∷ more) → 0 < a.level
+none_between high zero a more few low within e = absurd (omega (arith, low))
+none_between high (suc zero) a more few low within e = absurd (omega (arith, low))
+none_between high (suc (suc zero)) a more few low within e =
+    let is : fact_entry ≡ a = cc e in
+    subst (λ (x : Around). 0 < x.level) is (omega arith)
+none_between high (suc (suc (suc zero))) a more few low within e =
+    let is : tell_entry ≡ a = cc e in
+    subst (λ (x : Around). 0 < x.level) is (omega arith)
+none_between high (suc (suc (suc (suc n)))) a more few low within e = absurd (omega (arith, few, within))
+
+fact_nested : AreNested table
+fact_nested zero own outer e = absurd (cc e)
+fact_nested (suc zero) own outer e =
+    let is : [] ≡ outer = cc e in
+    subst (λ os. IsBehind table 1 os) is tt
+fact_nested (suc (suc zero)) own outer e =
+    let is : main_entry ∷ [] ≡ outer = cc e in
+    subst (λ os. IsBehind table 2 os) is
+    (omega arith, λ m a more low high at. none_between 2 m a more (omega arith) low high at)
+fact_nested (suc (suc (suc zero))) own outer e =
+    let is : main_entry ∷ [] ≡ outer = cc e in
+    subst (λ os. IsBehind table 3 os) is
+    (omega arith, λ m a more low high at. none_between 3 m a more (omega arith) low high at)
+fact_nested (suc (suc (suc (suc n)))) own outer e = absurd (cc e)
+
+fact_numbers : AreNumbered 4 (1 ∷ 2 ∷ 3 ∷ [])
+fact_numbers = record { once = once; none = none; not_outermost = refl }
+  where
+    once : (n : ℕ) → 1 ≤ n → n < 4 → times n (1 ∷ 2 ∷ 3 ∷ []) ≡ 1
+    once zero low high = absurd (omega (arith, low))
+    once (suc zero) low high = refl
+    once (suc (suc zero)) low high = refl
+    once (suc (suc (suc zero))) low high = refl
+    once (suc (suc (suc (suc n)))) low high = absurd (omega (arith, high))
+
+    none : (n : ℕ) → 4 ≤ n → times n (1 ∷ 2 ∷ 3 ∷ []) ≡ 0
+    none n low =
+        simp (
+          eqb-other n 1 (λ e. omega (arith, e, low)),
+          eqb-other n 2 (λ e. omega (arith, e, low)),
+          eqb-other n 3 (λ e. omega (arith, e, low)),
+        ) refl
+
+number_sound : (w : Where) → SoundVariable w 0 (number_declared [])
+number_sound w = record {
+  members = (refl, tt);
+  many = refl;
+  dimensions = (refl, tt);
+  leaves = (record { type_is = (omega arith, omega arith); bounds_are = tt; few = omega arith; initial_is = tt }, tt);
+  areas = inl (tt, tt);
+  refer = tt;
+  kept = ((λ k. k, tt), tt);
+  evaluations = tt;
+}
+
+parameter_sound : (w : Where) → SoundVariable w 0 parameter_declared
+parameter_sound w = record {
+  members = (refl, tt);
+  many = refl;
+  dimensions = (refl, tt);
+  leaves = (record { type_is = (omega arith, omega arith); bounds_are = tt; few = omega arith; initial_is = tt }, tt);
+  areas = inl (tt, tt);
+  refer = tt;
+  kept = ((λ k. k, tt), tt);
+  evaluations = tt;
+}
+
+fact_declares : (number : ℕ) → DeclaresSound table fact_program number
+fact_declares zero around e = tt
+fact_declares (suc zero) around e = (number_sound _, tt)
+fact_declares (suc (suc zero)) around e = (parameter_sound _, tt)
+fact_declares (suc (suc (suc zero))) around e = (parameter_sound _, tt)
+fact_declares (suc (suc (suc (suc n)))) around e = absurd (cc e)
+
+fact_well : IsWellFormed fact_program
+fact_well = record {
+  table = table;
+  main = (refl, (refl, (omega arith, (omega arith, tt))));
+  numbers = fact_numbers;
+  entries = fact_entries;
+  nested = fact_nested;
+  procedures = (main_sound, (fact_sound, (tell_sound, tt)));
+  lists = refl;
+  outermost = refl;
+  variables = fact_declares;
+}
+
+-- ---- it is of the class
+
+pub fact_program_is : IsNumberProgram fact_program
+fact_program_is = record { well_formed = fact_well; numbers = refl }
+
+pub fact_fits : FitsMemory (picture_of parts fact_program)
+fact_fits =
+    let n = linked_length (links_of (code_of parts fact_program)) 0 (code_of parts fact_program) in
+    record { code_fits = omega (arith, n); statics_fit = omega arith }
+
+-- ---- what it comes to
+
+unfoldable flows : Unit {0}
+unfolding F.give F.◌>>=◌ F.◌>>◌ F.looked F.stored F.act F.finish F.returns F.jumps F.choose F.given F.list_from
+    F.leaving F.repeated_while M.met_after_act
+flows = tt
+
+unfoldable values : Unit {0}
+unfolding V.number V.bit V.designated V.located V.numbers V.variable_designated V.part_designated V.stored_value
+    R.or_error R.demanded R.value_of R.raised R.unit_run R.error R.error_unit_run P.element_stored M.assigned
+values = tt
+
+unfoldable writings : Unit {0}
+unfolding S.put S.pairs_put S.items_put S.item_put S.next_item S.controls S.control_put S.shown_by V.computational
+writings = tt
+
+unfoldable calls : Unit {0}
+unfolding V.called V.arguments V.argument V.all_passed_last V.passed_last V.procedure_entered V.returned
+calls = tt
+
+unfoldable makings : Unit {0}
+unfolding K.variables_made K.automatic_made K.extents K.variable_made K.parameter_bound K.parameters_bound
+makings = tt
+
+unfoldable statements : Unit {0}
+unfolding M.statement M.statements M.list M.list_with M.block_variables_made M.entry_act M.block_list M.block_body
+statements = tt
+
+pub fact_ends :
+    (input : List ℕ) →
+    M.meaning fact_program input 23
+    ≡ Some (record {
+      acts = 23;
+      output = 32 ∷ 50 ∷ 52 ∷ 50 ∷ 10 ∷ [];
+      raised = [];
+      end = E.Finished;
+    })
+unfolding M.meaning M.run M.entered M.block_run flows values writings calls makings statements
+fact_ends input = refl

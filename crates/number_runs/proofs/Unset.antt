@@ -1,0 +1,107 @@
+-- Where calls have no arguments numbers set no words of the frame aside.
+use Rattle.std.proofs.Common.{◌≡◌, true, false, refl, sym, ◌∙◌, arith}
+use Rattle.std.specs.Prelude.{◌&&◌, ◌==◌}
+use Rattle.std.proofs.lemmas.Bool.{and_parts}
+use Rattle.pli_typing.specs.TypedTree as Y
+use Rattle.number_runs.specs.Numbers.{Scope, are_numbers, call_sets, is_argument, is_element, is_number, is_reference}
+use Rattle.number_runs.specs.Numbers.{is_test, may_calculate, number_sets, numbers_set, reference_sets, test_sets}
+use Rattle.number_runs.specs.Numbers.{without_given}
+
+call_unset :
+    (s : Scope) (c : Y.Call) → s.gives ≡ false → is_number s (Y.NumberFrom c) ≡ true → call_sets c ≡ 0
+call_unset s (Y.Calling number level Y.NoArgument) none h = refl
+call_unset s (Y.Calling number level (Y.ArgumentThen argument Y.NoArgument)) none h =
+    let known = s.is_given_function level number && is_argument (without_given s) argument in
+    absurd (cc (sym none ∙ (and_parts s.gives known h).0))
+call_unset s (Y.Calling number level (Y.ArgumentThen argument (Y.ArgumentThen second rest))) none h = absurd (cc h)
+
+mutual
+  pub number_unset : (s : Scope) (x : Y.Number) → s.gives ≡ false → is_number s x ≡ true → number_sets x ≡ 0
+  number_unset s (Y.NumberConstant n) none h = refl
+  number_unset s (Y.NumberIn r) none h = reference_unset s r none h
+  number_unset s (Y.NumberFrom c) none h = call_unset s c none h
+  number_unset s (Y.Signed sign x) none h =
+      number_unset s x none (and_parts s.overflows (is_number s x) h).1
+  number_unset s (Y.Calculated operator left right) none h =
+      let r = and_parts (may_calculate s operator) (is_number s left && is_number s right) h in
+      let a = and_parts (is_number s left) (is_number s right) r.1 in
+      let m = number_unset s left none a.0 in
+      let n = number_unset s right none a.1 in
+      omega (arith, m, n)
+  number_unset s (Y.Absolute x) none h = number_unset s x none (and_parts s.overflows (is_number s x) h).1
+  number_unset s (Y.SignOf x) none h = number_unset s x none h
+  number_unset s (Y.Extreme extremum first more) none h =
+      let a = and_parts (is_number s first) (are_numbers s more) h in
+      let m = number_unset s first none a.0 in
+      let n = numbers_unset s more none a.1 in
+      omega (arith, m, n)
+  number_unset s (Y.Modulo left right) none h =
+      let r = and_parts s.divides (is_number s left && is_number s right) h in
+      let a = and_parts (is_number s left) (is_number s right) r.1 in
+      let m = number_unset s left none a.0 in
+      let n = number_unset s right none a.1 in
+      omega (arith, m, n)
+  number_unset s (Y.Divided precision left right) none h =
+      let r = and_parts (s.overflows && s.divides)
+      ((precision == 31) && (is_number s left && is_number s right)) h in
+      let b = and_parts (precision == 31) (is_number s left && is_number s right) r.1 in
+      let a = and_parts (is_number s left) (is_number s right) b.1 in
+      let m = number_unset s left none a.0 in
+      let n = number_unset s right none a.1 in
+      omega (arith, m, n)
+  number_unset s (Y.NumberOfText x) none h = refl
+  number_unset s (Y.NumberOfBit x) none h = refl
+  number_unset s (Y.LengthOf x) none h = refl
+  number_unset s (Y.IndexOf x y) none h = refl
+  number_unset s (Y.VerifyOf x y) none h = refl
+  number_unset s (Y.LowerBound r n) none h = refl
+  number_unset s (Y.UpperBound r n) none h = refl
+  number_unset s (Y.ElementsOf r n) none h = refl
+  number_unset s (Y.AllocationsOf v) none h = refl
+  number_unset s Y.OnCode none h = refl
+
+  pub reference_unset :
+      (s : Scope) (r : Y.Reference) → s.gives ≡ false → is_reference s r ≡ true → reference_sets r ≡ 0
+  reference_unset s (Y.Referring v Y.NotLocated part Y.NoNumber) none h = refl
+  reference_unset s (Y.Referring v Y.NotLocated part (Y.NumberThen subscript Y.NoNumber)) none h =
+      let a = and_parts (is_element s v part) (is_number s subscript) h in
+      let n = number_unset s subscript none a.1 in
+      omega (arith, n)
+  reference_unset s (Y.Referring v Y.NotLocated part (Y.NumberThen first (Y.NumberThen second rest))) none h =
+      absurd (cc h)
+  reference_unset s (Y.Referring v (Y.LocatedBy p) part Y.NoNumber) none h = absurd (cc h)
+  reference_unset s (Y.Referring v (Y.LocatedBy p) part (Y.NumberThen first rest)) none h = absurd (cc h)
+
+  numbers_unset :
+      (s : Scope) (xs : Y.Numbers) → s.gives ≡ false → are_numbers s xs ≡ true → numbers_set xs ≡ 0
+  numbers_unset s Y.NoNumber none h = refl
+  numbers_unset s (Y.NumberThen first rest) none h =
+      let a = and_parts (is_number s first) (are_numbers s rest) h in
+      let m = number_unset s first none a.0 in
+      let n = numbers_unset s rest none a.1 in
+      omega (arith, m, n)
+
+pub test_unset : (s : Scope) (x : Y.Bit) → s.gives ≡ false → is_test s x ≡ true → test_sets x ≡ 0
+test_unset s (Y.BitConstant b) none h = refl
+test_unset s (Y.Negated x) none h = test_unset s x none h
+test_unset s (Y.Combined operator left right) none h =
+    let a = and_parts (is_test s left) (is_test s right) h in
+    let m = test_unset s left none a.0 in
+    let n = test_unset s right none a.1 in
+    omega (arith, m, n)
+test_unset s (Y.NumbersCompared comparison left right) none h =
+    let a = and_parts (is_number s left) (is_number s right) h in
+    let m = number_unset s left none a.0 in
+    let n = number_unset s right none a.1 in
+    omega (arith, m, n)
+test_unset s (Y.BitsCompared comparison left right) none h =
+    let a = and_parts (is_test s left) (is_test s right) h in
+    let m = test_unset s left none a.0 in
+    let n = test_unset s right none a.1 in
+    omega (arith, m, n)
+test_unset s (Y.BitIn r) none h = refl
+test_unset s (Y.BitFrom c) none h = refl
+test_unset s (Y.BitOfText x) none h = refl
+test_unset s (Y.TextsCompared comparison left right) none h = refl
+test_unset s (Y.PointersCompared equal left right) none h = refl
+test_unset s (Y.OffsetsCompared equal left right) none h = refl
