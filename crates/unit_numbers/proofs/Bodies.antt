@@ -208,7 +208,8 @@ main_at {program} m h ih writes =
       idle = ih.begun.resumes.idle;
       told = record { code = of.code; links = of.links; constants = of.constants };
       free = ih.free;
-      tabled = table_later program ih.begun.remains (λ head. has_table program head (all_known program.variables m.plain));
+      tabled = table_later program ih.begun.remains
+          (λ head. has_table program head (all_known program.variables m.plain));
       depth = record { some = omega arith; all = omega (arith, long) };
     }
 

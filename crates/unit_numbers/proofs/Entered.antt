@@ -694,7 +694,8 @@ called_entered once {program} m {h} {more} {b} {part} {out} {os} {p} {numbers} o
     let limit = begun'.limit in
     let counts = words_count image_parts start φ e first 0 ds plain
     (record { activation = _; below = _; active = refl; some = omega arith }) in
-    let registers = registers_held (called_scope m i) v e i.head.number i.body (plain_known ds plain) i.fit.statements i.fit.fits in
+    let registers = registers_held (called_scope m i) v e i.head.number i.body (plain_known ds plain) i.fit.statements
+    i.fit.fits in
     let outer = level_of m in
     record {
       at = record {

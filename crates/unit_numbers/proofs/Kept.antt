@@ -48,7 +48,8 @@ units_run once tables {program} m fits =
     record {
       whole = λ input acts few.
           whole_stands once tables program (placed m) (run_for m input acts) (made_for program m.head)
-          (first_bytes (picture_of parts program)) m.loadable (has_start program (all_known program.variables m.plain)) m.main
+          (first_bytes (picture_of parts program)) m.loadable (has_start program (all_known program.variables m.plain))
+          m.main
           (first_length (picture_of parts program) m.loadable.fits fits.statics_fit)
           (constants_stand (code_for program) fits) few
           (all_procedure (surroundings_for m input acts) (linked_code (code_for program)) (main_for m input acts)
