@@ -5,3 +5,4 @@ mod Meaning
 mod Emptying
 mod CopyRuns
 mod Copying
+pub mod Rows

@@ -2,6 +2,9 @@
 
 ghost use Rattle.area_assignments.specs.Copying.{AreasCopied};
 ghost use Rattle.area_assignments.specs.Emptying.{AreasEmptied};
+ghost use Rattle.area_assignments.specs.Rows.{ClearRan};
+
+use run_keeper::laws::run_keeper_keeps;
 
 /// EMPTY of an area variable does what it means, at each point of the block that declares it.
 pub fn areas_emptied()
@@ -12,3 +15,10 @@ pub fn areas_emptied()
 pub fn areas_copied()
     ensures { AreasCopied }
 {}
+
+/// A worked row: an area that is assigned to another and emptied, so that a pointer into it points to nothing.
+pub fn clear_ran()
+    ensures { ClearRan }
+{
+    run_keeper_keeps();
+}

@@ -1,7 +1,7 @@
 -- The blocks and whole runs of a plain well-formed program are there.
 use Rattle.std.proofs.Common.{◌≡◌, ℕ, zero, suc, ◌+◌, ◌<◌, List, [], ◌∷◌, ◌++◌, Some, None, Bool, true, false}
-use Rattle.std.proofs.Common.{refl, ap, sym, ◌∙◌, subst, arith}
-use Rattle.std.specs.Prelude.{⊤, length, slice_get}
+use Rattle.std.proofs.Common.{refl, ap, sym, ◌∙◌, subst, arith, inl}
+use Rattle.std.specs.Prelude.{⊤, drop, length, slice_get}
 use Rattle.pli_language.specs.declared.condition.Condition.{Condition}
 use Rattle.pli_language.specs.declared.condition.Condition.TheVariants as C
 use Rattle.pli_meaning.specs.declared.outcome.End.TheVariants as E
@@ -13,17 +13,21 @@ use Rattle.pli_meaning.specs.Codes.{no_value_code}
 use Rattle.pli_meaning.specs.Control.{is_among}
 use Rattle.pli_meaning.specs.Raising as G
 use Rattle.pli_meaning.specs.Raising.{Entry}
+use Rattle.pli_meaning.specs.DeclaredShapes as D
 use Rattle.pli_meaning.specs.Making as K
 use Rattle.pli_meaning.specs.Executing as M
 use Rattle.well_formed_trees.specs.Every.{Every}
-use Rattle.well_formed_trees.specs.Surroundings.{Returning, NoReturn, Table}
+use Rattle.well_formed_trees.specs.Surroundings.{Returning, NoReturn, Table, IsAround}
 use Rattle.well_formed_trees.specs.Surroundings as W
 use Rattle.well_formed_trees.specs.Expressions.{SoundNumber}
 use Rattle.well_formed_trees.specs.Statements as T
+use Rattle.well_formed_trees.specs.Statements.{IsListed, IsListedUnit}
 use Rattle.well_formed_trees.specs.WellFormed.{HasMain, IsHeld}
 use Rattle.meaning_runs.specs.Plain as P
 use Rattle.meaning_runs.proofs.Frames.{Frame, outlines, skeleton, closed, rest_outlines, IsOpen, AreAmong, Stands}
-use Rattle.meaning_runs.proofs.Frames.{Chain, among_first, enters_own, stands_wider}
+use Rattle.meaning_runs.proofs.Frames.{Chain, among_first, enters_own, covers_own, stands_wider, holds_of}
+use Rattle.meaning_runs.proofs.Shapes.{IsShapedAs, shape_declared}
+use Rattle.meaning_runs.proofs.Bindings.{Ground, same_bindings}
 use Rattle.meaning_runs.proofs.Demands.{placed, block_around, Bearing, SoundOnUnit, HasUnits, Kept, Demand}
 use Rattle.meaning_runs.proofs.Demands.{Anything, There, force_sound}
 use Rattle.meaning_runs.proofs.Steps.{loose, slow, give_there, bind_there, then_there, looked_there, stored_there}
@@ -31,16 +35,23 @@ use Rattle.meaning_runs.proofs.Steps.{act_there, act_then, finish_there, choose_
 use Rattle.meaning_runs.proofs.Steps.{list_there, block_there, Leads, leads_there, leads_then, Passes}
 use Rattle.meaning_runs.proofs.Ways.{Whole, Declares, FineProcedure, SoundEntry, Expected, statics_kept}
 use Rattle.meaning_runs.proofs.Expressions.{error_unit_there}
+use Rattle.meaning_runs.proofs.Ways.{AreParameters, listed_unit, next_of}
 use Rattle.meaning_runs.proofs.Stored.{evaluations_there, variable_made_there, parameters_bound_there}
 use Rattle.meaning_runs.proofs.Statements.{Level, FootAt, demand_at, around_at, place_at, lower, apart}
 use Rattle.meaning_runs.proofs.Statements.{listed_frame, labels_same, newest_there, statements_there}
 
 -- ---- blocks
 
-extents_begun : (d : Y.DeclaredVariable) (l : Level) → Declares l.program l.table d
+-- what stands around the declarations of a block is known among the activations
+abbrev Grounds : Level → Type 0
+Grounds l =
+    (blocks : List W.Around) → slice_get l.table l.frame.number ≡ Some blocks
+    → Ground l.table (l.frame ∷ l.further) blocks
+
+extents_begun : (d : Y.DeclaredVariable) (l : Level) → Grounds l → Declares l.program l.table l.frame.number d
     → There (demand_at l) 0 1 l.left Anything (K.extents (around_at l) d.evaluations)
 unfolding K.extents
-extents_begun d l h = of_list d.evaluations h.sound h.plain
+extents_begun d l g h = of_list d.evaluations h.sound h.plain
   where
     of_list : (xs : List Y.Evaluation)
         → Every (λ x. SoundNumber (placed l.program l.table h.blocks NoReturn) x.value) xs
@@ -49,33 +60,32 @@ extents_begun d l h = of_list d.evaluations h.sound h.plain
     of_list [] s p = give_there [] tt
     of_list (x ∷ xs) s p =
         slow (act_then counted (λ v. refl) (λ c e. loose
-        (evaluations_there [] (x ∷ xs) (apart l h.blocks c e) s p)))
+        (evaluations_there [] (x ∷ xs) (apart l h.blocks (g h.blocks h.listed) c e) s p)))
 
-automatic_begun : (variable : ℕ) (d : Y.DeclaredVariable) (class : Y.StorageClass) (l : Level)
-    → Declares l.program l.table d
+-- a variable of the block, which has the shape that it is declared with
+automatic_begun : (variable : ℕ) (d : Y.DeclaredVariable) (class : Y.StorageClass) (l : Level) → Grounds l
+    → slice_get (D.variables_of_block l.program l.frame.number) variable ≡ Some d
+    → Declares l.program l.table l.frame.number d
     → There (demand_at l) 0 1 l.left Anything (K.automatic_made (around_at l) variable d class)
 unfolding K.automatic_made
-automatic_begun variable d Y.AutomaticClass l h =
-    bind_there (extents_begun d l h) (λ values k. variable_made_there variable _)
-automatic_begun variable d Y.ParameterClass l h = give_there tt tt
-automatic_begun variable d Y.StaticClass l h = give_there tt tt
-automatic_begun variable d Y.BasedClass l h = give_there tt tt
-automatic_begun variable d Y.ControlledClass l h = give_there tt tt
+automatic_begun variable d Y.AutomaticClass l g e h =
+    bind_there (extents_begun d l g h) (λ values k. variable_made_there variable _
+    (λ n x f known.
+    let same : d ≡ x = cc (e, f) in subst (λ y. IsShapedAs y (D.shape_of values d)) same (shape_declared values d)))
+automatic_begun variable d Y.ParameterClass l g e h = give_there tt tt
+automatic_begun variable d Y.StaticClass l g e h = give_there tt tt
+automatic_begun variable d Y.BasedClass l g e h = give_there tt tt
+automatic_begun variable d Y.ControlledClass l g e h = give_there tt tt
 
-variables_begun : (variable : ℕ) (ds : List Y.DeclaredVariable) (l : Level) → Every (Declares l.program l.table) ds
+variables_begun : (variable : ℕ) (ds : List Y.DeclaredVariable) (l : Level) → Grounds l
+    → drop variable (D.variables_of_block l.program l.frame.number) ≡ ds
+    → Every (Declares l.program l.table l.frame.number) ds
     → There (demand_at l) 0 1 l.left Anything (K.variables_made (around_at l) variable ds)
 unfolding K.variables_made
-variables_begun variable [] l h = give_there tt tt
-variables_begun variable (d ∷ ds) l h =
-    then_there (automatic_begun variable d d.class l h.0) (variables_begun (variable + 1) ds l h.1)
-
-block_variables_begun : (head : Y.BlockHead) (kind : Y.BlockKind) (l : Level)
-    → There (demand_at l) 0 1 l.left Anything (M.block_variables_made (around_at l) head kind)
-unfolding M.block_variables_made
-block_variables_begun head Y.ProcedureBlock l = variables_begun 0 _ l (l.whole.declares head.number)
-block_variables_begun head Y.BeginBlock l = variables_begun 0 _ l (l.whole.declares head.number)
-block_variables_begun head Y.UnitBlock l = variables_begun 0 _ l (l.whole.declares head.number)
-block_variables_begun head Y.SimpleUnit l = give_there tt tt
+variables_begun variable [] l g e h = give_there tt tt
+variables_begun variable (d ∷ ds) l g e h =
+    let next = next_of (D.variables_of_block l.program l.frame.number) variable d ds e in
+    then_there (automatic_begun variable d d.class l g next.0 h.0) (variables_begun (variable + 1) ds l g next.1 h.1)
 
 entry_act_there : {d : Demand} {few : ℕ} (kind : Y.BlockKind) → There d 0 1 few Anything (M.entry_act kind)
 unfolding M.entry_act
@@ -102,11 +112,13 @@ heights_many (a ∷ as') (f ∷ fs) e = ap suc (heights_many as' fs (ap rest_out
 -- ---- the frame of a block: before its list; and from then on, with the labels that its on-units may name
 
 abbrev fresh_frame : Y.BlockHead → Entry → Frame
-fresh_frame head entry = record { level = head.level; parent = entry.parent; lasting = []; labels = [] }
+fresh_frame head entry =
+    record { number = head.number; level = head.level; parent = entry.parent; lasting = []; labels = [] }
 
 abbrev run_frame : Y.BlockHead → Y.Stmts → Entry → Frame
 run_frame head body entry =
     record {
+      number = head.number;
       level = head.level;
       parent = entry.parent;
       lasting = M.labels_in body;
@@ -171,7 +183,7 @@ list_foot r entry head body blocks chain stands =
     record {
       own = block_around head body;
       outer = blocks;
-      level_is = refl;
+      own_is = (refl, refl);
       has =
           λ label h.
           among_first label (M.labels_in body) []
@@ -183,10 +195,10 @@ list_foot r entry head body blocks chain stands =
 
 -- what a block keeps before its list it keeps from then on
 units_wider : (p : Y.Program) (table : Table) (f e : Frame) (fs : List Frame) (as' : List Activation)
-    → f.level ≡ e.level → f.parent ≡ e.parent → AreAmong f.lasting e.lasting → HasUnits p table (f ∷ fs) as'
-    → HasUnits p table (e ∷ fs) as'
-units_wider p table f e fs [] l u o h = tt
-units_wider p table f e fs (a ∷ as') l u o h = (of_units a.units h.0, h.1)
+    → f.number ≡ e.number → f.level ≡ e.level → f.parent ≡ e.parent → AreAmong f.lasting e.lasting
+    → HasUnits p table (f ∷ fs) as' → HasUnits p table (e ∷ fs) as'
+units_wider p table f e fs [] n l u o h = tt
+units_wider p table f e fs (a ∷ as') n l u o h = (of_units a.units h.0, h.1)
   where
     of_unit : (u : OnUnit) → SoundOnUnit p table (closed f ∷ fs) (suc (length fs)) u
         → SoundOnUnit p table (closed e ∷ fs) (suc (length fs)) u
@@ -196,8 +208,9 @@ units_wider p table f e fs (a ∷ as') l u o h = (of_units a.units h.0, h.1)
           block = h.block;
           own = h.own;
           chain = h.chain;
+          listed = h.listed;
           stands =
-              stands_wider (closed f) (closed e) fs (suc (length fs)) h.block.outer l u o h.stands;
+              stands_wider (closed f) (closed e) fs (suc (length fs)) h.block.outer n l u o h.stands;
         }
 
     of_units : (us : List (Condition × OnUnit))
@@ -208,13 +221,16 @@ units_wider p table f e fs (a ∷ as') l u o h = (of_units a.units h.0, h.1)
 
 -- ---- a block that is run
 
+abbrev nothing_around : {table : Table} {fs : List Frame} → Ground table fs []
+nothing_around = record { around = []; holds = tt; chain = tt; inside = λ number level h. absurd h }
+
 -- the end of a function raises ERROR in its list
 end_there : (l : Level) → There (demand_at l) 0 1 l.left (EndsSo true) (G.error (around_at l) no_value_code)
 unfolding G.error
 end_there l =
     slow (act_then (raising C.Error _) (λ v. refl) (λ c e. loose
-    (bind_there looked_there (λ s k. error_unit_there _ (force s.activations C.Error) (apart l [] c e)
-    (force_sound l.program l.table (l.frame ∷ l.further) s.activations C.Error l.opens k.0 k.1)))))
+    (bind_there looked_there (λ s k. error_unit_there _ (force s.activations C.Error) (apart l [] nothing_around c e)
+    (force_sound l.program l.table (l.frame ∷ l.further) s.activations C.Error l.opens k.0.0 k.1)))))
 
 block_list_there : (r : Run) (head : Y.BlockHead) (body : Y.Stmts) (entry : Entry) (is_function : Bool)
     (t : FootAt (list_level r head body entry)) → T.SoundStmts (place_at (list_level r head body entry) t) body
@@ -232,11 +248,45 @@ block_list_there r head body entry true t h p =
     (λ x c q. let l : Level = lower (list_level r head body entry) c q in
     then_there (statements_there body x l t h p) (end_there l)))
 
+-- around the declarations of a block
+fresh_grounds : (r : Run) (head : Y.BlockHead) (body : Y.Stmts) (entry : Entry)
+    (t : FootAt (list_level r head body entry)) → IsListed r.table head (t.own ∷ t.outer)
+    → Grounds (fresh_level r head entry)
+fresh_grounds r head body entry t listed blocks e =
+    let all : t.own ∷ t.outer ≡ blocks = cc (listed, e) in
+    record {
+      around = t.own ∷ t.outer;
+      holds = inl (refl, (t.own_is, holds_of r.outer.frames entry.parent t.outer t.below));
+      chain = t.chain;
+      inside = λ number level h. subst (IsAround number level) (sym all) h;
+    }
+
+block_variables_begun : (r : Run) (head : Y.BlockHead) (body : Y.Stmts) (entry : Entry) (kind : Y.BlockKind)
+    (t : FootAt (list_level r head body entry)) → IsListedUnit r.table head (t.own ∷ t.outer) kind
+    → There (demand_at (fresh_level r head entry)) 0 1 r.left Anything
+    (M.block_variables_made (around_at (fresh_level r head entry)) head kind)
+unfolding M.block_variables_made
+block_variables_begun r head body entry Y.ProcedureBlock t i =
+    variables_begun 0 _ (fresh_level r head entry) (fresh_grounds r head body entry t i) refl
+    (r.whole.declares head.number)
+block_variables_begun r head body entry Y.BeginBlock t i =
+    variables_begun 0 _ (fresh_level r head entry) (fresh_grounds r head body entry t i) refl
+    (r.whole.declares head.number)
+block_variables_begun r head body entry Y.UnitBlock t i =
+    variables_begun 0 _ (fresh_level r head entry) (fresh_grounds r head body entry t i) refl
+    (r.whole.declares head.number)
+block_variables_begun r head body entry Y.SimpleUnit t i = give_there tt tt
+
+-- what is known of the arguments of a block, and of its declarations
+record Entered (r : Run) (head : Y.BlockHead) (body : Y.Stmts) (entry : Entry)
+    (t : FootAt (list_level r head body entry)) : Type 0 where
+  counts : length entry.arguments ≡ length entry.parameters
+  parameters : AreParameters r.program head.number entry.parameters
+  listed : IsListedUnit r.table head (t.own ∷ t.outer) head.kind
+
 block_body_there : (r : Run) (head : Y.BlockHead) (body : Y.Stmts) (entry : Entry)
-    (t : FootAt (list_level r head body entry))
-    → T.SoundStmts (place_at (list_level r head body entry) t) body
-    → P.PlainStmts body
-    → length entry.arguments ≡ length entry.parameters
+    (t : FootAt (list_level r head body entry)) → T.SoundStmts (place_at (list_level r head body entry) t) body
+    → P.PlainStmts body → Entered r head body entry t
     → Leads (entering (Some r.returning) (fresh_frame head entry) (outside r))
     (entering (Some r.returning) (run_frame head body entry) (outside r)) r.left (EndsSo entry.is_function)
     (M.block_body (around_at (fresh_level r head entry)) head body entry)
@@ -247,15 +297,18 @@ block_body_there r head body entry t h p e =
     let widens : (s : State) → Kept (entering (Some r.returning) f (outside r)) s
     → Kept (entering (Some r.returning) g (outside r)) s =
     λ s k. (
-      units_wider r.program r.table f g r.outer.frames s.activations refl refl (λ label x. absurd (cc x)) k.0,
+      (
+        units_wider r.program r.table f g r.outer.frames s.activations refl refl refl (λ label x. absurd (cc x)) k.0.0,
+        (same_bindings r.program f g r.outer.frames s.activations refl k.0.1.0, k.0.1.1),
+      ),
       k.1,
     )
     in
     let u : Level = fresh_level r head entry in
     leads_then (outside r) (Some r.returning) f g (EndsSo entry.is_function) widens refl
-    (parameters_bound_there entry.parameters entry.arguments e)
+    (parameters_bound_there entry.parameters entry.arguments e.parameters e.counts)
     (leads_then (outside r) (Some r.returning) f g (EndsSo entry.is_function) widens refl
-    (block_variables_begun head head.kind u)
+    (block_variables_begun r head body entry head.kind t e.listed)
     (leads_then (outside r) (Some r.returning) f g (EndsSo entry.is_function) widens refl (entry_act_there head.kind)
     (leads_there (outside r) (Some r.returning) f g (EndsSo entry.is_function) widens
     (block_list_there r head body entry entry.is_function t h p))))
@@ -266,7 +319,7 @@ entered_kept : (r : Run) (head : Y.BlockHead) (entry : Entry) (s : State) → Ke
 entered_kept r head entry s h =
     let many = heights_many s.activations r.outer.frames h.1 in
     let high : length s.activations + 1 ≡ suc (length r.outer.frames) = omega (arith, many) in (
-      (tt, h.0),
+      ((tt, h.0.0), ((tt, h.0.1.0), h.0.1.1)),
       ap (λ n. record { height = n; level = head.level; parent = entry.parent } ∷ skeleton s.activations) high
           ∙ ap (λ os. record {
             height = suc (length r.outer.frames);
@@ -299,7 +352,7 @@ block_run_there : (r : Run) (head : Y.BlockHead) (body : Y.Stmts) (entry : Entry
     (t : FootAt (list_level r head body entry))
     → T.SoundStmts (place_at (list_level (run_on_line r head.line) head body entry) t) body
     → P.PlainStmts body
-    → length entry.arguments ≡ length entry.parameters
+    → Entered (run_on_line r head.line) head body entry t
     → Passes (M.is_own_return head.kind) (Expected entry.is_function) (Some r.returning) r.outer.answers
     → There (outside r) 0 1 r.left (Expected entry.is_function) (M.block_run (around_in r) (Y.BlockOf head body) entry)
 unfolding M.block_run
@@ -339,7 +392,8 @@ entered_there p table whole (suc n) left few outer entry s =
     (sym s.block.is)
     (block_run_there r s.block.head s.block.body entry
     (list_foot r entry s.block.head s.block.body s.block.outer s.chain s.stands)
-    s.block.statements s.block.plain s.counts s.passes)
+    s.block.statements s.block.plain
+    (record { counts = s.counts; parameters = s.parameters; listed = s.listed }) s.passes)
 
 -- the main procedure stands in no block
 main_outer : (table : Table) (level : ℕ) (blocks : List W.Around) → IsHeld table level blocks → level ≡ 0 → blocks ≡ []
@@ -356,8 +410,12 @@ main_entry p table q f e =
       block = f.block;
       chain =
           subst (λ os. Chain table (own ∷ os)) (sym none) (
-            enters_own table own own []
-                (subst (λ os. slice_get table own.number ≡ Some (own ∷ os)) none f.listed) refl refl (λ label h. h),
+            (
+              enters_own table own own []
+                  (subst (λ os. slice_get table own.number ≡ Some (own ∷ os)) none f.listed) refl refl (λ label h. h),
+              covers_own table own own []
+                  (subst (λ os. slice_get table own.number ≡ Some (own ∷ os)) none f.listed) refl refl,
+            ),
             (tt, tt),
           );
       stands = subst (Stands [] 0) (sym none) tt;
@@ -365,6 +423,8 @@ main_entry p table q f e =
       passes =
           subst (λ own. Passes own (Expected false) (Some f.block.returning) None) (sym f.own) (λ v h. tt);
       counts = refl;
+      parameters = tt;
+      listed = listed_unit table f.block.head (own ∷ f.block.outer) f.block.head.kind f.listed;
     }
 
 -- the main procedure is there
@@ -391,7 +451,7 @@ run_there p table whole h n left few =
     let m = main_there (FineProcedure p table) p.procedures h whole.procedures in
     found_there (M.main_of p.procedures) m.main _ _ m.is
     (then_there (stored_there (K.statics_from 0 p.variables)
-    (statics_kept (at_start p table) 0 p.variables))
+    (statics_kept (at_start p table)))
     (then_there (entered_there p table whole n left few (at_start p table).bearing (M.begun m.main.block 0)
     (main_entry p table m.main m.fine m.outermost))
     (finish_there E.Finished tt)))

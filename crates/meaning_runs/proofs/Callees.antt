@@ -11,7 +11,8 @@ use Rattle.well_formed_trees.specs.Surroundings as W
 use Rattle.well_formed_trees.specs.Expressions.{IsProcedure}
 use Rattle.well_formed_trees.specs.WellFormed.{IsHeld}
 use Rattle.meaning_runs.proofs.Frames.{Frame, skeleton, outlines, Stands, Chain, IsUnder, AreAmong, Reached}
-use Rattle.meaning_runs.proofs.Frames.{among_second, enters_own, stands_as, around_at, reached, newest_ancestor}
+use Rattle.meaning_runs.proofs.Frames.{among_second, enters_own, covers_own, stands_as, around_at, reached}
+use Rattle.meaning_runs.proofs.Frames.{newest_ancestor}
 use Rattle.meaning_runs.proofs.Demands.{block_around, placed}
 use Rattle.meaning_runs.proofs.Ways.{FineProcedure, Footing}
 
@@ -59,7 +60,7 @@ callee p table fs as' blocks returning number level q f footing e i =
     (around_at i.holder.number level blocks i.holder_around) in
     let entered : (i.holder.level ≤ r.own.level) × (i.holder.level ≡ r.own.level
     → (r.outer ≡ i.outer) × ((i.holder.inner ≡ []) × AreAmong i.holder.outermost r.own.outermost)) =
-    r.chain.0 i.holder i.outer
+    r.chain.0.0 i.holder i.outer
     (subst (λ n. slice_get table n ≡ Some (i.holder ∷ i.outer)) (sym r.so) held.1) in
     let fits = entered.1 (at ∙ sym r.level_is) in
     let labels : AreAmong (W.labels_of i.holder) (W.labels_of r.own) =
@@ -69,19 +70,26 @@ callee p table fs as' blocks returning number level q f footing e i =
     subst (λ os. IsUnder i.holder.level os) fits.0
     (subst (λ n. IsUnder n r.outer) (r.level_is ∙ sym at) r.chain.1.0) in
     let chain : Chain table (own ∷ i.holder ∷ i.outer) = (
-      enters_own table own own (i.holder ∷ i.outer)
-          (subst (λ os. slice_get table own.number ≡ Some (own ∷ os)) outer f.listed) refl refl (λ label h. h),
+      (
+        enters_own table own own (i.holder ∷ i.outer)
+            (subst (λ os. slice_get table own.number ≡ Some (own ∷ os)) outer f.listed) refl refl (λ label h. h),
+        covers_own table own own (i.holder ∷ i.outer)
+            (subst (λ os. slice_get table own.number ≡ Some (own ∷ os)) outer f.listed) refl refl,
+      ),
       (
         omega (arith, held.0),
         (
-          enters_own table i.holder i.holder i.outer held.1 refl fits.1.0 (λ label h. h),
+          (
+            enters_own table i.holder i.holder i.outer held.1 refl fits.1.0 (λ label h. h),
+            covers_own table i.holder i.holder i.outer held.1 refl refl,
+          ),
           (under, subst (Chain table) fits.0 r.chain.1.1),
         ),
       ),
     ) in
     let stands : Stands fs (height_of (ancestor as' (length fs) level)) (i.holder ∷ i.outer) =
     subst (λ os. Stands fs (height_of (ancestor as' (length fs) level)) (i.holder ∷ os)) fits.0
-    (stands_as fs (height_of (ancestor as' (length fs) level)) r.own i.holder r.outer (r.level_is ∙ sym at) labels
+    (stands_as fs (height_of (ancestor as' (length fs) level)) r.own i.holder r.outer r.so (r.level_is ∙ sym at) labels
     r.stands) in
     record {
       chain = subst (λ os. Chain table (own ∷ os)) (sym outer) chain;

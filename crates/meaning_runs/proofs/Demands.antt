@@ -1,5 +1,5 @@
--- What is asked of a part of a run, and what is kept meanwhile: each activation is of a block, and its on-units are
--- sound blocks that stand in it.
+-- What is asked of a part of a run, and what is kept meanwhile: each activation is of a block, its on-units are sound
+-- blocks that stand in it, and what its variables stand for has the shapes that are declared.
 use Rattle.std.proofs.Common.{◌≡◌, ℕ, suc, ◌+◌, ◌≤◌, List, [], ◌∷◌, Option, Some, None, Bool, true, false, refl, ◌∙◌}
 use Rattle.std.proofs.Common.{ap, sym, subst}
 use Rattle.std.specs.Prelude.{cond, ⊤, ◌⊎◌, length}
@@ -14,11 +14,12 @@ use Rattle.pli_meaning.specs.Executing.{is_own_return}
 use Rattle.well_formed_trees.specs.Every.{Every}
 use Rattle.well_formed_trees.specs.Surroundings.{Table, Where, Returning, Returns, NoReturn}
 use Rattle.well_formed_trees.specs.Surroundings as W
-use Rattle.well_formed_trees.specs.Statements.{SoundStmts}
+use Rattle.well_formed_trees.specs.Statements.{SoundStmts, IsListedUnit}
 use Rattle.well_formed_trees.specs.Statements as T
 use Rattle.meaning_runs.specs.Plain.{PlainStmts}
 use Rattle.meaning_runs.specs.Present.{IsOver}
 use Rattle.meaning_runs.proofs.Frames.{Frame, outlines, skeleton, closed, IsOpen, Chain, Stands}
+use Rattle.meaning_runs.proofs.Bindings.{HasBindings, HasStatics, HasShapes, established_bindings, reverted_bindings}
 use Rattle.meaning_runs.proofs.Frames.{stands_under, stands_wider, first_outline, rest_outlines}
 
 -- ---- blocks
@@ -47,6 +48,7 @@ pub record SoundUnit (p : Y.Program) (table : Table) (fs : List Frame) (height :
   pub block : SoundBlock p table b
   pub own : is_own_return block.head.kind ≡ true
   pub chain : Chain table (block_around block.head block.body ∷ block.outer)
+  pub listed : IsListedUnit table block.head (block_around block.head block.body ∷ block.outer) block.head.kind
   pub stands : Stands fs height block.outer
 
 abbrev pub SoundOnUnit : Y.Program → Table → (fs : List Frame) → (height : ℕ) → OnUnit → Type 0
@@ -88,7 +90,8 @@ pub record Demand : Type 0 where
 
 abbrev pub Kept : Demand → State → Type 0
 Kept d s =
-    HasUnits d.program d.table d.bearing.frames s.activations × (skeleton s.activations ≡ outlines d.bearing.frames)
+    (HasUnits d.program d.table d.bearing.frames s.activations × HasShapes d.program d.bearing.frames s)
+    × (skeleton s.activations ≡ outlines d.bearing.frames)
 
 -- a jump goes to a label of a list that is carried out
 abbrev pub Jumps : List Frame → (height : ℕ) → Label → Type 0
@@ -121,14 +124,16 @@ pub record There (d : Demand) (by jumping left : ℕ) {R : Type 0} (after : R �
 
 -- the newest activation ends
 pub ended_kept : (d : Demand) (f : Frame) (s : State)
-    → HasUnits d.program d.table (f ∷ d.bearing.frames) s.activations
+    → HasUnits d.program d.table (f ∷ d.bearing.frames) s.activations × HasShapes d.program (f ∷ d.bearing.frames) s
     → skeleton s.activations ≡ outlines (f ∷ d.bearing.frames) → Kept d (newest_ended s)
 ended_kept d f s h e = of_list s.activations s h e
   where
-    of_list : (as' : List Activation) (s : State) → HasUnits d.program d.table (f ∷ d.bearing.frames) as'
+    of_list : (as' : List Activation) (s : State)
+        → HasUnits d.program d.table (f ∷ d.bearing.frames) as'
+        × (HasBindings d.program (f ∷ d.bearing.frames) as' × HasStatics d.program s.statics)
         → skeleton as' ≡ outlines (f ∷ d.bearing.frames) → Kept d (without_newest as' s)
     of_list [] s a e = absurd (cc e)
-    of_list (y ∷ ys) s a e = (a.1, cc e)
+    of_list (y ∷ ys) s a e = ((a.0.1, (a.1.0.1, a.1.1)), cc e)
 
 established_heights : (c : Condition) (u : OnUnit) (as' : List Activation)
     → skeleton (established c u as') ≡ skeleton as'
@@ -174,14 +179,22 @@ pub established_kept : (d : Demand) (c : Condition) (u : OnUnit) (s : State)
     → IsOfNewest d.program d.table d.bearing.frames u → Kept d s
     → Kept d (with_activations (established c u s.activations) s)
 established_kept d c u s a h = (
-  established_units d.program d.table c u d.bearing.frames s.activations a h.0,
+  (
+    established_units d.program d.table c u d.bearing.frames s.activations a h.0.0,
+    (established_bindings d.program c u d.bearing.frames s.activations h.0.1.0, h.0.1.1),
+  ),
   established_heights c u s.activations ∙ h.1,
 )
 
 pub reverted_kept : (d : Demand) (c : Condition) (s : State) → Kept d s
     → Kept d (with_activations (reverted c s.activations) s)
-reverted_kept d c s h =
-    (reverted_units d.program d.table c d.bearing.frames s.activations h.0, reverted_heights c s.activations ∙ h.1)
+reverted_kept d c s h = (
+  (
+    reverted_units d.program d.table c d.bearing.frames s.activations h.0.0,
+    (reverted_bindings d.program c d.bearing.frames s.activations h.0.1.0, h.0.1.1),
+  ),
+  reverted_heights c s.activations ∙ h.1,
+)
 
 -- ---- the unit in force is one of them
 
@@ -212,6 +225,7 @@ forced_under p table f fs (Some (a, BlockUnit b)) h =
       block = h.block;
       own = h.own;
       chain = h.chain;
+      listed = h.listed;
       stands = stands_under f fs a.height h.block.outer h.stands;
     }
 
@@ -225,9 +239,10 @@ unit_opened p table f fs height (BlockUnit b) o e h =
       block = h.block;
       own = h.own;
       chain = h.chain;
+      listed = h.listed;
       stands =
           subst (λ z. Stands (f ∷ fs) z h.block.outer) (sym e)
-          (stands_wider (closed f) f fs (suc (length fs)) h.block.outer refl refl o h.stands);
+          (stands_wider (closed f) f fs (suc (length fs)) h.block.outer refl refl refl o h.stands);
     }
 
 pub force_sound : (p : Y.Program) (table : Table) (fs : List Frame) (as' : List Activation) (c : Condition)

@@ -1,6 +1,6 @@
 -- Conditions, references, calls and expressions of a plain well-formed program are there, walked over the language.
 use Rattle.std.proofs.Common.{◌≡◌, ℕ, suc, ℤ, List, [], ◌∷◌, Option, Some, None, Bool, refl, ap}
-use Rattle.std.proofs.Common.{◌∙◌, sym, subst}
+use Rattle.std.proofs.Common.{◌∙◌, sym, subst, arith}
 use Rattle.std.specs.Prelude.{length, is_some}
 use Rattle.pli_language.specs.declared.condition.Condition.{Condition}
 use Rattle.pli_language.specs.declared.condition.Condition.TheVariants as C
@@ -11,19 +11,25 @@ use Rattle.pli_typing.specs.TypedTree as Y
 use Rattle.pli_meaning.specs.BasicValues.{Name, BasicValue}
 use Rattle.pli_meaning.specs.Contents.{Shape}
 use Rattle.pli_meaning.specs.StorageState.{OnUnit, SystemUnit, BlockUnit, Activation, force, ancestor, height_of}
-use Rattle.pli_meaning.specs.StorageState.{newest_height}
+use Rattle.pli_meaning.specs.StorageState.{newest_height, standing_for, named}
 use Rattle.pli_meaning.specs.Raising as G
 use Rattle.pli_meaning.specs.Raising.{Passed}
 use Rattle.pli_meaning.specs.DeclaredShapes as D
 use Rattle.pli_meaning.specs.Evaluating as V
 use Rattle.well_formed_trees.specs.Surroundings as W
+use Rattle.well_formed_trees.specs.References.{IsDimension}
 use Rattle.well_formed_trees.specs.Expressions as X
 use Rattle.meaning_runs.specs.Plain as P
-use Rattle.meaning_runs.proofs.Demands.{Anything, There, IsThere, IsForced, force_sound}
+use Rattle.meaning_runs.proofs.Demands.{Anything, There, IsThere, IsForced, force_sound, block_around}
 use Rattle.meaning_runs.proofs.Steps.{give_there, bind_there, then_there, looked_there, act_there, finish_there}
 use Rattle.meaning_runs.proofs.Steps.{choose_there, found_there, told}
 use Rattle.meaning_runs.proofs.Ways.{Ways, demand, around, here, ThereAround, FineProcedure, Expected, unit_entry}
 use Rattle.meaning_runs.proofs.Ways.{procedure_passes, procedures_same, procedure_fine, Footing, FootingIf}
+use Rattle.meaning_runs.proofs.Ways.{declared_there, listed_unit}
+use Rattle.meaning_runs.proofs.Bindings.{standing_shaped}
+use Rattle.meaning_runs.proofs.Dimensions.{member_bounds}
+use Rattle.meaning_runs.proofs.Shapes.{forms, IsShapedAs, shape_declared, named_forms, IsPartOf, HasBounds}
+use Rattle.meaning_runs.proofs.Shapes.{bounds_there}
 use Rattle.meaning_runs.proofs.Callees.{Callee, callee}
 
 -- ---- conditions
@@ -44,7 +50,7 @@ unfolding G.error
 error_there code w =
     then_there (act_there (raising C.Error code) (λ v. refl))
     (bind_there looked_there (λ s kept. error_unit_there code (force s.activations C.Error) w
-    (force_sound w.program w.table w.bearing.frames s.activations C.Error w.opens kept.0 kept.1)))
+    (force_sound w.program w.table w.bearing.frames s.activations C.Error w.opens kept.0.0 kept.1)))
 
 unit_there : (code : ℕ) (found : Option (Activation × OnUnit)) (w : Ways)
     → IsForced w.program w.table w.bearing.frames found
@@ -62,7 +68,7 @@ unfolding G.raised
 raised_there c code w =
     then_there (act_there (raising c code) (λ v. refl))
     (bind_there looked_there (λ s kept. unit_there code (force s.activations c) w
-    (force_sound w.program w.table w.bearing.frames s.activations c w.opens kept.0 kept.1)))
+    (force_sound w.program w.table w.bearing.frames s.activations c w.opens kept.0.0 kept.1)))
 
 pub value_of_there : (v : Checked) → ThereAround Anything (λ a. G.value_of a v)
 unfolding G.value_of
@@ -74,28 +80,56 @@ unfolding G.or_error
 or_error_there code None w = error_there code w
 or_error_there code (Some x) w = give_there x tt
 
+-- what is given is what there is
+found_or_error : {X : Type 0} (code : ℕ) (o : Option X) → ThereAround (λ x. o ≡ Some x) (λ a. G.or_error a code o)
+unfolding G.or_error
+found_or_error code None w = error_there code w
+found_or_error code (Some x) w = give_there x refl
+
 pub demanded_there : (code : ℕ) (met : Bool) → ThereAround Anything (λ a. G.demanded a code met)
 unfolding G.demanded
 demanded_there code met w = choose_there met (give_there tt tt) (error_there code w)
 
 -- ---- references and arguments
 
+-- with the forms of the shape that it was sought with
+abbrev IsSought : Shape → Y.Part → V.Designated → Type 0
+IsSought shape part x =
+    (forms x.generation.shape.signature.leaves ≡ forms shape.signature.leaves) × (x.part ≡ part)
+
 part_designated_there : (n : Name) (shape : Shape) (part : Y.Part) (is : List ℤ)
-    → ThereAround Anything (λ a. V.part_designated a n shape part is)
+    → ThereAround (IsSought shape part) (λ a. V.part_designated a n shape part is)
 unfolding V.part_designated
 part_designated_there n shape part is w =
-    bind_there looked_there (λ s k. bind_there (or_error_there _ _ w) (λ g j. bind_there (or_error_there _ _ w)
-    (λ z i. then_there (demanded_there _ _ w) (give_there _ tt))))
+    bind_there looked_there (λ s k. bind_there (found_or_error _ (named s n shape) w) (λ g j.
+    bind_there (or_error_there _ _ w) (λ z i. then_there (demanded_there _ _ w)
+    (give_there _ (named_forms s n shape g j, refl)))))
+
+-- a part of a generation with the shape that the variable is declared with, where that is known
+abbrev pub IsTold : Y.Program → Y.Variable → Y.Part → V.Designated → Type 0
+IsTold p v part x =
+    (d : Y.DeclaredVariable) → D.declared_variable p v ≡ Some d → P.IsShapeKnown v.class → IsPartOf d part x
 
 variable_designated_there : (v : Y.Variable) (name : Option Name) (part : Y.Part) (is : List ℤ)
-    (d : Y.DeclaredVariable) (w : Ways) → D.declared_variable w.program v ≡ Some d
-    → There (demand w) 0 1 w.left Anything (V.variable_designated (around w) v name part is)
+    (d : Y.DeclaredVariable) (w : Ways) → W.IsDeclared (here w) v d
+    → There (demand w) 0 1 w.left (IsTold w.program v part) (V.variable_designated (around w) v name part is)
 unfolding V.variable_designated
-variable_designated_there v None part is d w e =
-    bind_there looked_there (λ s k. bind_there (or_error_there _ _ w)
-    (λ b j. part_designated_there b.name b.shape part is w))
-variable_designated_there v (Some n) part is d w e =
-    found_there _ d _ _ e (part_designated_there n (D.shape_of [] d) part is w)
+variable_designated_there v None part is d w h =
+    bind_there looked_there (λ s k. bind_there (found_or_error _ (standing_for s v) w)
+    (λ b j. told (λ x f d' e known.
+    let same : d ≡ d' = cc (h.found, e) in
+    let shaped : P.IsShapeKnown v.class → IsShapedAs d b.shape =
+    standing_shaped w.program w.table w.bearing.frames w.blocks s v.class v d b w.ground k.1 k.0.1 h.found h.same_class
+    h.block_around j in
+    record { shaped = f.0 ∙ subst (λ y. IsShapedAs y b.shape) same (shaped known); part_is = f.1 })
+    (part_designated_there b.name b.shape part is w)))
+variable_designated_there v (Some n) part is d w h =
+    found_there _ d _ _ h.found (told (λ x f d' e known.
+    let same : d ≡ d' = cc (h.found, e) in
+    record {
+      shaped = f.0 ∙ subst (λ y. IsShapedAs y (D.shape_of [] d)) same (shape_declared [] d);
+      part_is = f.1;
+    }) (part_designated_there n (D.shape_of [] d) part is w))
 
 pub area_meant_there : (v : Y.Variable) → ThereAround Anything (λ a. V.area_meant a v)
 unfolding V.area_meant
@@ -144,6 +178,10 @@ procedure_entered_there q number level passed w f may i e =
       opens = w.opens;
       passes = procedure_passes w.program w.table w.bearing.answers q f;
       counts = e;
+      parameters = f.parameters;
+      listed =
+          listed_unit w.table f.block.head (block_around f.block.head f.block.body ∷ f.block.outer) f.block.head.kind
+          f.listed;
     }))
 
 pub returned_there : (w : Ways) (v : Option BasicValue) → IsThere v
@@ -189,6 +227,23 @@ same_result : (number : ℕ) (ps : List Y.Procedure) (q q' : Y.Procedure) (v : O
 same_result number ps q q' v e f k =
     let same : q ≡ q' = cc (e, f) in subst (λ x. Expected (is_some x.result) v) same k
 
+-- ---- dimensions
+
+-- what a reference designates, with its shape where that is known
+abbrev pub IsFound : Y.Program → Y.Reference → V.Designated → Type 0
+IsFound p (Y.Referring v locator part subscripts) x = IsTold p v part x
+
+dimension_there : (r : Y.Reference) (dimension : ℕ) (w : Ways) → IsDimension (here w) r dimension
+    → P.HasKnownShape r → (x : V.Designated) → IsFound w.program r x → HasBounds x dimension
+dimension_there (Y.Referring v locator part subscripts) dimension w h known x found =
+    let d = h.designates.d in
+    let e = h.designates.declared.found in
+    let fine = declared_there w.program w.table w.whole v d e in
+    let leaf = member_bounds d part h.designates.dimensions fine.members fine.dimensions h.designates.member in
+    let high = h.high in
+    let enough = leaf.enough in
+    bounds_there d part x leaf.leaf dimension (found d e known) leaf.there h.low (omega (arith, high, enough))
+
 -- ---- expressions
 
 mutual
@@ -224,9 +279,15 @@ mutual
       bind_there (text_there s w h.0 p.0) (λ u k. bind_there (text_there t w h.1 p.1) (λ v j. give_there _ tt))
   number_there (Y.VerifyOf s t) w h p =
       bind_there (text_there s w h.0 p.0) (λ u k. bind_there (text_there t w h.1 p.1) (λ v j. give_there _ tt))
-  number_there (Y.LowerBound r dimension) w h p = absurd p
-  number_there (Y.UpperBound r dimension) w h p = absurd p
-  number_there (Y.ElementsOf r dimension) w h p = absurd p
+  number_there (Y.LowerBound r dimension) w h p =
+      bind_there (designated_there r w h.1 p.1) (λ x f. let b = dimension_there r dimension w h.0 p.0 x f in
+      found_there _ b.bounds _ _ b.there (give_there _ tt))
+  number_there (Y.UpperBound r dimension) w h p =
+      bind_there (designated_there r w h.1 p.1) (λ x f. let b = dimension_there r dimension w h.0 p.0 x f in
+      found_there _ b.bounds _ _ b.there (give_there _ tt))
+  number_there (Y.ElementsOf r dimension) w h p =
+      bind_there (designated_there r w h.1 p.1) (λ x f. let b = dimension_there r dimension w h.0 p.0 x f in
+      found_there _ b.bounds _ _ b.there (value_of_there _ w))
   number_there (Y.AllocationsOf v) w h p = bind_there looked_there (λ s k. give_there _ tt)
   number_there Y.OnCode w h p = bind_there looked_there (λ s k. give_there _ tt)
 
@@ -308,10 +369,10 @@ mutual
       (λ b j. or_error_there _ _ w))
 
   pub designated_there : (x : Y.Reference) (w : Ways) → X.SoundReference (here w) x → P.PlainReference w.calls x
-      → There (demand w) 0 1 w.left Anything (V.designated (around w) x)
+      → There (demand w) 0 1 w.left (IsFound w.program x) (V.designated (around w) x)
   designated_there (Y.Referring v locator part subscripts) w h p =
       bind_there (located_there locator w h.1.1.0 p.0) (λ n k. bind_there (numbers_there subscripts w h.1.1.1 p.1)
-      (λ is j. variable_designated_there v n part is h.0.d w h.0.declared.found))
+      (λ is j. variable_designated_there v n part is h.0.d w h.0.declared))
 
   located_there : (x : Y.Locator) (w : Ways) → X.SoundLocator (here w) x → P.PlainLocator w.calls x
       → There (demand w) 0 1 w.left Anything (V.located (around w) x)

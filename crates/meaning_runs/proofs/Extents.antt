@@ -23,9 +23,9 @@ mutual
   number_uncalled b i (Y.LengthOf t) m h = text_uncalled b i t m h
   number_uncalled b i (Y.IndexOf s t) m h = (text_uncalled b i s m.0 h.0, text_uncalled b i t m.1 h.1)
   number_uncalled b i (Y.VerifyOf s t) m h = (text_uncalled b i s m.0 h.0, text_uncalled b i t m.1 h.1)
-  number_uncalled b i (Y.LowerBound r dimension) m h = absurd m
-  number_uncalled b i (Y.UpperBound r dimension) m h = absurd m
-  number_uncalled b i (Y.ElementsOf r dimension) m h = absurd m
+  number_uncalled b i (Y.LowerBound r dimension) m h = (m.0, reference_uncalled b i r m.1 h)
+  number_uncalled b i (Y.UpperBound r dimension) m h = (m.0, reference_uncalled b i r m.1 h)
+  number_uncalled b i (Y.ElementsOf r dimension) m h = (m.0, reference_uncalled b i r m.1 h)
   number_uncalled b i (Y.AllocationsOf v) m h = tt
   number_uncalled b i Y.OnCode m h = tt
 

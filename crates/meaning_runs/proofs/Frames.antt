@@ -48,9 +48,10 @@ pub record Outline : Type 0 where
   pub level : ℕ
   pub parent : ℕ
 
--- an activation: its level, its parent, the labels that stay as long as it has on-units, and those of the lists that
--- are carried out in it
+-- an activation: the number of its block, its level, its parent, the labels that stay as long as it has on-units, and
+-- those of the lists that are carried out in it
 pub record Frame : Type 0 where
+  pub number : ℕ
   pub level : ℕ
   pub parent : ℕ
   pub lasting : List Label
@@ -68,13 +69,21 @@ skeleton (a ∷ as') = record { height = a.height; level = a.level; parent = a.p
 
 -- as a unit may count on it
 abbrev pub closed : Frame → Frame
-closed f = record { level = f.level; parent = f.parent; lasting = f.lasting; labels = f.lasting }
+closed f =
+    record { number = f.number; level = f.level; parent = f.parent; lasting = f.lasting; labels = f.lasting }
 
 -- in one more list
 abbrev pub with_labels : List Label → List Frame → List Frame
 with_labels labels [] = []
 with_labels labels (f ∷ fs) =
-    record { level = f.level; parent = f.parent; lasting = f.lasting; labels = labels ++ f.labels } ∷ fs
+    record {
+      number = f.number;
+      level = f.level;
+      parent = f.parent;
+      lasting = f.lasting;
+      labels = labels ++ f.labels;
+    }
+    ∷ fs
 
 -- the labels that stay are of lists that are carried out
 abbrev pub IsOpen : Frame → Type 0
@@ -82,13 +91,32 @@ IsOpen f = AreAmong f.lasting f.labels
 
 -- ---- blocks around
 
+-- an activation of a block
+abbrev pub IsOf : Frame → Around → Type 0
+IsOf f a = (f.level ≡ a.level) × (f.number ≡ a.number)
+
 -- the blocks around a place are those of the activation at a height and of its static ancestors
 abbrev pub Stands : List Frame → (height : ℕ) → List Around → Type 0
 Stands fs height [] = ⊤
 Stands [] height (a ∷ more) = ⊥
 Stands (f ∷ fs) height (a ∷ more) =
-    ((height ≡ suc (length fs)) × ((f.level ≡ a.level) × (AreAmong (labels_of a) f.labels × Stands fs f.parent more)))
+    ((height ≡ suc (length fs)) × (IsOf f a × (AreAmong (labels_of a) f.labels × Stands fs f.parent more)))
     ⊎ ((height ≤ length fs) × Stands fs height (a ∷ more))
+
+-- whichever lists are carried out
+abbrev pub Holds : List Frame → (height : ℕ) → List Around → Type 0
+Holds fs height [] = ⊤
+Holds [] height (a ∷ more) = ⊥
+Holds (f ∷ fs) height (a ∷ more) =
+    ((height ≡ suc (length fs)) × (IsOf f a × Holds fs f.parent more))
+    ⊎ ((height ≤ length fs) × Holds fs height (a ∷ more))
+
+pub holds_of : (fs : List Frame) (height : ℕ) (around : List Around) → Stands fs height around
+    → Holds fs height around
+holds_of fs height [] h = tt
+holds_of [] height (a ∷ more) h = absurd h
+holds_of (f ∷ fs) height (a ∷ more) (inl h) = inl (h.0, (h.1.0, holds_of fs f.parent more h.1.1.1))
+holds_of (f ∷ fs) height (a ∷ more) (inr h) = inr (h.0, holds_of fs height (a ∷ more) h.1)
 
 -- an entry of the table with the number of a block around is no deeper, and that block's own if it has the level
 abbrev pub Enters : Table → Around → List Around → Type 0
@@ -101,10 +129,36 @@ abbrev pub IsUnder : (level : ℕ) → List Around → Type 0
 IsUnder level [] = ⊤
 IsUnder level (a ∷ more) = a.level < level
 
+-- what stands around a block in the table stands around it here, too
+abbrev pub Covers : Table → Around → List Around → Type 0
+Covers table a more =
+    (entry : List Around) → slice_get table a.number ≡ Some entry → (number level : ℕ) → IsAround number level entry
+    → IsAround number level (a ∷ more)
+
 -- the blocks around are as the table has them, each at a level of its own
 abbrev pub Chain : Table → List Around → Type 0
 Chain table [] = ⊤
-Chain table (a ∷ more) = Enters table a more × (IsUnder a.level more × Chain table more)
+Chain table (a ∷ more) = (Enters table a more × Covers table a more) × (IsUnder a.level more × Chain table more)
+
+pub covers_own : (table : Table) (a o : Around) (more : List Around) → slice_get table a.number ≡ Some (o ∷ more)
+    → o.level ≡ a.level → o.number ≡ a.number → Covers table a more
+covers_own table a o more e same number_is entry f number level h =
+    let all : o ∷ more ≡ entry = cc (e, f) in
+    by_own (subst (λ x. IsAround number level x) (sym all) h)
+  where
+    by_own : IsAround number level (o ∷ more) → IsAround number level (a ∷ more)
+    by_own (inl h) = inl (sym number_is ∙ h.0, sym same ∙ h.1)
+    by_own (inr h) = inr h
+
+-- so it does around each block of a chain
+pub covered : (table : Table) (block level : ℕ) (around entry : List Around) → Chain table around
+    → IsAround block level around → slice_get table block ≡ Some entry → (n l : ℕ) → IsAround n l entry
+    → IsAround n l around
+covered table block level [] entry c h e n l i = absurd h
+covered table block level (a ∷ more) entry c (inl h) e n l i =
+    c.0.1 entry (subst (λ x. slice_get table x ≡ Some entry) (sym h.0) e) n l i
+covered table block level (a ∷ more) entry c (inr h) e n l i =
+    inr (covered table block level more entry c.1.1 h e n l i)
 
 pub enters_own : (table : Table) (a o : Around) (more : List Around) → slice_get table a.number ≡ Some (o ∷ more)
     → o.level ≡ a.level → o.inner ≡ [] → AreAmong o.outermost a.outermost → Enters table a more
@@ -132,21 +186,27 @@ stands_under f fs height (a ∷ more) h = inr (stands_low fs height a more h, h)
 
 -- where more lists are carried out
 pub stands_wider : (f e : Frame) (fs : List Frame) (height : ℕ) (around : List Around)
-    → f.level ≡ e.level → f.parent ≡ e.parent → AreAmong f.labels e.labels → Stands (f ∷ fs) height around
-    → Stands (e ∷ fs) height around
-stands_wider f e fs height [] l u o h = tt
-stands_wider f e fs height (a ∷ more) l u o (inl h) =
-    inl (h.0, (sym l ∙ h.1.0, (λ label x. o label (h.1.1.0 label x), subst (λ z. Stands fs z more) u h.1.1.1)))
-stands_wider f e fs height (a ∷ more) l u o (inr h) = inr h
+    → f.number ≡ e.number → f.level ≡ e.level → f.parent ≡ e.parent → AreAmong f.labels e.labels
+    → Stands (f ∷ fs) height around → Stands (e ∷ fs) height around
+stands_wider f e fs height [] n l u o h = tt
+stands_wider f e fs height (a ∷ more) n l u o (inl h) =
+    inl (
+      h.0,
+      (
+        (sym l ∙ h.1.0.0, sym n ∙ h.1.0.1),
+        (λ label x. o label (h.1.1.0 label x), subst (λ z. Stands fs z more) u h.1.1.1),
+      ),
+    )
+stands_wider f e fs height (a ∷ more) n l u o (inr h) = inr h
 
 -- for a block with fewer labels
 pub stands_as : (fs : List Frame) (height : ℕ) (a b : Around) (more : List Around)
-    → a.level ≡ b.level → AreAmong (labels_of b) (labels_of a) → Stands fs height (a ∷ more)
+    → a.number ≡ b.number → a.level ≡ b.level → AreAmong (labels_of b) (labels_of a) → Stands fs height (a ∷ more)
     → Stands fs height (b ∷ more)
-stands_as [] height a b more e h s = absurd s
-stands_as (f ∷ fs) height a b more e h (inl s) =
-    inl (s.0, (s.1.0 ∙ e, (λ label x. s.1.1.0 label (h label x), s.1.1.1)))
-stands_as (f ∷ fs) height a b more e h (inr s) = inr (s.0, stands_as fs height a b more e h s.1)
+stands_as [] height a b more n e h s = absurd s
+stands_as (f ∷ fs) height a b more n e h (inl s) =
+    inl (s.0, ((s.1.0.0 ∙ e, s.1.0.1 ∙ n), (λ label x. s.1.1.0 label (h label x), s.1.1.1)))
+stands_as (f ∷ fs) height a b more n e h (inr s) = inr (s.0, stands_as fs height a b more n e h s.1)
 
 -- ---- the static ancestor at a level
 
@@ -211,11 +271,11 @@ nat_same a b e = grind (arith, nat_tests, e)
 nat_apart : (a b : ℕ) → a < b → (a == b) ≡ false
 nat_apart a b e = grind (arith, nat_tests, e)
 
-chosen : {X : Type 0} (t : Bool) (x y : X) → t ≡ true → cond t x y ≡ x
+pub chosen : {X : Type 0} (t : Bool) (x y : X) → t ≡ true → cond t x y ≡ x
 chosen true x y e = refl
 chosen false x y e = absurd (cc e)
 
-passed_over : {X : Type 0} (t : Bool) (x y : X) → t ≡ false → cond t x y ≡ y
+pub passed_over : {X : Type 0} (t : Bool) (x y : X) → t ≡ false → cond t x y ≡ y
 passed_over true x y e = absurd (cc e)
 passed_over false x y e = refl
 
@@ -230,7 +290,7 @@ reached table level Q (f ∷ fs) (x ∷ xs) height (a ∷ more) e (inl s) c (inl
     let at : x.height ≡ suc (length fs) = ap (λ os. (first_outline os).height) e in
     let deep : x.level ≡ f.level = ap (λ os. (first_outline os).level) e in
     let here : (x.height == height) ≡ true = nat_same x.height height (at ∙ sym s.0) in
-    let own : (x.level == level) ≡ true = nat_same x.level level (deep ∙ (s.1.0 ∙ h.0)) in
+    let own : (x.level == level) ≡ true = nat_same x.level level (deep ∙ (s.1.0.0 ∙ h.0)) in
     let found : ancestor (x ∷ xs) height level ≡ Some x =
     chosen (x.height == height) _ _ here ∙ chosen (x.level == level) _ _ own in
     let same : height_of (ancestor (x ∷ xs) height level) ≡ height = ap height_of found ∙ (at ∙ sym s.0) in
@@ -242,7 +302,7 @@ reached table level Q (f ∷ fs) (x ∷ xs) height (a ∷ more) e (inl s) c (inr
     let up : x.parent ≡ f.parent = ap (λ os. (first_outline os).parent) e in
     let here : (x.height == height) ≡ true = nat_same x.height height (at ∙ sym s.0) in
     let less : level < a.level = lower_level table level a.level Q more c.1.0 c.1.1 h in
-    let other : (x.level == level) ≡ false = grind (arith, nat_tests, less, deep, s.1.0) in
+    let other : (x.level == level) ≡ false = grind (arith, nat_tests, less, deep, s.1.0.0) in
     let found : ancestor (x ∷ xs) height level ≡ ancestor xs f.parent level =
     chosen (x.height == height) _ _ here
     ∙ (passed_over (x.level == level) _ _ other ∙ ap (λ z. ancestor xs z level) up) in

@@ -1,4 +1,7 @@
+mod Dimensions
+mod Shapes
 mod Frames
+mod Bindings
 mod Demands
 mod Steps
 mod Ways

@@ -14,13 +14,14 @@ use Rattle.pli_meaning.specs.Executing.{run, meaning, shown, is_own_return}
 use Rattle.well_formed_trees.specs.Every.{Every}
 use Rattle.well_formed_trees.specs.Surroundings.{Around, Table, Where, number_here, Returns, NoReturn}
 use Rattle.well_formed_trees.specs.Declarations.{IsEvaluation, SoundVariables}
-use Rattle.well_formed_trees.specs.WellFormed.{AcceptedWellFormed, IsWellFormed, SoundProcedure}
+use Rattle.well_formed_trees.specs.Surroundings as W
+use Rattle.well_formed_trees.specs.WellFormed.{AcceptedWellFormed, IsWellFormed, IsParameter, SoundProcedure}
 use Rattle.well_formed_trees.proofs.Lists.{every_map, every_pair}
 use Rattle.meaning_runs.specs.Plain as P
 use Rattle.meaning_runs.specs.Present.{IsOver, EndsOrPauses, NeverStuck, MeaningThere, AcceptedMeaningThere}
 use Rattle.meaning_runs.proofs.Demands.{Comes, placed}
 use Rattle.meaning_runs.proofs.Extents.{number_uncalled}
-use Rattle.meaning_runs.proofs.Ways.{Whole, Declares, FineProcedure}
+use Rattle.meaning_runs.proofs.Ways.{Whole, Declares, AreParameters, FineProcedure}
 use Rattle.meaning_runs.proofs.Blocks.{at_start, run_there}
 
 -- ---- procedures
@@ -42,6 +43,11 @@ procedure_is_fine p table q s h =
       returning = refl;
       held = s.held;
       listed = s.listed;
+      parameters =
+          subst (λ b. AreParameters p (W.head_of b).number q.parameters) s.is
+          (every_map (IsParameter p q) _ (λ i x d e.
+          let same : x.d ≡ d = cc (x.found, e) in subst (λ y. y.class ≡ Y.ParameterClass) same x.class_is)
+          q.parameters s.parameters);
     }
 
 -- ---- variables
@@ -54,19 +60,23 @@ evaluations_uncalled w index many (x ∷ xs) h k = (
   evaluations_uncalled w index many xs h.1 k.1,
 )
 
-declare_sound : (p : Y.Program) (table : Table) (blocks : List Around) (index : ℕ) (ds : List Y.DeclaredVariable)
+declare_sound : (p : Y.Program) (table : Table) (block : ℕ) (blocks : List Around) (index : ℕ)
+    (ds : List Y.DeclaredVariable) → slice_get table block ≡ Some blocks
     → SoundVariables (placed p table blocks NoReturn) index ds → Every (P.PlainVariable P.AnyCall) ds
-    → Every (Declares p table) ds
-declare_sound p table blocks index [] h k = tt
-declare_sound p table blocks index (d ∷ ds) h k = (
+    → Every (Declares p table block) ds
+declare_sound p table block blocks index [] e h k = tt
+declare_sound p table block blocks index (d ∷ ds) e h k = (
   record {
     blocks = blocks;
+    listed = e;
     sound = every_map _ _ (λ x e. e.value) d.evaluations h.0.evaluations;
     plain =
         evaluations_uncalled (placed p table blocks NoReturn) index (length d.evaluations) d.evaluations
         h.0.evaluations k.0;
+    members = h.0.members;
+    dimensions = h.0.dimensions;
   },
-  declare_sound p table blocks (suc index) ds h.1 k.1,
+  declare_sound p table block blocks (suc index) ds e h.1 k.1,
 )
 
 plain_at : (vs : List (List Y.DeclaredVariable)) (n : ℕ) → Every (Every (P.PlainVariable P.AnyCall)) vs
@@ -84,16 +94,16 @@ none_there (x ∷ xs) (y ∷ ys) zero e h = absurd (cc h)
 none_there (x ∷ xs) (y ∷ ys) (suc n) e h = none_there xs ys n (omega (arith, e)) h
 
 declared_sound : (p : Y.Program) (h : IsWellFormed p) → P.IsPlain p → (number : ℕ)
-    → Every (Declares p h.table) (D.variables_of_block p number)
+    → Every (Declares p h.table number) (D.variables_of_block p number)
 declared_sound p h k number = of_entry (slice_get h.table number) refl
   where
     of_entry : (o : Option (List Around)) → slice_get h.table number ≡ o
-        → Every (Declares p h.table) (D.variables_of_block p number)
+        → Every (Declares p h.table number) (D.variables_of_block p number)
     of_entry None e =
-        subst (λ o. Every (Declares p h.table) (unwrap_or o []))
+        subst (λ o. Every (Declares p h.table number) (unwrap_or o []))
         (sym (none_there p.variables h.table number h.lists e)) tt
     of_entry (Some blocks) e =
-        declare_sound p h.table blocks 0 (D.variables_of_block p number) (h.variables number blocks e)
+        declare_sound p h.table number blocks 0 (D.variables_of_block p number) e (h.variables number blocks e)
         (plain_at p.variables number k.variables)
 
 whole_sound : (p : Y.Program) (h : IsWellFormed p) → P.IsPlain p
@@ -122,7 +132,7 @@ pub never_stuck : NeverStuck
 never_stuck p input k h i =
     ends_or_pauses p h.table 0 k (run p (suc k) k (first_state input))
     ((run_there p h.table (whole_sound p h i) h.main (suc k) k (omega arith)).comes k
-    (first_state input) (omega arith) (omega arith) (tt, refl))
+    (first_state input) (omega arith) (omega arith) ((tt, (tt, tt)), refl))
 
 -- what a flow shows
 record Shows (k : ℕ) (f : Flow (Unit {0})) : Type 0 where

@@ -21,6 +21,8 @@ use Rattle.well_formed_trees.specs.Expressions as X
 use Rattle.well_formed_trees.specs.Statements as T
 use Rattle.meaning_runs.specs.Plain as P
 use Rattle.meaning_runs.proofs.Frames.{Frame, skeleton, outlines, closed, first_outline, IsOpen, AreAmong, Stands}
+use Rattle.meaning_runs.proofs.Frames.{IsOf, holds_of, Covers, covers_own}
+use Rattle.meaning_runs.proofs.Bindings.{Ground}
 use Rattle.meaning_runs.proofs.Frames.{Enters, Chain, among_first, among_second, among_either, enters_own, target_at}
 use Rattle.meaning_runs.proofs.Frames.{lower_level, reached, newest_ancestor}
 use Rattle.meaning_runs.proofs.Demands.{Bearing, Jumps, block_around, placed, SoundUnit, Demand, Kept}
@@ -31,7 +33,7 @@ use Rattle.meaning_runs.proofs.Steps.{loose, slow, give_there, bind_there, then_
 use Rattle.meaning_runs.proofs.Steps.{act_there, act_made, act_then, finish_there, returns_there, jumps_there}
 use Rattle.meaning_runs.proofs.Steps.{choose_there, while_there, list_there, Passes, labelled, nat_same}
 use Rattle.meaning_runs.proofs.Ways.{Ways, demand, around, here, on_line, smaller, ThereAround, Whole, SoundEntry}
-use Rattle.meaning_runs.proofs.Ways.{Expected}
+use Rattle.meaning_runs.proofs.Ways.{Expected, listed_unit}
 use Rattle.meaning_runs.proofs.Expressions.{error_there, raised_there, value_of_there, or_error_there, number_there}
 use Rattle.meaning_runs.proofs.Expressions.{bit_there, designated_there, called_there, stored_value_there}
 use Rattle.meaning_runs.proofs.Expressions.{computational_there}
@@ -179,7 +181,7 @@ pub record Level : Type 0 where
 pub record Foot (table : Table) (frame : Frame) (further : List Frame) : Type 0 where
   pub own : W.Around
   pub outer : List W.Around
-  pub level_is : frame.level ≡ own.level
+  pub own_is : IsOf frame own
   pub has : AreAmong (W.labels_of own) frame.labels
   pub lasts : AreAmong own.outermost frame.lasting
   pub below : Stands further frame.parent outer
@@ -227,7 +229,13 @@ below l c e = lower l c (omega (arith, e))
 
 abbrev pub listed_frame : List Label → Frame → Frame
 listed_frame labels f =
-    record { level = f.level; parent = f.parent; lasting = f.lasting; labels = labels ++ f.labels }
+    record {
+      number = f.number;
+      level = f.level;
+      parent = f.parent;
+      lasting = f.lasting;
+      labels = labels ++ f.labels;
+    }
 
 abbrev pub listed : Y.Stmts → Level → Level
 listed body l =
@@ -274,7 +282,7 @@ in_group table f fs body t =
     record {
       own = group_around body t.own;
       outer = t.outer;
-      level_is = t.level_is;
+      own_is = t.own_is;
       has = group_has t.own body f.labels t.has;
       lasts = t.lasts;
       below = t.below;
@@ -287,7 +295,7 @@ group body l t = in_group l.table l.frame l.further body t
 -- where the blocks stand
 abbrev stands_at : (l : Level) (t : FootAt l)
     → Stands (l.frame ∷ l.further) (suc (length l.further)) (t.own ∷ t.outer)
-stands_at l t = inl (refl, (t.level_is, (t.has, t.below)))
+stands_at l t = inl (refl, (t.own_is, (t.has, t.below)))
 
 -- behind an act
 abbrev pub within : (l : Level) → FootAt l → (c : ℕ) → suc c ≡ l.left → Ways
@@ -301,6 +309,12 @@ within l t c e =
       returning = l.returning;
       calls = P.AnyCall;
       footing = record { stands = stands_at l t; chain = t.chain };
+      ground = record {
+        around = t.own ∷ t.outer;
+        holds = holds_of (l.frame ∷ l.further) (suc (length l.further)) (t.own ∷ t.outer) (stands_at l t);
+        chain = t.chain;
+        inside = λ number level h. h;
+      };
       opens = l.opens;
       line = l.line;
       enter = l.enter;
@@ -311,8 +325,9 @@ within l t c e =
     }
 
 -- before the block's own list and at its end, where nothing is called
-abbrev pub apart : (l : Level) → List W.Around → (c : ℕ) → suc c ≡ l.left → Ways
-apart l blocks c e =
+abbrev pub apart : (l : Level) → (blocks : List W.Around) → Ground l.table (l.frame ∷ l.further) blocks → (c : ℕ)
+    → suc c ≡ l.left → Ways
+apart l blocks ground c e =
     record {
       program = l.program;
       table = l.table;
@@ -322,6 +337,7 @@ apart l blocks c e =
       returning = NoReturn;
       calls = P.NoCall;
       footing = tt;
+      ground = ground;
       opens = l.opens;
       line = l.line;
       enter = l.enter;
@@ -363,8 +379,11 @@ begun_sound l t head body s e h p =
         plain = p;
       };
       chain = (
-        enters_own l.table (block_around head body) (block_around head body) (t.own ∷ t.outer) h.0.1.1 refl
-            refl (λ label x. x),
+        (
+          enters_own l.table (block_around head body) (block_around head body) (t.own ∷ t.outer) h.0.1.1 refl refl
+              (λ label x. x),
+          covers_own l.table (block_around head body) (block_around head body) (t.own ∷ t.outer) h.0.1.1 refl refl,
+        ),
         (omega (arith, h.0.1.0.level), t.chain),
       );
       stands =
@@ -375,6 +394,8 @@ begun_sound l t head body s e h p =
           subst (λ kind. Passes (M.is_own_return kind) (Expected false) (Some l.returning) (Some l.returning))
           (sym h.0.0) (λ v a. a);
       counts = refl;
+      parameters = tt;
+      listed = listed_unit l.table head (block_around head body ∷ t.own ∷ t.outer) head.kind h.0.1.1;
     }
 
 unit_own : (w : Where) (head : Y.BlockHead) (kind : Y.BlockKind) → T.IsUnitHead w head kind
@@ -398,10 +419,22 @@ unit_enters l t head body Y.UnitBlock h deep i =
 unit_enters l t head body Y.SimpleUnit h deep i =
     λ o outer e.
     let low : o.level ≤ t.own.level =
-    (t.chain.0 o outer (subst (λ n. slice_get l.table n ≡ Some (o ∷ outer)) h e)).0 in
+    (t.chain.0.0 o outer (subst (λ n. slice_get l.table n ≡ Some (o ∷ outer)) h e)).0 in
     (omega (arith, low, deep), λ q. absurd (omega (arith, q, low, deep)))
 unit_enters l t head body Y.ProcedureBlock h deep i = absurd h
 unit_enters l t head body Y.BeginBlock h deep i = absurd h
+
+unit_covers : (l : Level) (t : FootAt l) (head : Y.BlockHead) (body : Y.Stmts) (kind : Y.BlockKind)
+    → T.IsUnitHead (place_at l t) head kind
+    → T.IsListedUnit l.table head (block_around head body ∷ unit_around t.own ∷ t.outer) kind
+    → Covers l.table (block_around head body) (unit_around t.own ∷ t.outer)
+unit_covers l t head body Y.UnitBlock h i =
+    covers_own l.table (block_around head body) (block_around head body) (unit_around t.own ∷ t.outer) i refl refl
+unit_covers l t head body Y.SimpleUnit h i =
+    λ entry e number level j.
+    inr (t.chain.0.1 entry (subst (λ n. slice_get l.table n ≡ Some entry) h e) number level j)
+unit_covers l t head body Y.ProcedureBlock h i = absurd h
+unit_covers l t head body Y.BeginBlock h i = absurd h
 
 unit_sound : (l : Level) (t : FootAt l) (c : Condition) (head : Y.BlockHead) (body : Y.Stmts) (line : ℕ)
     → T.SoundStmt (place_at l t) (Y.OnUnit c (Y.BlockOf head body) line)
@@ -420,10 +453,14 @@ unit_sound l t c head body line h p =
       };
       own = unit_own (place_at l t) head head.kind h.0.0;
       chain = (
-        unit_enters l t head body head.kind h.0.0 h.0.1.0.level h.0.1.1,
+        (
+          unit_enters l t head body head.kind h.0.0 h.0.1.0.level h.0.1.1,
+          unit_covers l t head body head.kind h.0.0 h.0.1.1,
+        ),
         (omega (arith, h.0.1.0.level), t.chain),
       );
-      stands = inl (refl, (t.level_is, (t.lasts, t.below)));
+      listed = h.0.1.1;
+      stands = inl (refl, (t.own_is, (t.lasts, t.below)));
     }
 
 answered_some : (r : Returning) (v : BasicValue) → Answered r (Some v)

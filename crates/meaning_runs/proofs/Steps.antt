@@ -18,6 +18,7 @@ use Rattle.meaning_runs.specs.Present.{IsOver}
 use Rattle.well_formed_trees.specs.Surroundings.{Returning}
 use Rattle.meaning_runs.proofs.Demands.{Demand, HasUnits, Kept, Anything, Comes, There, Answers, Jumps}
 use Rattle.meaning_runs.proofs.Demands.{ended_kept}
+use Rattle.meaning_runs.proofs.Bindings.{labelled_bindings, unlabelled_bindings}
 
 -- an act counts one
 abbrev pub Counts : (World → World) → Type 0
@@ -311,13 +312,19 @@ labelled_outlines labels (f ∷ fs) = refl
 
 unlabelled : (d : Demand) (labels : List Label) (s : State) → Kept (labelled labels d) s → Kept d s
 unlabelled d labels s h = (
-  unlabelled_units d labels d.bearing.frames s.activations h.0,
+  (
+    unlabelled_units d labels d.bearing.frames s.activations h.0.0,
+    (unlabelled_bindings d.program labels d.bearing.frames s.activations h.0.1.0, h.0.1.1),
+  ),
   h.1 ∙ labelled_outlines labels d.bearing.frames,
 )
 
 labelled_kept : (d : Demand) (labels : List Label) (s : State) → Kept d s → Kept (labelled labels d) s
 labelled_kept d labels s h = (
-  labelled_units d labels d.bearing.frames s.activations h.0,
+  (
+    labelled_units d labels d.bearing.frames s.activations h.0.0,
+    (labelled_bindings d.program labels d.bearing.frames s.activations h.0.1.0, h.0.1.1),
+  ),
   h.1 ∙ sym (labelled_outlines labels d.bearing.frames),
 )
 

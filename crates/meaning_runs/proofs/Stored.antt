@@ -1,6 +1,6 @@
 -- Generations that come about, and changes of storage, are there.
 use Rattle.std.proofs.Common.{◌≡◌, ℕ, zero, suc, ◌+◌, ◌<◌, ℤ, List, [], ◌∷◌, ◌++◌, Option, Some, None}
-use Rattle.std.proofs.Common.{refl, arith}
+use Rattle.std.proofs.Common.{refl, subst, arith}
 use Rattle.std.specs.Prelude.{length}
 use Rattle.pli_language.specs.declared.condition.Condition.TheVariants as C
 use Rattle.pli_meaning.specs.declared.outcome.End.TheVariants as E
@@ -8,13 +8,15 @@ use Rattle.pli_meaning.specs.declared.outcome.Limit.TheVariants as L
 use Rattle.pli_meaning.specs.World.{counted}
 use Rattle.pli_typing.specs.TypedTree as Y
 use Rattle.pli_meaning.specs.BasicValues.{Name, NullName, VariableName, BasedName, BasicValue}
-use Rattle.pli_meaning.specs.Contents.{Generation, without_offset}
+use Rattle.pli_meaning.specs.Contents.{Shape, Generation, without_offset}
 use Rattle.pli_meaning.specs.StorageState.{AreaContents}
 use Rattle.pli_meaning.specs.Raising.{Passed, PassedName, PassedValue}
 use Rattle.pli_meaning.specs.Evaluating as V
 use Rattle.pli_meaning.specs.Making as K
 use Rattle.pli_meaning.specs.Placing as A
 use Rattle.well_formed_trees.specs.Every.{Every}
+use Rattle.well_formed_trees.specs.Surroundings.{Table, Returning}
+use Rattle.well_formed_trees.specs.Surroundings as W
 use Rattle.well_formed_trees.specs.Expressions as X
 use Rattle.well_formed_trees.specs.Statements as T
 use Rattle.meaning_runs.specs.Plain as P
@@ -23,7 +25,9 @@ use Rattle.meaning_runs.proofs.Steps.{loose, slow, give_there, bind_there, then_
 use Rattle.meaning_runs.proofs.Steps.{act_there, act_then, finish_there, choose_there, given_there, found_there}
 use Rattle.meaning_runs.proofs.Ways.{Ways, demand, around, here, smaller, elsewhere, ThereAround, Declares}
 use Rattle.meaning_runs.proofs.Ways.{declared_there, area_kept, generation_kept, bound_kept, variable_kept}
-use Rattle.meaning_runs.proofs.Ways.{freed_kept}
+use Rattle.meaning_runs.proofs.Ways.{freed_kept, MayStand, AreParameters}
+use Rattle.meaning_runs.proofs.Frames.{Frame, covered}
+use Rattle.meaning_runs.proofs.Bindings.{Ground}
 use Rattle.meaning_runs.proofs.Expressions.{error_there, raised_there, or_error_there, demanded_there}
 use Rattle.meaning_runs.proofs.Expressions.{area_meant_there, number_there, pointer_there, designated_there}
 
@@ -45,33 +49,51 @@ extents_there [] w h p = give_there [] tt
 extents_there (x ∷ xs) w h p = then_there (act_there counted (λ v. refl)) (evaluations_there [] (x ∷ xs) w h p)
 
 -- those of a declared variable
-pub extents_declared : (d : Y.DeclaredVariable) (w : Ways) → Declares w.program w.table d
+pub extents_declared : (v : Y.Variable) (d : Y.DeclaredVariable) (w : Ways) → W.IsDeclared (here w) v d
     → There (demand w) 0 1 w.left Anything (K.extents (around w) d.evaluations)
-extents_declared d w h = extents_there d.evaluations (elsewhere h.blocks w) h.sound h.plain
+extents_declared v d w i =
+    let h = declared_there w.program w.table w.whole v d i.found in
+    let ground : Ground w.table w.bearing.frames h.blocks = record {
+      around = w.ground.around;
+      holds = w.ground.holds;
+      chain = w.ground.chain;
+      inside =
+          covered w.table v.block v.level w.ground.around h.blocks w.ground.chain
+          (w.ground.inside v.block v.level i.block_around) h.listed;
+    } in
+    extents_there d.evaluations (elsewhere h.blocks w ground) h.sound h.plain
 
-pub variable_made_there : {d : Demand} {few : ℕ} (variable : ℕ) (g : Generation)
+pub variable_made_there : {d : Demand} {few : ℕ} (variable : ℕ) (g : Generation) → MayStand d variable g.shape
     → There d 0 1 few Anything (K.variable_made variable g)
 unfolding K.variable_made
-variable_made_there {d} variable g =
+variable_made_there {d} variable g h =
     bind_there looked_there (λ s k. choose_there _
-    (stored_there (K.with_variable variable g) (variable_kept d variable g)) (finish_there (E.Limit L.Automatic) tt))
+    (stored_there (K.with_variable variable g) (λ t j. variable_kept d variable g t h j))
+    (finish_there (E.Limit L.Automatic) tt))
 
 parameter_bound_there : {d : Demand} {few : ℕ} (variable : ℕ) (x : Passed)
-    → There d 0 1 few Anything (K.parameter_bound variable x)
+    → ((shape : Shape) → MayStand d variable shape) → There d 0 1 few Anything (K.parameter_bound variable x)
 unfolding K.parameter_bound
-parameter_bound_there {d} variable (PassedName n shape) =
-    stored_there (K.bound variable n shape) (bound_kept d variable n shape)
-parameter_bound_there variable (PassedValue kind v) = variable_made_there variable (K.copy_of kind v)
+parameter_bound_there {d} variable (PassedName n shape) h =
+    stored_there (K.bound variable n shape) (λ s k. bound_kept d variable n shape s (h shape) k)
+parameter_bound_there variable (PassedValue kind v) h = variable_made_there variable (K.copy_of kind v) (h _)
 
--- as many arguments as parameters
-pub parameters_bound_there : {d : Demand} {few : ℕ} (vs : List ℕ) (xs : List Passed) → length xs ≡ length vs
-    → There d 0 1 few Anything (K.parameters_bound vs xs)
+-- as many arguments as parameters, of the newest activation's block
+pub parameters_bound_there : {p : Y.Program} {table : Table} {answers : Option Returning} {f : Frame}
+    {fs : List Frame} {few : ℕ} (vs : List ℕ) (xs : List Passed) → AreParameters p f.number vs
+    → length xs ≡ length vs
+    → There (record {
+      program = p;
+      table = table;
+      bearing = record { answers = answers; frames = f ∷ fs };
+    }) 0 1 few Anything (K.parameters_bound vs xs)
 unfolding K.parameters_bound
-parameters_bound_there [] [] e = give_there tt tt
-parameters_bound_there (v ∷ vs) (x ∷ xs) e =
-    then_there (parameter_bound_there v x) (parameters_bound_there vs xs (omega (arith, e)))
-parameters_bound_there [] (x ∷ xs) e = absurd (omega (arith, e))
-parameters_bound_there (v ∷ vs) [] e = absurd (omega (arith, e))
+parameters_bound_there [] [] h e = give_there tt tt
+parameters_bound_there (v ∷ vs) (x ∷ xs) h e =
+    then_there (parameter_bound_there v x (λ shape n d i known. absurd (subst P.IsShapeKnown (h.0 d i) known)))
+    (parameters_bound_there vs xs h.1 (omega (arith, e)))
+parameters_bound_there [] (x ∷ xs) h e = absurd (omega (arith, e))
+parameters_bound_there (v ∷ vs) [] h e = absurd (omega (arith, e))
 
 -- ---- storage that changes
 
@@ -137,20 +159,20 @@ locator_set_there (Y.SetOffset r area) n w h p =
     bind_there (area_meant_there area w) (λ x k. bind_there (or_error_there _ _ w) (λ o j. bind_there
     (designated_there r w h.1.1 p) (λ d i. element_stored_there d _)))
 
-based_allocated_there : (d : Y.DeclaredVariable) (area : Option Y.Variable) (target : Y.LocatorTarget) (w : Ways)
-    → Declares w.program w.table d → T.SoundTarget (here w) target → P.PlainTarget w.calls target
+based_allocated_there : (v : Y.Variable) (d : Y.DeclaredVariable) (area : Option Y.Variable) (target : Y.LocatorTarget)
+    (w : Ways) → W.IsDeclared (here w) v d → T.SoundTarget (here w) target → P.PlainTarget w.calls target
     → There (demand w) 0 1 w.left Anything (A.based_allocated (around w) d area target)
 unfolding A.based_allocated
-based_allocated_there d area target w s h p =
-    bind_there (extents_declared d w s) (λ values k. then_there (demanded_there _ _ w)
+based_allocated_there v d area target w s h p =
+    bind_there (extents_declared v d w s) (λ values k. then_there (demanded_there _ _ w)
     (bind_there (area_or_heap_there area w) (λ x j.
     bind_there (placing_there w.turns x _ w w.few) (λ o i. locator_set_there target _ w h p))))
 
-controlled_allocated_there : (v : Y.Variable) (d : Y.DeclaredVariable) (w : Ways) → Declares w.program w.table d
+controlled_allocated_there : (v : Y.Variable) (d : Y.DeclaredVariable) (w : Ways) → W.IsDeclared (here w) v d
     → There (demand w) 0 1 w.left Anything (A.controlled_allocated (around w) v d)
 unfolding A.controlled_allocated
 controlled_allocated_there v d w s =
-    bind_there (extents_declared d w s) (λ values k. bind_there (placing_there w.turns _ _ w w.few)
+    bind_there (extents_declared v d w s) (λ values k. bind_there (placing_there w.turns _ _ w w.few)
     (λ o j. stored_there (A.with_newest v o) (λ t i. i)))
 
 allocation_there : (x : Y.Allocation) (w : Ways) → T.SoundAllocation (here w) x → P.PlainAllocation w.calls x
@@ -158,11 +180,10 @@ allocation_there : (x : Y.Allocation) (w : Ways) → T.SoundAllocation (here w) 
 unfolding A.allocation
 allocation_there (Y.AllocateBased v area target) w h p =
     found_there _ h.0.d _ _ h.0.declared.found
-    (based_allocated_there h.0.d area target w (declared_there w.program w.table w.whole v h.0.d h.0.declared.found)
-    h.1.1 p)
+    (based_allocated_there v h.0.d area target w h.0.declared h.1.1 p)
 allocation_there (Y.AllocateControlled v) w h p =
     found_there _ h.d _ _ h.declared.found
-    (controlled_allocated_there v h.d w (declared_there w.program w.table w.whole v h.d h.declared.found))
+    (controlled_allocated_there v h.d w h.declared)
 
 pub allocations_there : (xs : List Y.Allocation) (w : Ways) → Every (T.SoundAllocation (here w)) xs
     → Every (P.PlainAllocation w.calls) xs → There (demand w) 0 1 w.left Anything (A.allocations (around w) xs)

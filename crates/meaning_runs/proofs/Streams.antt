@@ -1,11 +1,14 @@
--- GET and PUT without aggregates are there: format lists have a data item, and fields are of kinds that are read.
-use Rattle.std.proofs.Common.{◌≡◌, ℕ, zero, suc, ◌+◌, ℤ, List, [], ◌∷◌, ◌++◌, Option, Some, None, Bool, true, false}
-use Rattle.std.proofs.Common.{◌∙◌, subst, refl, ap, arith}
-use Rattle.std.specs.Prelude.{◌||◌, not, map, take, drop, ⊤, slice_get}
+-- GET, and PUT without aggregates, are there: format lists have a data item, and fields are of kinds that are read.
+use Rattle.std.proofs.Common.{◌≡◌, ℕ, zero, suc, ◌+◌, ◌-◌, ◌<◌, ◌≤◌, ℤ, List, [], ◌∷◌, ◌++◌, Option, Some, None, Bool}
+use Rattle.std.proofs.Common.{true, false, ◌∙◌, sym, subst, refl, ap, arith}
+use Rattle.std.specs.Prelude.{◌||◌, not, cond, nat_le, nat_lt, filter, map, take, drop, ⊤, slice_get}
+use Rattle.std.specs.List.{list_any}
+use Rattle.std.proofs.lemmas.Bool.Decides.{nat_tests}
 use Rattle.pli_language.specs.declared.condition.Condition.TheVariants as C
 use Rattle.pli_language.specs.Tree as F
 use Rattle.pli_language.specs.Formats.{Direction, Getting, Putting, formats_move_data, format_moves_data}
 use Rattle.pli_meaning.specs.World.{counted, written}
+use Rattle.pli_typing.specs.Signatures.{LeafKind, Fixed, Character, Varying, Bit}
 use Rattle.pli_typing.specs.TypedTree as Y
 use Rattle.pli_typing.specs.Assigning.{is_read, all_pass, holds_fixed, format_holds_fixed}
 use Rattle.pli_meaning.specs.InputLines.{behind_field}
@@ -13,19 +16,22 @@ use Rattle.pli_meaning.specs.StorageState.{with_input}
 use Rattle.pli_meaning.specs.Control.{Meaning, give, stuck, given}
 use Rattle.pli_meaning.specs.DeclaredShapes as D
 use Rattle.pli_meaning.specs.Evaluating as V
+use Rattle.pli_meaning.specs.Placing.{is_in_part}
+use Rattle.pli_meaning.specs.StreamOrder.{Element}
 use Rattle.pli_meaning.specs.Streaming as S
 use Rattle.well_formed_trees.specs.Every.{Every}
 use Rattle.well_formed_trees.specs.Ranges.{IsTimes, IsFormat, AreFormats, IsFormatList}
 use Rattle.well_formed_trees.specs.References.{leaf_left, given_in, IsScalar}
 use Rattle.well_formed_trees.specs.Statements as T
-use Rattle.well_formed_trees.proofs.Lists.{every_both}
+use Rattle.well_formed_trees.proofs.Lists.{every_both, every_map}
 use Rattle.meaning_runs.specs.Plain as P
 use Rattle.meaning_runs.proofs.Demands.{Demand, Anything, There}
 use Rattle.meaning_runs.proofs.Steps.{give_there, bind_there, then_there, looked_there, stored_there, act_there}
 use Rattle.meaning_runs.proofs.Steps.{choose_there, found_there}
 use Rattle.meaning_runs.proofs.Ways.{Ways, demand, around, here, ThereAround}
-use Rattle.meaning_runs.proofs.Expressions.{raised_there, value_of_there, or_error_there, designated_there}
-use Rattle.meaning_runs.proofs.Expressions.{computational_there}
+use Rattle.meaning_runs.proofs.Expressions.{raised_there, value_of_there, or_error_there, demanded_there}
+use Rattle.meaning_runs.proofs.Expressions.{designated_there, computational_there, IsFound}
+use Rattle.meaning_runs.proofs.Shapes.{kind_number, type_number, both_true, leaf_formed, some_there}
 use Rattle.meaning_runs.proofs.Stored.{element_stored_there}
 
 -- ---- format lists
@@ -285,6 +291,25 @@ field_converted_there g Y.PointerLeaf f w e i = absurd (cc e)
 field_converted_there g (Y.OffsetLeaf area) f w e i = absurd (cc e)
 field_converted_there g (Y.AreaLeaf n) f w e i = absurd (cc e)
 
+-- by a kind in force in place of a declared type
+converted_there : (has_fixed : Bool) (t : Y.LeafType) (kind : LeafKind) (f : S.Field) (w : Ways)
+    → kind_number kind ≡ type_number t → is_read has_fixed t ≡ true → FieldFits has_fixed f
+    → There (demand w) 0 1 w.left Anything (S.field_converted (around w) kind f)
+unfolding S.field_converted
+converted_there g (Y.FixedLeaf p) (Fixed q) (S.NumberField z) w k e i = number_kept_there q z w
+converted_there g (Y.FixedLeaf p) (Fixed q) (S.TextField t) w k e i =
+    bind_there (or_error_there _ _ w) (λ z j. number_kept_there q z w)
+converted_there g (Y.CharacterLeaf n) (Character m) (S.NumberField z) w k e i = give_there _ tt
+converted_there g (Y.CharacterLeaf n) (Character m) (S.TextField t) w k e i = give_there _ tt
+converted_there g (Y.VaryingLeaf n) (Varying m) (S.NumberField z) w k e i = give_there _ tt
+converted_there g (Y.VaryingLeaf n) (Varying m) (S.TextField t) w k e i = give_there _ tt
+converted_there g Y.BitLeaf Bit (S.NumberField z) w k e i = absurd (not_both g e i)
+converted_there g Y.BitLeaf Bit (S.TextField t) w k e i = bind_there (or_error_there _ _ w) (λ b j. give_there _ tt)
+converted_there g Y.PointerLeaf kind f w k e i = absurd (cc e)
+converted_there g (Y.OffsetLeaf area) kind f w k e i = absurd (cc e)
+converted_there g (Y.AreaLeaf n) kind f w k e i = absurd (cc e)
+converted_there g t kind f w k e i = absurd (cc k)
+
 -- the one leaf of a scalar passes the test that all leaves pass
 one_passes : (test : Y.LeafType → Bool) (n i : ℕ) (ls : List Y.Leaf) (leaf : Y.Leaf) → slice_get ls i ≡ Some leaf
     → all_pass test (map (leaf_left n) (take 1 (drop i ls))) ≡ true → test leaf.type ≡ true
@@ -339,6 +364,119 @@ record GetList (has_fixed : Bool) (whole : List S.FormatItem) : Type 0 where
   gets : Every (Goes (GetsBy has_fixed)) whole
   has : HasData whole
 
+-- ---- elements of aggregates
+
+-- each of the first leaves passes the test that all of them pass
+front_passes : (test : Y.LeafType → Bool) (n count place : ℕ) (ls : List Y.Leaf) (leaf : Y.Leaf)
+    → slice_get ls place ≡ Some leaf → place < count → all_pass test (map (leaf_left n) (take count ls)) ≡ true
+    → test leaf.type ≡ true
+front_passes test n zero place ls leaf e few h = absurd (omega (arith, few))
+front_passes test n (suc count) place [] leaf e few h = absurd (cc e)
+front_passes test n (suc count) zero (l ∷ ls) leaf e few h =
+    let same : l ≡ leaf = cc e in
+    subst (λ x. test x.type ≡ true) same
+    (by_test (test l.type) (list_any (λ x. not (test x.type)) (map (leaf_left n) (take count ls))) h)
+  where
+    by_test : (t u : Bool) → not (not t || u) ≡ true → t ≡ true
+    by_test true u e = refl
+    by_test false u e = absurd (cc e)
+front_passes test n (suc count) (suc place) (l ∷ ls) leaf e few h =
+    front_passes test n count place ls leaf e (omega (arith, few))
+    (by_test (not (test l.type)) (list_any (λ x. not (test x.type)) (map (leaf_left n) (take count ls))) h)
+  where
+    by_test : (t u : Bool) → not (t || u) ≡ true → not u ≡ true
+    by_test true u e = absurd (cc e)
+    by_test false u e = e
+
+-- so does each leaf of a part
+leaf_passes : (test : Y.LeafType → Bool) (n first count place : ℕ) (ls : List Y.Leaf) (leaf : Y.Leaf)
+    → slice_get ls place ≡ Some leaf → first ≤ place → place < first + count
+    → all_pass test (map (leaf_left n) (take count (drop first ls))) ≡ true → test leaf.type ≡ true
+leaf_passes test n zero count place ls leaf e low high h =
+    front_passes test n count place ls leaf e (omega (arith, high)) h
+leaf_passes test n (suc first) count place [] leaf e low high h = absurd (cc e)
+leaf_passes test n (suc first) count zero (l ∷ ls) leaf e low high h = absurd (omega (arith, low))
+leaf_passes test n (suc first) count (suc place) (l ∷ ls) leaf e low high h =
+    leaf_passes test n first count place ls leaf e (omega (arith, low)) (omega (arith, high)) h
+
+-- all elements that are gone through are in the part
+abbrev IsIn : V.Designated → Element → Type 0
+IsIn x e = is_in_part x e.0 e.1 ≡ true
+
+every_chosen : {X : Type 0} (test : X → Bool) (xs : List X) → Every (λ x. test x ≡ true) (filter test xs)
+every_chosen test [] = tt
+every_chosen test (x ∷ xs) = by_test (test x) refl (every_chosen test xs)
+  where
+    by_test : (t : Bool) → test x ≡ t → Every (λ y. test y ≡ true) (filter test xs)
+        → Every (λ y. test y ≡ true) (cond t (x ∷ filter test xs) (filter test xs))
+    by_test true e h = (e, h)
+    by_test false e h = h
+
+-- the leaf of an element, as it is declared, and as it is
+record IsReadAs (has_fixed : Bool) (x : V.Designated) (e : Element) : Type 0 where
+  type : Y.LeafType
+  kind_is : kind_number (V.leaf_at x.generation.shape x.extent e.0).kind ≡ type_number type
+  reads : is_read has_fixed type ≡ true
+
+element_read : (has_fixed : Bool) (w : Ways) (r : Y.Reference) (x : V.Designated) (e : Element)
+    → T.PassesTest (here w) (is_read has_fixed) r → P.HasKnownShape r → IsFound w.program r x → IsIn x e
+    → IsReadAs has_fixed x e
+element_read g w (Y.Referring v locator part subscripts) x e h known found inside =
+    let d : Y.DeclaredVariable = h.0.d in
+    let told = found d h.0.declared.found known in
+    let tests = both_true (nat_le x.part.first e.0) _ inside in
+    let more = both_true (nat_lt e.0 (x.part.first + x.part.count)) _ tests.1 in
+    let low : x.part.first ≤ e.0 = grind (arith, nat_tests, tests.0) in
+    let high : e.0 < x.part.first + x.part.count = grind (arith, nat_tests, more.0) in
+    let within = h.0.member.within in
+    let first : x.part.first ≡ part.first = ap (λ p. p.first) told.part_is in
+    let count : x.part.count ≡ part.count = ap (λ p. p.count) told.part_is in
+    let leaf = some_there d.leaves e.0 (omega (arith, high, within, first, count)) in
+    record {
+      type = leaf.0.type;
+      kind_is =
+          ap (λ f. f.kind) (leaf_formed d x.generation.shape x.extent e.0 leaf.0 told.shaped leaf.1);
+      reads =
+          leaf_passes (is_read g) (given_in subscripts) part.first part.count e.0 d.leaves leaf.0 leaf.1
+          (omega (arith, low, first)) (omega (arith, high, first, count)) h.1;
+    }
+
+element_designated_there : (x : V.Designated) (e : Element) → ThereAround Anything (λ a. S.element_designated a x e)
+unfolding S.element_designated
+element_designated_there x e w =
+    bind_there looked_there (λ s k. bind_there (or_error_there _ _ w)
+    (λ g j. then_there (demanded_there _ _ w) (give_there _ tt)))
+
+element_if_got_there : (has_fixed : Bool) (x : V.Designated) (e : Element) (rest : List S.FormatItem)
+    (f : Option S.Field) (w : Ways) → IsReadAs has_fixed x e → FieldFitsIf has_fixed f
+    → Every (Goes (GetsBy has_fixed)) rest
+    → There (demand w) 0 1 w.left (RestIf has_fixed) (S.element_if_got (around w) x e rest f)
+unfolding S.element_if_got
+element_if_got_there g x e rest None w h i j = give_there None tt
+element_if_got_there g x e rest (Some f) w h i j =
+    bind_there (converted_there g h.type _ f w h.kind_is h.reads i) (λ v k.
+    bind_there (element_designated_there x e w) (λ now m. then_there (element_stored_there now v)
+    (give_there (Some rest) j)))
+
+more_elements_there : {d : Demand} {few : ℕ} (has_fixed : Bool) (rest : Option (List S.FormatItem))
+    (next : List S.FormatItem → Meaning (Option (List S.FormatItem))) → RestIf has_fixed rest
+    → ((r : List S.FormatItem) → Every (Goes (GetsBy has_fixed)) r → There d 0 1 few (RestIf has_fixed) (next r))
+    → There d 0 1 few (RestIf has_fixed) (given rest next (give None))
+unfolding given
+more_elements_there g None next h a = give_there None tt
+more_elements_there g (Some rest) next h a = a rest h
+
+elements_got_there : (has_fixed : Bool) (whole rest : List S.FormatItem) (x : V.Designated) (es : List Element)
+    (w : Ways) → GetList has_fixed whole → Every (Goes (GetsBy has_fixed)) rest → Every (IsReadAs has_fixed x) es
+    → There (demand w) 0 1 w.left (RestIf has_fixed) (S.elements_got (around w) whole rest x es)
+unfolding S.elements_got
+elements_got_there g whole rest x [] w l j h = give_there (Some rest) j
+elements_got_there g whole rest x (e ∷ es) w l j h =
+    bind_there (next_item_there (GetsBy g) S.control_got whole rest control_got_there l.gets l.has j)
+    (λ next k. bind_there (field_got_there g next.0 w k.0)
+    (λ f i. bind_there (element_if_got_there g x e next.1 f w h.0 i k.1)
+    (λ rest' m. more_elements_there g rest' _ m (λ r n. elements_got_there g whole r x es w l n h.1))))
+
 item_got_there : (has_fixed : Bool) (whole rest : List S.FormatItem) (x : Y.GetItem) (w : Ways)
     → GetList has_fixed whole → Every (Goes (GetsBy has_fixed)) rest → T.SoundGetItem (here w) has_fixed x
     → P.PlainGetItem w.calls x → There (demand w) 0 1 w.left (RestIf has_fixed) (S.item_got (around w) whole rest x)
@@ -346,7 +484,10 @@ unfolding S.item_got
 item_got_there g whole rest (Y.GetScalar r) w l j h p =
     bind_there (next_item_there (GetsBy g) S.control_got whole rest control_got_there l.gets l.has j)
     (λ next k. bind_there (field_got_there g next.0 w k.0) (λ f i. scalar_if_got_there g r next.1 f w h p i k.1))
-item_got_there g whole rest (Y.GetAggregate r) w l j h p = absurd p
+item_got_there g whole rest (Y.GetAggregate r) w l j h p =
+    bind_there (designated_there r w h.1 p.1) (λ x found. elements_got_there g whole rest x _ w l j
+    (every_map (IsIn x) (IsReadAs g x) (λ e inside. element_read g w r x e h.0 p.0 found inside) _
+    (every_chosen (λ e. is_in_part x e.0 e.1) _)))
 
 -- further items, where the input lasted
 more_got_there : {d : Demand} {few : ℕ} (has_fixed : Bool) (rest : Option (List S.FormatItem))

@@ -4,7 +4,7 @@ use Rattle.std.proofs.Common.{◌∙◌, ◌≡◌, ℕ, zero, suc, ◌+◌, ◌
 use Rattle.std.proofs.Common.{false}
 use Rattle.std.proofs.Common.{refl, ap}
 use Rattle.std.proofs.Common.{sym, subst, arith}
-use Rattle.std.specs.Prelude.{◌==◌, cond, ⊤, length, slice_get, is_some}
+use Rattle.std.specs.Prelude.{◌==◌, cond, ⊤, drop, length, slice_get, is_some, unwrap_or}
 use Rattle.pli_typing.specs.TypedTree as Y
 use Rattle.pli_meaning.specs.BasicValues.{Name, NullName, VariableName, BasedName, BasicValue}
 use Rattle.pli_meaning.specs.Contents.{Shape, Generation, Placed, changed_at}
@@ -18,6 +18,9 @@ use Rattle.pli_meaning.specs.Placing as A
 use Rattle.pli_meaning.specs.Executing.{is_own_return}
 use Rattle.well_formed_trees.specs.Every.{Every}
 use Rattle.well_formed_trees.specs.WellFormed.{IsHeld}
+use Rattle.well_formed_trees.specs.Statements.{IsListed, IsListedUnit}
+use Rattle.well_formed_trees.specs.Members.{all_dimensions}
+use Rattle.well_formed_trees.specs.Declarations.{AreMembers, HaveBounds, leaf_dimensions}
 use Rattle.well_formed_trees.specs.Surroundings.{Table, Where, Returning, Returns, NoReturn}
 use Rattle.well_formed_trees.specs.Surroundings as W
 use Rattle.well_formed_trees.specs.Expressions.{SoundNumber}
@@ -25,17 +28,29 @@ use Rattle.meaning_runs.specs.Plain.{Calls, AnyCall, NoCall, PlainVariable}
 use Rattle.meaning_runs.proofs.Frames.{Frame, skeleton, Stands, Chain, IsOpen}
 use Rattle.meaning_runs.proofs.Demands.{Bearing, block_around, placed, SoundBlock, SoundUnit, HasUnits}
 use Rattle.meaning_runs.proofs.Demands.{Demand, Kept}
+use Rattle.meaning_runs.proofs.Shapes.{IsShapedAs, shape_declared}
+use Rattle.meaning_runs.proofs.Bindings.{IsNewBinding, binding_added, Ground}
 use Rattle.meaning_runs.proofs.Demands.{There}
 use Rattle.meaning_runs.proofs.Demands.{IsThere, Answered}
 use Rattle.meaning_runs.proofs.Steps.{Passes, fewer_left}
 
 -- ---- a whole program
 
--- what is evaluated for a variable's extents is sound, where it is declared, and plain; it calls nothing
-pub record Declares (p : Y.Program) (table : Table) (d : Y.DeclaredVariable) : Type 0 where
+-- what is evaluated for a variable's extents is sound, where it is declared, and plain; it calls nothing. Each leaf has
+-- the bounds of the members that hold it
+pub record Declares (p : Y.Program) (table : Table) (block : ℕ) (d : Y.DeclaredVariable) : Type 0 where
   pub blocks : List W.Around
+  pub listed : slice_get table block ≡ Some blocks
   pub sound : Every (λ x. SoundNumber (placed p table blocks NoReturn) x.value) d.evaluations
   pub plain : PlainVariable NoCall d
+  pub members : AreMembers d.members
+  pub dimensions : HaveBounds d.leaves (leaf_dimensions d.members (all_dimensions d.members))
+
+-- variables of a block that are parameters
+abbrev pub AreParameters : Y.Program → (block : ℕ) → List ℕ → Type 0
+AreParameters p block vs =
+    Every (λ v. (d : Y.DeclaredVariable) → slice_get (D.variables_of_block p block) v ≡ Some d
+    → d.class ≡ Y.ParameterClass) vs
 
 pub record FineProcedure (p : Y.Program) (table : Table) (q : Y.Procedure) : Type 0 where
   pub block : SoundBlock p table q.block
@@ -44,9 +59,10 @@ pub record FineProcedure (p : Y.Program) (table : Table) (q : Y.Procedure) : Typ
   pub held : IsHeld table block.head.level block.outer
   pub listed :
       slice_get table block.head.number ≡ Some (block_around block.head block.body ∷ block.outer)
+  pub parameters : AreParameters p block.head.number q.parameters
 
 pub record Whole (p : Y.Program) (table : Table) : Type 0 where
-  pub declares : (block : ℕ) → Every (Declares p table) (D.variables_of_block p block)
+  pub declares : (block : ℕ) → Every (Declares p table block) (D.variables_of_block p block)
   pub procedures : Every (FineProcedure p table) p.procedures
 
 -- ---- blocks that are entered
@@ -65,6 +81,16 @@ pub record SoundEntry (p : Y.Program) (table : Table) (outer : Bearing) (e : Ent
   pub passes :
       Passes (is_own_return block.head.kind) (Expected e.is_function) (Some block.returning) outer.answers
   pub counts : length e.arguments ≡ length e.parameters
+  pub parameters : AreParameters p block.head.number e.parameters
+  pub listed : IsListedUnit table block.head (block_around block.head block.body ∷ block.outer) block.head.kind
+
+-- a block with a number of its own
+pub listed_unit : (table : Table) (head : Y.BlockHead) (around : List W.Around) (kind : Y.BlockKind)
+    → IsListed table head around → IsListedUnit table head around kind
+listed_unit table head around Y.ProcedureBlock h = h
+listed_unit table head around Y.BeginBlock h = h
+listed_unit table head around Y.UnitBlock h = h
+listed_unit table head around Y.SimpleUnit h = tt
 
 pub unit_entry : (p : Y.Program) (table : Table) (outer : Bearing) (b : Y.Block) (a : Activation) (code : ℕ)
     → Every IsOpen outer.frames → SoundUnit p table outer.frames a.height b
@@ -78,6 +104,8 @@ unit_entry p table outer b a code o u =
       passes =
           subst (λ own. Passes own (Expected false) (Some u.block.returning) outer.answers) (sym u.own) (λ v h. tt);
       counts = refl;
+      parameters = tt;
+      listed = u.listed;
     }
 
 result_expected : (type : Option Y.LeafType) (v : Option BasicValue) → Answered (Returns type) v
@@ -112,6 +140,7 @@ pub record Ways : Type 0 where
   pub returning : Returning
   pub calls : Calls
   pub footing : FootingIf calls table bearing.frames blocks
+  pub ground : Ground table bearing.frames blocks
   pub opens : Every IsOpen bearing.frames
   pub line : ℕ
   pub enter : Enter
@@ -142,6 +171,7 @@ on_line line w =
       returning = w.returning;
       calls = w.calls;
       footing = w.footing;
+      ground = w.ground;
       opens = w.opens;
       line = line;
       enter = w.enter;
@@ -152,8 +182,8 @@ on_line line w =
     }
 
 -- at another place of the program, where nothing is called
-abbrev pub elsewhere : List W.Around → Ways → Ways
-elsewhere blocks w =
+abbrev pub elsewhere : (blocks : List W.Around) → (w : Ways) → Ground w.table w.bearing.frames blocks → Ways
+elsewhere blocks w ground =
     record {
       program = w.program;
       table = w.table;
@@ -163,6 +193,7 @@ elsewhere blocks w =
       returning = NoReturn;
       calls = NoCall;
       footing = tt;
+      ground = ground;
       opens = w.opens;
       line = w.line;
       enter = w.enter;
@@ -184,6 +215,7 @@ smaller w c r =
       returning = w.returning;
       calls = w.calls;
       footing = w.footing;
+      ground = w.ground;
       opens = w.opens;
       line = w.line;
       enter = w.enter;
@@ -205,9 +237,9 @@ every_at P (y ∷ ys) zero x h e = let same : y ≡ x = cc e in subst P same h.0
 every_at P (y ∷ ys) (suc n) x h e = every_at P ys n x h.1 e
 
 pub declared_there : (p : Y.Program) (table : Table) → Whole p table → (v : Y.Variable) (d : Y.DeclaredVariable)
-    → D.declared_variable p v ≡ Some d → Declares p table d
+    → D.declared_variable p v ≡ Some d → Declares p table v.block d
 declared_there p table whole v d e =
-    every_at (Declares p table) (D.variables_of_block p v.block) v.index d (whole.declares v.block) e
+    every_at (Declares p table v.block) (D.variables_of_block p v.block) v.index d (whole.declares v.block) e
 
 pub procedures_same : (n : ℕ) (ps : List Y.Procedure) → D.procedure_numbered n ps ≡ W.procedure_numbered n ps
 procedures_same n [] = refl
@@ -256,15 +288,26 @@ binding_heights : (b : Binding) (as' : List Activation) → skeleton (K.with_bin
 binding_heights b [] = refl
 binding_heights b (a ∷ as') = refl
 
-pub bound_kept : (d : Demand) (variable : ℕ) (n : Name) (shape : Shape) (s : State)
-    → Kept d s → Kept d (K.bound variable n shape s)
-bound_kept d variable n shape s h =
-    let b : Binding = record { variable = variable; name = n; shape = shape } in
-    (binding_kept d.program d.table b d.bearing.frames s.activations h.0, binding_heights b s.activations ∙ h.1)
+-- what the newest block's variable may stand for
+abbrev pub MayStand : Demand → (variable : ℕ) → Shape → Type 0
+MayStand d variable shape =
+    (n : Name) → IsNewBinding d.program d.bearing.frames (record { variable = variable; name = n; shape = shape })
 
-pub variable_kept : (d : Demand) (variable : ℕ) (g : Generation) (s : State) → Kept d s
-    → Kept d (K.with_variable variable g s)
-variable_kept d variable g s h = bound_kept d variable (VariableName (s.serials + 1)) g.shape (K.with_living g s) h
+pub bound_kept : (d : Demand) (variable : ℕ) (n : Name) (shape : Shape) (s : State) → MayStand d variable shape
+    → Kept d s → Kept d (K.bound variable n shape s)
+bound_kept d variable n shape s new h =
+    let b : Binding = record { variable = variable; name = n; shape = shape } in (
+      (
+        binding_kept d.program d.table b d.bearing.frames s.activations h.0.0,
+        (binding_added d.program b d.bearing.frames s.activations (new n) h.0.1.0, h.0.1.1),
+      ),
+      binding_heights b s.activations ∙ h.1,
+    )
+
+pub variable_kept : (d : Demand) (variable : ℕ) (g : Generation) (s : State) → MayStand d variable g.shape
+    → Kept d s → Kept d (K.with_variable variable g s)
+variable_kept d variable g s new h =
+    bound_kept d variable (VariableName (s.serials + 1)) g.shape (K.with_living g s) new h
 
 pub freed_kept : (d : Demand) (v : Y.Variable) (s : State) → Kept d s → Kept d (A.controlled_freed v s)
 freed_kept d v s h = of_stack (offsets_of s.controlled v.block v.index)
@@ -273,23 +316,51 @@ freed_kept d v s h = of_stack (offsets_of s.controlled v.block v.index)
     of_stack [] = h
     of_stack (o ∷ os) = h
 
+-- where a list goes on
+pub next_of : {X : Type 0} (xs : List X) (n : ℕ) (y : X) (ys : List X) → drop n xs ≡ y ∷ ys
+    → (slice_get xs n ≡ Some y) × (drop (n + 1) xs ≡ ys)
+next_of {X} xs n y ys e =
+    let r = by_place xs n e in
+    let more : suc n ≡ n + 1 = omega arith in
+    (r.0, subst (λ m. drop m xs ≡ ys) more r.1)
+  where
+    by_place : (xs : List X) (n : ℕ) → drop n xs ≡ y ∷ ys → (slice_get xs n ≡ Some y) × (drop (suc n) xs ≡ ys)
+    by_place [] zero e = absurd (cc e)
+    by_place [] (suc n) e = absurd (cc e)
+    by_place (x ∷ xs) zero e = let same : x ≡ y = cc e in let rest : xs ≡ ys = cc e in (ap Some same, rest)
+    by_place (x ∷ xs) (suc n) e = by_place xs n e
+
 static_kept : (d : Demand) (block variable : ℕ) (v : Y.DeclaredVariable) (class : Y.StorageClass) (s : State)
-    → Kept d s → Kept d (K.static_made block variable v class s)
-static_kept d block variable v Y.AutomaticClass s h = h
-static_kept d block variable v Y.ParameterClass s h = h
-static_kept d block variable v Y.StaticClass s h = h
-static_kept d block variable v Y.BasedClass s h = h
-static_kept d block variable v Y.ControlledClass s h = h
+    → slice_get (D.variables_of_block d.program block) variable ≡ Some v → Kept d s
+    → Kept d (K.static_made block variable v class s)
+static_kept d block variable v Y.AutomaticClass s e h = h
+static_kept d block variable v Y.ParameterClass s e h = h
+static_kept d block variable v Y.StaticClass s e h =
+    ((h.0.0, (h.0.1.0, (λ x f known. of_declared x f, h.0.1.1))), h.1)
+  where
+    of_declared : (x : Y.DeclaredVariable)
+        → slice_get (D.variables_of_block d.program block) variable ≡ Some x → IsShapedAs x (D.shape_of [] v)
+    of_declared x f =
+        let same : v ≡ x = cc (e, f) in subst (λ y. IsShapedAs y (D.shape_of [] v)) same (shape_declared [] v)
+static_kept d block variable v Y.BasedClass s e h = h
+static_kept d block variable v Y.ControlledClass s e h = h
 
-block_kept : (d : Demand) (block variable : ℕ) (vs : List Y.DeclaredVariable) (s : State) → Kept d s
+block_kept : (d : Demand) (block variable : ℕ) (vs : List Y.DeclaredVariable) (s : State)
+    → drop variable (D.variables_of_block d.program block) ≡ vs → Kept d s
     → Kept d (K.statics_of_block block variable vs s)
-block_kept d block variable [] s h = h
-block_kept d block variable (v ∷ vs) s h =
-    block_kept d block (variable + 1) vs (K.static_made block variable v v.class s)
-    (static_kept d block variable v v.class s h)
+block_kept d block variable [] s e h = h
+block_kept d block variable (v ∷ vs) s e h =
+    let next = next_of (D.variables_of_block d.program block) variable v vs e in
+    block_kept d block (variable + 1) vs (K.static_made block variable v v.class s) next.1
+    (static_kept d block variable v v.class s next.0 h)
 
-pub statics_kept : (d : Demand) (block : ℕ) (vs : List (List Y.DeclaredVariable)) (s : State) → Kept d s
-    → Kept d (K.statics_from block vs s)
-statics_kept d block [] s h = h
-statics_kept d block (v ∷ vs) s h =
-    statics_kept d (block + 1) vs (K.statics_of_block block 0 v s) (block_kept d block 0 v s h)
+statics_on : (d : Demand) (block : ℕ) (vs : List (List Y.DeclaredVariable)) (s : State)
+    → drop block d.program.variables ≡ vs → Kept d s → Kept d (K.statics_from block vs s)
+statics_on d block [] s e h = h
+statics_on d block (v ∷ vs) s e h =
+    let next = next_of d.program.variables block v vs e in
+    statics_on d (block + 1) vs (K.statics_of_block block 0 v s) next.1
+    (block_kept d block 0 v s (ap (λ o. unwrap_or o []) next.0) h)
+
+pub statics_kept : (d : Demand) (s : State) → Kept d s → Kept d (K.statics_from 0 d.program.variables s)
+statics_kept d s h = statics_on d 0 d.program.variables s refl h

@@ -1,8 +1,22 @@
--- Plain programs: without LBOUND, HBOUND and DIM, and with no aggregate in GET and PUT. What these come to stands on
--- the signatures of generations, of which nothing is said here.
+-- Plain programs: with no aggregate in PUT; and LBOUND, HBOUND and DIM, and aggregates in GET, are of variables whose
+-- generations are known to have the shape that is declared.
 use Rattle.std.specs.Prelude.{Option, Some, None, ⊤}
 use Rattle.well_formed_trees.specs.Every.{Every}
 use Rattle.pli_typing.specs.TypedTree as Y
+
+-- ---- variables
+
+-- those whose generations are known to have the shape that is declared. It isn't known of CONTROLLED ones yet, nor of
+-- parameters, which may stand for these
+abbrev pub IsShapeKnown : Y.StorageClass → Type 0
+IsShapeKnown Y.AutomaticClass = ⊤
+IsShapeKnown Y.StaticClass = ⊤
+IsShapeKnown Y.BasedClass = ⊤
+IsShapeKnown Y.ParameterClass = ⊥
+IsShapeKnown Y.ControlledClass = ⊥
+
+abbrev pub HasKnownShape : Y.Reference → Type 0
+HasKnownShape (Y.Referring v locator part subscripts) = IsShapeKnown v.class
 
 -- ---- expressions
 
@@ -31,9 +45,9 @@ abbrev mutual
   PlainNumber k (Y.LengthOf t) = PlainText k t
   PlainNumber k (Y.IndexOf a b) = PlainText k a × PlainText k b
   PlainNumber k (Y.VerifyOf a b) = PlainText k a × PlainText k b
-  PlainNumber k (Y.LowerBound r dimension) = ⊥
-  PlainNumber k (Y.UpperBound r dimension) = ⊥
-  PlainNumber k (Y.ElementsOf r dimension) = ⊥
+  PlainNumber k (Y.LowerBound r dimension) = HasKnownShape r × PlainReference k r
+  PlainNumber k (Y.UpperBound r dimension) = HasKnownShape r × PlainReference k r
+  PlainNumber k (Y.ElementsOf r dimension) = HasKnownShape r × PlainReference k r
   PlainNumber k (Y.AllocationsOf v) = ⊤
   PlainNumber k Y.OnCode = ⊤
 
@@ -139,7 +153,7 @@ PlainFreeing k (Y.FreeControlled v) = ⊤
 
 abbrev pub PlainGetItem : Calls → Y.GetItem → Type 0
 PlainGetItem k (Y.GetScalar r) = PlainReference k r
-PlainGetItem k (Y.GetAggregate r) = ⊥
+PlainGetItem k (Y.GetAggregate r) = HasKnownShape r × PlainReference k r
 
 abbrev pub PlainPutItem : Calls → Y.PutItem → Type 0
 PlainPutItem k (Y.PutValue v) = PlainValue k v
