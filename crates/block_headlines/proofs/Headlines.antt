@@ -66,6 +66,8 @@ use Rattle.text_runs.specs.Rows.{wait_program}
 use Rattle.text_units.specs.Rows.{rise_program}
 use Rattle.element_runs.specs.Rows.{pick_program}
 use Rattle.counter_runs.specs.CountRows.{count_program}
+use Rattle.extent_rows.specs.BendRows.{bend_program}
+use Rattle.extent_rows.specs.GrowRows.{grow_program}
 use Rattle.counter_runs.specs.TallyRows.{tally_program}
 use Rattle.group_runs.specs.Rows.{group_program}
 use Rattle.unit_runs.specs.BeginRows.{host_entry, host_environment, host_main, host_program, host_units}
@@ -89,6 +91,7 @@ use Rattle.block_headlines.proofs.VariableRuns.{locate_layout, locate_program_ru
 use Rattle.block_headlines.proofs.TextRuns.{drop_layout, drop_program_runs, rise_layout, rise_units_run}
 use Rattle.block_headlines.proofs.TextRuns.{wait_layout, wait_program_runs}
 use Rattle.block_headlines.proofs.CounterRuns.{count_layout, count_program_runs, tally_layout, tally_units_run}
+use Rattle.block_headlines.proofs.ExtentRuns.{bend_layout, bend_units_run, grow_layout, grow_program_runs}
 use Rattle.block_headlines.proofs.ElementRuns.{pick_layout, pick_program_runs}
 use Rattle.block_headlines.proofs.GroupRuns.{group_layout, group_program_runs}
 use Rattle.block_headlines.proofs.PlacedRuns.{turning_layout, turning_program_runs}
@@ -178,6 +181,7 @@ row_layout =
       end = row_end main_entry row_main;
       units = [];
       constants = no_constants;
+      fills = [];
       serials = 1;
       made = λ q. q;
     }
@@ -192,6 +196,7 @@ number_layout =
       end = number_end;
       units = [];
       constants = no_constants;
+      fills = [];
       serials = 1;
       made = newest_made parts number_declared;
     }
@@ -209,6 +214,7 @@ double_layout =
       end = double_finish;
       units = [];
       constants = no_constants;
+      fills = [];
       serials = 1;
       made = newest_made parts number_declared;
     }
@@ -235,6 +241,7 @@ fetch_layout =
       end = fetch_finish;
       units = [];
       constants = no_constants;
+      fills = [];
       serials = 1;
       made = newest_made parts number_declared;
     }
@@ -261,6 +268,7 @@ local_layout =
       end = local_finish;
       units = [];
       constants = no_constants;
+      fills = [];
       serials = 1;
       made = newest_made parts number_declared;
     }
@@ -287,6 +295,7 @@ given_layout =
       end = given_finish;
       units = [];
       constants = no_constants;
+      fills = [];
       serials = 1;
       made = newest_made parts number_declared;
     }
@@ -313,6 +322,7 @@ passed_layout =
       end = passed_finish;
       units = [];
       constants = no_constants;
+      fills = [];
       serials = 1;
       made = newest_named parts number_declared;
     }
@@ -339,6 +349,7 @@ kept_layout =
       end = kept_finish;
       units = [];
       constants = no_constants;
+      fills = [];
       serials = 1;
       made = newest_named parts number_declared;
     }
@@ -365,6 +376,7 @@ applied_layout =
       end = applied_finish;
       units = [];
       constants = no_constants;
+      fills = [];
       serials = 1;
       made = newest_made parts number_declared;
     }
@@ -391,6 +403,7 @@ nest_layout =
       end = nest_finish;
       units = [];
       constants = no_constants;
+      fills = [];
       serials = 1;
       made = newest_made parts number_declared;
     }
@@ -417,6 +430,7 @@ leave_layout =
       end = leave_finish;
       units = [];
       constants = no_constants;
+      fills = [];
       serials = 1;
       made = λ q. q;
     }
@@ -443,6 +457,7 @@ host_layout =
       end = host_finish;
       units = host_units;
       constants = no_constants;
+      fills = [];
       serials = 1;
       made = newest_made parts number_declared;
     }
@@ -469,6 +484,7 @@ mend_layout =
       end = mend_finish;
       units = mend_units;
       constants = no_constants;
+      fills = [];
       serials = 1;
       made = newest_made parts number_declared;
     }
@@ -495,6 +511,7 @@ deep_layout =
       end = deep_finish;
       units = deep_units;
       constants = no_constants;
+      fills = [];
       serials = 1;
       made = newest_made parts number_declared;
     }
@@ -521,6 +538,7 @@ skip_layout =
       end = skip_finish;
       units = skip_units;
       constants = no_constants;
+      fills = [];
       serials = 1;
       made = newest_made parts number_declared;
     }
@@ -547,6 +565,7 @@ loop_layout =
       end = loop_finish;
       units = loop_units;
       constants = no_constants;
+      fills = [];
       serials = 1;
       made = newest_made parts number_declared;
     }
@@ -573,6 +592,7 @@ lend_layout =
       end = lend_finish;
       units = lend_units;
       constants = no_constants;
+      fills = [];
       serials = 1;
       made = newest_made parts number_declared;
     }
@@ -640,4 +660,6 @@ rows_kept laws keeps once tables =
       calling_again = kept laws keeps turning_program turning_layout (turning_program_runs once tables);
       counting = kept laws keeps count_program count_layout count_program_runs;
       tallying = unit_kept laws keeps tally_program tally_layout tally_units_run;
+      growing = kept laws keeps grow_program grow_layout grow_program_runs;
+      bending = unit_kept laws keeps bend_program bend_layout bend_units_run;
     }

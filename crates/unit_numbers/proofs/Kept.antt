@@ -37,6 +37,7 @@ layout_for {program} m =
       end = behind_body program m.head m.body;
       units = units_for m;
       constants = constants_in (code_for program);
+      fills = [];
       serials = most_words;
       made = made_for program m.head;
     }
