@@ -366,10 +366,10 @@ all_do once {program} m input acts few b (Y.StmtThen own first rest) index is fi
     let a = and_parts (is_step program m.called m.head (list_of m) first)
     (are_steps program m.called m.head (list_of m) rest) is in (
       step_does once m input acts few b first here a.0 (omega (arith, fits)) (omega (arith, sets))
-      (placed_front one more at')
+          (placed_front one more at')
           (λ x same. unit_stands once m input acts (x, here) (there (x, here) (inl (same, refl)))),
       all_do once m input acts few b rest (here + size_of one) a.1 (omega (arith, fits)) (omega (arith, sets))
-      (placed_back one more at')
+          (placed_back one more at')
           (λ z h. there z (inr h)),
     )
 

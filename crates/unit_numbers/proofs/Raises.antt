@@ -74,7 +74,10 @@ unit_does {program} m h ih more b c o os a each own rises words labels includes 
     let x = n.unit in
     let u = unit_is program m.called m.head (list_of m) x n.placed.is in
     let made = none_made z y r
-    (record { kind = u.bare; code = none_coded program (environment_for program m.head) x.head refl u.bare; made = refl
+    (record {
+      kind = u.bare;
+      code = none_coded program (environment_for program m.head) x.head refl u.bare;
+      made = refl;
     })
     in (
       made,
