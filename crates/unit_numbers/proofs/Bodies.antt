@@ -31,7 +31,7 @@ use Rattle.number_runs.specs.Knowledge.{AreStanding, HasFrame, IsHome, IsReady, 
 use Rattle.number_runs.specs.Statements.{is_statement, statement_needs, statement_sets, statements_need, statements_set}
 use Rattle.number_runs.proofs.Statements.{body_does, form_does}
 use Rattle.number_headlines.proofs.Running.{table_later}
-use Rattle.number_headlines.proofs.Tables.{has_table}
+use Rattle.number_headlines.proofs.Tables.{all_known, has_table}
 use Rattle.unit_runs.specs.Bodies.{BodyDoes}
 use Rattle.unit_runs.specs.Changing.{AllDo, IsPast, Past, StandsIn, StepDoes, after}
 use Rattle.unit_runs.specs.Establishing.{IsOn, OnUnit, on_of}
@@ -74,6 +74,8 @@ ready m h ih more blocks c o os a own few clear home knows told =
       raises = knows.raises;
       variables = a.variables;
       arrays = λ may. a.arrays;
+      parameters = λ x is. absurd (cc is);
+      given = λ may. absurd (cc may);
       calls = knows.calls;
       jumps = knows.jumps;
       puts = knows.puts;
@@ -206,7 +208,8 @@ main_at {program} m h ih writes =
       idle = ih.begun.resumes.idle;
       told = record { code = of.code; links = of.links; constants = of.constants };
       free = ih.free;
-      tabled = table_later program ih.begun.remains (λ head. has_table program head m.plain);
+      tabled = table_later program ih.begun.remains
+          (λ head. has_table program head (all_known program.variables m.plain));
       depth = record { some = omega arith; all = omega (arith, long) };
     }
 
@@ -363,10 +366,10 @@ all_do once {program} m input acts few b (Y.StmtThen own first rest) index is fi
     let a = and_parts (is_step program m.called m.head (list_of m) first)
     (are_steps program m.called m.head (list_of m) rest) is in (
       step_does once m input acts few b first here a.0 (omega (arith, fits)) (omega (arith, sets))
-      (placed_front one more at')
+          (placed_front one more at')
           (λ x same. unit_stands once m input acts (x, here) (there (x, here) (inl (same, refl)))),
       all_do once m input acts few b rest (here + size_of one) a.1 (omega (arith, fits)) (omega (arith, sets))
-      (placed_back one more at')
+          (placed_back one more at')
           (λ z h. there z (inr h)),
     )
 

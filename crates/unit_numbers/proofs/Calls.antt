@@ -46,7 +46,7 @@ use Rattle.nested_calls.proofs.NestedFunctions.{deep_function_ends}
 use Rattle.number_runs.specs.Knowledge.{Includes, KnowsCalls, call_number, call_statement, most_set}
 use Rattle.number_runs.specs.Variables.{bytes_of}
 use Rattle.number_headlines.proofs.Mains.{result_of}
-use Rattle.number_headlines.proofs.Running.{callee_of, site_of}
+use Rattle.unit_numbers.proofs.Callees.{callee_of, site_of}
 use Rattle.unit_numbers.proofs.Entered.{Moment, are_made, bare_block, called_entered, called_part, entered_at}
 use Rattle.unit_numbers.proofs.Entered.{forced_there, inner_set}
 use Rattle.unit_numbers.proofs.Established.{error_system}

@@ -49,7 +49,7 @@ use Rattle.number_runs.specs.Knowledge.{IsHome}
 use Rattle.number_runs.specs.Numbers.{Scope, bounds_known, is_array_known, is_known, is_place, is_plain_if}
 use Rattle.number_runs.specs.Statements.{statements_set}
 use Rattle.number_runs.specs.Variables.{HasWords, HaveRoom, bytes_of, words_in}
-use Rattle.number_runs.proofs.Takes.{registers_held, words_set}
+use Rattle.number_runs.proofs.Takes.{plain_known, registers_held, words_set}
 use Rattle.number_runs.proofs.Words.{all_words, function_array, function_word, own_array, own_word, room_behind}
 use Rattle.number_runs.proofs.Words.{room_fewer}
 use Rattle.number_headlines.specs.Programs.{places_to}
@@ -57,11 +57,12 @@ use Rattle.number_headlines.proofs.FullWords.{words_at, words_count, words_lower
 use Rattle.number_headlines.proofs.Loops.{after_waits, after_words}
 use Rattle.number_headlines.proofs.Mains.{result_of}
 use Rattle.number_headlines.proofs.Places.{alike_at, around_is, is_around}
-use Rattle.number_headlines.proofs.Running.{Running, called_block, callee_of, free_among, table_later}
+use Rattle.number_headlines.proofs.Running.{free_among, table_later}
 use Rattle.number_headlines.proofs.Tables.{block_plain}
 use Rattle.jump_runs.proofs.Numbers.{alone, leaving, number_leaving}
 use Rattle.unit_numbers.specs.Calls.{scope_in}
 use Rattle.unit_numbers.proofs.Arrays.{array_leaving}
+use Rattle.unit_numbers.proofs.Callees.{Called, called_block, callee_of}
 use Rattle.unit_numbers.proofs.Homes.{Home, home_block, low_array, low_spot, world_of}
 use Rattle.unit_numbers.proofs.Inner.{Inner}
 use Rattle.unit_numbers.proofs.Mains.{Main, level_of, list_of, main_scope}
@@ -77,7 +78,7 @@ pub record Moment {program : Y.Program} (m : Main program) (h : Home) (more bloc
 
 abbrev pub entered_at :
     {program : Y.Program} → {m : Main program} → {caller : Y.BlockHead} → {valued : Bool} → {level number : ℕ} →
-    Inner m caller valued level number → Block → (call : ℕ) → Point → (numbers : ℕ → ℕ) → Running
+    Inner m caller valued level number → Block → (call : ℕ) → Point → (numbers : ℕ → ℕ) → Called
 entered_at {level = level} i k call p numbers =
     record {
       head = i.head;
@@ -86,12 +87,11 @@ entered_at {level = level} i k call p numbers =
       call = call;
       point = p;
       numbers = numbers;
-      layers = λ ls. ls;
     }
 
 -- its block, whatever is further out
 abbrev pub bare_block :
-    {program : Y.Program} → Main program → Home → (valued : Bool) → (more : ℕ) → Running → Block
+    {program : Y.Program} → Main program → Home → (valued : Bool) → (more : ℕ) → Called → Block
 bare_block {program} m h valued more a =
     called_block valued (world_of m h) (linked_code (code_for program)) (callee_of program valued more a) a.point
     a.numbers
@@ -110,7 +110,7 @@ pub inner_set :
 inner_set {program} m {valued = valued} i =
     let plain = block_plain program.variables i.head.number m.plain in
     words_set (called_scope m i) valued (environment_for program i.head) i.head.number i.body
-    plain.plain i.fit.statements i.fit.fits
+    (plain_known (variables_of_block program i.head.number) plain.plain) i.fit.statements i.fit.fits
 
 -- they don't pass the limit on what is AUTOMATIC
 abbrev pub DontPass : {program : Y.Program} → Block → {m : Main program} → {caller : Y.BlockHead} → {valued : Bool} →
@@ -595,7 +595,7 @@ called_part {program} {valued = valued} i =
 
 -- further out are the block that calls it, with the labels that a jump may name there, and those around that
 abbrev pub whole_block :
-    {program : Y.Program} → Main program → Home → (valued : Bool) → (more : ℕ) → Running → List Outer → Block
+    {program : Y.Program} → Main program → Home → (valued : Bool) → (more : ℕ) → Called → List Outer → Block
 whole_block m h valued more a os = leaving (bare_block m h valued more a) os
 
 -- where its code is, and how it is left
@@ -685,6 +685,7 @@ called_entered once {program} m {h} {more} {b} {part} {out} {os} {p} {numbers} o
     let high = (known program i.head i.body (result_of v) m.loadable.well_formed i.is).level in
     let used = f.used in
     let fits = f.fits in
+    let under = f.under in
     let top = ap (λ ls. upper_top image_parts ls) f.newest in
     let low = ap (λ ls. lower_end image_parts ls) f.newest in
     let place = room.here in
@@ -693,7 +694,8 @@ called_entered once {program} m {h} {more} {b} {part} {out} {os} {p} {numbers} o
     let limit = begun'.limit in
     let counts = words_count image_parts start φ e first 0 ds plain
     (record { activation = _; below = _; active = refl; some = omega arith }) in
-    let registers = registers_held (called_scope m i) v e i.head.number i.body plain i.fit.statements i.fit.fits in
+    let registers = registers_held (called_scope m i) v e i.head.number i.body (plain_known ds plain) i.fit.statements
+    i.fit.fits in
     let outer = level_of m in
     record {
       at = record {
@@ -727,6 +729,7 @@ called_entered once {program} m {h} {more} {b} {part} {out} {os} {p} {numbers} o
           below = _;
           newest = room.newest;
           even = room.even;
+          under = omega (arith, lower, low, under);
           low = room.low;
           used = omega (arith, counts, limit);
           fits = omega (arith, words, waiting, high, fits, top, low, place, at, lower, counts);

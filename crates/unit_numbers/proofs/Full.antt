@@ -24,8 +24,9 @@ use Rattle.number_runs.specs.Variables.{bytes_of}
 use Rattle.number_runs.proofs.Words.{places_are, words_code}
 use Rattle.number_headlines.proofs.FullWords.{words_over}
 use Rattle.number_headlines.proofs.Mains.{result_of}
-use Rattle.number_headlines.proofs.Running.{callee_of, free_among, table_later}
+use Rattle.number_headlines.proofs.Running.{free_among, table_later}
 use Rattle.number_headlines.proofs.Tables.{block_plain}
+use Rattle.unit_numbers.proofs.Callees.{callee_of}
 use Rattle.unit_numbers.proofs.Entered.{Moment, entered_at, inner_set}
 use Rattle.unit_numbers.proofs.Homes.{Home, world_of}
 use Rattle.unit_numbers.proofs.Inner.{Inner}

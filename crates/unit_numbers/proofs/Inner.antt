@@ -76,20 +76,20 @@ valued_is true (Some t) h = refl
 
 pub inner_is :
     {program : Y.Program} (m : Main program) (caller : Y.BlockHead) (valued : Bool) (level number : ℕ) →
-    is_callable program m.called caller valued level number ≡ true → Inner m caller valued level number
+    is_callable program m.called caller false valued level number ≡ true → Inner m caller valued level number
 inner_is {program} m caller valued level number h =
     by (procedure_numbered number program.procedures) refl parts.1
     (listed_inner program (list_of m) m.called number m.called m.calls parts.0)
   where
     parts :
         (list_any (λ n. n == number) m.called ≡ true)
-        × (is_declared_if program caller valued level (procedure_numbered number program.procedures) ≡ true)
+        × (is_declared_if program caller false valued level (procedure_numbered number program.procedures) ≡ true)
     parts = and_parts (list_any (λ n. n == number) m.called)
-        (is_declared_if program caller valued level (procedure_numbered number program.procedures)) h
+        (is_declared_if program caller false valued level (procedure_numbered number program.procedures)) h
 
     by :
         (o : Option Y.Procedure) → procedure_numbered number program.procedures ≡ o →
-        is_declared_if program caller valued level o ≡ true → is_called_if program m.called (list_of m) o ≡ true →
+        is_declared_if program caller false valued level o ≡ true → is_called_if program m.called (list_of m) o ≡ true →
         Inner m caller valued level number
     by None e f g = absurd (cc f)
     by (Some p) e f g =

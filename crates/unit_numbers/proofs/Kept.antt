@@ -8,7 +8,8 @@ use Rattle.pli_coding.specs.SignatureTable.{table_of}
 use Rattle.code_marks.specs.CodeMarks.{MarkedOnce}
 use Rattle.storage_relation.specs.ServiceLaws.{TableDiffers}
 use Rattle.program_places.specs.Constants.{constants_in}
-use Rattle.program_places.specs.Programs.{IsLoadable, behind_body, code_for, entry_for, environment_for, procedure_for}
+use Rattle.program_places.specs.Programs.{IsLoadable, behind_body, code_for, entry_for, environment_for}
+use Rattle.program_places.specs.Programs.{procedure_for}
 use Rattle.program_places.proofs.Memory.{first_length}
 use Rattle.program_places.proofs.Starts.{whole_stands}
 use Rattle.program_runs.specs.Starts.{no_numbers}

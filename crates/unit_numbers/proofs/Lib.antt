@@ -13,6 +13,7 @@ pub mod NestedJumps
 pub mod Homes
 pub mod Scenes
 pub mod Inner
+pub mod Callees
 pub mod Raised
 pub mod Entered
 pub mod Full

@@ -45,7 +45,7 @@ use Rattle.number_headlines.specs.Programs.{are_all_plain, body_of, has_result, 
 use Rattle.number_headlines.specs.Programs.{places_to}
 use Rattle.number_headlines.proofs.Places.{around_is}
 use Rattle.number_headlines.proofs.Mains.{made_for, procedure_is, spare}
-use Rattle.number_headlines.proofs.Tables.{block_plain, has_table}
+use Rattle.number_headlines.proofs.Tables.{all_known, block_plain, has_table}
 use Rattle.unit_numbers.specs.Programs.{are_apart, are_steps, has_unit_main, is_unit_body}
 use Rattle.unit_numbers.specs.Calls.{are_called, called_ones, scope_in}
 use Rattle.unit_numbers.proofs.Places.{units_of}
@@ -249,7 +249,7 @@ main_words {program} m input acts =
       made = refl;
       plain = plain.plain;
       few = plain.few;
-      tabled = has_table program m.head m.plain;
+      tabled = has_table program m.head (all_known program.variables m.plain);
       room = room_fewer (surroundings_for m input acts) (main_begun m input acts)
           (main_layer m input acts) [] (fixed_size m.head.level 0) n (n + spare) (omega arith)
           (main_spare m input acts);

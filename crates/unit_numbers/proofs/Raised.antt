@@ -270,6 +270,7 @@ unit_entered {program} m {h} {more} {b} {c} {o} {os} {words} {labels} {line} n {
     let fits = f.fit.fits in
     let free = free_among (suc b) a.begun among a.free in
     let even = free.even in
+    let under = free.under in
     let used = free.used in
     let room = free.fits in
     let top = ap (λ ls. upper_top image_parts ls) free.newest in
@@ -312,6 +313,7 @@ unit_entered {program} m {h} {more} {b} {c} {o} {os} {words} {labels} {line} n {
           below = r.point.control.layers;
           newest = refl;
           even = omega (arith, even, top, level);
+          under = omega (arith, under, low);
           low = free.low;
           used = free.used;
           fits = omega (arith, set, waiting, level, room, used, top, low);

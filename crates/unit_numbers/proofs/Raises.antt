@@ -74,7 +74,10 @@ unit_does {program} m h ih more b c o os a each own rises words labels includes 
     let x = n.unit in
     let u = unit_is program m.called m.head (list_of m) x n.placed.is in
     let made = none_made z y r
-    (record { kind = u.bare; code = none_coded program (environment_for program m.head) x.head refl u.bare; made = refl
+    (record {
+      kind = u.bare;
+      code = none_coded program (environment_for program m.head) x.head refl u.bare;
+      made = refl;
     })
     in (
       made,
@@ -216,6 +219,7 @@ puts_of once {program} m h ih more blocks c o os a writes =
       few = omega (arith, inside);
       variables = a.variables;
       arrays = λ may. a.arrays;
+      parameters = λ x is. absurd (cc is);
       lists = lists_known program (block_of m h o os) m.memory a.told;
     })
 

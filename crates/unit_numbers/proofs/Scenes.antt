@@ -176,6 +176,7 @@ at_told {program} {m} {h} {more} {blocks} {c} {o} {os} a waits =
         below = φs;
         newest = refl;
         even = free.even;
+        under = free.under;
         low = free.low;
         used = free.used;
         fits = free.fits;
