@@ -1,5 +1,6 @@
 -- Bits that are written: what they are then, and that all others stay.
-use Rattle.std.proofs.Common.{◌≡◌, ◌≢◌, ◌⊎◌, inl, inr, ℕ, zero, suc, ◌+◌, ◌*◌, ◌/◌, ◌%◌, ◌^◌, ◌<◌, ◌≤◌, List, length, refl, sym, ap, ◌∙◌, arith, get_or-set_other, get_or-set_same, length-set}
+use Rattle.std.proofs.Common.{◌≡◌, ◌≢◌, ◌⊎◌, inl, inr, ℕ, zero, suc, ◌+◌, ◌*◌, ◌/◌, ◌%◌, ◌^◌, ◌<◌, ◌≤◌, List, length}
+use Rattle.std.proofs.Common.{refl, sym, ap, ◌∙◌, arith, get_or-set_other, get_or-set_same, length-set}
 use Rattle.std.specs.Prelude.{slice_index}
 use Rattle.std.proofs.Math.Nat.{pow-suc}
 use Rattle.area_keeper.proofs.Agreement.{Agrees}
@@ -35,7 +36,11 @@ length_bit from i v m = length-set m (from + i / 8) (with_bit (i % 8) v (slice_i
 
 pub agrees_bit :
     (m : List ℕ) (from i v a b : ℕ) → (b ≤ from + i / 8) ⊎ (from + i / 8 < a) → Agrees m (with_bit_at from i v m) a b
-agrees_bit m from i v a b h = record { same = λ j c d. get_or-set_other m (from + i / 8) j (with_bit (i % 8) v (slice_index m (from + i / 8))) 0 (unlike j c d h) }
+agrees_bit m from i v a b h =
+    record {
+      same = λ j c d. get_or-set_other m (from + i / 8) j (with_bit (i % 8) v (slice_index m (from + i / 8))) 0
+          (unlike j c d h);
+    }
   where
     unlike : (j : ℕ) → a ≤ j → j < b → (b ≤ from + i / 8) ⊎ (from + i / 8 < a) → j ≢ from + i / 8
     unlike j c d (inl e) = omega (arith, c, d, e)
@@ -62,7 +67,8 @@ bit_stays m from i j v h l n = by_byte (cases_eq (j / 8) (i / 8))
         ∙ ap (λ q. bit (j % 8) (slice_index m (from + q))) (sym e)))
     by_byte (inr e) =
         let p : from + j / 8 ≢ from + i / 8 = λ f. e (omega (arith, f)) in
-        ap (bit (j % 8)) (get_or-set_other m (from + i / 8) (from + j / 8) (with_bit (i % 8) v (slice_index m (from + i / 8))) 0 p)
+        ap (bit (j % 8)) (get_or-set_other m (from + i / 8) (from + j / 8) (with_bit (i % 8) v (slice_index m (from +
+        i / 8))) 0 p)
 
 pub bits_same :
     (old new : List ℕ) (from count i : ℕ) → Agrees old new from (from + count) → i < 8 * count →

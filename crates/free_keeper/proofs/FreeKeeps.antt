@@ -1,10 +1,12 @@
 -- The list of free blocks keeps every law.
-use Rattle.std.proofs.Common.{◌≡◌, ◌⊎◌, inl, inr, ℕ, ◌+◌, ◌-◌, ◌<◌, ◌≤◌, ℤ, List, [], Option, Some, None, refl, sym, ap, ◌∙◌, subst, arith}
+use Rattle.std.proofs.Common.{◌≡◌, ◌⊎◌, inl, inr, ℕ, ◌+◌, ◌-◌, ◌<◌, ◌≤◌, ℤ, List, [], Option, Some, None, refl, sym}
+use Rattle.std.proofs.Common.{ap, ◌∙◌, subst, arith}
 use Rattle.std.specs.Prelude.{cond}
 use Rattle.pli_typing.specs.Signatures.{footprint}
 use Rattle.area_keeper.specs.Keeper.{Kept, KeptArea}
 use Rattle.area_keeper.specs.KeptAreas.{kept_as, kept_end, with_kept, without_kept, with_part}
-use Rattle.area_keeper.specs.KeeperLaws.{Becomes, Leaves, KeepsMaking, KeepsOrder, KeepsAllocating, KeepsFreeing, KeepsCopying, KeepsWriting, Keeps}
+use Rattle.area_keeper.specs.KeeperLaws.{Becomes, Leaves, KeepsMaking, KeepsOrder, KeepsAllocating, KeepsFreeing}
+use Rattle.area_keeper.specs.KeeperLaws.{KeepsCopying, KeepsWriting, Keeps}
 use Rattle.area_keeper.specs.Chain.{capacity_in, room_from, last_end}
 use Rattle.area_keeper.proofs.Alikeness.{same_room, same_last}
 use Rattle.granule_keeper.proofs.Order.{kept_where, kept_apart}
@@ -15,12 +17,15 @@ use Rattle.free_keeper.proofs.Standing.{Stands, stands_from}
 use Rattle.free_keeper.proofs.FreeStands.{all_freed, made_stands, placed_stands, freed_stands}
 use Rattle.free_keeper.proofs.FreeCopies.{ends_of, copied_stands, written_stands}
 use Rattle.free_keeper.proofs.FreeBytes.{free_list_bytes}
-use Rattle.free_keeper.specs.FreeList.{front_for, link_behind, gaps, steps_for, with_generation, placed_behind, without_generation, freed_if, freed_in, end_in, with_copy, free_list_emptied, free_list_area, free_list}
+use Rattle.free_keeper.specs.FreeList.{front_for, link_behind, gaps, steps_for, with_generation, placed_behind}
+use Rattle.free_keeper.specs.FreeList.{without_generation, freed_if, freed_in, end_in, with_copy, free_list_emptied}
+use Rattle.free_keeper.specs.FreeList.{free_list_area, free_list}
 
 capacity_same : (bytes : List ℕ) (a : KeptArea) → free_list_area bytes ≡ Some a → capacity_in bytes ≡ a.capacity
 capacity_same bytes a e = (stands_from bytes a e).front.capacity_is
 
-stands_here : (bytes : List ℕ) (a : KeptArea) → free_list_area bytes ≡ Some a → Stands bytes (capacity_in bytes) a.placed
+stands_here :
+    (bytes : List ℕ) (a : KeptArea) → free_list_area bytes ≡ Some a → Stands bytes (capacity_in bytes) a.placed
 stands_here bytes a e = subst (λ c. Stands bytes c a.placed) (sym (capacity_same bytes a e)) (stands_from bytes a e)
 
 -- ---- making
@@ -31,7 +36,8 @@ free_list_making =
       few = λ capacity. omega arith;
       made = λ capacity bytes r b n. made_stands capacity bytes r b n;
       emptied = λ bytes a e.
-          subst (λ c. Becomes free_list c [] bytes (free_list_emptied bytes)) (capacity_same bytes a e) (all_freed bytes (capacity_in bytes) (stands_here bytes a e).front);
+          subst (λ c. Becomes free_list c [] bytes (free_list_emptied bytes)) (capacity_same bytes a e) (all_freed
+          bytes (capacity_in bytes) (stands_here bytes a e).front);
     }
 
 -- ---- order
@@ -52,7 +58,11 @@ placed_there :
     placed_behind size signature extent front bytes (Some before)
     ≡ Some (o, with_generation front before (kept_as o size signature extent) bytes)
 placed_there size signature extent front before o bytes e =
-    ap (λ (x : ℕ). let r : Option (ℕ × List ℕ) = Some (x, with_generation front before (kept_as x size signature extent) bytes) in r) e
+    ap (λ (x : ℕ). let r : Option (ℕ × List ℕ) = Some (
+      x,
+      with_generation front before (kept_as x size signature
+          extent) bytes,
+    ) in r) e
 
 free_list_allocating : KeepsAllocating free_list
 free_list_allocating =
@@ -66,8 +76,13 @@ free_list_allocating =
           ∙ (same_room 0 0 a.capacity (footprint size) a.placed placed refl al ∙ g)
           in
           let d = placed_stands bytes a.placed n (stands_here bytes a e) sg x room in
-          let new = with_generation f d.before n bytes in
-          (new, ap (placed_behind size signature extent f bytes) d.walked ∙ placed_there size signature extent f d.before o bytes d.offset, subst (λ y. Leaves free_list a.placed y (with_kept n a.placed) bytes new) (capacity_same bytes a e) d.leaves);
+          let new = with_generation f d.before n bytes in (
+            new,
+            ap (placed_behind size signature extent f bytes) d.walked ∙ placed_there size signature extent f
+                d.before o bytes d.offset,
+            subst (λ y. Leaves free_list a.placed y (with_kept n a.placed) bytes new)
+                (capacity_same bytes a e) d.leaves,
+          );
       refused = λ size signature extent bytes a placed e al g.
           let c = capacity_in bytes in
           let f = front_for c in
@@ -76,7 +91,9 @@ free_list_allocating =
           ∙ (same_room 0 0 a.capacity (footprint size) a.placed placed refl al ∙ g)
           in
           let s = stands_here bytes a e in
-          ap (placed_behind size signature extent f bytes) (no_room (steps_for c) f 0 (link_behind f 0 bytes) (footprint size) bytes (gaps 0 c a.placed) s.listed (sym (room_gaps 0 c (footprint size) a.placed (omega arith)) ∙ room));
+          ap (placed_behind size signature extent f bytes) (no_room (steps_for c) f 0 (link_behind f 0 bytes)
+          (footprint size) bytes (gaps 0 c a.placed) s.listed (sym (room_gaps 0 c (footprint size) a.placed (omega
+          arith)) ∙ room));
     }
 
 -- ---- freeing
@@ -85,16 +102,23 @@ free_list_freeing : KeepsFreeing free_list
 free_list_freeing =
     record {
       freed = λ o signature bytes a g e there same.
-          let P : ℕ → Type 0 = λ c. Leaves free_list (without_kept o a.placed) c (without_kept o a.placed) bytes (without_generation (front_for c) c g bytes) in
+          let P : ℕ → Type 0 = λ c. Leaves free_list (without_kept o a.placed) c (without_kept o a.placed) bytes
+          (without_generation (front_for c) c g bytes) in
           let new = without_generation (front_for a.capacity) a.capacity g bytes in
-          let done = subst P (capacity_same bytes a e) (freed_stands bytes a.placed o g (stands_here bytes a e) there) in
-          (new, ap (freed_in o signature bytes) e ∙ (ap (freed_if signature (front_for a.capacity) a.capacity bytes) there ∙ ap (λ t. cond t (Some new) None) (eq_true g.signature signature same)), done);
+          let done = subst P (capacity_same bytes a e) (freed_stands bytes a.placed o g (stands_here bytes a e) there)
+          in (
+            new,
+            ap (freed_in o signature bytes) e ∙ (ap (freed_if signature (front_for a.capacity) a.capacity bytes)
+                there ∙ ap (λ t. cond t (Some new) None) (eq_true g.signature signature same)),
+            done,
+          );
       absent = λ o signature bytes a e there.
           ap (freed_in o signature bytes) e ∙ ap (freed_if signature (front_for a.capacity) a.capacity bytes) there;
       another = λ o signature bytes a g e there other.
           let new = without_generation (front_for a.capacity) a.capacity g bytes in
           ap (freed_in o signature bytes) e
-          ∙ (ap (freed_if signature (front_for a.capacity) a.capacity bytes) there ∙ ap (λ t. cond t (Some new) None) (eq_false g.signature signature other));
+          ∙ (ap (freed_if signature (front_for a.capacity) a.capacity bytes) there ∙ ap (λ t. cond t (Some new) None)
+          (eq_false g.signature signature other));
     }
 
 -- ---- copying
@@ -106,13 +130,33 @@ free_list_copying =
           let new = with_copy (end_in from) from to in
           let here = stands_here from s e in
           let last = (ends_of from s.placed here).is in
-          let fits : last_end s.placed ≤ capacity_in to = omega (arith, same_last s.placed placed al, l, capacity_same to t f) in
-          let done = copied_stands from to s.placed t.placed here (stands_here to t f) fits in
-          (new, ap (λ b. cond b (Some new) None) (le_true (end_in from).from (capacity_in to) (omega (arith, last, fits))), subst (λ c. Becomes free_list c s.placed to new) (capacity_same to t f) done.0, done.1);
+          let fits : last_end s.placed ≤ capacity_in to = omega (
+            arith,
+            same_last s.placed placed al,
+            l,
+            capacity_same
+                to t f,
+          ) in
+          let done = copied_stands from to s.placed t.placed here (stands_here to t f) fits in (
+            new,
+            ap (λ b. cond b (Some new) None) (le_true (end_in from).from (capacity_in to) (omega (
+              arith,
+              last,
+              fits,
+            ))),
+            subst (λ c. Becomes free_list c s.placed to new) (capacity_same to t f) done.0,
+            done.1,
+          );
       refused = λ from to s t placed e f al l.
           let new = with_copy (end_in from) from to in
           let last = (ends_of from s.placed (stands_here from s e)).is in
-          let over : capacity_in to < (end_in from).from = omega (arith, last, same_last s.placed placed al, l, capacity_same to t f) in
+          let over : capacity_in to < (end_in from).from = omega (
+            arith,
+            last,
+            same_last s.placed placed al,
+            l,
+            capacity_same to t f,
+          ) in
           ap (λ b. cond b (Some new) None) (le_false (end_in from).from (capacity_in to) over);
     }
 
@@ -133,10 +177,14 @@ free_list_writing =
           let s = stands_here bytes a e in
           let v = kept_where 0 (capacity_in bytes) o a.placed g s.ordered there in
           let w = kept_where 0 (capacity_in bytes) p a.placed h s.ordered other in
-          far (front_for (capacity_in bytes)) o p g h v.offset w.offset (kept_apart 0 (capacity_in bytes) o p a.placed g h s.ordered there other ne);
+          far (front_for (capacity_in bytes)) o p g h v.offset w.offset (kept_apart 0 (capacity_in bytes) o p a.placed
+          g h s.ordered there other ne);
       written = λ bytes a o g new at e there b c.
-          let done = written_stands bytes a.placed o g new at (stands_here bytes a e) there b c in
-          (subst (λ x. Leaves free_list (without_kept o a.placed) x a.placed bytes (with_part new at bytes)) (capacity_same bytes a e) done.0, ap (λ x. 16 + front_for x + o) done.1);
+          let done = written_stands bytes a.placed o g new at (stands_here bytes a e) there b c in (
+            subst (λ x. Leaves free_list (without_kept o a.placed) x a.placed bytes (with_part new at bytes))
+                (capacity_same bytes a e) done.0,
+            ap (λ x. 16 + front_for x + o) done.1,
+          );
     }
   where
     far :

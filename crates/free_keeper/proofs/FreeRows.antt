@@ -66,7 +66,8 @@ full_front : part 8 5 full ≡ 0 ∷ 0 ∷ 0 ∷ 0 ∷ 21 ∷ []
 full_front = refl
 
 full_stands :
-    free_list.area_of full ≡ area 96 (generation 0 16 5 (pos 3) ∷ generation 32 16 6 (pos 0) ∷ generation 64 13 5 (negsuc 1) ∷ [])
+    free_list.area_of full ≡ area 96 (generation 0 16 5 (pos 3) ∷ generation 32 16 6 (pos 0) ∷ generation 64 13 5
+    (negsuc 1) ∷ [])
 full_stands = refl
 
 no_room : free_list.allocated 0 5 (pos 0) full ≡ None
@@ -90,7 +91,8 @@ least_gap = refl
 abbrev pub uneven : List ℕ
 uneven =
     done (free_list.freed 80 4 (done (free_list.freed 0 4
-    (placed (free_list.allocated 0 4 (pos 0) (placed (free_list.allocated 16 6 (pos 0) (placed (free_list.allocated 32 4 (pos 0) empty)))))))))
+    (placed (free_list.allocated 0 4 (pos 0) (placed (free_list.allocated 16 6 (pos 0) (placed (free_list.allocated 32
+    4 (pos 0) empty)))))))))
 
 uneven_stands : free_list.area_of uneven ≡ area 96 (generation 48 16 6 (pos 0) ∷ [])
 uneven_stands = refl
@@ -115,13 +117,18 @@ joined_both : part 8 13 (done (free_list.freed 32 6 holed)) ≡ 1 ∷ 0 ∷ 0 �
 joined_both = refl
 
 -- the first where the second is free, the second where the first is
-joined_with_next : free_list.area_of (done (free_list.freed 0 5 (done (free_list.freed 32 6 full)))) ≡ area 96 (generation 64 13 5 (negsuc 1) ∷ [])
+joined_with_next :
+    free_list.area_of (done (free_list.freed 0 5 (done (free_list.freed 32 6 full)))) ≡ area 96 (generation 64 13 5
+    (negsuc 1) ∷ [])
 joined_with_next = refl
 
-joined_with_last : free_list.area_of (done (free_list.freed 32 6 (done (free_list.freed 0 5 full)))) ≡ area 96 (generation 64 13 5 (negsuc 1) ∷ [])
+joined_with_last :
+    free_list.area_of (done (free_list.freed 32 6 (done (free_list.freed 0 5 full)))) ≡ area 96 (generation 64 13 5
+    (negsuc 1) ∷ [])
 joined_with_last = refl
 
-joined_holds : offset (free_list.allocated 48 5 (pos 0) (done (free_list.freed 32 6 (done (free_list.freed 0 5 full))))) ≡ Some 0
+joined_holds :
+    offset (free_list.allocated 48 5 (pos 0) (done (free_list.freed 32 6 (done (free_list.freed 0 5 full))))) ≡ Some 0
 joined_holds = refl
 
 emptied_stands : free_list.area_of (free_list.emptied full) ≡ area 96 []
@@ -160,7 +167,9 @@ large_block : part 80 8 large ≡ 80 ∷ 0 ∷ 0 ∷ 0 ∷ 0 ∷ 0 ∷ 0 ∷ 0 �
 large_block = refl
 
 -- a full area is copied into a larger one
-grown : offset (free_list.allocated 0 1 (pos 0) (done (free_list.copied full (free_list.made 112 (replicate 128 0))))) ≡ Some 96
+grown :
+    offset (free_list.allocated 0 1 (pos 0) (done (free_list.copied full (free_list.made 112 (replicate 128 0))))) ≡
+    Some 96
 grown = refl
 
 -- ---- bytes that stand for no area
@@ -213,7 +222,9 @@ overlong : free_list.area_of (with_part (48 ∷ []) 16 holed) ≡ None
 overlong = refl
 
 -- free blocks that touch and aren't one
-unjoined : free_list.area_of (with_part (1 ∷ []) 8 (with_part (48 ∷ 0 ∷ 0 ∷ 0 ∷ 49 ∷ []) 16 (with_part (48 ∷ 0 ∷ 0 ∷ 0 ∷ 0 ∷ []) 64 empty))) ≡ None
+unjoined :
+    free_list.area_of (with_part (1 ∷ []) 8 (with_part (48 ∷ 0 ∷ 0 ∷ 0 ∷ 49 ∷ []) 16 (with_part (48 ∷ 0 ∷ 0 ∷ 0 ∷ 0 ∷
+    []) 64 empty))) ≡ None
 unjoined = refl
 
 -- a bit inside the first's data: what stands there would be taken for a header
@@ -232,5 +243,6 @@ large_size : free_list.area_of (with_part (17 ∷ []) 16 full) ≡ None
 large_size = refl
 
 -- data that look like a header are data
-header_in_data : free_list.area_of (with_part (part 16 16 full) (free_list.data_at 32 full) full) ≡ free_list.area_of full
+header_in_data :
+    free_list.area_of (with_part (part 16 16 full) (free_list.data_at 32 full) full) ≡ free_list.area_of full
 header_in_data = refl

@@ -1,12 +1,14 @@
 -- What generations leave free: where there is room in it, and what it becomes where one is placed or freed.
-use Rattle.std.proofs.Common.{◌≡◌, ◌≢◌, ◌⊎◌, inl, inr, ℕ, ◌+◌, ◌-◌, ◌%◌, ◌<◌, ◌≤◌, max, List, [], ◌∷◌, ◌++◌, Option, Some, None, Bool, true, false, refl, sym, ap, ◌∙◌, subst, arith}
+use Rattle.std.proofs.Common.{◌≡◌, ◌≢◌, ◌⊎◌, inl, inr, ℕ, ◌+◌, ◌-◌, ◌%◌, ◌<◌, ◌≤◌, max, List, [], ◌∷◌, ◌++◌, Option}
+use Rattle.std.proofs.Common.{Some, None, Bool, true, false, refl, sym, ap, ◌∙◌, subst, arith}
 use Rattle.std.specs.Prelude.{cond, nat_le, nat_lt, ◌==◌, if◌then◌else◌}
 use Rattle.pli_typing.specs.Signatures.{footprint}
 use Rattle.area_keeper.specs.Keeper.{Kept}
 use Rattle.area_keeper.specs.KeptAreas.{kept_end, InOrder, kept_at, with_kept, without_kept}
 use Rattle.area_keeper.specs.Chain.{room_from, last_end}
 use Rattle.granule_keeper.proofs.Order.{kept_where}
-use Rattle.free_keeper.proofs.Tests.{eq_false, eq_tells, eq_true, le_false, le_tells, le_true, lt_false, lt_tells, lt_true}
+use Rattle.free_keeper.proofs.Tests.{eq_false, eq_tells, eq_true, le_false, le_tells, le_true, lt_false, lt_tells}
+use Rattle.free_keeper.proofs.Tests.{lt_true}
 use Rattle.free_keeper.specs.FreeList.{Free, free, gap_before, gaps}
 
 -- free blocks in order, of multiples of 16 bytes
@@ -39,7 +41,8 @@ pub blocks_of :
 blocks_of start c [] a b i = gap_blocks start c c [] a b i (omega arith)
 blocks_of start c (g ∷ gs) a b i =
     let rest = blocks_of (kept_end g) c gs (aligned_end g i.1) b i.3 in
-    gap_blocks start g.offset c (gaps (kept_end g) c gs) a i.1 i.0 (sooner g.offset (kept_end g) c (gaps (kept_end g) c gs) (omega arith) rest)
+    gap_blocks start g.offset c (gaps (kept_end g) c gs) a i.1 i.0 (sooner g.offset (kept_end g) c (gaps (kept_end g)
+    c gs) (omega arith) rest)
 
 -- ---- room
 
@@ -56,9 +59,19 @@ gap_room start end n fs r h e = by_test (nat_lt start end) refl
         (t : Bool) → nat_le (start + n) end ≡ t → start < end →
         cond t (Some start) r ≡ cond (nat_le n (end - start)) (Some start) (first_room n fs)
     by_size true t l =
-        sym (ap (λ b. cond b (Some start) (first_room n fs)) (le_true n (end - start) (omega (arith, l, le_tells (start + n) end true t))))
+        sym (ap (λ b. cond b (Some start) (first_room n fs)) (le_true n (end - start) (omega (
+          arith,
+          l,
+          le_tells
+              (start + n) end true t,
+        ))))
     by_size false t l =
-        e ∙ sym (ap (λ b. cond b (Some start) (first_room n fs)) (le_false n (end - start) (omega (arith, l, le_tells (start + n) end false t))))
+        e ∙ sym (ap (λ b. cond b (Some start) (first_room n fs)) (le_false n (end - start) (omega (
+          arith,
+          l,
+          le_tells
+              (start + n) end false t,
+        ))))
 
     by_test :
         (t : Bool) → nat_lt start end ≡ t →
@@ -71,7 +84,8 @@ pub room_gaps :
     (start c n : ℕ) (gs : List Kept) → 1 ≤ n → room_from start c n gs ≡ first_room n (gaps start c gs)
 room_gaps start c n [] h = gap_room start c n [] None h refl
 room_gaps start c n (g ∷ gs) h =
-    gap_room start g.offset n (gaps (kept_end g) c gs) (room_from (kept_end g) c n gs) h (room_gaps (kept_end g) c n gs h)
+    gap_room start g.offset n (gaps (kept_end g) c gs) (room_from (kept_end g) c n gs) h (room_gaps (kept_end g) c n
+    gs h)
 
 pub room_least : (start c n o : ℕ) (gs : List Kept) → InOrder start c gs → room_from start c n gs ≡ Some o → start ≤ o
 room_least start c n o [] i e = here (nat_le (start + n) c) e
@@ -101,7 +115,8 @@ gap_taken :
     gap_before start start (gap_before (start + n) end fs) ≡ taken n (gap_before start end fs)
 gap_taken start end n fs h l =
     let f = free start (end - start) in
-    ap (λ b. cond b (free start (start - start) ∷ gap_before (start + n) end fs) (gap_before (start + n) end fs)) (lt_false start start (omega arith))
+    ap (λ b. cond b (free start (start - start) ∷ gap_before (start + n) end fs) (gap_before (start + n) end fs))
+    (lt_false start start (omega arith))
     ∙ (by_size (end - start == n) refl
     ∙ (sym (ap (λ b. cond b (rest_of n f fs) (f ∷ taken n fs)) (le_true n (end - start) (omega (arith, l))))
     ∙ sym (ap (λ b. taken n (cond b (f ∷ fs) fs)) (lt_true start end (omega (arith, h, l))))))
@@ -110,7 +125,11 @@ gap_taken start end n fs h l =
         (t : Bool) → (end - start == n) ≡ t →
         gap_before (start + n) end fs ≡ cond t fs (free (start + n) (end - start - n) ∷ fs)
     by_size true t =
-        ap (λ b. cond b (free (start + n) (end - (start + n)) ∷ fs) fs) (lt_false (start + n) end (omega (arith, l, eq_tells (end - start) n true t)))
+        ap (λ b. cond b (free (start + n) (end - (start + n)) ∷ fs) fs) (lt_false (start + n) end (omega (
+          arith,
+          l,
+          eq_tells (end - start) n true t,
+        )))
     by_size false t =
         let ne = eq_tells (end - start) n false t in
         let q : end - (start + n) ≡ end - start - n = omega arith in
@@ -127,10 +146,16 @@ gap_passed start end n fs h l = by_test (nat_lt start end) refl
   where
     by_test :
         (t : Bool) → nat_lt start end ≡ t →
-        cond t (free start (end - start) ∷ taken n fs) (taken n fs) ≡ taken n (cond t (free start (end - start) ∷ fs) fs)
+        cond t (free start (end - start) ∷ taken n fs) (taken n fs) ≡ taken n (cond t (free start (end - start) ∷ fs)
+        fs)
     by_test true t =
         let f = free start (end - start) in
-        sym (ap (λ b. cond b (rest_of n f fs) (f ∷ taken n fs)) (le_false n (end - start) (omega (arith, l, lt_tells start end true t))))
+        sym (ap (λ b. cond b (rest_of n f fs) (f ∷ taken n fs)) (le_false n (end - start) (omega (
+          arith,
+          l,
+          lt_tells
+              start end true t,
+        ))))
     by_test false t = refl
 
 -- at the front of what is free before a place
@@ -162,17 +187,28 @@ gaps_placed start c n k (g ∷ gs) i h f e =
     by_test :
         (t : Bool) → nat_le (start + n) g.offset ≡ t →
         cond t (Some start) (room_from (kept_end g) c n gs) ≡ Some k.offset →
-        (room_from (kept_end g) c n gs ≡ Some k.offset → gaps (kept_end g) c (with_kept k gs) ≡ taken n (gaps (kept_end g) c gs)) →
-        gaps start c (cond (nat_lt k.offset g.offset) (k ∷ g ∷ gs) (g ∷ with_kept k gs)) ≡ taken n (gap_before start g.offset R)
+        (room_from (kept_end g) c n gs ≡ Some k.offset →
+        gaps (kept_end g) c (with_kept k gs) ≡ taken n (gaps (kept_end g) c gs)) →
+        gaps start c (cond (nat_lt k.offset g.offset) (k ∷ g ∷ gs) (g ∷ with_kept k gs)) ≡ taken n (gap_before start
+        g.offset R)
     by_test true t e rest =
         let q : start ≡ k.offset = cc e in
         let l = le_tells (start + n) g.offset true t in
-        ap (λ b. gaps start c (cond b (k ∷ g ∷ gs) (g ∷ with_kept k gs))) (lt_true k.offset g.offset (omega (arith, q, l, h)))
+        ap (λ b. gaps start c (cond b (k ∷ g ∷ gs) (g ∷ with_kept k gs))) (lt_true k.offset g.offset (omega (
+          arith,
+          q,
+          l,
+          h,
+        )))
         ∙ placed_here start g.offset n k R h f (sym q) l
     by_test false t e rest =
         let w = room_least (kept_end g) c n k.offset gs i.3 e in
-        ap (λ b. gaps start c (cond b (k ∷ g ∷ gs) (g ∷ with_kept k gs))) (lt_false k.offset g.offset (omega (arith, w)))
-        ∙ (ap (gap_before start g.offset) (rest e) ∙ gap_passed start g.offset n R i.0 (le_tells (start + n) g.offset false t))
+        ap (λ b. gaps start c (cond b (k ∷ g ∷ gs) (g ∷ with_kept k gs))) (lt_false k.offset g.offset (omega (
+          arith,
+          w,
+        )))
+        ∙ (ap (gap_before start g.offset) (rest e) ∙ gap_passed start g.offset n R i.0 (le_tells (start + n) g.offset
+        false t))
 
 -- ---- a generation less
 
@@ -212,7 +248,8 @@ alone o n e (f ∷ fs) q b =
 in_front : (o n e : ℕ) (fs : List Free) → o < e → Behind e fs → joined o n fs ≡ join_next o n fs
 in_front o n e [] h b = refl
 in_front o n e (f ∷ fs) h b =
-    ap (λ t. cond t (join_next o n (f ∷ fs)) (cond (f.offset + f.size == o) (join_next f.offset (f.size + n) fs) (f ∷ joined o n fs))) (lt_true o f.offset (omega (arith, h, b)))
+    ap (λ t. cond t (join_next o n (f ∷ fs)) (cond (f.offset + f.size == o) (join_next f.offset (f.size + n) fs) (f ∷
+    joined o n fs))) (lt_true o f.offset (omega (arith, h, b)))
 
 joined_gap :
     (start o n e : ℕ) (fs : List Free) → start ≤ o → 16 ≤ n → o + n ≤ e → Behind e fs →
@@ -226,13 +263,16 @@ joined_gap start o n e fs h k l b = by_both (nat_lt start o) refl (nat_lt (o + n
     touches :
         (gs : List Free) → start < o → joined o n (free start (o - start) ∷ gs) ≡ join_next start (o - start + n) gs
     touches gs s =
-        ap (λ t. cond t (join_next o n (free start (o - start) ∷ gs)) (cond (start + (o - start) == o) (join_next start (o - start + n) gs) (free start (o - start) ∷ joined o n gs))) (lt_false o start (omega (arith, s)))
-        ∙ ap (λ t. cond t (join_next start (o - start + n) gs) (free start (o - start) ∷ joined o n gs)) (eq_true (start + (o - start)) o (omega (arith, s)))
+        ap (λ t. cond t (join_next o n (free start (o - start) ∷ gs)) (cond (start + (o - start) == o) (join_next
+        start (o - start + n) gs) (free start (o - start) ∷ joined o n gs))) (lt_false o start (omega (arith, s)))
+        ∙ ap (λ t. cond t (join_next start (o - start + n) gs) (free start (o - start) ∷ joined o n gs)) (eq_true
+        (start + (o - start)) o (omega (arith, s)))
 
     by_both :
         (s : Bool) → nat_lt start o ≡ s → (t : Bool) → nat_lt (o + n) e ≡ t →
         gap_before start e fs
-        ≡ joined o n (cond s (free start (o - start) ∷ cond t (free (o + n) (e - (o + n)) ∷ fs) fs) (cond t (free (o + n) (e - (o + n)) ∷ fs) fs))
+        ≡ joined o n (cond s (free start (o - start) ∷ cond t (free (o + n) (e - (o + n)) ∷ fs) fs) (cond t (free (o +
+        n) (e - (o + n)) ∷ fs) fs))
     by_both true s true t =
         let a = lt_tells start o true s in
         let c = lt_tells (o + n) e true t in
@@ -240,7 +280,8 @@ joined_gap start o n e fs h k l b = by_both (nat_lt start o) refl (nat_lt (o + n
         let y : o + n ≡ start + (o - start + n) = omega (arith, a) in
         here
         ∙ (ap (λ z. free start z ∷ fs) x
-        ∙ (sym (ap (λ z. cond z (free start (o - start + n + (e - (o + n))) ∷ fs) (free start (o - start + n) ∷ free (o + n) (e - (o + n)) ∷ fs)) (eq_true (o + n) (start + (o - start + n)) y))
+        ∙ (sym (ap (λ z. cond z (free start (o - start + n + (e - (o + n))) ∷ fs) (free start (o - start + n) ∷ free
+        (o + n) (e - (o + n)) ∷ fs)) (eq_true (o + n) (start + (o - start + n)) y))
         ∙ sym (touches (free (o + n) (e - (o + n)) ∷ fs) a)))
     by_both true s false t =
         let a = lt_tells start o true s in
@@ -256,8 +297,11 @@ joined_gap start o n e fs h k l b = by_both (nat_lt start o) refl (nat_lt (o + n
         here
         ∙ (ap (λ z. free z (e - z) ∷ fs) p
         ∙ (ap (λ z. free o z ∷ fs) x
-        ∙ (sym (ap (λ z. cond z (free o (n + (e - (o + n))) ∷ fs) (free o n ∷ free (o + n) (e - (o + n)) ∷ fs)) (eq_true (o + n) (o + n) refl))
-        ∙ sym (ap (λ z. cond z (join_next o n (free (o + n) (e - (o + n)) ∷ fs)) (cond (o + n + (e - (o + n)) == o) (join_next (o + n) (e - (o + n) + n) fs) (free (o + n) (e - (o + n)) ∷ joined o n fs))) (lt_true o (o + n) (omega (arith, k)))))))
+        ∙ (sym (ap (λ z. cond z (free o (n + (e - (o + n))) ∷ fs) (free o n ∷ free (o + n) (e - (o + n)) ∷ fs))
+        (eq_true (o + n) (o + n) refl))
+        ∙ sym (ap (λ z. cond z (join_next o n (free (o + n) (e - (o + n)) ∷ fs)) (cond (o + n + (e - (o + n)) == o)
+        (join_next (o + n) (e - (o + n) + n) fs) (free (o + n) (e - (o + n)) ∷ joined o n fs))) (lt_true o (o + n)
+        (omega (arith, k)))))))
     by_both false s false t =
         let a = lt_tells start o false s in
         let c = lt_tells (o + n) e false t in
@@ -276,11 +320,14 @@ gap_joined start h o n fs a b = by_test (nat_lt start h) refl
   where
     by_test :
         (t : Bool) → nat_lt start h ≡ t →
-        cond t (free start (h - start) ∷ joined o n fs) (joined o n fs) ≡ joined o n (cond t (free start (h - start) ∷ fs) fs)
+        cond t (free start (h - start) ∷ joined o n fs) (joined o n fs) ≡ joined o n (cond t (free start (h - start) ∷
+        fs) fs)
     by_test true t =
         let l = lt_tells start h true t in
-        sym (ap (λ z. cond z (join_next o n (free start (h - start) ∷ fs)) (cond (start + (h - start) == o) (join_next start (h - start + n) fs) (free start (h - start) ∷ joined o n fs))) (lt_false o start (omega (arith, l, b)))
-        ∙ ap (λ z. cond z (join_next start (h - start + n) fs) (free start (h - start) ∷ joined o n fs)) (eq_false (start + (h - start)) o (omega (arith, l, b))))
+        sym (ap (λ z. cond z (join_next o n (free start (h - start) ∷ fs)) (cond (start + (h - start) == o) (join_next
+        start (h - start + n) fs) (free start (h - start) ∷ joined o n fs))) (lt_false o start (omega (arith, l, b)))
+        ∙ ap (λ z. cond z (join_next start (h - start + n) fs) (free start (h - start) ∷ joined o n fs)) (eq_false
+        (start + (h - start)) o (omega (arith, l, b))))
     by_test false t = refl
 
 freed_first :
@@ -288,7 +335,8 @@ freed_first :
     gaps start c gs ≡ joined o n (gap_before start o (gaps (o + n) c gs))
 freed_first start c o n [] h k i = joined_gap start o n c [] h k i tt
 freed_first start c o n (g ∷ gs) h k i =
-    joined_gap start o n g.offset (gaps (kept_end g) c gs) h k i.0 (gaps_behind g.offset (kept_end g) c gs i.3 (omega arith))
+    joined_gap start o n g.offset (gaps (kept_end g) c gs) h k i.0 (gaps_behind g.offset (kept_end g) c gs i.3 (omega
+    arith))
 
 pub gaps_freed :
     (start c o : ℕ) (gs : List Kept) (g : Kept) → InOrder start c gs → kept_at gs o ≡ Some g →
@@ -299,8 +347,10 @@ gaps_freed start c o (h ∷ gs) g i e =
   where
     by_test :
         (t : Bool) → (h.offset == o) ≡ t → cond t (Some h) (kept_at gs o) ≡ Some g →
-        (kept_at gs o ≡ Some g → gaps (kept_end h) c (without_kept o gs) ≡ joined o (footprint g.size) (gaps (kept_end h) c gs)) →
-        gaps start c (cond t gs (h ∷ without_kept o gs)) ≡ joined o (footprint g.size) (gap_before start h.offset (gaps (kept_end h) c gs))
+        (kept_at gs o ≡ Some g → gaps (kept_end h) c (without_kept o gs) ≡ joined o (footprint g.size) (gaps (kept_end
+        h) c gs)) →
+        gaps start c (cond t gs (h ∷ without_kept o gs)) ≡ joined o (footprint g.size) (gap_before start h.offset
+        (gaps (kept_end h) c gs))
     by_test true t e rest =
         let q : h ≡ g = cc e in
         let p = eq_tells h.offset o true t in
@@ -327,7 +377,8 @@ gap_append : (start end : ℕ) (fs gs : List Free) → gap_before start end (fs 
 gap_append start end fs gs = by_test (nat_lt start end)
   where
     by_test :
-        (t : Bool) → cond t (free start (end - start) ∷ (fs ++ gs)) (fs ++ gs) ≡ cond t (free start (end - start) ∷ fs) fs ++ gs
+        (t : Bool) → cond t (free start (end - start) ∷ (fs ++ gs)) (fs ++ gs) ≡ cond t (free start (end - start) ∷
+        fs) fs ++ gs
     by_test true = refl
     by_test false = refl
 
@@ -358,11 +409,13 @@ inner_short start c (g ∷ gs) i = by_test (nat_lt start g.offset) refl (inner_s
     by_test false t rest = rest
 
 pub inner_blocks :
-    (start c : ℕ) (gs : List Kept) → start % 16 ≡ 0 → InOrder start c gs → Blocks start (final start gs) (inner start gs)
+    (start c : ℕ) (gs : List Kept) → start % 16 ≡ 0 → InOrder start c gs →
+    Blocks start (final start gs) (inner start gs)
 inner_blocks start c [] a i = omega arith
 inner_blocks start c (g ∷ gs) a i =
     let rest = inner_blocks (kept_end g) c gs (aligned_end g i.1) i.3 in
-    gap_blocks start g.offset (final (kept_end g) gs) (inner (kept_end g) gs) a i.1 i.0 (sooner g.offset (kept_end g) (final (kept_end g) gs) (inner (kept_end g) gs) (omega arith) rest)
+    gap_blocks start g.offset (final (kept_end g) gs) (inner (kept_end g) gs) a i.1 i.0 (sooner g.offset (kept_end g)
+    (final (kept_end g) gs) (inner (kept_end g) gs) (omega arith) rest)
 
 -- ---- generations and gaps are apart
 
@@ -399,23 +452,33 @@ all_clear_gap :
     (start end from c : ℕ) (fs : List Free) (gs : List Kept) → InOrder from c gs → end ≤ from → AllClear fs gs →
     AllClear (gap_before start end fs) gs
 all_clear_gap start end from c fs [] i h r = tt
-all_clear_gap start end from c fs (g ∷ gs) i h r =
-    (clear_gap g.offset (kept_end g) start end fs (omega (arith, i.0, h)) r.0, all_clear_gap start end (kept_end g) c fs gs i.3 (omega (arith, i.0, h)) r.1)
+all_clear_gap start end from c fs (g ∷ gs) i h r = (
+  clear_gap g.offset (kept_end g) start end fs (omega (arith, i.0, h)) r.0,
+  all_clear_gap start end (kept_end g) c
+      fs gs i.3 (omega (arith, i.0, h)) r.1,
+)
 
 pub all_clear :
     (start c : ℕ) (gs : List Kept) → start % 16 ≡ 0 → c % 16 ≡ 0 → InOrder start c gs → AllClear (gaps start c gs) gs
 all_clear start c [] a b i = tt
 all_clear start c (g ∷ gs) a b i =
     let R = gaps (kept_end g) c gs in
-    let blocks = blocks_of (kept_end g) c gs (aligned_end g i.1) b i.3 in
-    (clear_gap g.offset (kept_end g) start g.offset R (omega arith) (clear_behind g.offset (kept_end g) (kept_end g) c R blocks (omega arith)), all_clear_gap start g.offset (kept_end g) c R gs i.3 (omega arith) (all_clear (kept_end g) c gs (aligned_end g i.1) b i.3))
+    let blocks = blocks_of (kept_end g) c gs (aligned_end g i.1) b i.3 in (
+      clear_gap g.offset (kept_end g) start g.offset R (omega arith) (clear_behind g.offset (kept_end g) (kept_end g) c
+          R blocks (omega arith)),
+      all_clear_gap start g.offset (kept_end g) c R gs i.3 (omega arith) (all_clear (kept_end
+          g) c gs (aligned_end g i.1) b i.3),
+    )
 
-pub clear_at : (fs : List Free) (gs : List Kept) (o : ℕ) (g : Kept) → AllClear fs gs → kept_at gs o ≡ Some g → Clear g.offset (kept_end g) fs
+pub clear_at :
+    (fs : List Free) (gs : List Kept) (o : ℕ) (g : Kept) → AllClear fs gs → kept_at gs o ≡ Some g →
+    Clear g.offset (kept_end g) fs
 clear_at fs [] o g a e = absurd (cc e)
 clear_at fs (h ∷ gs) o g a e = by_test (h.offset == o) e (λ f. clear_at fs gs o g a.1 f)
   where
     by_test :
-        (t : Bool) → cond t (Some h) (kept_at gs o) ≡ Some g → (kept_at gs o ≡ Some g → Clear g.offset (kept_end g) fs) →
+        (t : Bool) → cond t (Some h) (kept_at gs o) ≡ Some g → (kept_at gs o ≡ Some g →
+        Clear g.offset (kept_end g) fs) →
         Clear g.offset (kept_end g) fs
     by_test true e rest = let q : h ≡ g = cc e in subst (λ (y : Kept). Clear y.offset (kept_end y) fs) q a.0
     by_test false e rest = rest e

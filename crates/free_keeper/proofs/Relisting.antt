@@ -1,5 +1,6 @@
 -- Links that are written: along which free blocks they lead then, and which bytes stay.
-use Rattle.std.proofs.Common.{◌≡◌, ◌≢◌, ◌⊎◌, inl, inr, ℕ, zero, suc, ◌+◌, ◌-◌, ◌^◌, ◌%◌, ◌<◌, ◌≤◌, List, [], ◌∷◌, ◌++◌, length, Bool, true, false, refl, sym, ap, ◌∙◌, subst, arith}
+use Rattle.std.proofs.Common.{◌≡◌, ◌≢◌, ◌⊎◌, inl, inr, ℕ, zero, suc, ◌+◌, ◌-◌, ◌^◌, ◌%◌, ◌<◌, ◌≤◌, List, [], ◌∷◌}
+use Rattle.std.proofs.Common.{◌++◌, length, Bool, true, false, refl, sym, ap, ◌∙◌, subst, arith}
 use Rattle.std.specs.Prelude.{cond, ◌==◌}
 use Rattle.rv_meaning.proofs.MemoryLaws.{load-store_same, load-store_other}
 use Rattle.area_keeper.specs.KeeperLaws.{greatest_capacity}
@@ -7,7 +8,8 @@ use Rattle.area_keeper.specs.Chain.{word_at, with_word}
 use Rattle.area_keeper.proofs.Agreement.{Agrees, agrees_twice, agrees_word, length_word, word_same}
 use Rattle.free_keeper.proofs.Tests.{eq_tells, lt_false, lt_true}
 use Rattle.free_keeper.proofs.Gaps.{Blocks, Clear, clear_behind}
-use Rattle.free_keeper.proofs.Links.{Listed, Chained, listed_behind, Before, last_before, Passed, chained_moved, listed_same, AllBut, blocks_clear, blocks_split, blocks_within}
+use Rattle.free_keeper.proofs.Links.{Listed, Chained, listed_behind, Before, last_before, Passed, chained_moved}
+use Rattle.free_keeper.proofs.Links.{listed_same, AllBut, blocks_clear, blocks_split, blocks_within}
 use Rattle.free_keeper.specs.FreeList.{Free, free, link_place, link_behind, size_of, with_free, with_end, gap_before}
 
 pub word_there : (m : List ℕ) (at v : ℕ) → v < 2 ^ 32 → at + 4 ≤ length m → word_at at (with_word at v m) ≡ v
@@ -23,7 +25,9 @@ pub place_before : (front b o : ℕ) → 12 ≤ front → Before b o → link_pl
 place_before front zero o h b = omega (arith, h)
 place_before front (suc p) o h b = omega (arith, b)
 
-place_low : (front b x y : ℕ) → 12 ≤ front → (y ≤ 8) ⊎ ((12 ≤ x) × (y ≤ front)) → (y ≤ link_place front b) ⊎ (link_place front b + 4 ≤ x)
+place_low :
+    (front b x y : ℕ) → 12 ≤ front → (y ≤ 8) ⊎ ((12 ≤ x) × (y ≤ front)) →
+    (y ≤ link_place front b) ⊎ (link_place front b + 4 ≤ x)
 place_low front zero x y h (inl i) = inl i
 place_low front zero x y h (inr i) = inr i.0
 place_low front (suc p) x y h (inl i) = inl (omega (arith, h, i))
@@ -34,13 +38,16 @@ abbrev pub ClearOf : (from to before : ℕ) → Type 0
 ClearOf a b zero = Unit {0}
 ClearOf a b (suc o) = (o + 16 ≤ a) ⊎ (b ≤ o)
 
-pub place_clear : (front l a b : ℕ) → 12 ≤ front → ClearOf a b l → (front + b ≤ link_place front l) ⊎ (link_place front l + 4 ≤ front + a)
+pub place_clear :
+    (front l a b : ℕ) → 12 ≤ front → ClearOf a b l → (front + b ≤ link_place front l) ⊎ (link_place front l + 4 ≤
+    front + a)
 place_clear front zero a b h c = inr (omega (arith, h))
 place_clear front (suc o) a b h (inl i) = inr (omega (arith, i))
 place_clear front (suc o) a b h (inr i) = inl (omega (arith, i))
 
 pub clear_last :
-    (front b l start c x y : ℕ) (bytes : List ℕ) (fs : List Free) → Chained front b bytes fs l → Blocks start c fs → Clear x y fs →
+    (front b l start c x y : ℕ) (bytes : List ℕ) (fs : List Free) → Chained front b bytes fs l → Blocks start c fs →
+    Clear x y fs →
     ClearOf x y b → ClearOf x y l
 clear_last front b l start c x y bytes [] h k q r = subst (λ z. ClearOf x y z) h r
 clear_last front b l start c x y bytes (f ∷ fs) h k q r =
@@ -63,15 +70,19 @@ clear_both x y (f ∷ fs) gs h k = (h.0, clear_both x y fs gs h.1 k)
 passed_same :
     (old new : List ℕ) (front l : ℕ) → 12 ≤ front →
     ((x y : ℕ) → y ≤ link_place front l → (y ≤ 12) ⊎ (front ≤ x) → Agrees old new x y) → Passed old new front front l
-passed_same old new front zero h f = record { head = λ i. absurd (omega (arith, i)); words = λ x i. absurd (omega (arith, i)) }
+passed_same old new front zero h f =
+    record { head = λ i. absurd (omega (arith, i)); words = λ x i. absurd (omega (arith, i)) }
 passed_same old new front (suc o) h f =
     record {
       head = λ i. word_same old new 8 12 8 (f 8 12 (omega (arith, h)) (inl (omega arith))) (omega arith) (omega arith);
       words = λ x i.
-          word_same old new (front + x) (front + x + 4) (front + x) (f (front + x) (front + x + 4) (omega (arith, i)) (inr (omega arith))) (omega arith) (omega arith);
+          word_same old new (front + x) (front + x + 4) (front + x) (f (front + x) (front + x + 4) (omega (arith, i))
+          (inr (omega arith))) (omega arith) (omega arith);
     }
 
-pub listed_least : (front link start c : ℕ) (bytes : List ℕ) (fs : List Free) → Listed front link bytes fs → Blocks start c fs → link ≤ c
+pub listed_least :
+    (front link start c : ℕ) (bytes : List ℕ) (fs : List Free) → Listed front link bytes fs → Blocks start c fs →
+    link ≤ c
 listed_least front link start c bytes [] h k = omega (arith, h)
 listed_least front link start c bytes (f ∷ fs) h k = omega (arith, h.0, k.2, blocks_within (f.offset + f.size) c fs k.4)
 
@@ -85,7 +96,8 @@ pub record Relisted (front : ℕ) (old new : List ℕ) (fs : List Free) : Type 0
 
 pub relisted :
     (front c l link : ℕ) (old : List ℕ) (passed rest : List Free) (f : Free) → 12 ≤ front → c ≤ greatest_capacity →
-    length old ≡ front + c → Chained front 0 old passed l → Blocks 0 c (passed ++ (f ∷ rest)) → Listed front link old rest →
+    length old ≡ front + c → Chained front 0 old passed l → Blocks 0 c (passed ++ (f ∷ rest)) →
+    Listed front link old rest →
     Relisted front old (with_free front l f link old) (passed ++ (f ∷ rest))
 relisted front c l link old passed rest f h g n chained blocks listed =
     let s = blocks_split 0 c passed f rest blocks in
@@ -104,29 +116,49 @@ relisted front c l link old passed rest f h g n chained blocks listed =
     let some = s.some in
     let agrees : (x y : ℕ) → (y ≤ place) ⊎ (place + 4 ≤ x) → (y ≤ at) ⊎ (8 + at ≤ x) → Agrees old new x y =
     λ x y i j.
-    agrees_twice old b new x y (agrees_twice old a b x y (agrees_word old at f.size x y (first at x y j)) (agrees_word a (4 + at) link x y (second at x y j))) (agrees_word b place (suc f.offset) x y i)
+    agrees_twice old b new x y (agrees_twice old a b x y (agrees_word old at f.size x y (first at x y j)) (agrees_word
+    a (4 + at) link x y (second at x y j))) (agrees_word b place (suc f.offset) x y i)
     in
-    let leads : link_behind front l new ≡ suc f.offset = word_there b place (suc f.offset) (omega (arith, end, some, g)) (omega (arith, nb, n, p, end, some)) in
+    let leads : link_behind front l new ≡ suc f.offset = word_there b place (suc f.offset) (omega (
+      arith,
+      end,
+      some,
+      g,
+    )) (omega (arith, nb, n, p, end, some)) in
     let size : size_of front f.offset new ≡ f.size =
     word_other b place (suc f.offset) at (inr p)
-    ∙ (word_other a (4 + at) link at (inl (omega arith)) ∙ word_there old at f.size (omega (arith, end, g)) (omega (arith, n, end, some)))
+    ∙ (word_other a (4 + at) link at (inl (omega arith)) ∙ word_there old at f.size (omega (arith, end, g)) (omega
+    (arith, n, end, some)))
     in
     let next : link_behind front (suc f.offset) new ≡ link =
     word_other b place (suc f.offset) (4 + at) (inr (omega (arith, p)))
     ∙ word_there a (4 + at) link (omega (arith, small, g)) (omega (arith, na, n, end, some))
     in
-    let chain = chained_moved old new front front 0 l 0 f.offset passed chained s.passed tt (passed_same old new front l h (λ x y i j. agrees x y (inl i) (inl (omega (arith, i, p))))) in
+    let chain = chained_moved old new front front 0 l 0 f.offset passed chained s.passed tt (passed_same old new front
+    l h (λ x y i j. agrees x y (inl i) (inl (omega (arith, i, p))))) in
     let behind : AllBut old new front 0 (f.offset + f.size) =
-    record { agrees = λ x y i j. above x y i j (λ e. agrees x y (inr (omega (arith, e, p, some))) (inr (omega (arith, e, some)))) }
+    record {
+      agrees =
+          λ x y i j. above x y i j (λ e. agrees x y (inr (omega (arith, e, p, some))) (inr (omega (arith, e, some))));
+    }
     in
-    let rest_same = listed_same old new front link rest listed (blocks_clear old new front 0 (f.offset + f.size) (f.offset + f.size) c rest behind s.rest (clear_behind 0 (f.offset + f.size) (f.offset + f.size) c rest s.rest (omega arith))) in
+    let rest_same = listed_same old new front link rest listed (blocks_clear old new front 0 (f.offset + f.size)
+    (f.offset + f.size) c rest behind s.rest (clear_behind 0 (f.offset + f.size) (f.offset + f.size) c rest s.rest
+    (omega arith))) in
     record {
       as_many = nn;
-      listed = listed_behind front 0 l new passed (f ∷ rest) chain (leads, size, subst (λ x. Listed front x new rest) (sym next) rest_same);
+      listed =
+          listed_behind front 0 l new passed (f ∷ rest) chain (
+            leads,
+            size,
+            subst (λ x. Listed front x new rest) (sym
+                next) rest_same,
+          );
       low = λ x y i. agrees x y (place_low front l x y h i) (under x y i);
       others = λ x y q.
           let r = clear_passed x y passed (f ∷ rest) q in
-          agrees (front + x) (front + y) (place_clear front l x y h (clear_last front 0 l 0 f.offset x y old passed chained s.passed r.0 tt)) (beside x y some r.1.0);
+          agrees (front + x) (front + y) (place_clear front l x y h (clear_last front 0 l 0 f.offset x y old passed
+          chained s.passed r.0 tt)) (beside x y some r.1.0);
     }
   where
     first : (at x y : ℕ) → (y ≤ at) ⊎ (8 + at ≤ x) → (y ≤ at) ⊎ (at + 4 ≤ x)
@@ -139,7 +171,8 @@ relisted front c l link old passed rest f h g n chained blocks listed =
 
     above :
         (x y : ℕ) → front ≤ x → (y ≤ front + 0) ⊎ (front + (f.offset + f.size) ≤ x) →
-        (front + (f.offset + f.size) ≤ x → Agrees old (with_free front l f link old) x y) → Agrees old (with_free front l f link old) x y
+        (front + (f.offset + f.size) ≤ x → Agrees old (with_free front l f link old) x y) →
+        Agrees old (with_free front l f link old) x y
     above x y i (inl j) k = record { same = λ z u v. absurd (omega (arith, i, j, u, v)) }
     above x y i (inr j) k = k j
 
@@ -157,7 +190,8 @@ relisted front c l link old passed rest f h g n chained blocks listed =
 
 pub unlisted :
     (front c e l link : ℕ) (old : List ℕ) (passed rest : List Free) → 12 ≤ front → c ≤ greatest_capacity →
-    length old ≡ front + c → Chained front 0 old passed l → Blocks 0 e passed → Blocks e c rest → Listed front link old rest →
+    length old ≡ front + c → Chained front 0 old passed l → Blocks 0 e passed → Blocks e c rest →
+    Listed front link old rest →
     Relisted front old (with_word (link_place front l) link old) (passed ++ rest)
 unlisted front c e l link old passed rest h g n chained blocks further listed =
     let place = link_place front l in
@@ -166,17 +200,29 @@ unlisted front c e l link old passed rest h g n chained blocks further listed =
     let before : Before l e = last_before front 0 l 0 e old passed chained blocks tt in
     let p : place + 4 ≤ front + e = place_before front l e h before in
     let small : link ≤ c = listed_least front link e c old rest listed further in
-    let leads : link_behind front l new ≡ link = word_there old place link (omega (arith, small, g)) (omega (arith, n, p, within)) in
-    let chain = chained_moved old new front front 0 l 0 e passed chained blocks tt (passed_same old new front l h (λ x y i j. agrees_word old place link x y (inl i))) in
-    let behind : AllBut old new front 0 e = record { agrees = λ x y i j. agrees_word old place link x y (above x y p i j) } in
-    let rest_same = listed_same old new front link rest listed (blocks_clear old new front 0 e e c rest behind further (clear_behind 0 e e c rest further (omega arith))) in
+    let leads : link_behind front l new ≡ link = word_there old place link (omega (arith, small, g)) (omega (
+      arith,
+      n,
+      p,
+      within,
+    )) in
+    let chain = chained_moved old new front front 0 l 0 e passed chained blocks tt (passed_same old new front l h (λ x
+    y i j. agrees_word old place link x y (inl i))) in
+    let behind : AllBut old new front 0 e = record {
+      agrees = λ x y i j. agrees_word old place link x y (above x y p i
+          j);
+    } in
+    let rest_same = listed_same old new front link rest listed (blocks_clear old new front 0 e e c rest behind further
+    (clear_behind 0 e e c rest further (omega arith))) in
     record {
       as_many = length_word old place link;
-      listed = listed_behind front 0 l new passed rest chain (subst (λ x. Listed front x new rest) (sym leads) rest_same);
+      listed =
+          listed_behind front 0 l new passed rest chain (subst (λ x. Listed front x new rest) (sym leads) rest_same);
       low = λ x y i. agrees_word old place link x y (place_low front l x y h i);
       others = λ x y q.
           let r = clear_passed x y passed rest q in
-          agrees_word old place link (front + x) (front + y) (place_clear front l x y h (clear_last front 0 l 0 e x y old passed chained blocks r.0 tt));
+          agrees_word old place link (front + x) (front + y) (place_clear front l x y h (clear_last front 0 l 0 e x y
+          old passed chained blocks r.0 tt));
     }
   where
     above :
@@ -192,26 +238,31 @@ unlisted front c e l link old passed rest h g n chained blocks further listed =
 -- ---- all is free from a place on
 
 pub end_relisted :
-    (front c e l : ℕ) (old : List ℕ) (passed : List Free) → 12 ≤ front → c ≤ greatest_capacity → c % 16 ≡ 0 → e % 16 ≡ 0 → e ≤ c →
+    (front c e l : ℕ) (old : List ℕ) (passed : List Free) → 12 ≤ front → c ≤ greatest_capacity → c % 16 ≡ 0 →
+    e % 16 ≡ 0 → e ≤ c →
     length old ≡ front + c → Chained front 0 old passed l → Blocks 0 e passed →
     Relisted front old (with_end front l e c old) (passed ++ gap_before e c [])
 end_relisted front c e l old passed h g a b i n chained blocks = by_test (e == c) refl
   where
-    blocks_with : (start : ℕ) (fs : List Free) → Blocks start e fs → e < c → Blocks start c (fs ++ (free e (c - e) ∷ []))
+    blocks_with :
+        (start : ℕ) (fs : List Free) → Blocks start e fs → e < c → Blocks start c (fs ++ (free e (c - e) ∷ []))
     blocks_with start [] k l = (k, b, omega (arith, a, b, l), omega (arith, a, b, l), omega (arith, l))
     blocks_with start (f ∷ fs) k l = (k.0, k.1, k.2, k.3, blocks_with (f.offset + f.size) fs k.4 l)
 
     by_test :
         (t : Bool) → (e == c) ≡ t →
-        Relisted front old (cond t (with_word (link_place front l) 0 old) (with_free front l (free e (c - e)) 0 old)) (passed ++ gap_before e c [])
+        Relisted front old (cond t (with_word (link_place front l) 0 old) (with_free front l (free e (c - e)) 0 old))
+        (passed ++ gap_before e c [])
     by_test true t =
         let q = eq_tells e c true t in
         let z : gap_before e c [] ≡ [] = ap (λ x. cond x (free e (c - e) ∷ []) []) (lt_false e c (omega (arith, q))) in
-        subst (λ xs. Relisted front old (with_word (link_place front l) 0 old) (passed ++ xs)) (sym z) (unlisted front c e l 0 old passed [] h g n chained blocks i refl)
+        subst (λ xs. Relisted front old (with_word (link_place front l) 0 old) (passed ++ xs)) (sym z) (unlisted front
+        c e l 0 old passed [] h g n chained blocks i refl)
     by_test false t =
         let q : e < c = less (eq_tells e c false t) in
         let z : gap_before e c [] ≡ free e (c - e) ∷ [] = ap (λ x. cond x (free e (c - e) ∷ []) []) (lt_true e c q) in
-        subst (λ xs. Relisted front old (with_free front l (free e (c - e)) 0 old) (passed ++ xs)) (sym z) (relisted front c l 0 old passed [] (free e (c - e)) h g n chained (blocks_with 0 passed blocks q) refl)
+        subst (λ xs. Relisted front old (with_free front l (free e (c - e)) 0 old) (passed ++ xs)) (sym z) (relisted
+        front c l 0 old passed [] (free e (c - e)) h g n chained (blocks_with 0 passed blocks q) refl)
       where
         less : e ≢ c → e < c
         less q = omega (arith, i, q)

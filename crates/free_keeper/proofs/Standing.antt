@@ -1,5 +1,6 @@
 -- What the front of bytes says, and that they stand for what map, headers and links tell.
-use Rattle.std.proofs.Common.{◌≡◌, ◌⊎◌, inl, inr, ℕ, ◌+◌, ◌*◌, ◌%◌, ◌^◌, ◌<◌, ◌≤◌, ℤ, pos, negsuc, List, [], ◌∷◌, length, Option, Some, None, Bool, true, false, refl, ap, ◌∙◌, subst, arith}
+use Rattle.std.proofs.Common.{◌≡◌, ◌⊎◌, inl, inr, ℕ, ◌+◌, ◌*◌, ◌%◌, ◌^◌, ◌<◌, ◌≤◌, ℤ, pos, negsuc, List, [], ◌∷◌}
+use Rattle.std.proofs.Common.{length, Option, Some, None, Bool, true, false, refl, ap, ◌∙◌, subst, arith}
 use Rattle.std.specs.Prelude.{FitsSigned, cond, nat_le, nat_lt, ◌&&◌, ◌==◌}
 use Rattle.std.specs.Int.{w32}
 use Rattle.std.proofs.lemmas.Int.{to_z-of_z}
@@ -13,7 +14,8 @@ use Rattle.free_keeper.proofs.Tests.{both, and_true, eq_tells, eq_true, le_tells
 use Rattle.free_keeper.proofs.Links.{Listed, listed_tells, listed_true}
 use Rattle.free_keeper.proofs.Marking.{order_tells, order_true, Marked, marked_by, Headers, headers_read, placed_by}
 use Rattle.free_keeper.proofs.Relisting.{word_there, word_other}
-use Rattle.free_keeper.specs.FreeList.{mark, map_for, front_for, bytes_for, has_front, link_behind, gaps, kept_in, placed_in, in_order, is_listed, is_whole, free_list_area, with_header}
+use Rattle.free_keeper.specs.FreeList.{mark, map_for, front_for, bytes_for, has_front, link_behind, gaps, kept_in}
+use Rattle.free_keeper.specs.FreeList.{placed_in, in_order, is_listed, is_whole, free_list_area, with_header}
 
 pub record Front (bytes : List ℕ) (capacity : ℕ) : Type 0 where
   pub marked : word_at 0 bytes ≡ mark
@@ -32,7 +34,8 @@ pub record Stands (bytes : List ℕ) (capacity : ℕ) (gs : List Kept) : Type 0 
 front_true : (bytes : List ℕ) → has_front bytes ≡ true → Front bytes (capacity_in bytes)
 front_true bytes e =
     let c = capacity_in bytes in
-    let t = both (word_at 0 bytes == mark) ((c % 16 == 0) && (nat_le c greatest_capacity && (length bytes == bytes_for c))) e in
+    let t = both (word_at 0 bytes == mark) ((c % 16 == 0) && (nat_le c greatest_capacity && (length bytes == bytes_for
+    c))) e in
     let u = both (c % 16 == 0) (nat_le c greatest_capacity && (length bytes == bytes_for c)) t.1 in
     let v = both (nat_le c greatest_capacity) (length bytes == bytes_for c) u.1 in
     record {
@@ -55,12 +58,18 @@ area_of : List ℕ → KeptArea
 area_of bytes = record { capacity = capacity_in bytes; placed = placed_in bytes }
 
 pub stands_from : (bytes : List ℕ) (a : KeptArea) → free_list_area bytes ≡ Some a → Stands bytes a.capacity a.placed
-stands_from bytes a e = by_test (has_front bytes && is_whole (front_for (capacity_in bytes)) (capacity_in bytes) bytes (placed_in bytes)) refl e
+stands_from bytes a e =
+    by_test (has_front bytes && is_whole (front_for (capacity_in bytes)) (capacity_in bytes) bytes (placed_in bytes))
+    refl e
   where
     by_test :
         (t : Bool) →
         (has_front bytes && is_whole (front_for (capacity_in bytes)) (capacity_in bytes) bytes (placed_in bytes)) ≡ t →
-        cond t (Some (record { capacity = capacity_in bytes; placed = placed_in bytes })) None ≡ Some a → Stands bytes a.capacity a.placed
+        cond t (Some (record {
+          capacity =
+              capacity_in bytes;
+          placed = placed_in bytes;
+        })) None ≡ Some a → Stands bytes a.capacity a.placed
     by_test true t e =
         let c = capacity_in bytes in
         let f = front_for c in
@@ -88,16 +97,19 @@ stands_for bytes capacity gs s =
     let f = front_for c in
     let p : placed_in bytes ≡ gs = placed_by f (8 * map_for c) c bytes gs h.ordered (omega arith) h.marked h.headers in
     let w : is_whole f c bytes gs ≡ true =
-    and_true (in_order 0 c gs) (is_listed f (link_behind f 0 bytes) bytes (gaps 0 c gs)) (order_true 0 c gs h.ordered) (listed_true f (link_behind f 0 bytes) bytes (gaps 0 c gs) h.listed)
+    and_true (in_order 0 c gs) (is_listed f (link_behind f 0 bytes) bytes (gaps 0 c gs)) (order_true 0 c gs h.ordered)
+    (listed_true f (link_behind f 0 bytes) bytes (gaps 0 c gs) h.listed)
     in
     let t : (has_front bytes && is_whole f c bytes (placed_in bytes)) ≡ true =
-    and_true (has_front bytes) (is_whole f c bytes (placed_in bytes)) (true_front bytes h.front) (ap (is_whole f c bytes) p ∙ w)
+    and_true (has_front bytes) (is_whole f c bytes (placed_in bytes)) (true_front bytes h.front) (ap (is_whole f c
+    bytes) p ∙ w)
     in
     ap (λ b. cond b (Some (record { capacity = c; placed = placed_in bytes })) None) t
     ∙ ap (λ (xs : List Kept). let a : Option KeptArea = Some (record { capacity = c; placed = xs }) in a) p) s
 
 pub front_same :
-    (old new : List ℕ) (capacity : ℕ) → Front old capacity → length new ≡ length old → Agrees old new 0 8 → Front new capacity
+    (old new : List ℕ) (capacity : ℕ) → Front old capacity → length new ≡ length old → Agrees old new 0 8 →
+    Front new capacity
 front_same old new capacity f n h =
     record {
       marked = word_same old new 0 8 0 h (omega arith) (omega arith) ∙ f.marked;
@@ -140,12 +152,15 @@ length_header at g m =
     length_word b (8 + at) (word g.extent) ∙ (length_word a (4 + at) g.signature ∙ length_word m at g.size)
 
 pub agrees_header :
-    (at : ℕ) (g : Kept) (m : List ℕ) (from to : ℕ) → (to ≤ at) ⊎ (12 + at ≤ from) → Agrees m (with_header at g m) from to
+    (at : ℕ) (g : Kept) (m : List ℕ) (from to : ℕ) → (to ≤ at) ⊎ (12 + at ≤ from) →
+    Agrees m (with_header at g m) from to
 agrees_header at g m from to h =
     let a = with_word at g.size m in
     let b = with_word (4 + at) g.signature a in
     let c = with_word (8 + at) (word g.extent) b in
-    agrees_twice m b c from to (agrees_twice m a b from to (agrees_word m at g.size from to (first h)) (agrees_word a (4 + at) g.signature from to (beside 4 (omega arith) h))) (agrees_word b (8 + at) (word g.extent) from to (beside 8 (omega arith) h))
+    agrees_twice m b c from to (agrees_twice m a b from to (agrees_word m at g.size from to (first h)) (agrees_word a
+    (4 + at) g.signature from to (beside 4 (omega arith) h))) (agrees_word b (8 + at) (word g.extent) from to (beside
+    8 (omega arith) h))
   where
     first : (to ≤ at) ⊎ (12 + at ≤ from) → (to ≤ at) ⊎ (at + 4 ≤ from)
     first (inl x) = inl x
@@ -182,15 +197,22 @@ header_kept at g m f i =
     made {s} {t} {z} x y e =
         ap (λ (n : ℕ). let k : Kept = record { offset = g.offset; size = n; signature = t; extent = z } in k) x
         ∙ (ap (λ (n : ℕ). let k : Kept = record { offset = g.offset; size = g.size; signature = n; extent = z } in k) y
-        ∙ ap (λ (n : ℤ). let k : Kept = record { offset = g.offset; size = g.size; signature = g.signature; extent = n } in k) e)
+        ∙ ap (λ (n : ℤ). let k : Kept = record {
+          offset = g.offset;
+          size = g.size;
+          signature = g.signature;
+          extent = n;
+        } in k) e)
 
 pub headers_placed :
-    (front : ℕ) (bytes : List ℕ) (k : Kept) (gs : List Kept) → kept_in (front + k.offset) k.offset bytes ≡ k → Headers front bytes gs →
+    (front : ℕ) (bytes : List ℕ) (k : Kept) (gs : List Kept) → kept_in (front + k.offset) k.offset bytes ≡ k →
+    Headers front bytes gs →
     Headers front bytes (with_kept k gs)
 headers_placed front bytes k [] e h = (e, tt)
 headers_placed front bytes k (g ∷ gs) e h = by_test (nat_lt k.offset g.offset) (headers_placed front bytes k gs e h.1)
   where
     by_test :
-        (t : Bool) → Headers front bytes (with_kept k gs) → Headers front bytes (cond t (k ∷ g ∷ gs) (g ∷ with_kept k gs))
+        (t : Bool) → Headers front bytes (with_kept k gs) →
+        Headers front bytes (cond t (k ∷ g ∷ gs) (g ∷ with_kept k gs))
     by_test true rest = (e, h)
     by_test false rest = (h.0, rest)

@@ -1,12 +1,18 @@
--- The third keeper: what is free is a list. A free block holds its size and the link to the next free block, in the order of their
--- offsets; two never touch, so that each is as large as it can be. A map of bits tells at which multiples of 16 a generation begins:
--- whatever a program writes into its data, nothing there is taken for a header. The area's mark word stands first, then its
--- capacity, the link to the first free block, the map, and the capacity's bytes, from the next place on that is a multiple of 16. A
+-- The third keeper: what is free is a list. A free block holds its size and the link to the next free block, in the
+-- order of their
+-- offsets; two never touch, so that each is as large as it can be. A map of bits tells at which multiples of 16 a
+-- generation begins:
+-- whatever a program writes into its data, nothing there is taken for a header. The area's mark word stands first,
+-- then its
+-- capacity, the link to the first free block, the map, and the capacity's bytes, from the next place on that is a
+-- multiple of 16. A
 -- generation's first 16 bytes are its header: its size, signature and extent, a word each.
 --
--- A link is 0 behind the last free block, else one more than the offset of the next. What leads to a free block is told likewise: 0
+-- A link is 0 behind the last free block, else one more than the offset of the next. What leads to a free block is
+-- told likewise: 0
 -- is the area's own link, else one more than the offset of the free block that holds the link.
-use Rattle.std.specs.Prelude.{ℕ, zero, suc, ◌+◌, ◌-◌, ◌*◌, ◌/◌, ◌%◌, ℤ, Bool, ◌&&◌, ◌==◌, nat_lt, nat_le, List, [], ◌∷◌, ◌++◌, length, take, replicate, Option, Some, None, if◌then◌else◌}
+use Rattle.std.specs.Prelude.{ℕ, zero, suc, ◌+◌, ◌-◌, ◌*◌, ◌/◌, ◌%◌, ℤ, Bool, ◌&&◌, ◌==◌, nat_lt, nat_le, List, []}
+use Rattle.std.specs.Prelude.{◌∷◌, ◌++◌, length, take, replicate, Option, Some, None, if◌then◌else◌}
 use Rattle.rv_meaning.specs.Words.{signed, word}
 use Rattle.pli_typing.specs.Signatures.{rounded_up, footprint}
 use Rattle.area_keeper.specs.Keeper.{Kept, KeptArea, Keeper}
@@ -134,7 +140,8 @@ free_list_made capacity bytes = freed_all capacity (with_word 4 capacity (with_w
 abbrev pub free_list_emptied : List ℕ → List ℕ
 free_list_emptied bytes = freed_all (capacity_in bytes) bytes
 
--- how many steps a walk along the free blocks has at most: each takes 16 bytes at least, so that it ends where links go round
+-- how many steps a walk along the free blocks has at most: each takes 16 bytes at least, so that it ends where links
+-- go round
 abbrev pub steps_for : (capacity : ℕ) → ℕ
 steps_for capacity = suc (capacity / 16)
 
@@ -162,9 +169,11 @@ abbrev pub with_generation : (front before : ℕ) → Kept → List ℕ → List
 with_generation front before g bytes =
     with_header (front + g.offset) g
     (with_bit_at map_place (g.offset / 16) 1
-    (without_room front before (footprint g.size) g.offset (size_of front g.offset bytes) (link_behind front (suc g.offset) bytes) bytes))
+    (without_room front before (footprint g.size) g.offset (size_of front g.offset bytes) (link_behind front (suc
+    g.offset) bytes) bytes))
 
-abbrev pub placed_behind : (size signature : ℕ) → (extent : ℤ) → (front : ℕ) → List ℕ → (before : Option ℕ) → Option (ℕ × List ℕ)
+abbrev pub placed_behind :
+    (size signature : ℕ) → (extent : ℤ) → (front : ℕ) → List ℕ → (before : Option ℕ) → Option (ℕ × List ℕ)
 placed_behind size signature extent front bytes None = None
 placed_behind size signature extent front bytes (Some before) =
     let o = link_behind front before bytes - 1 in
@@ -187,7 +196,12 @@ pub record Joined : Type 0 where
 abbrev pub joined_behind : (front before offset size link : ℕ) → List ℕ → Joined
 joined_behind front before o n link bytes =
     if link == suc (o + n)
-    then record { before = before; block = free o (n + size_of front (o + n) bytes); link = link_behind front link bytes }
+    then record {
+      before =
+          before;
+      block = free o (n + size_of front (o + n) bytes);
+      link = link_behind front link bytes;
+    }
     else record { before = before; block = free o n; link = link }
 
 -- what is freed at an offset, joined with the free blocks that it touches
@@ -206,7 +220,8 @@ with_joined front j bytes = with_free front j.before j.block j.link bytes
 abbrev pub without_generation : (front capacity : ℕ) → Kept → List ℕ → List ℕ
 without_generation front capacity g bytes =
     with_bit_at map_place (g.offset / 16) 0
-    (with_joined front (joined_from (steps_for capacity) front g.offset (footprint g.size) 0 (link_behind front 0 bytes) bytes) bytes)
+    (with_joined front (joined_from (steps_for capacity) front g.offset (footprint g.size) 0 (link_behind front 0
+    bytes) bytes) bytes)
 
 -- a generation of another signature stays
 abbrev pub freed_if : (signature front capacity : ℕ) → List ℕ → Option Kept → Option (List ℕ)
