@@ -1,14 +1,14 @@
-mod Tests
-mod BitLaws
+pub mod Tests
+pub mod BitLaws
 pub mod Gaps
 pub mod Order
 pub mod Links
 pub mod Marking
 mod Moving
-mod Relisting
+pub mod Relisting
 pub mod Standing
-mod FreeStands
-mod FreeCopies
+pub mod FreeStands
+pub mod FreeCopies
 mod FreeBytes
 mod FreeRows
 mod FreeKeeps

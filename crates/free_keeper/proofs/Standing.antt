@@ -31,7 +31,7 @@ pub record Stands (bytes : List ℕ) (capacity : ℕ) (gs : List Kept) : Type 0 
   pub headers : Headers (front_for capacity) bytes gs
   pub listed : Listed (front_for capacity) (link_behind (front_for capacity) 0 bytes) bytes (gaps 0 capacity gs)
 
-front_true : (bytes : List ℕ) → has_front bytes ≡ true → Front bytes (capacity_in bytes)
+pub front_true : (bytes : List ℕ) → has_front bytes ≡ true → Front bytes (capacity_in bytes)
 front_true bytes e =
     let c = capacity_in bytes in
     let t = both (word_at 0 bytes == mark) ((c % 16 == 0) && (nat_le c greatest_capacity && (length bytes == bytes_for

@@ -1,0 +1,6 @@
+mod BitSteps
+mod Opened
+mod WalkSteps
+mod MapSteps
+mod Wholes
+mod Calls
