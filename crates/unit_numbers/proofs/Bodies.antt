@@ -1,6 +1,6 @@
 -- The list of the main procedure comes to its end: each of its statements does what it means, whatever units it has by
 -- then.
-use Rattle.std.proofs.Common.{◌≡◌, ◌⊎◌, inl, inr, ℕ, zero, suc, ◌+◌, ◌^◌, ◌<◌, ◌≤◌, List, [], ◌∷◌, ◌++◌, Option}
+use Rattle.std.proofs.Common.{◌≡◌, ◌⊎◌, inl, inr, ℕ, zero, suc, ◌+◌, ◌^◌, ◌<◌, ◌≤◌, List, ◌++◌, Option}
 use Rattle.std.proofs.Common.{Some, None, true, false, refl, sym, ap, subst, arith}
 use Rattle.std.proofs.lemmas.Bool.{and_parts, or_cases}
 use Rattle.pli_language.specs.declared.condition.Condition.TheVariants as C
@@ -33,7 +33,7 @@ use Rattle.operator_runs.proofs.Divisors.{zero_divide_ends}
 use Rattle.number_runs.specs.Knowledge.{AreAround, AreStanding, Includes, IsReady, Standing}
 use Rattle.element_runs.specs.Subscripts.{SubscriptComes}
 use Rattle.element_runs.proofs.Outside.{subscripts_end}
-use Rattle.number_runs.specs.Numbers.{Scope, bounds_known}
+use Rattle.number_runs.specs.Numbers.{Scope, bounds_known, type_known}
 use Rattle.number_runs.specs.Statements.{is_statement, statement_needs, statements_need}
 use Rattle.number_runs.proofs.Statements.{form_does}
 use Rattle.number_headlines.proofs.Puts.{error_routine}
@@ -44,11 +44,11 @@ use Rattle.unit_runs.proofs.Changing.{begun_after, changing_ends}
 use Rattle.unit_runs.proofs.OwnRaises.{past_numbers}
 use Rattle.unit_numbers.specs.Programs.{are_steps, is_plain_step, is_step, is_step_with}
 use Rattle.unit_numbers.specs.Units.{own_scope, unit_in, written_scope}
-use Rattle.unit_numbers.proofs.Arrays.{past_array}
+use Rattle.unit_numbers.proofs.Arrays.{past_array, past_narrow}
 use Rattle.unit_numbers.proofs.Calls.{main_calls}
 use Rattle.unit_numbers.proofs.Established.{InForce, IsUnitOf, error_system, in_force, list_placed, start_of}
 use Rattle.unit_numbers.proofs.Established.{unit_stands}
-use Rattle.unit_numbers.proofs.Mains.{Main, block_for, list_of, main_array, main_held, main_number, most_for}
+use Rattle.unit_numbers.proofs.Mains.{Main, block_for, list_of, main_array, main_held, main_narrow, main_number, most_for}
 use Rattle.unit_numbers.proofs.Mains.{own_known, placed}
 use Rattle.unit_numbers.proofs.Puts.{written_ready}
 use Rattle.unit_numbers.proofs.Raises.{divide_with, overflow_with, past_setting}
@@ -149,6 +149,8 @@ main_ready once {program} m input more past few b known =
       variables = λ x h. past_numbers k past x (main_number m input (suc more) x (own_known m input (suc more) x h) b);
       arrays = λ may x h. past_array k past x (bounds_known (own_scope program m.head) x)
           (main_array m input (suc more) x h b);
+      narrows = λ may x h. past_narrow k past x (type_known (own_scope program m.head) x)
+          (main_narrow m input (suc more) x h b);
       parameters = λ x h. absurd (cc h);
       given = λ may. absurd (cc may);
       calls = main_calls once m input more past few b known;

@@ -27,6 +27,8 @@ use Rattle.variable_runs.specs.Lists.{AreAll}
 use Rattle.variable_runs.proofs.Lists.{all_procedure}
 use Rattle.number_runs.specs.Knowledge.{Includes}
 use Rattle.number_runs.specs.Arrays.{is_array_if}
+use Rattle.number_runs.specs.Narrow.{is_narrow_if}
+use Rattle.number_runs.specs.Numbers.{is_narrow_known}
 use Rattle.number_runs.specs.Numbers.{has_none, is_array_known, is_known, is_place, is_plain_if}
 use Rattle.number_runs.specs.Statements.{are_statements, statements_need, statements_set}
 use Rattle.number_runs.specs.Variables.{AreTabled, HasWords, words_in}
@@ -289,6 +291,12 @@ pub record NamedArray {program : Y.Program} (m : Main program) {valued : Bool} {
     pub array : is_array_if (declared_variable program (variable_of x)) ≡ true
     pub of : IsOfBoth m i x
 
+pub record NamedNarrow {program : Y.Program} (m : Main program) {valued : Bool} {number : ℕ} (i : Inner m valued number)
+    (x : Spot) : Type 0
+  where
+    pub narrow : is_narrow_if (declared_variable program (variable_of x)) ≡ true
+    pub of : IsOfBoth m i x
+
 of_both :
     {program : Y.Program} (m : Main program) {valued : Bool} {number : ℕ} (i : Inner m valued number) (x : Spot) →
     (is_place x (place_of_head i.head) || (is_place x (place_of_head m.head) || false)) ≡ true → IsOfBoth m i x
@@ -320,3 +328,11 @@ named_array {program} m i x h =
     let there = is_place x (place_of_head i.head) || (is_place x (place_of_head m.head) || false) in
     let a = and_parts there (is_array_if (declared_variable program (variable_of x))) h in
     record { array = a.1; of = of_both m i x a.0 }
+
+pub named_narrow :
+    {program : Y.Program} (m : Main program) {valued : Bool} {number : ℕ} (i : Inner m valued number) (x : Spot) →
+    is_narrow_known (called_scope program m.head i.head i.writes) x ≡ true → NamedNarrow m i x
+named_narrow {program} m i x h =
+    let there = is_place x (place_of_head i.head) || (is_place x (place_of_head m.head) || false) in
+    let a = and_parts there (is_narrow_if (declared_variable program (variable_of x))) h in
+    record { narrow = a.1; of = of_both m i x a.0 }

@@ -68,7 +68,8 @@ use Rattle.unit_numbers.proofs.Past.{main_past}
 use Rattle.unit_numbers.proofs.Mains.{Main, block_for, list_of, most_for, run_for, start_for}
 use Rattle.unit_numbers.proofs.Puts.{settled_writes}
 use Rattle.unit_numbers.proofs.Raises.{entry_low}
-use Rattle.unit_numbers.proofs.Visits.{visit_array, visit_block, visit_divides, visit_number, visit_overflow}
+use Rattle.unit_numbers.proofs.Visits.{visit_array, visit_block, visit_divides, visit_narrow, visit_number}
+use Rattle.unit_numbers.proofs.Visits.{visit_overflow}
 use Rattle.unit_numbers.proofs.Visits.{visit_system, visit_told}
 
 -- ---- raises in what is called
@@ -203,6 +204,7 @@ called_ready once {program} m i v more past entry function h b home =
       raises = called_raises once m i v more past entry function (labels_in i.body ++ []) h b;
       variables = λ x known. visit_number m i v more past entry function h b x known;
       arrays = λ may x known. visit_array m i v more past entry function h b x known;
+      narrows = λ may x known. visit_narrow m i v more past entry function h b x known;
       parameters = λ x known. absurd (cc known);
       given = λ may. absurd (cc may);
       calls = record {
@@ -223,6 +225,7 @@ called_ready once {program} m i v more past entry function h b home =
             few = omega (arith, inside);
             variables = λ x known. visit_number m i v more past entry function h b x known;
             arrays = λ may x known. visit_array m i v more past entry function h b x known;
+            narrows = λ may x known. visit_narrow m i v more past entry function h b x known;
             parameters = λ x known. absurd (cc known);
             lists = lists_known program k m.memory (visit_told m i v more past entry function h b);
           });

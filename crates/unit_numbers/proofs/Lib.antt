@@ -19,4 +19,5 @@ pub mod Rows
 pub mod GuardRows
 pub mod GroupRows
 pub mod MendRows
+pub mod WrapRows
 pub mod Spread

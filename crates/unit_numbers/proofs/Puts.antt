@@ -29,7 +29,10 @@ use Rattle.block_headlines.specs.Constants.{IsOf}
 use Rattle.block_headlines.proofs.Constants.{main_of_program}
 use Rattle.argument_runs.specs.Parameters.{IsParameter}
 use Rattle.number_runs.specs.Knowledge.{IsReady, KnowsLists, KnowsPuts}
-use Rattle.number_runs.specs.Numbers.{Scope, bounds_known, is_array_known, is_known, is_received}
+use Rattle.scalar_runs.specs.Scalars.{IsScalar}
+use Rattle.number_runs.specs.Numbers.{Scope, bounds_known, is_array_known, is_known, is_narrow_known, is_received}
+use Rattle.number_runs.specs.Numbers.{type_known}
+use Rattle.number_runs.proofs.Puts.{narrow_placed}
 use Rattle.number_runs.proofs.Received.{parameter_placed}
 use Rattle.number_headlines.proofs.Puts.{error_routine, lists_known}
 use Rattle.unit_runs.specs.Changing.{IsPast, Past, after, past_point}
@@ -89,6 +92,7 @@ pub record IsSettled (s : Scope) (k : Block) (most : ℕ) : Type 0 where
   pub few : 18 < most
   pub variables : (x : Spot) → is_known s x ≡ true → IsNumber k x
   pub arrays : s.elements ≡ true → (x : Spot) → is_array_known s x ≡ true → IsArray k x (bounds_known s x)
+  pub narrows : s.narrows ≡ true → (x : Spot) → is_narrow_known s x ≡ true → IsScalar k x (type_known s x)
   pub parameters : (x : Spot) → is_received s x ≡ true → IsParameter k x
   pub lists : KnowsLists k
 
@@ -124,6 +128,7 @@ settled_writes s k most h =
             });
             variables = λ x is. number_placed k place x (h.variables x is);
             arrays = λ raises x is. array_placed k place x (bounds_known s x) (h.arrays raises x is);
+            narrows = λ may x is. narrow_placed k place x (type_known s x) (h.narrows may x is);
             parameters = λ x is. parameter_placed k place x (h.parameters x is);
             functions = λ level n is. absurd (cc is);
             given = λ may. absurd (cc may);
@@ -169,6 +174,7 @@ written_ready once {program} m input more past few b known ready =
       };
       variables = ready.variables;
       arrays = ready.arrays;
+      narrows = ready.narrows;
       parameters = ready.parameters;
       given = λ may. absurd (cc may);
       calls = record { functions = calls.functions; procedures = calls.procedures };
@@ -185,6 +191,7 @@ written_ready once {program} m input more past few b known ready =
             few = omega (arith, inside);
             variables = ready.variables;
             arrays = ready.arrays;
+            narrows = ready.narrows;
             parameters = ready.parameters;
             lists = lists_known program k m.memory (main_told m input (suc more) past b);
           });

@@ -335,6 +335,7 @@ scene_ready once {program} m z s r is made b =
       raises = scene_raises once m z s r is (labels_in z.unit.body ++ []);
       variables = λ v known. s.numbers r is made b v known;
       arrays = λ may v known. absurd (cc may);
+      narrows = λ may. absurd (cc may);
       parameters = λ v known. absurd (cc known);
       given = λ may. absurd (cc may);
       calls = record {
@@ -357,6 +358,7 @@ scene_ready once {program} m z s r is made b =
             few = omega (arith, inside);
             variables = λ v known. s.numbers r is made b v known;
             arrays = λ may v known. absurd (cc may);
+            narrows = λ may. absurd (cc may);
             parameters = λ v known. absurd (cc known);
             lists = lists_known program (scene_inner m z r) m.memory
                 (called_of_program program (scene_block m z) (scene_inner m z r) r.numbers s.told is.among refl refl

@@ -1,8 +1,8 @@
 -- The block of a procedure or a function that the main procedure calls: its activation, its variables, and the units of
 -- the main procedure, which are in force in it.
-use Rattle.std.proofs.Common.{◌≡◌, ◌⊎◌, inl, inr, ℕ, suc, ◌+◌, ◌*◌, ◌<◌, ◌≤◌, List, [], ◌∷◌, length, Option}
+use Rattle.std.proofs.Common.{◌≡◌, ◌⊎◌, inl, inr, ℕ, suc, ◌+◌, ◌≤◌, List, [], ◌∷◌, length, Option}
 use Rattle.std.proofs.Common.{Some, None, false, true, refl, sym, ap, ◌∙◌, subst, arith}
-use Rattle.std.specs.Prelude.{◌==◌, ◌%◌, Bool, cond, drop, nat_lt}
+use Rattle.std.specs.Prelude.{◌==◌, Bool, cond, drop, nat_lt}
 use Rattle.std.proofs.lemmas.Bool.{eq-eqb}
 use Rattle.pli_language.specs.declared.condition.Condition.{Condition}
 use Rattle.pli_language.specs.declared.condition.Condition.TheVariants as C
@@ -16,7 +16,7 @@ use Rattle.pli_meaning.specs.BasicValues.{VariableName}
 use Rattle.pli_meaning.specs.Making.{with_binding}
 use Rattle.pli_meaning.specs.Raising.{Entry, at_line}
 use Rattle.pli_meaning.specs.World.{World}
-use Rattle.pli_meaning.specs.StorageState.{Activation, Binding, BlockUnit, OnUnit, ancestor, ancestor_at, force}
+use Rattle.pli_meaning.specs.StorageState.{Activation, Binding, BlockUnit, OnUnit, ancestor, force}
 use Rattle.pli_meaning.specs.StorageState.{height_of, most_activations}
 use Rattle.pli_coding.specs.Frames.{fixed_size, temporary_bytes}
 use Rattle.pli_coding.specs.Images.{linked_code}
@@ -29,39 +29,41 @@ use Rattle.activation_relation.specs.Points.{Surroundings}
 use Rattle.activation_relation.specs.ServiceLaws.{IsSystem}
 use Rattle.block_runs.specs.Bodies.{Function}
 use Rattle.block_runs.specs.Machines.{acted}
-use Rattle.program_places.specs.Programs.{body_for, code_for, environment_for}
-use Rattle.program_places.proofs.Procedures.{raise_routines}
+use Rattle.program_places.specs.Programs.{code_for, environment_for}
 use Rattle.program_runs.specs.Calls.{begun_at, block_at}
 use Rattle.program_runs.specs.Procedures.{layer_for}
 use Rattle.program_runs.specs.Starts.{image_parts}
-use Rattle.program_runs.specs.Statements.{Block, IsBegun, Outer, as_outer, outer_block, own_height}
+use Rattle.program_runs.specs.Statements.{Block, IsBegun, Outer, as_outer, outer_block}
 use Rattle.program_runs.specs.Variables.{Declared, generation_for}
 use Rattle.expression_runs.specs.Assignments.{setting_of}
-use Rattle.expression_runs.specs.Values.{OverflowComes, Setting}
+use Rattle.expression_runs.specs.Values.{OverflowComes}
 use Rattle.expression_runs.specs.Variables.{IsNumber, Spot}
 use Rattle.operator_runs.specs.Divisors.{ZeroDivideComes}
 use Rattle.jump_runs.specs.Calls.{block_in}
 use Rattle.jump_runs.proofs.Numbers.{alone, called_number, number_leaving}
 use Rattle.variable_runs.specs.Lists.{all_made, behind_made, layer_behind}
 use Rattle.element_runs.specs.Arrays.{IsArray}
+use Rattle.scalar_runs.specs.Scalars.{IsScalar}
 use Rattle.element_runs.proofs.Outer.{outer_array, procedure_known}
-use Rattle.number_runs.specs.Numbers.{bounds_known, is_array_known, is_known}
+use Rattle.number_runs.specs.Numbers.{bounds_known, is_array_known, is_known, is_narrow_known, type_known}
+use Rattle.number_runs.proofs.Narrow.{outer_narrow}
 use Rattle.number_runs.specs.Variables.{bytes_of, words_in}
-use Rattle.number_runs.proofs.Words.{AreLaid, own_array, own_word, words_laid}
+use Rattle.number_runs.proofs.Words.{AreLaid, own_array, own_narrow, own_word, words_laid}
 use Rattle.number_headlines.proofs.Tables.{block_plain}
 use Rattle.unit_runs.specs.Changing.{Past}
 use Rattle.unit_runs.specs.Establishing as T
-use Rattle.unit_runs.specs.Raised.{AreMade, IsRaiseOf, IsRaised, Raise, Standing, unit_block, unit_entry}
+use Rattle.unit_runs.specs.Raised.{IsRaiseOf, IsRaised, Raise, unit_entry}
 use Rattle.unit_runs.proofs.FurtherVariables.{further_number}
 use Rattle.unit_runs.proofs.OwnRaises.{past_like, past_numbers}
 use Rattle.unit_numbers.specs.Calls.{called_scope}
-use Rattle.unit_numbers.proofs.Arrays.{array_leaving, past_array}
-use Rattle.unit_numbers.proofs.Called.{Inner, IsOfBoth, IsVisit, NamedArray, Visit, named_array, named_is}
+use Rattle.unit_numbers.proofs.Arrays.{array_leaving, narrow_leaving, past_array, past_narrow}
+use Rattle.unit_numbers.proofs.Called.{Inner, IsOfBoth, IsVisit, NamedArray, NamedNarrow, Visit, named_array, named_is}
+use Rattle.unit_numbers.proofs.Called.{named_narrow}
 use Rattle.unit_numbers.proofs.Called.{no_inner_words}
 use Rattle.unit_numbers.proofs.Called.{Named, inner_words, visit_all, visit_begun, visit_callee, visit_made}
 use Rattle.unit_numbers.proofs.Mains as N
 use Rattle.unit_numbers.proofs.Mains.{Main, block_for, free, level_of, list_of, main_number, most_for, own_known}
-use Rattle.unit_numbers.proofs.Mains.{own_main_array, surroundings_for}
+use Rattle.unit_numbers.proofs.Mains.{own_main_array, own_main_narrow, surroundings_for}
 use Rattle.block_headlines.specs.Constants.{IsOf}
 use Rattle.block_headlines.proofs.Constants.{called_of_program}
 use Rattle.unit_numbers.proofs.Puts.{main_told}
@@ -292,6 +294,91 @@ visit_array {program} m i v more past entry function h b x known =
         known v.point v.numbers h.among (visit_made m i v more past h) b')
         (past_array (block_for m v.input (suc more)) past x bounds
         (own_main_array m v.input (suc more) x (record { block = is.0; level = is.1; array = n.array }) h.begun)))
+
+same_narrow :
+    {program : Y.Program} (m : Main program) {valued : Bool} {number : ℕ} (i : Inner m valued number) (v : Visit)
+    (more : ℕ) (past : Past) (entry : Entry) (function : Option Function) (x : Spot) (b : Y.LeafType) →
+    IsScalar (visit_procedure m i v more past) x b → IsScalar (visit_block m i v more past entry function) x b
+same_narrow m i v more past entry function x b is =
+    outer_narrow (visit_procedure m i v more past) (visit_block m i v more past entry function) x b
+    (λ d n. record {
+      declared = n.declared;
+      serial = n.serial;
+      binding = n.binding;
+      living = n.living;
+      lives = n.lives;
+      shape = n.shape;
+      base = n.base;
+      frame = n.frame;
+      at = n.at;
+      low = n.low;
+      inside = n.inside;
+    })
+    is
+
+pub visit_narrow :
+    {program : Y.Program} (m : Main program) {valued : Bool} {number : ℕ} (i : Inner m valued number) (v : Visit)
+    (more : ℕ) (past : Past) (entry : Entry) (function : Option Function) → IsVisit m v more past →
+    IsBegun (visit_block m i v more past entry function) → (x : Spot) →
+    is_narrow_known (called_scope program m.head i.head i.writes) x ≡ true →
+    IsScalar (visit_block m i v more past entry function) x
+    (type_known (called_scope program m.head i.head i.writes) x)
+visit_narrow {program} m i v more past entry function h b x known =
+    same_narrow m i v more past entry function x type (by named named.of)
+  where
+    named : NamedNarrow m i x
+    named = named_narrow m i x known
+
+    type : Y.LeafType
+    type = type_known (called_scope program m.head i.head i.writes) x
+
+    level : i.head.level ≡ 1
+    level = i.level
+
+    outer : m.head.level ≡ 0
+    outer = level_of m
+
+    main : Block
+    main = main_past m v.input (suc more) past
+
+    w : Surroundings
+    w = surroundings_for m v.input (suc more)
+
+    inner : Block
+    inner = block_at w (linked_code (code_for program)) (visit_callee m i v more) v.point v.numbers
+
+    b' : IsBegun inner
+    b' = alone (visit_procedure m i v more past) (as_outer main v.labels ∷ [])
+        (same_begun m i v more past entry function b)
+
+    by : NamedNarrow m i x → IsOfBoth m i x → IsScalar (visit_procedure m i v more past) x type
+    by n (inl is) =
+        narrow_leaving inner (as_outer main v.labels ∷ []) x type
+        (own_narrow w (linked_code (code_for program)) (visit_callee m i v more)
+        v.point main.first v.numbers x (record { high = omega arith; inside = omega arith }) (
+          inner_words m i v.input (suc more) past more v.call v.end v.numbers,
+          visit_all m i v more past h,
+        )
+        (record { block = is.0; level = is.1; narrow = n.narrow }) b')
+    by n (inr is) =
+        let at = is.1 in
+        narrow_leaving inner (as_outer main v.labels ∷ []) x type
+        (outer_narrow main inner x type
+        (λ d known.
+        procedure_known main (visit_callee m i v more) x d
+        (record {
+          begun = visit_begun m v more past h;
+          level = refl;
+          parent = refl;
+          inner = refl;
+          further = omega (arith, at, level, outer);
+          few = omega (arith, level);
+          program = refl;
+          parts = refl;
+        })
+        known v.point v.numbers h.among (visit_made m i v more past h) b')
+        (past_narrow (block_for m v.input (suc more)) past x type
+        (own_main_narrow m v.input (suc more) x (record { block = is.0; level = is.1; narrow = n.narrow }) h.begun)))
 
 -- ---- its activation, over that of the main procedure
 

@@ -25,6 +25,7 @@ called_scope program main head writes =
       puts = writes;
       overflows = not writes;
       divides = not writes;
+      narrows = true;
       elements = true;
       own = true;
       is_outer = λ level label. false;

@@ -6,4 +6,5 @@ pub mod Rows
 pub mod GuardRows
 pub mod GroupRows
 pub mod MendRows
+pub mod WrapRows
 pub mod Groups

@@ -31,6 +31,7 @@ own_scope program main =
       puts = false;
       overflows = true;
       divides = true;
+      narrows = true;
       elements = true;
       own = true;
       is_outer = λ level label. false;
@@ -77,6 +78,7 @@ unit_scope program main body =
       puts = true;
       overflows = not (has_unit C.FixedOverflow body);
       divides = not (has_unit C.ZeroDivide body);
+      narrows = false;
       elements = false;
       own = false;
       is_outer = λ level label. (level == main.level) && is_among label (labels_in body);

@@ -5,6 +5,7 @@ ghost use Rattle.unit_numbers.specs.GuardRows.{GuardKept};
 ghost use Rattle.unit_numbers.specs.Headlines.{UnitNumberHeadlinesKept};
 ghost use Rattle.unit_numbers.specs.MendRows.{MendKept};
 ghost use Rattle.unit_numbers.specs.Rows.{HealKept};
+ghost use Rattle.unit_numbers.specs.WrapRows.{WrapKept};
 
 use block_headlines::laws::unit_headlines_kept;
 use code_marks::laws::marked_once;
@@ -43,6 +44,13 @@ pub fn group_kept()
 /// A worked row: a number that is written again and again, and overflows on its way, where a unit sets it.
 pub fn mend_kept()
     ensures { MendKept }
+{
+    unit_number_headlines_kept();
+}
+
+/// A worked row: a FIXED BINARY(15) variable that is raised over its limit, and wraps, since a unit returns.
+pub fn wrap_kept()
+    ensures { WrapKept }
 {
     unit_number_headlines_kept();
 }
