@@ -17,7 +17,7 @@ use Rattle.pli_coding.specs.Linking.{links_of}
 use Rattle.well_formed_trees.specs.Blocks.{times}
 use Rattle.well_formed_trees.specs.Declarations.{SoundVariable}
 use Rattle.well_formed_trees.specs.Expressions.{SoundNumber}
-use Rattle.well_formed_trees.specs.References.{Designates, IsNumberScalar, IsScalar}
+use Rattle.well_formed_trees.specs.References.{Designates, IsScalar}
 use Rattle.well_formed_trees.specs.Statements.{SoundStmt}
 use Rattle.well_formed_trees.specs.Surroundings.{Around, IsDeclared, Returns, Table, Where}
 use Rattle.well_formed_trees.specs.WellFormed.{AreNested, AreNumbered, DeclaresSound, IsBehind, IsEntry, IsWellFormed}
@@ -27,7 +27,6 @@ use Rattle.run_steps.proofs.Linking.{linked_length}
 use Rattle.expression_runs.specs.Assignments.{assignment}
 use Rattle.expression_runs.specs.Variables.{Spot, number_declared, variable_of, whole}
 use Rattle.element_runs.specs.Arrays.{array_declared, array_leaf, element}
-use Rattle.element_runs.specs.Laws.{element_assigned}
 use Rattle.pli_headline.specs.Headline.{FitsMemory, parts}
 use Rattle.number_headlines.specs.ArrayRows.{flag, flag_bounds, flags_spot, next_struck, place_body, place_function}
 use Rattle.number_headlines.specs.ArrayRows.{prime, prime_spot, sieve_body, sieve_main, sieve_program, strike}

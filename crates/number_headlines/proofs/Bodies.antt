@@ -135,7 +135,7 @@ puts_of once {program} m input acts valued more a blocks few h =
     let k = block_of_run program input acts valued more a in
     puts_known (scope_of program m.called a.head a.body) k (most_for program) h.begun
     (unraised_of once m input acts valued more a blocks few h) h.variables (λ may. h.arrays)
-    h.parameters (lists_known program k m.memory h.told)
+    (λ may. h.narrows) h.parameters (lists_known program k m.memory h.told)
 
 -- wherever limits wait in words of its frame, calls do what they mean
 abbrev EachCall : {program : Y.Program} → Main program → (input : List ℕ) → (acts : ℕ) → (valued : Bool) →
@@ -168,6 +168,7 @@ ready once {program} m input acts valued more a blocks few e calls given =
       raises = raises_of once m input acts valued more a blocks few h;
       variables = h.variables;
       arrays = λ may. h.arrays;
+      narrows = λ may. h.narrows;
       parameters = h.parameters;
       calls = calls a.layers h;
       given = given;

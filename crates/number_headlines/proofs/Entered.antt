@@ -37,6 +37,7 @@ use Rattle.program_runs.specs.Statements.{Block, IsAmong, IsBegun}
 use Rattle.program_runs.specs.Variables.{Declared}
 use Rattle.expression_runs.specs.Variables.{IsNumber, Spot, variable_of}
 use Rattle.element_runs.specs.Arrays.{IsArray}
+use Rattle.scalar_runs.specs.Scalars.{IsScalar}
 use Rattle.element_runs.proofs.Outer.{outer_array}
 use Rattle.variable_runs.specs.Lists.{AreAll, all_made, behind_made, layer_after, layer_behind}
 use Rattle.variable_runs.proofs.Lists.{all_procedure}
@@ -47,12 +48,15 @@ use Rattle.nested_calls.specs.NestedVariables.{IsInside}
 use Rattle.nested_calls.proofs.NestedVariables.{function_known, function_nested, function_number, procedure_known}
 use Rattle.nested_calls.proofs.NestedVariables.{procedure_nested, procedure_number}
 use Rattle.number_runs.specs.Arrays.{bounds_if, is_array_if}
+use Rattle.number_runs.specs.Narrow.{is_narrow_if, type_if}
+use Rattle.number_runs.specs.Numbers.{is_narrow_known}
 use Rattle.number_runs.specs.Numbers.{is_array_known, is_known, is_parameter_if, is_place, is_plain_if, is_received}
 use Rattle.number_runs.specs.Statements.{statements_set}
 use Rattle.number_runs.specs.Variables.{HasWords, HaveRoom, bytes_of, words_in}
 use Rattle.number_runs.proofs.Takes.{words_set}
 use Rattle.number_runs.proofs.Words.{all_words, function_array, function_word, own_array, own_word, room_behind}
-use Rattle.number_runs.proofs.Words.{room_fewer}
+use Rattle.number_runs.proofs.Words.{function_narrow, own_narrow, room_fewer}
+use Rattle.number_runs.proofs.Narrow.{outer_narrow}
 use Rattle.number_headlines.specs.Programs.{is_first_alone, places_to, receivers_of, scope_of}
 use Rattle.number_headlines.proofs.FullWords.{words_at, words_count, words_lower}
 use Rattle.number_headlines.proofs.Inner.{Inner}
@@ -367,6 +371,64 @@ own_array_by true {program} m {input} {acts} {valued} {more} {a = a} {p = p} {nu
     (record { high = omega arith; inside = omega arith }) (has_words m o i call pass, has_all m o i call pass)
     (record { block = is.0; level = is.1; array = array }) b'
 
+-- ---- its scalars of fewer bits
+
+-- one of a block around is the one of the calling block
+outer_narrow_by :
+    (v : Bool) {program : Y.Program} (m : Main program) {input : List ℕ} {acts : ℕ} {valued : Bool} {more b : ℕ}
+    {a : Running} {p : Point} {numbers : ℕ → ℕ}
+    (o : Moment m input acts valued (suc more) a (suc b) p numbers) {level number : ℕ}
+    (i : Inner m a.head false v level number) (call : ℕ) →
+    DontPass (block_of_run program input acts valued (suc more) a) i →
+    IsBegun (block_of_run program input acts v more
+    (entered_at i (block_of_run program input acts valued (suc more) a) call p numbers)) → (x : Spot) (s : Y.LeafType) →
+    x.level ≤ level → IsScalar (block_of_run program input acts valued (suc more) a) x s →
+    IsScalar (block_of_run program input acts v more
+    (entered_at i (block_of_run program input acts valued (suc more) a) call p numbers)) x s
+outer_narrow_by false {program} m {input} {acts} {valued} {more} {a = a} {p = p} {numbers = numbers} o {level} i call
+    pass b' x s low is =
+    let k = block_of_run program input acts valued (suc more) a in
+    let r = entered_at i k call p numbers in
+    outer_narrow k (block_of_run program input acts false more r) x s
+    (λ d known'. procedure_known k (callee_in i more k call) level x d (is_inside m o i call) low known' p
+    numbers o.among (are_made m o i call pass) b') is
+outer_narrow_by true {program} m {input} {acts} {valued} {more} {a = a} {p = p} {numbers = numbers} o {level} i call
+    pass b' x s low is =
+    let k = block_of_run program input acts valued (suc more) a in
+    let r = entered_at i k call p numbers in
+    outer_narrow k (block_of_run program input acts true more r) x s
+    (λ d known'. function_known k (callee_in i more k call) level x d (is_inside m o i call) low known' p
+    numbers o.among (are_made m o i call pass) b') is
+
+-- one of its own stands in its frame
+own_narrow_by :
+    (v : Bool) {program : Y.Program} (m : Main program) {input : List ℕ} {acts : ℕ} {valued : Bool} {more b : ℕ}
+    {a : Running} {p : Point} {numbers : ℕ → ℕ}
+    (o : Moment m input acts valued (suc more) a (suc b) p numbers) {level number : ℕ}
+    (i : Inner m a.head false v level number) (call : ℕ) →
+    DontPass (block_of_run program input acts valued (suc more) a) i →
+    IsBegun (block_of_run program input acts v more
+    (entered_at i (block_of_run program input acts valued (suc more) a) call p numbers)) → (x : Spot) →
+    (x.block ≡ i.head.number) × (x.level ≡ i.head.level) →
+    is_narrow_if (declared_variable program (variable_of x)) ≡ true →
+    IsScalar (block_of_run program input acts v more
+    (entered_at i (block_of_run program input acts valued (suc more) a) call p numbers)) x
+    (type_if (declared_variable program (variable_of x)))
+own_narrow_by false {program} m {input} {acts} {valued} {more} {a = a} {p = p} {numbers = numbers} o i call pass b' x is
+    narrow =
+    let k = block_of_run program input acts valued (suc more) a in
+    own_narrow (surroundings_for program input acts) (linked_code (code_for program))
+    (callee_in i more k call) p p numbers x
+    (record { high = omega arith; inside = omega arith }) (has_words m o i call pass, has_all m o i call pass)
+    (record { block = is.0; level = is.1; narrow = narrow }) b'
+own_narrow_by true {program} m {input} {acts} {valued} {more} {a = a} {p = p} {numbers = numbers} o i call pass b' x is
+    narrow =
+    let k = block_of_run program input acts valued (suc more) a in
+    function_narrow (surroundings_for program input acts) (linked_code (code_for program))
+    (callee_in i more k call) p p numbers x
+    (record { high = omega arith; inside = omega arith }) (has_words m o i call pass, has_all m o i call pass)
+    (record { block = is.0; level = is.1; narrow = narrow }) b'
+
 -- ---- what it may name
 
 -- where the block that declares it stands: around the calling block too, or it is the block that is entered
@@ -484,6 +546,42 @@ each_array {program} m {input} {acts} {valued} {more} {b} {a} {p} {numbers} o {v
         parts.1))
     by (inr own) = own_array_by v m o i call pass b' x own parts.1
 
+each_narrow :
+    {program : Y.Program} (m : Main program) {input : List ℕ} {acts : ℕ} {valued : Bool} {more b : ℕ}
+    {a : Running} {p : Point} {numbers : ℕ → ℕ}
+    (o : Moment m input acts valued (suc more) a (suc b) p numbers) {v : Bool} {level number : ℕ}
+    (i : Inner m a.head false v level number) (call : ℕ) →
+    DontPass (block_of_run program input acts valued (suc more) a) i →
+    IsBegun (block_of_run program input acts v more
+    (entered_at i (block_of_run program input acts valued (suc more) a) call p numbers)) → (x : Spot) →
+    is_narrow_known (scope_of program m.called i.head i.body) x ≡ true →
+    IsScalar (block_of_run program input acts v more
+    (entered_at i (block_of_run program input acts valued (suc more) a) call p numbers)) x
+    (type_if (declared_variable program (variable_of x)))
+each_narrow {program} m {input} {acts} {valued} {more} {b} {a} {p} {numbers} o {v} {level} i call pass b' x h =
+    by (stands_at i x parts.0).at
+  where
+    narrow : Bool
+    narrow = is_narrow_if (declared_variable program (variable_of x))
+
+    parts :
+        (list_any (is_place x) (places_to (environment_for program i.head) i.head.level) ≡ true) × (narrow ≡ true)
+    parts = and_parts (list_any (is_place x) (places_to (environment_for program i.head) i.head.level)) narrow h
+
+    by :
+        ((x.level ≤ level)
+        × (list_any (is_place x) (places_to (environment_for program a.head) a.head.level) ≡ true))
+        ⊎ ((x.block ≡ i.head.number) × (x.level ≡ i.head.level)) →
+        IsScalar (block_of_run program input acts v more
+        (entered_at i (block_of_run program input acts valued (suc more) a) call p numbers)) x
+        (type_if (declared_variable program (variable_of x)))
+    by (inl low) =
+        outer_narrow_by v m o i call pass b' x (type_if (declared_variable program (variable_of x))) low.0
+        (o.running.narrows x
+        (and_from (list_any (is_place x) (places_to (environment_for program a.head) a.head.level)) narrow low.1
+        parts.1))
+    by (inr own) = own_narrow_by v m o i call pass b' x own parts.1
+
 -- no unit is in force there either
 pub unraised_there :
     {program : Y.Program} (m : Main program) {input : List ℕ} {acts : ℕ} {valued : Bool} {more blocks : ℕ}
@@ -584,6 +682,7 @@ entered once {program} m {input} {acts} {valued} {more} {b} {a} {p} {numbers} o 
         nested = nested_by v m o i call pass b';
         variables = λ x h. each_number m o i call pass b' x h;
         arrays = λ x h. each_array m o i call pass b' x h;
+        narrows = λ x h. each_narrow m o i call pass b' x h;
         parameters = λ x h. absurd (none_received program m.called i.head i.body (result_of v) x i.is h);
         unraised = λ condition. unraised_there m o i call condition;
         idle = made_idle φ xs start;

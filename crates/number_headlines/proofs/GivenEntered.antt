@@ -27,6 +27,7 @@ use Rattle.program_runs.proofs.Constants.{constants_among, constants_begun}
 use Rattle.program_runs.specs.Starts.{image_parts}
 use Rattle.expression_runs.specs.Variables.{IsNumber, Spot, variable_of}
 use Rattle.element_runs.specs.Arrays.{IsArray}
+use Rattle.scalar_runs.specs.Scalars.{IsScalar}
 use Rattle.element_runs.proofs.Outer.{outer_array}
 use Rattle.argument_runs.specs.Copies.{copy_generation}
 use Rattle.argument_runs.specs.CopyCalls.{CopyCall, called_of, copied_point, copy_for, entry_of, named_point}
@@ -38,7 +39,9 @@ use Rattle.given_calls.specs.GivenKnown.{Begins}
 use Rattle.given_calls.proofs.GivenKnown.{given_nested, given_number, given_parameter, given_variable, none_beside}
 use Rattle.number_runs.specs.Arrays.{bounds_if, is_array_if}
 use Rattle.number_runs.specs.Numbers.{is_array_known, is_known, is_parameter_if, is_place, is_plain_if, is_received}
-use Rattle.number_runs.specs.Numbers.{list_sets}
+use Rattle.number_runs.specs.Narrow.{is_narrow_if, type_if}
+use Rattle.number_runs.specs.Numbers.{is_narrow_known, list_sets}
+use Rattle.number_runs.proofs.Narrow.{outer_narrow}
 use Rattle.number_runs.specs.Statements.{statements_set}
 use Rattle.number_runs.specs.Variables.{AreTabled}
 use Rattle.number_runs.proofs.Variables.{parameter_declared_is}
@@ -194,6 +197,10 @@ not_array : (index : ℕ) → is_array_if (slice_get (parameter_declared ∷ [])
 not_array zero h = cc h
 not_array (suc n) h = cc h
 
+not_narrow : (index : ℕ) → is_narrow_if (slice_get (parameter_declared ∷ []) index) ≡ true → ⊥
+not_narrow zero h = cc h
+not_narrow (suc n) h = cc h
+
 found_parameter :
     (o : Option Y.DeclaredVariable) → is_parameter_if o ≡ true → o ≡ Some parameter_declared
 found_parameter None h = absurd (cc h)
@@ -328,6 +335,46 @@ given_arrays {program} m {input} {acts} {valued} {more} {b} {a} {v} {level} {num
         (ap (λ n. variables_of_block program n) own.0 ∙ own_parameter (variables_of_block program i.head.number) i.own)
         parts.1))
 
+given_narrows :
+    {program : Y.Program} (m : Main program) {input : List ℕ} {acts : ℕ} {valued : Bool} {more b : ℕ} {a : Running}
+    {v : Bool} {level number : ℕ} (o : Given m input acts valued more b a v level number) (x : Spot) →
+    is_narrow_known (scope_of program m.called o.inner.head o.inner.body) x ≡ true →
+    IsScalar (block_of_run program input acts v more (run_given o)) x
+    (type_if (declared_variable program (variable_of x)))
+given_narrows {program} m {input} {acts} {valued} {more} {b} {a} {v} {level} {number} o x h =
+    by (stands_at i x parts.0).at
+  where
+    i : Inner m a.head true v level number
+    i = o.inner
+
+    narrow : Bool
+    narrow = is_narrow_if (declared_variable program (variable_of x))
+
+    around' : Bool
+    around' = list_any (is_place x) (places_to (environment_for program a.head) a.head.level)
+
+    type : Y.LeafType
+    type = type_if (declared_variable program (variable_of x))
+
+    parts :
+        (list_any (is_place x) (places_to (environment_for program i.head) i.head.level) ≡ true) × (narrow ≡ true)
+    parts = and_parts (list_any (is_place x) (places_to (environment_for program i.head) i.head.level)) narrow h
+
+    by :
+        ((x.level ≤ level) × (around' ≡ true)) ⊎ ((x.block ≡ i.head.number) × (x.level ≡ i.head.level)) →
+        IsScalar (block_of_run program input acts v more (run_given o)) x type
+    by (inl low) =
+        outer_narrow (caller_of o) (block_of_run program input acts v more (run_given o)) x type
+        (λ d known'.
+        given_variable (function_by v) (caller_of o) (call_of o) more o.point o.numbers o.value x d (begins m o) low.0
+        known')
+        (o.caller.running.narrows x (and_from around' narrow low.1 parts.1))
+    by (inr own) =
+        absurd (not_narrow x.index
+        (subst (λ ds. is_narrow_if (slice_get ds x.index) ≡ true)
+        (ap (λ n. variables_of_block program n) own.0 ∙ own_parameter (variables_of_block program i.head.number) i.own)
+        parts.1))
+
 -- ---- its parameter
 
 only_here : (q : Bool) → (q || false) ≡ true → q ≡ true
@@ -423,6 +470,7 @@ given_entered once {program} m {input} {acts} {valued} {more} {b} {a} {v} o =
         nested = given_nested (function_by v) k (call_of o) more p o.numbers o.value (begins m o);
         variables = λ x is. given_numbers m o x is;
         arrays = λ x is. given_arrays m o x is;
+        narrows = λ x is. given_narrows m o x is;
         parameters = λ x is. given_parameters m o x is;
         unraised = λ c. subst (λ as'. IsSystem (force as' c)) (sym o.among.later.activations) (h.unraised c);
         idle = refl;

@@ -34,6 +34,7 @@ use Rattle.program_runs.specs.Statements.{EachDoes, IsBegun}
 use Rattle.program_runs.specs.Variables.{Declared, generation_for}
 use Rattle.expression_runs.specs.Variables.{IsNumber, Spot, variable_of}
 use Rattle.element_runs.specs.Arrays.{IsArray}
+use Rattle.scalar_runs.specs.Scalars.{IsScalar}
 use Rattle.variable_runs.specs.Lists.{all_made, behind_made, layer_after, layer_behind}
 use Rattle.variable_runs.proofs.Lists.{all_procedure}
 use Rattle.pli_headline.specs.Headline.{FitsMemory, Headline, parts}
@@ -41,7 +42,8 @@ use Rattle.block_headlines.proofs.Constants.{constants_stand}
 use Rattle.block_headlines.specs.Headlines.{HeadlinesKept, Layout, Runs}
 use Rattle.nested_calls.specs.Nested.{IsNested}
 use Rattle.number_runs.specs.Arrays.{bounds_if, is_array_if}
-use Rattle.number_runs.specs.Numbers.{is_array_known, is_known, is_place, is_plain_if}
+use Rattle.number_runs.specs.Narrow.{is_narrow_if, type_if}
+use Rattle.number_runs.specs.Numbers.{is_array_known, is_known, is_narrow_known, is_place, is_plain_if}
 use Rattle.number_runs.specs.Variables.{words_in}
 use Rattle.number_runs.proofs.Words.{room_behind}
 use Rattle.number_headlines.specs.Headlines.{IsNumberProgram}
@@ -51,7 +53,7 @@ use Rattle.number_headlines.proofs.Entered.{made_idle, none_received}
 use Rattle.number_headlines.proofs.FullWords.{words_at, words_count, words_lower}
 use Rattle.number_headlines.proofs.Mains.{Main, block_for, level_of, made_for, made_system, main_all, main_begun}
 use Rattle.number_headlines.proofs.Loops.{after_waits, after_words}
-use Rattle.number_headlines.proofs.Mains.{main_array, main_for}
+use Rattle.number_headlines.proofs.Mains.{main_array, main_narrow, main_for}
 use Rattle.number_headlines.proofs.Mains.{main_is, main_layer, main_number, main_room, main_spare, main_told, own_words}
 use Rattle.number_headlines.proofs.Mains.{placed, run_for}
 use Rattle.number_headlines.proofs.Mains.{spare, start_for, surroundings_for}
@@ -156,6 +158,16 @@ main_element {program} m input acts b x h =
     let own = main_owns m x a.0 in
     main_array m input acts x (record { block = own.0; level = own.1; array = a.1 }) b
 
+main_scalar :
+    {program : Y.Program} (m : Main program) (input : List ℕ) (acts : ℕ) → IsBegun (block_for m input acts) →
+    (x : Spot) → is_narrow_known (scope_of program m.called m.head m.body) x ≡ true →
+    IsScalar (block_for m input acts) x (type_if (declared_variable program (variable_of x)))
+main_scalar {program} m input acts b x h =
+    let narrow = is_narrow_if (declared_variable program (variable_of x)) in
+    let a = and_parts (list_any (is_place x) (places_to (environment_for program m.head) m.head.level)) narrow h in
+    let own = main_owns m x a.0 in
+    main_narrow m input acts x (record { block = own.0; level = own.1; narrow = a.1 }) b
+
 main_running :
     MarkedOnce → {program : Y.Program} (m : Main program) (input : List ℕ) (acts : ℕ) →
     IsBegun (block_for m input acts) →
@@ -202,6 +214,7 @@ main_running once {program} m input acts b =
         nested = main_nested m input acts;
         variables = λ x h. main_variable m input acts b x h;
         arrays = λ x h. main_element m input acts b x h;
+        narrows = λ x h. main_scalar m input acts b x h;
         parameters = λ x h. absurd (none_received program m.called m.head m.body None x found h);
         unraised = λ c. made_system image_parts _ xs _ c tt;
         idle = made_idle φ xs start;

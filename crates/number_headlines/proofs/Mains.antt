@@ -35,12 +35,13 @@ use Rattle.pli_headline.specs.Headline.{FitsMemory, parts}
 use Rattle.block_headlines.specs.Constants.{IsOf}
 use Rattle.block_headlines.proofs.Constants.{main_of_program}
 use Rattle.element_runs.specs.Arrays.{IsArray}
+use Rattle.scalar_runs.specs.Scalars.{IsScalar}
 use Rattle.number_runs.specs.Numbers.{has_none}
 use Rattle.number_runs.specs.Statements.{are_statements, statements_need, statements_set}
 use Rattle.number_runs.specs.Variables.{HasWords, HaveRoom, IsOwnArray, IsOwnWord, are_plain, bytes_of, own_bounds}
-use Rattle.number_runs.specs.Variables.{words_in}
+use Rattle.number_runs.specs.Variables.{IsOwnNarrow, own_type, words_in}
 use Rattle.number_runs.proofs.Takes.{plain_known, words_set}
-use Rattle.number_runs.proofs.Words.{all_words, own_array, own_word, room_fewer}
+use Rattle.number_runs.proofs.Words.{all_words, own_array, own_narrow, own_word, room_fewer}
 use Rattle.number_runs.proofs.Variables.{fixed_is}
 use Rattle.number_headlines.specs.Programs.{are_all_known, are_inner, body_of, callable_ones, has_main, has_parameters}
 use Rattle.number_headlines.specs.Programs.{has_result, is_body, most_bytes, most_waiting, scope_of, serials_for}
@@ -324,6 +325,16 @@ pub main_array :
     IsArray (block_for m input acts) x (own_bounds (main_for m input acts) x)
 main_array {program} m input acts x own b =
     own_array (surroundings_for program input acts) (linked_code (code_for program)) (main_for m input acts)
+    (start_for program input acts) (start_for program input acts) no_numbers x
+    (record { high = omega arith; inside = omega arith }) (main_words m input acts, main_all m input acts) own b
+
+-- and each scalar of fewer bits one of it
+pub main_narrow :
+    {program : Y.Program} (m : Main program) (input : List ℕ) (acts : ℕ) (x : Spot) →
+    IsOwnNarrow (main_for m input acts) x → IsBegun (block_for m input acts) →
+    IsScalar (block_for m input acts) x (own_type (main_for m input acts) x)
+main_narrow {program} m input acts x own b =
+    own_narrow (surroundings_for program input acts) (linked_code (code_for program)) (main_for m input acts)
     (start_for program input acts) (start_for program input acts) no_numbers x
     (record { high = omega arith; inside = omega arith }) (main_words m input acts, main_all m input acts) own b
 

@@ -32,6 +32,7 @@ use Rattle.program_runs.specs.Procedures.{Procedure, block_of, layer_for}
 use Rattle.program_runs.specs.Statements.{Block, EachDoes, IsAmong, IsBegun}
 use Rattle.expression_runs.specs.Variables.{IsNumber, Spot}
 use Rattle.element_runs.specs.Arrays.{IsArray}
+use Rattle.scalar_runs.specs.Scalars.{IsScalar}
 use Rattle.function_runs.specs.Functions.{function_entry}
 use Rattle.argument_runs.specs.Parameters.{IsParameter}
 use Rattle.counter_runs.proofs.Known.{array_told, number_told}
@@ -39,7 +40,8 @@ use Rattle.counter_runs.proofs.Words.{begun_telling}
 use Rattle.block_headlines.specs.Constants.{IsOf}
 use Rattle.nested_calls.specs.Nested.{IsNested}
 use Rattle.number_runs.specs.Knowledge.{KnowsGivenCalls}
-use Rattle.number_runs.specs.Numbers.{bounds_known, is_array_known, is_known, is_received}
+use Rattle.number_runs.specs.Numbers.{bounds_known, is_array_known, is_known, is_narrow_known, is_received, type_known}
+use Rattle.number_runs.proofs.Narrow.{narrow_told}
 use Rattle.number_runs.specs.Statements.{are_statements, statements_need, statements_set}
 use Rattle.number_runs.specs.Variables.{AreTabled}
 use Rattle.number_runs.proofs.Received.{parameter_told}
@@ -178,6 +180,10 @@ pub record IsRunning {program : Y.Program} (m : Main program) (input : List ℕ)
         (x : Spot) → is_array_known (scope_of program m.called a.head a.body) x ≡ true →
         IsArray (block_of_run program input acts valued more a) x
         (bounds_known (scope_of program m.called a.head a.body) x)
+    pub narrows :
+        (x : Spot) → is_narrow_known (scope_of program m.called a.head a.body) x ≡ true →
+        IsScalar (block_of_run program input acts valued more a) x
+        (type_known (scope_of program m.called a.head a.body) x)
     pub parameters :
         (x : Spot) → is_received (scope_of program m.called a.head a.body) x ≡ true →
         IsParameter (block_of_run program input acts valued more a) x
@@ -280,6 +286,9 @@ told_running {program} {m} {input} {acts} {valued} {more} {a} {blocks} h waits =
       arrays = λ x is.
           array_told k φ φs waits free.newest x (bounds_known (scope_of program m.called a.head a.body) x)
           (h.arrays x is);
+      narrows = λ x is.
+          narrow_told k φ φs waits free.newest x (type_known (scope_of program m.called a.head a.body) x)
+          (h.narrows x is);
       parameters = λ x is. parameter_told k φ φs waits free.newest x (h.parameters x is);
       unraised = h.unraised;
       idle = h.idle;

@@ -1,6 +1,6 @@
 -- The table of a program whose variables are all FIXED BINARY(31), scalars and arrays, and parameters: each signature
 -- is there once, and its number leads to it.
-use Rattle.std.proofs.Common.{◌≡◌, ◌⊎◌, inl, inr, ℕ, zero, suc, ◌+◌, ◌*◌, ◌<◌, ◌≤◌, List, [], ◌∷◌, ◌++◌, length, Bool}
+use Rattle.std.proofs.Common.{◌≡◌, ◌⊎◌, inl, inr, ℕ, zero, suc, ◌*◌, ◌<◌, ◌≤◌, List, [], ◌∷◌, ◌++◌, length, Bool}
 use Rattle.std.proofs.Common.{true, false, map, refl, sym, ap, subst, arith, rules}
 use Rattle.std.specs.Prelude.{◌&&◌, ◌||◌, nat_le, nat_lt, slice_get, unwrap_or, if◌then◌else◌}
 use Rattle.std.specs.List.{flat_map}
@@ -15,7 +15,7 @@ use Rattle.pli_coding.specs.Environments.{Environment}
 use Rattle.pli_coding.specs.SignatureTable.{number_in_table, signature_of, table_of, with_signatures}
 use Rattle.well_formed_trees.specs.Every.{Every}
 use Rattle.storage_relation.specs.Tables.{AreRuled}
-use Rattle.pli_headline.specs.ProvedSoFar.{Kind}
+use Rattle.pli_headline.specs.ProvedSoFar.{IsScalar, Kind}
 use Rattle.pli_headline.proofs.ArraySignatures.{array_kept}
 use Rattle.pli_headline.proofs.PlainNumbers.{Numbered, numbered_shape}
 use Rattle.pli_headline.proofs.PlainSignatures.{HasAll, HasSignature, kind_signature}
@@ -25,10 +25,13 @@ use Rattle.program_places.specs.Programs.{HasStart, IsUnstatic, environment_for}
 use Rattle.program_places.specs.Tables.{IsRuled}
 use Rattle.program_places.proofs.Tables.{table_ruled}
 use Rattle.element_runs.specs.Arrays.{IsBounds, array_declared}
+use Rattle.scalar_runs.specs.Scalars.{scalar_declared}
+use Rattle.number_runs.specs.Narrow.{is_narrow_type}
 use Rattle.number_runs.specs.Numbers.{is_parameter}
 use Rattle.number_runs.specs.Variables.{AreTabled, IsTabled, are_known, are_plain, bytes_of, is_declared}
 use Rattle.number_runs.specs.Variables.{variable_bytes}
 use Rattle.number_runs.proofs.Declared.{of_declared, sized}
+use Rattle.number_runs.proofs.Narrow.{by_narrow}
 use Rattle.number_runs.proofs.Takes.{plain_known}
 use Rattle.number_runs.proofs.Variables.{parameter_declared_is}
 use Rattle.number_headlines.specs.Programs.{are_all_known, are_all_plain, are_blocks_known, are_blocks_plain}
@@ -201,6 +204,25 @@ array_numbered table b is few has =
       few = omega (arith, most, few);
     }
 
+abbrev narrow_kind : Y.LeafType → Kind
+narrow_kind t = record { type = t; bounds = [] }
+
+fixed_held : (p : ℕ) → is_narrow_type (Y.FixedLeaf p) ≡ true → IsScalar (Y.FixedLeaf p)
+fixed_held p h =
+    let a = and_parts (nat_lt 0 p) (nat_lt p 31) h in
+    let some = ltb-true 0 p a.0 in
+    let few = ltb-true p 31 a.1 in
+    (omega (arith, some), omega (arith, few))
+
+narrow_numbered :
+    (table : List TableSignature) (t : Y.LeafType) → IsScalar t → length table < most_signatures →
+    HasSignature (kind_signature (narrow_kind t)) table → Numbered table (narrow_kind t)
+narrow_numbered table t is few has =
+    let k = narrow_kind t in
+    let stands = found_any (kind_signature k) table has in
+    let most = place_below table (number_in_table (kind_signature k) table) (kind_signature k) stands in
+    record { held = is; stands = stands; few = omega (arith, most, few) }
+
 one_tabled :
     (e : Environment) (d : Y.DeclaredVariable) → is_declared d ≡ true → length e.table < most_signatures →
     HasSignature (signature_of d) e.table → IsTabled e (map template_of e.table) d
@@ -214,6 +236,17 @@ one_tabled e d is few =
     let n = array_numbered e.table b bounds few has in
     let small = n.few in
     record { small = omega (arith, small); shape = numbered_shape e.table (array_kind b) n })
+    (by_narrow (λ t. HasSignature (signature_of (scalar_declared t [])) e.table →
+    IsTabled e (map template_of e.table) (scalar_declared t []))
+    (λ p narrow has.
+    let t = Y.FixedLeaf p in
+    let n = narrow_numbered e.table t (fixed_held p narrow) few has in
+    let small = n.few in
+    record { small = omega (arith, small); shape = numbered_shape e.table (narrow_kind t) n })
+    (λ has.
+    let n = narrow_numbered e.table Y.BitLeaf tt few has in
+    let small = n.few in
+    record { small = omega (arith, small); shape = numbered_shape e.table (narrow_kind Y.BitLeaf) n }))
     d is
 
 known_tabled :
@@ -255,9 +288,15 @@ array_ruled b is = (
   ((word_small b.lower is.lower, word_small b.upper is.upper, tt), tt),
 )
 
+narrow_ruled : (t : Y.LeafType) → is_narrow_type t ≡ true → IsRuled (scalar_declared t [])
+narrow_ruled t h =
+    by_narrow (λ u. IsRuled (scalar_declared u []))
+    (λ p is. (array_kept (Y.FixedLeaf p) (fixed_held p is) [] tt (omega arith), (tt, tt)))
+    (array_kept Y.BitLeaf tt [] tt (omega arith), (tt, tt)) t h
+
 known_ruled : (d : Y.DeclaredVariable) → (is_declared d ≡ true) ⊎ (is_parameter d ≡ true) → IsRuled d
 known_ruled d (inl h) =
-    of_declared IsRuled (record { headed = search rules; leaved = search rules }, (tt, tt)) array_ruled d h
+    of_declared IsRuled (record { headed = search rules; leaved = search rules }, (tt, tt)) array_ruled narrow_ruled d h
 known_ruled d (inr h) =
     subst IsRuled (sym (parameter_declared_is d h))
     (record { headed = search rules; leaved = search rules }, (tt, tt))
@@ -282,7 +321,9 @@ rules_kept program h = table_ruled program (all_ruled program.variables (blocks_
 -- ---- none is STATIC
 
 known_unstatic : (d : Y.DeclaredVariable) → (is_declared d ≡ true) ⊎ (is_parameter d ≡ true) → IsUnstatic d
-known_unstatic d (inl h) = of_declared IsUnstatic (tt, refl) (λ b is. (tt, refl)) d h
+known_unstatic d (inl h) =
+    of_declared IsUnstatic (tt, refl) (λ b is. (tt, refl))
+    (by_narrow (λ t. IsUnstatic (scalar_declared t [])) (λ p is. (tt, refl)) (tt, refl)) d h
 known_unstatic d (inr h) = subst IsUnstatic (sym (parameter_declared_is d h)) (tt, refl)
 
 each_unstatic : (ds : List Y.DeclaredVariable) → are_known ds ≡ true → Every IsUnstatic ds

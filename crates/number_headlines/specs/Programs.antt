@@ -156,6 +156,7 @@ scope_of program ns head body =
       puts = true;
       overflows = true;
       divides = true;
+      narrows = true;
       elements = true;
       own = true;
       is_outer = λ level label. false;

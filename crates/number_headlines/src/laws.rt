@@ -3,6 +3,7 @@
 ghost use Rattle.number_headlines.specs.ArrayRows.{SieveKept};
 ghost use Rattle.number_headlines.specs.CallRows.{CallingKept};
 ghost use Rattle.number_headlines.specs.CountRows.{CountingKept};
+ghost use Rattle.number_headlines.specs.FlagRows.{FlagKept};
 ghost use Rattle.number_headlines.specs.GivenRows.{FactKept};
 ghost use Rattle.number_headlines.specs.Headlines.{NumberHeadlinesKept};
 ghost use Rattle.number_headlines.specs.NestRows.{NestKept};
@@ -67,6 +68,13 @@ pub fn counting_kept()
 /// A worked row with arguments: a function calls itself with a copy, and a procedure changes its parameter.
 pub fn fact_kept()
     ensures { FactKept }
+{
+    number_headlines_kept();
+}
+
+/// A worked row with a scalar of 15 bits and a bit: a loop that doubles the one as long as the other says so.
+pub fn flag_kept()
+    ensures { FlagKept }
 {
     number_headlines_kept();
 }

@@ -1,7 +1,7 @@
 -- Arrays that the class admits: what is declared, references to elements, and their subscripts.
 use Rattle.std.proofs.Common.{◌≡◌, ◌⊎◌, inl, inr, ℕ, ◌+◌, ◌^◌, ◌≤◌, List, [], ◌∷◌, Option, None, Some, false, true}
-use Rattle.std.proofs.Common.{refl, ap, ◌∙◌}
-use Rattle.std.specs.Prelude.{◌&&◌, ◌==◌, int_le, max}
+use Rattle.std.proofs.Common.{refl, sym, ap, ◌∙◌}
+use Rattle.std.specs.Prelude.{◌&&◌, ◌||◌, ◌==◌, int_le, max, nat_lt, not}
 use Rattle.std.proofs.lemmas.Bool.{and_parts, eqb-true, ltb-true, or_cases}
 use Rattle.pli_language.specs.Tree as T
 use Rattle.pli_typing.specs.TypedTree as Y
@@ -15,8 +15,9 @@ use Rattle.element_runs.specs.Arrays.{IsBounds, array_declared, array_leaf, cons
 use Rattle.element_runs.specs.Subscripts.{IsSubscript}
 use Rattle.number_runs.specs.Arrays.{are_bounds, array_bounds, bounds_in, first_bounds, is_array, is_array_of, is_row}
 use Rattle.number_runs.specs.Knowledge.{KnowsNumbers}
-use Rattle.number_runs.specs.Numbers.{Scope, is_array_known, is_automatic, is_element, is_given, is_number, is_variable}
-use Rattle.number_runs.specs.Numbers.{number_needs, spot_of}
+use Rattle.number_runs.specs.Narrow.{is_number_type}
+use Rattle.number_runs.specs.Numbers.{Scope, is_array_known, is_automatic, is_element, is_given, is_narrow_with, is_number}
+use Rattle.number_runs.specs.Numbers.{is_reference, is_variable, is_wider, number_needs, spot_of}
 use Rattle.number_runs.proofs.Variables.{automatic_is, parameter_is, part_is, variable_is}
 
 -- ---- declarations
@@ -144,15 +145,31 @@ scalar_given s k taken need r h (inr is) enough does =
     let w = parameter_is s r is in
     waits k taken need (Y.NumberIn r) (ap (λ q. is_simple k.block.environment (Y.NumberIn q)) w.is) enough does
 
+-- none of fewer bits
+wider_is :
+    (s : Scope) (r : Y.Reference) → (is_number s (Y.NumberIn r) && is_wider s (Y.NumberIn r)) ≡ true →
+    is_reference s r ≡ true
+wider_is s r h =
+    let narrow = is_narrow_with s is_number_type r in
+    let a = and_parts (is_reference s r || narrow) (not narrow) h in
+    by (or_cases (is_reference s r) narrow a.0)
+  where
+    by : (is_reference s r ≡ true) ⊎ (is_narrow_with s is_number_type r ≡ true) → is_reference s r ≡ true
+    by (inl is) = is
+    by (inr is) =
+        absurd (cc (sym (ap not is) ∙ (and_parts (is_reference s r || is_narrow_with s is_number_type r)
+        (not (is_narrow_with s is_number_type r)) h).1))
+
 -- a constant, and a variable, come into their register by themselves; any other waits
 pub subscript_given :
-    (s : Scope) (k : Setting) (taken need : ℕ) (x : Y.Number) → KnowsNumbers s k → is_number s x ≡ true →
-    taken + max (number_needs x) 1 ≤ need → Does k (number_needs x) x → IsSubscript k taken need x
+    (s : Scope) (k : Setting) (taken need : ℕ) (x : Y.Number) → KnowsNumbers s k →
+    (is_number s x && is_wider s x) ≡ true → taken + max (number_needs x) 1 ≤ need → Does k (number_needs x) x →
+    IsSubscript k taken need x
 subscript_given s k taken need (Y.NumberConstant n) h is enough does =
-    inr (inl (record { value = n; is = refl; few = ltb-true n (2 ^ 31) is }))
+    inr (inl (record { value = n; is = refl; few = ltb-true n (2 ^ 31) (and_parts (nat_lt n (2 ^ 31)) true is).0 }))
 subscript_given s k taken need (Y.NumberIn (Y.Referring v Y.NotLocated part Y.NoNumber)) h is enough does =
     let r = Y.Referring v Y.NotLocated part Y.NoNumber in
-    scalar_given s k taken need r h (or_cases (is_variable s r) (is_given s r) is) enough does
+    scalar_given s k taken need r h (or_cases (is_variable s r) (is_given s r) (wider_is s r is)) enough does
 subscript_given s k taken need (Y.NumberIn (Y.Referring v Y.NotLocated part (Y.NumberThen first rest))) h is enough
     does =
     waits k taken need (Y.NumberIn (Y.Referring v Y.NotLocated part (Y.NumberThen first rest))) refl enough does

@@ -1,14 +1,15 @@
 -- What is so of each variable that the class lets a block declare, a scalar or an array: what it takes, and that it can
 -- be made.
 use Rattle.std.proofs.Common.{◌≡◌, ◌⊎◌, inl, inr, ℕ, zero, suc, ◌+◌, ◌*◌, ◌<◌, ◌≤◌, List, [], None, true}
-use Rattle.std.proofs.Common.{refl, sym, subst, arith}
-use Rattle.std.specs.Prelude.{◌%◌, ℤ, negsuc, pos, ◌-ℤ◌, ◌+ℤ◌, int_le}
-use Rattle.std.proofs.lemmas.Bool.{or_cases}
+use Rattle.std.proofs.Common.{◌^◌, Bool, false, refl, sym, ap, subst, arith}
+use Rattle.std.specs.Prelude.{◌%◌, ℤ, negsuc, pos, ◌-ℤ◌, ◌+ℤ◌, ◌||◌, cond, int_le, nat_le, nat_lt}
+use Rattle.std.proofs.lemmas.Bool.{and_parts, lt-ltb, ltb-true, or_cases}
+use Rattle.std.proofs.lemmas.Nat.{pow_pos}
 use Rattle.std.proofs.lemmas.Bool.Decides.{nat_tests}
 use Rattle.std.proofs.lemmas.Int.{ints}
 use Rattle.pli_typing.specs.Signatures.{Bounds, data_size, footprint, natural, rounded_up, span}
 use Rattle.pli_typing.specs.TypedTree as Y
-use Rattle.pli_meaning.specs.Contents.{fresh}
+use Rattle.pli_meaning.specs.Contents.{Generation, fresh}
 use Rattle.pli_meaning.specs.DeclaredShapes.{initial_of, shape_of}
 use Rattle.pli_serving.specs.Arguments.{capacity_of}
 use Rattle.pli_serving.specs.InitialValues.{none_initial}
@@ -20,20 +21,29 @@ use Rattle.program_runs.proofs.VariableRows.{number_valued}
 use Rattle.expression_runs.specs.Variables.{number_declared}
 use Rattle.element_runs.specs.Arrays.{IsBounds, array_declared}
 use Rattle.number_runs.specs.Arrays.{array_bounds, is_array}
+use Rattle.scalar_runs.specs.Scalars.{scalar_declared}
+use Rattle.number_runs.specs.Narrow.{is_narrow, is_narrow_type, narrow_type}
 use Rattle.number_runs.specs.Numbers.{is_plain}
 use Rattle.number_runs.specs.Variables.{is_declared, variable_bytes}
 use Rattle.number_runs.proofs.Arrays.{array_is, bounds_are}
+use Rattle.number_runs.proofs.Narrow.{by_narrow, narrow_is, type_is_narrow}
 use Rattle.number_runs.proofs.Variables.{plain_is}
 
--- what is so of scalars and of arrays is so of each
+-- what is so of scalars, of arrays and of scalars of fewer bits is so of each
 pub of_declared :
     (P : Y.DeclaredVariable → Type 0) → P (number_declared []) →
-    ((b : Bounds) → IsBounds b → P (array_declared b [])) → (d : Y.DeclaredVariable) → is_declared d ≡ true → P d
-of_declared P one many d h = by (or_cases (is_plain d) (is_array d) h)
+    ((b : Bounds) → IsBounds b → P (array_declared b [])) →
+    ((t : Y.LeafType) → is_narrow_type t ≡ true → P (scalar_declared t [])) → (d : Y.DeclaredVariable) →
+    is_declared d ≡ true → P d
+of_declared P one many few d h = by (or_cases (is_plain d) (is_array d || is_narrow d) h)
   where
-    by : (is_plain d ≡ true) ⊎ (is_array d ≡ true) → P d
+    other : (is_array d ≡ true) ⊎ (is_narrow d ≡ true) → P d
+    other (inl array) = subst P (sym (array_is d array)) (many (array_bounds d) (bounds_are d array))
+    other (inr narrow) = subst P (sym (narrow_is d narrow)) (few (narrow_type d) (type_is_narrow d narrow))
+
+    by : (is_plain d ≡ true) ⊎ ((is_array d || is_narrow d) ≡ true) → P d
     by (inl plain) = subst P (sym (plain_is d plain)) one
-    by (inr array) = subst P (sym (array_is d array)) (many (array_bounds d) (bounds_are d array))
+    by (inr rest) = other (or_cases (is_array d) (is_narrow d) rest)
 
 -- ---- what it takes
 
@@ -62,9 +72,30 @@ array_sized b is =
     (span_by b.lower b.upper is.order) refl in
     record { even = r.0; some = r.1; holds = r.2 }
 
+-- a scalar of fewer bits takes a word
+pub narrow_size :
+    (t : Y.LeafType) → is_narrow_type t ≡ true → data_size (shape_of [] (scalar_declared t [])).signature ≡ 4
+narrow_size t h =
+    by_narrow (λ u. data_size (shape_of [] (scalar_declared u [])).signature ≡ 4)
+    (λ p is. by (nat_le p 15)) refl t h
+  where
+    by : (q : Bool) → rounded_up 4 (cond q 2 4) * 1 + 0 ≡ 4
+    by true = refl
+    by false = refl
+
+narrow_sized : (t : Y.LeafType) → is_narrow_type t ≡ true → IsSized (scalar_declared t [])
+narrow_sized t h =
+    let size = narrow_size t h in
+    let e : variable_bytes (scalar_declared t []) ≡ 32 = ap (λ n. footprint n) size in
+    record {
+      even = ap (λ n. n % 16) e;
+      some = omega (arith, e);
+      holds = omega (arith, e, size);
+    }
+
 pub sized : (d : Y.DeclaredVariable) → is_declared d ≡ true → IsSized d
 sized d h =
-    of_declared IsSized (record { even = refl; some = omega arith; holds = omega arith }) array_sized d h
+    of_declared IsSized (record { even = refl; some = omega arith; holds = omega arith }) array_sized narrow_sized d h
 
 -- ---- how it is made
 
@@ -114,6 +145,61 @@ array_makeable b is =
       counts = refl;
     }
 
+abbrev begun : Y.LeafType → Generation
+begun t = fresh (shape_of [] (scalar_declared t [])) (pos 0) (initial_of (scalar_declared t []))
+
+-- it begins with 0
+fixed_valued : (p : ℕ) → is_narrow_type (Y.FixedLeaf p) ≡ true → IsValued (begun (Y.FixedLeaf p))
+fixed_valued p h leaf is less within = by_leaf leaf is less
+  where
+    few : p < 31
+    few = ltb-true p 31 (and_parts (nat_lt 0 p) (nat_lt p 31) h).1
+
+    by_leaf :
+        (leaf : ℕ) (is : List ℤ) → leaf < 1 →
+        IsOf (leaf_in (begun (Y.FixedLeaf p)) leaf).kind ((begun (Y.FixedLeaf p)).values leaf is)
+    by_leaf zero is less = (omega (arith, few), lt-ltb 0 (2 ^ p) (pow_pos p))
+    by_leaf (suc leaf) is less = absurd (omega (arith, less))
+
+bit_valued : IsValued (begun Y.BitLeaf)
+bit_valued leaf is less within = by_leaf leaf is less
+  where
+    by_leaf :
+        (leaf : ℕ) (is : List ℤ) → leaf < 1 →
+        IsOf (leaf_in (begun Y.BitLeaf) leaf).kind ((begun Y.BitLeaf).values leaf is)
+    by_leaf zero is less = tt
+    by_leaf (suc leaf) is less = absurd (omega (arith, less))
+
+narrow_makeable : (t : Y.LeafType) → is_narrow_type t ≡ true → IsMakeable (scalar_declared t [])
+narrow_makeable t h =
+    by_narrow (λ u. IsMakeable (scalar_declared u []))
+    (λ p is. record {
+      class = refl;
+      evaluations = refl;
+      constant = refl;
+      frame = λ parts. refl;
+      initial = refl;
+      none = refl;
+      plain = refl;
+      fixed = refl;
+      values = (tt, tt);
+      valued = fixed_valued p is;
+      counts = refl;
+    })
+    (record {
+      class = refl;
+      evaluations = refl;
+      constant = refl;
+      frame = λ parts. refl;
+      initial = refl;
+      none = refl;
+      plain = refl;
+      fixed = refl;
+      values = (tt, tt);
+      valued = bit_valued;
+      counts = refl;
+    }) t h
+
 pub makeable : (d : Y.DeclaredVariable) → is_declared d ≡ true → IsMakeable d
 makeable d h =
     of_declared IsMakeable
@@ -129,4 +215,4 @@ makeable d h =
       values = (tt, tt);
       valued = number_valued;
       counts = refl;
-    }) array_makeable d h
+    }) array_makeable narrow_makeable d h

@@ -23,8 +23,10 @@ use Rattle.number_runs.specs.Knowledge.{KnowsGiven, KnowsNumbers, given_number}
 use Rattle.number_runs.specs.Numbers.{Scope, are_numbers, argument_needs, bounds_known, call_needs, is_argument}
 use Rattle.number_runs.specs.Numbers.{is_element, is_fixed, is_given, is_number, is_reference, is_test, is_variable}
 use Rattle.number_runs.specs.Numbers.{may_calculate, number_needs, numbers_need, reference_needs, test_needs}
-use Rattle.number_runs.specs.Numbers.{without_given}
+use Rattle.number_runs.specs.Narrow.{is_number_type}
+use Rattle.number_runs.specs.Numbers.{is_narrow_with, is_wider, without_given}
 use Rattle.number_runs.proofs.Arrays.{element_is, subscript_given}
+use Rattle.number_runs.proofs.Narrow.{flag_does, narrow_does}
 use Rattle.number_runs.proofs.Variables.{argument_is, parameter_is, variable_is}
 
 -- with more registers, too
@@ -79,16 +81,27 @@ inside s k h g =
       subscript = g.subscript;
       variables = h.variables;
       arrays = h.arrays;
+      narrows = h.narrows;
       parameters = h.parameters;
       functions = g.functions;
       given = λ may. absurd (cc may);
     }
 
+-- what it is if it is no scalar of fewer bits
+named_does :
+    (s : Scope) (k : Setting) (r : Y.Reference) → KnowsNumbers s k →
+    (is_reference s r ≡ true) ⊎ (is_narrow_with s is_number_type r ≡ true) →
+    (is_reference s r ≡ true → Does k (reference_needs r) (Y.NumberIn r)) → Does k (reference_needs r) (Y.NumberIn r)
+named_does s k r h (inl is) one = one is
+named_does s k r h (inr is) one = narrow_does s k r h is
+
 mutual
   pub number_does :
       (s : Scope) (k : Setting) (x : Y.Number) → KnowsNumbers s k → is_number s x ≡ true → Does k (number_needs x) x
   number_does s k (Y.NumberConstant n) h is = constant_does k n (ltb-true n (2 ^ 31) is)
-  number_does s k (Y.NumberIn r) h is = reference_does s k r h is
+  number_does s k (Y.NumberIn r) h is =
+      named_does s k r h (or_cases (is_reference s r) (is_narrow_with s is_number_type r) is)
+      (λ one. reference_does s k r h one)
   number_does s k (Y.NumberFrom c) h is = call_does s k c h is
   number_does s k (Y.Signed sign x) h is =
       let a = and_parts s.overflows (is_number s x) is in
@@ -172,13 +185,14 @@ mutual
       let r = Y.Referring v Y.NotLocated part Y.NoNumber in
       scalar_does s k r h (or_cases (is_variable s r) (is_given s r) is)
   reference_does s k (Y.Referring v Y.NotLocated part (Y.NumberThen subscript Y.NoNumber)) h is =
-      let a = and_parts (is_element s v part) (is_number s subscript) is in
+      let a = and_parts (is_element s v part) (is_number s subscript && is_wider s subscript) is in
+      let number = (and_parts (is_number s subscript) (is_wider s subscript) a.1).0 in
       let w = element_is s v part subscript a.0 in
       let need = max (number_needs subscript) 1 in
       subst (λ r. Does k need (Y.NumberIn r)) (sym w.is)
       (element_does k w.spot (bounds_known s w.spot) subscript need h.begun (h.arrays w.may w.spot w.known)
       (h.subscript w.may)
-      (subscript_given s k 0 need subscript h a.1 (omega arith) (number_does s k subscript h a.1)))
+      (subscript_given s k 0 need subscript h a.1 (omega arith) (number_does s k subscript h number)))
   reference_does s k (Y.Referring v Y.NotLocated part (Y.NumberThen first (Y.NumberThen second rest))) h is =
       absurd (cc is)
   reference_does s k (Y.Referring v (Y.LocatedBy p) part Y.NoNumber) h is = absurd (cc is)
@@ -218,7 +232,7 @@ test_does s k (Y.BitsCompared comparison left right) h is =
     let a = and_parts (is_test s left) (is_test s right) is in
     bits_tests k comparison left right (test_needs left) (test_needs right) (test_does s k left h a.0)
     (test_does s k right h a.1)
-test_does s k (Y.BitIn r) h is = absurd (cc is)
+test_does s k (Y.BitIn r) h is = flag_does s k r h is
 test_does s k (Y.BitFrom c) h is = absurd (cc is)
 test_does s k (Y.BitOfText x) h is = absurd (cc is)
 test_does s k (Y.TextsCompared comparison left right) h is = absurd (cc is)

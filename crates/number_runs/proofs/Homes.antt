@@ -28,9 +28,10 @@ use Rattle.reference_runs.proofs.ParameterAssignments.{assign_with as assign_par
 use Rattle.number_runs.specs.Knowledge.{AreAround, Includes, IsReady, IsUnraised, KnowsGiven, KnowsNumbers, KnowsRaises}
 use Rattle.number_runs.specs.Knowledge.{MayBeSet, given_number, given_statement}
 use Rattle.number_runs.specs.Numbers.{Scope, argument_needs, bounds_known, is_argument, is_element, is_fixed, is_given}
-use Rattle.number_runs.specs.Numbers.{is_number, is_reference, is_variable, list_sets, number_needs, reference_needs}
-use Rattle.number_runs.specs.Numbers.{test_needs, without_given}
-use Rattle.number_runs.specs.Statements.{is_line, is_stored, stored_needs}
+use Rattle.number_runs.specs.Numbers.{is_number, is_reference, is_variable, list_sets, number_needs}
+use Rattle.number_runs.specs.Numbers.{is_wider, reference_needs, test_needs, without_given}
+use Rattle.number_runs.specs.Statements.{is_line, is_stored}
+use Rattle.number_runs.specs.Statements.{stored_needs}
 use Rattle.number_runs.proofs.Arrays.{element_is, subscript_given}
 use Rattle.number_runs.proofs.Expressions.{argument_does, number_does}
 use Rattle.number_runs.proofs.Turns.{ready_without}
@@ -121,6 +122,7 @@ knows_in r words set bare labels line includes =
       subscript = λ may. r.raises.subscript may words set labels line includes;
       variables = r.variables;
       arrays = r.arrays;
+      narrows = r.narrows;
       parameters = r.parameters;
       functions = λ level n is. r.calls.functions words set labels line level n includes is;
       given = λ may. given_in r words (bare may) may labels line includes;
@@ -242,7 +244,8 @@ scalar_does h labels target source line index includes is (inr one) two fits =
 element_given :
     (h : Home) (labels : List Label) (v : Y.Variable) (part : Y.Part) (subscript : Y.Number) (source : Y.Stored)
     (line index : ℕ) → Includes h.own labels → is_line line ≡ true → is_element h.scope v part ≡ true →
-    is_number h.scope subscript ≡ true → is_stored h.scope source ≡ true → stored_needs source ≤ h.block.registers →
+    (is_number h.scope subscript && is_wider h.scope subscript) ≡ true → is_stored h.scope source ≡ true →
+    stored_needs source ≤ h.block.registers →
     suc (max (number_needs subscript) 1) ≤ h.block.registers →
     Coded h labels (Y.Assign (Y.Referring v Y.NotLocated part (Y.NumberThen subscript Y.NoNumber)) source line) index
 element_given h labels v part subscript source line index includes is one number two fits more =
@@ -268,7 +271,8 @@ element_given h labels v part subscript source line index includes is one number
       paid = paid_for h (Y.Assign (element t.spot subscript) (Y.StoredNumber 31 x.number) line) index l;
     })
     (knows'.subscript t.may) (number_does s k x.number knows' x.known)
-    (subscript_given s k 1 second subscript knows' number (omega arith) (number_does s k subscript knows' number))))
+    (subscript_given s k 1 second subscript knows' number (omega arith)
+    (number_does s k subscript knows' (and_parts (is_number s subscript) (is_wider s subscript) number).0))))
 
 pub given_does :
     (h : Home) (labels : List Label) (target : Y.Reference) (source : Y.Stored) (line index : ℕ) →
@@ -282,7 +286,7 @@ given_does h labels (Y.Referring v Y.NotLocated part Y.NoNumber) source line ind
     (omega (arith, fits))
 given_does h labels (Y.Referring v Y.NotLocated part (Y.NumberThen subscript Y.NoNumber)) source line index includes is
     one two fits =
-    let a = and_parts (is_element h.scope v part) (is_number h.scope subscript) one in
+    let a = and_parts (is_element h.scope v part) (is_number h.scope subscript && is_wider h.scope subscript) one in
     element_given h labels v part subscript source line index includes is a.0 a.1 two (omega (arith, fits))
     (omega (arith, fits))
 given_does h labels (Y.Referring v Y.NotLocated part (Y.NumberThen first (Y.NumberThen second rest))) source line index

@@ -1,4 +1,5 @@
 pub mod Variables
+pub mod Narrow
 pub mod Arrays
 pub mod Declared
 pub mod Words
@@ -12,5 +13,6 @@ pub mod Labels
 pub mod Counters
 pub mod Turns
 pub mod Homes
+pub mod Narrowed
 pub mod Statements
 pub mod Uncounted

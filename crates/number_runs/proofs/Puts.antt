@@ -34,9 +34,10 @@ use Rattle.edit_runs.proofs.Puts.{put_does}
 use Rattle.edit_runs.proofs.Skips.{skip_does}
 use Rattle.number_runs.specs.Knowledge.{IsUnraised, KnowsLists, KnowsNumbers, KnowsPuts, MayBeSet}
 use Rattle.number_runs.specs.Numbers.{Scope, bounds_known, is_array_known, is_known, is_number, is_received}
-use Rattle.number_runs.specs.Numbers.{number_needs}
-use Rattle.number_runs.specs.Puts.{are_pairs, are_put_items, is_fixed_list, is_put, is_put_item, is_put_list, is_skip}
-use Rattle.number_runs.specs.Puts.{put_items_need, put_needs, without_calls}
+use Rattle.scalar_runs.specs.Scalars.{IsScalar}
+use Rattle.number_runs.specs.Numbers.{is_narrow_known, number_needs, type_known}
+use Rattle.number_runs.specs.Puts.{are_pairs, are_put_items, is_fixed_list, is_put, is_put_item}
+use Rattle.number_runs.specs.Puts.{is_put_list, is_skip, put_items_need, put_needs, without_calls}
 use Rattle.number_runs.proofs.Expressions.{more_registers, number_does}
 use Rattle.number_runs.proofs.Formats.{list_fixed}
 use Rattle.number_runs.proofs.Received.{parameter_placed}
@@ -262,12 +263,34 @@ array_placed k place x b is =
       bounds = is.bounds;
     }
 
+pub narrow_placed :
+    (k : Block) (place : EditPlace) (x : Spot) (t : Y.LeafType) → IsScalar k x t → IsScalar (placing place k) x t
+narrow_placed k place x t is =
+    let h = is.known in
+    record {
+      initial = is.initial;
+      known = record {
+        declared = h.declared;
+        serial = h.serial;
+        binding = h.binding;
+        living = h.living;
+        lives = h.lives;
+        shape = h.shape;
+        base = h.base;
+        frame = h.frame;
+        at = h.at;
+        low = h.low;
+        inside = h.inside;
+      };
+    }
+
 pub puts_known :
     (s : Scope) (k : Block) (most : ℕ) → IsBegun k → IsUnraised k most →
     ((x : Spot) → is_known s x ≡ true → IsNumber k x) →
     (s.elements ≡ true → (x : Spot) → is_array_known s x ≡ true → IsArray k x (bounds_known s x)) →
+    (s.narrows ≡ true → (x : Spot) → is_narrow_known s x ≡ true → IsScalar k x (type_known s x)) →
     ((x : Spot) → is_received s x ≡ true → IsParameter k x) → KnowsLists k → KnowsPuts s k most
-puts_known s k most b u variables arrays parameters lists =
+puts_known s k most b u variables arrays narrows parameters lists =
     let few = u.few in
     record {
       numbers = λ words may place labels line.
@@ -297,6 +320,7 @@ puts_known s k most b u variables arrays parameters lists =
             });
             variables = λ x is. number_placed k place x (variables x is);
             arrays = λ may x is. array_placed k place x (bounds_known s x) (arrays may x is);
+            narrows = λ may x is. narrow_placed k place x (type_known s x) (narrows may x is);
             parameters = λ x is. parameter_placed k place x (parameters x is);
             functions = λ level n is. absurd (cc is);
             given = λ may. absurd (cc may);

@@ -1,9 +1,9 @@
 -- Statements of the class: each does what it means, by the law of its form.
-use Rattle.std.proofs.Common.{◌≡◌, ℕ, ◌+◌, ◌≤◌, List, [], ◌∷◌, ◌++◌, true, false, refl, sym, ap, ◌∙◌, None, subst}
-use Rattle.std.proofs.Common.{arith}
+use Rattle.std.proofs.Common.{◌≡◌, ◌⊎◌, inl, inr, ℕ, suc, ◌+◌, ◌≤◌, List, [], ◌∷◌, ◌++◌, true, false, refl, sym, ap}
+use Rattle.std.proofs.Common.{◌∙◌, None, subst, arith}
 use Rattle.std.specs.Prelude.{◌&&◌, ◌||◌, ◌==◌, Bool, ℤ, max, not, Option}
 use Rattle.rv_meaning.specs.Words.{word}
-use Rattle.std.proofs.lemmas.Bool.{and_parts}
+use Rattle.std.proofs.lemmas.Bool.{and_parts, or_cases}
 use Rattle.pli_typing.specs.TypedTree as Y
 use Rattle.pli_meaning.specs.Control.{Label, is_among}
 use Rattle.pli_meaning.specs.Executing.{labels_in}
@@ -19,7 +19,6 @@ use Rattle.program_runs.specs.Statements.{AreMarked, AreMarkedWith, Block, Does,
 use Rattle.program_runs.specs.Statements.{set_aside}
 use Rattle.program_runs.proofs.Statements.{null_does, return_does, stop_does}
 use Rattle.expression_runs.specs.Assignments.{setting_around}
-use Rattle.expression_runs.specs.Variables.{whole}
 use Rattle.group_runs.specs.Groups.{list_index}
 use Rattle.group_runs.proofs.Groups.{group_with}
 use Rattle.test_runs.specs.Choices.{behind_act, behind_choice_with, behind_test_with, body_index_with}
@@ -33,17 +32,20 @@ use Rattle.counter_runs.proofs.Counts.{count_does}
 use Rattle.counter_runs.proofs.Needs.{does_more}
 use Rattle.counter_runs.proofs.Scalars.{number_counts}
 use Rattle.number_runs.specs.Counting.{count_needs, is_count, limit_needs, start_needs}
-use Rattle.number_runs.specs.Knowledge.{AreAround, AreStanding, AreStandingWith, HasFrame, IsReady, MayBeSet, Standing}
+use Rattle.number_runs.specs.Knowledge.{AreAround, AreStanding, AreStandingWith, HasFrame, IsReady}
+use Rattle.number_runs.specs.Knowledge.{Includes, MayBeSet, Standing}
 use Rattle.number_runs.specs.Knowledge.{StandingWith}
-use Rattle.number_runs.specs.Numbers.{Scope, is_argument, is_fixed, is_reference, is_test, number_needs, test_needs}
-use Rattle.number_runs.specs.Numbers.{test_sets, without_given}
+use Rattle.number_runs.specs.Numbers.{Scope, is_argument, is_fixed}
+use Rattle.number_runs.specs.Numbers.{is_reference, is_test, number_needs, reference_needs}
+use Rattle.number_runs.specs.Numbers.{test_needs, test_sets, without_given}
 use Rattle.number_runs.specs.Puts.{is_put}
 use Rattle.number_runs.specs.Statements.{are_statements, is_line, is_statement, is_stored, statement_needs}
-use Rattle.number_runs.specs.Statements.{statement_sets, statements_need, statements_set}
+use Rattle.number_runs.specs.Statements.{is_narrowed, statement_sets, statements_need, statements_set, stored_needs}
 use Rattle.number_runs.proofs.Counters.{IsCounting, counting_is, counting_of, statement_is}
 use Rattle.number_runs.proofs.Expressions.{number_does, test_does}
 use Rattle.number_runs.proofs.Homes.{Home, act_of, paid_for, knows, knows_in, has_test, given_does, returned_does}
-use Rattle.number_runs.proofs.Homes.{gone_does, calls_does, passed_does, not_true}
+use Rattle.number_runs.proofs.Homes.{Coded, gone_does, calls_does, passed_does, not_true}
+use Rattle.number_runs.proofs.Narrowed.{narrowed_does}
 use Rattle.number_runs.proofs.Labels.{placed_in, placed_with}
 use Rattle.number_runs.proofs.Puts.{put_statement_does}
 use Rattle.number_runs.proofs.Turns.{frame_told, frame_without, free_above, ready_told, ready_without, turn_stands}
@@ -269,6 +271,20 @@ counted_does h labels x body line index placed is c none fits all sets each =
     subst (Goes h labels index) (sym (statement_is x body line))
     (counts_by h labels x body line index placed is c none fits all sets each)
 
+-- ---- assignments
+
+assignment_does :
+    (h : Home) (labels : List Label) (target : Y.Reference) (source : Y.Stored) (line index : ℕ) →
+    Includes h.own labels → is_line line ≡ true →
+    ((is_reference h.scope target && is_stored h.scope source) ≡ true) ⊎ (is_narrowed h.scope target source ≡ true) →
+    max (stored_needs source) (suc (reference_needs target)) ≤ h.block.registers →
+    Coded h labels (Y.Assign target source line) index
+assignment_does h labels target source line index includes is (inl h') fits =
+    let b = and_parts (is_reference h.scope target) (is_stored h.scope source) h' in
+    given_does h labels target source line index includes is b.0 b.1 fits
+assignment_does h labels target source line index includes is (inr h') fits =
+    narrowed_does h labels target source line index includes is h' fits
+
 -- ---- all forms
 
 mutual
@@ -280,9 +296,10 @@ mutual
   statement_does h labels (Y.Null line) index placed is fits sets at =
       null_does h.block line index h.left' (act_of h line is) at.linked labels
   statement_does h labels (Y.Assign target source line) index placed is fits sets at =
-      let a = and_parts (is_line line) (is_reference h.scope target && is_stored h.scope source) is in
-      let b = and_parts (is_reference h.scope target) (is_stored h.scope source) a.1 in
-      given_does h labels target source line index placed.includes a.0 b.0 b.1 fits at.linked
+      let one = is_reference h.scope target && is_stored h.scope source in
+      let other = is_narrowed h.scope target source in
+      let a = and_parts (is_line line) (one || other) is in
+      assignment_does h labels target source line index placed.includes a.0 (or_cases one other a.1) fits at.linked
   statement_does h labels (Y.If condition unit line) index placed is fits sets at =
       let inner = is_statement h.scope h.valued labels unit in
       let a = and_parts (is_line line) (is_test h.scope condition && inner) is in

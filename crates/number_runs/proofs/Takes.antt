@@ -22,18 +22,21 @@ use Rattle.argument_runs.specs.Parameters.{parameter}
 use Rattle.counter_runs.specs.Counts.{count_of}
 use Rattle.number_runs.specs.Counting.{count_needs, is_count, limit_needs, start_needs}
 use Rattle.number_runs.specs.Numbers.{Scope, are_numbers, argument_needs, argument_sets, call_needs, call_sets}
-use Rattle.number_runs.specs.Numbers.{is_argument, is_element, is_fixed, is_given, is_number, is_parameter}
-use Rattle.number_runs.specs.Numbers.{is_reference, is_test, is_variable, list_sets, may_calculate, number_needs}
-use Rattle.number_runs.specs.Numbers.{number_sets, numbers_need, numbers_set, reference_needs, reference_sets}
-use Rattle.number_runs.specs.Numbers.{test_needs, test_sets, without_given}
+use Rattle.number_runs.specs.Numbers.{is_argument, is_element, is_fixed, is_given, is_number, is_parameter, is_reference}
+use Rattle.number_runs.specs.Numbers.{is_test, is_variable, list_sets, may_calculate, number_needs, number_sets}
+use Rattle.number_runs.specs.Numbers.{numbers_need, numbers_set, reference_needs, reference_sets, test_needs, test_sets}
+use Rattle.number_runs.specs.Narrow.{has_precision, is_bit, is_number_type}
+use Rattle.number_runs.specs.Numbers.{is_narrow_with, is_wider, without_given}
 use Rattle.number_runs.specs.Puts.{are_pairs, are_put_items, is_fixed_list, is_put, is_put_item, is_put_list, is_skip}
 use Rattle.number_runs.specs.Puts.{put_item_needs, put_items_need, put_needs, without_calls}
-use Rattle.number_runs.specs.Statements.{are_statements, is_line, is_statement, is_stored, statement_needs}
+use Rattle.number_runs.specs.Statements.{are_statements, is_line, is_narrowed, is_statement, is_stored, statement_needs}
 use Rattle.number_runs.specs.Statements.{statement_sets, statements_need, statements_set, stored_needs, stored_sets}
 use Rattle.number_runs.specs.Variables.{are_known, are_plain, is_declared}
 use Rattle.number_runs.proofs.Arrays.{element_is}
 use Rattle.number_runs.proofs.Counters.{IsCounting, counting_is, counting_of, statement_is}
 use Rattle.number_runs.proofs.Declared.{of_declared}
+use Rattle.scalar_runs.specs.Scalars.{scalar_declared}
+use Rattle.number_runs.proofs.Narrow.{by_narrow, narrow_with_is}
 use Rattle.number_runs.proofs.Unset.{number_unset}
 use Rattle.number_runs.proofs.Variables.{parameter_declared_is, parameter_is, variable_is}
 
@@ -172,12 +175,35 @@ sets_two m n p q t a take fits x y =
     subst (λ t'. Sets (max m (suc n)) (max p q) t (most_taken a (take t')))
     (sym (next_number t (omega (arith, fits)))) (sets_both m n p q t a (take (one_more t)) x y)
 
+pub narrow_taken :
+    (s : Scope) (test : Y.LeafType → Bool) (r : Y.Reference) (t : Taken) → is_narrow_with s test r ≡ true →
+    Sets (reference_needs r) (reference_sets r) t (reference_takes t r)
+narrow_taken s test r t h =
+    let w = narrow_with_is s test r h in
+    subst (λ q. Sets (reference_needs q) (reference_sets q) t (reference_takes t q)) (sym w.is) (whole_takes t w.spot)
+
+flag_taken :
+    (s : Scope) (r : Y.Reference) (t : Taken) → is_narrow_with s is_bit r ≡ true → Sets 0 0 t (bit_takes t (Y.BitIn r))
+flag_taken s r t h =
+    let w = narrow_with_is s is_bit r h in
+    subst (λ q. Sets 0 0 t (reference_takes t q)) (sym w.is) (whole_takes t w.spot)
+
+named_taken :
+    (s : Scope) (r : Y.Reference) (t : Taken) →
+    (is_reference s r ≡ true) ⊎ (is_narrow_with s is_number_type r ≡ true) →
+    (is_reference s r ≡ true → Sets (reference_needs r) (reference_sets r) t (reference_takes t r)) →
+    Sets (reference_needs r) (reference_sets r) t (reference_takes t r)
+named_taken s r t (inl h) one = one h
+named_taken s r t (inr h) one = narrow_taken s is_number_type r t h
+
 mutual
   pub number_taken :
       (s : Scope) (x : Y.Number) (t : Taken) → is_number s x ≡ true → Fits t (number_needs x) →
       Sets (number_needs x) (number_sets x) t (number_takes t x)
   number_taken s (Y.NumberConstant n) t h fits = sets_none t
-  number_taken s (Y.NumberIn r) t h fits = reference_taken s r t h fits
+  number_taken s (Y.NumberIn r) t h fits =
+      named_taken s r t (or_cases (is_reference s r) (is_narrow_with s is_number_type r) h)
+      (λ one. reference_taken s r t one fits)
   number_taken s (Y.NumberFrom c) t h fits = call_taken s c t h fits
   number_taken s (Y.Signed sign x) t h fits =
       sets_signed (number_needs x) (number_sets x) t (number_takes t x) (omega (arith, fits))
@@ -260,12 +286,13 @@ mutual
       let r = Y.Referring v Y.NotLocated part Y.NoNumber in
       scalar_takes s r t (or_cases (is_variable s r) (is_given s r) h)
   reference_taken s (Y.Referring v Y.NotLocated part (Y.NumberThen subscript Y.NoNumber)) t h fits =
-      let a = and_parts (is_element s v part) (is_number s subscript) h in
+      let a = and_parts (is_element s v part) (is_number s subscript && is_wider s subscript) h in
+      let number = (and_parts (is_number s subscript) (is_wider s subscript) a.1).0 in
       let w = element_is s v part subscript a.0 in
       let need = max (number_needs subscript) 1 in
       subst (λ r. Sets need (max (number_sets subscript) 0) t (reference_takes t r)) (sym w.is)
       (subscript_takes (number_needs subscript) (number_sets subscript) t (number_takes t subscript)
-      (omega (arith, fits)) (number_taken s subscript t a.1 (omega (arith, fits))))
+      (omega (arith, fits)) (number_taken s subscript t number (omega (arith, fits))))
   reference_taken s (Y.Referring v Y.NotLocated part (Y.NumberThen first (Y.NumberThen second rest))) t h fits =
       absurd (cc h)
   reference_taken s (Y.Referring v (Y.LocatedBy p) part Y.NoNumber) t h fits = absurd (cc h)
@@ -303,7 +330,7 @@ test_taken s (Y.BitsCompared comparison left right) t h fits =
     sets_two (test_needs left) (test_needs right) (test_sets left) (test_sets right) t (bit_takes t left)
     (λ u. bit_takes u right) fits
     (test_taken s left t a.0 (omega (arith, fits))) (test_taken s right (one_more t) a.1 (omega (arith, fits)))
-test_taken s (Y.BitIn r) t h fits = absurd (cc h)
+test_taken s (Y.BitIn r) t h fits = flag_taken s r t h
 test_taken s (Y.BitFrom c) t h fits = absurd (cc h)
 test_taken s (Y.BitOfText x) t h fits = absurd (cc h)
 test_taken s (Y.TextsCompared comparison left right) t h fits = absurd (cc h)
@@ -343,6 +370,47 @@ assigned_taken words s target (Y.StoredText x) h g fits = absurd (cc g)
 assigned_taken words s target (Y.StoredBit x) h g fits = absurd (cc g)
 assigned_taken words s target (Y.StoredPointer x) h g fits = absurd (cc g)
 assigned_taken words s target (Y.StoredOffset x) h g fits = absurd (cc g)
+
+-- a scalar of fewer bits takes nothing itself
+narrowed_taken :
+    (words : ℕ) (s : Scope) (target : Y.Reference) (source : Y.Stored) → is_narrowed s target source ≡ true →
+    max (stored_needs source) (suc (reference_needs target)) ≤ held_registers →
+    Sets (max (stored_needs source) (suc (reference_needs target))) (max (stored_sets source) (reference_sets target))
+    (set_aside words) (assigned_takes (set_aside words) target source)
+narrowed_taken words s target (Y.StoredNumber precision x) h fits =
+    let narrow = is_narrow_with s (has_precision precision) target in
+    let c = and_parts s.overflows (narrow && is_number s x) h in
+    let d = and_parts narrow (is_number s x) c.1 in
+    let a = narrow_taken s (has_precision precision) target (with_number (set_aside words)) d.0 in
+    let b = number_taken s x (set_aside words) d.1 (omega (arith, fits)) in
+    let p = b.registers in
+    let q = a.registers in
+    let u = a.words in
+    let v = b.words in
+    record { registers = omega (arith, p, q); words = omega (arith, u, v) }
+narrowed_taken words s target (Y.StoredBit x) h fits =
+    let d = and_parts (is_narrow_with s is_bit target) (is_test s x) h in
+    let a = narrow_taken s is_bit target (with_number (set_aside words)) d.0 in
+    let b = test_taken s x (set_aside words) d.1 (omega (arith, fits)) in
+    let p = b.registers in
+    let q = a.registers in
+    let u = a.words in
+    let v = b.words in
+    record { registers = omega (arith, p, q); words = omega (arith, u, v) }
+narrowed_taken words s target (Y.StoredText x) h fits = absurd (cc h)
+narrowed_taken words s target (Y.StoredPointer x) h fits = absurd (cc h)
+narrowed_taken words s target (Y.StoredOffset x) h fits = absurd (cc h)
+
+assignment_taken :
+    (words : ℕ) (s : Scope) (target : Y.Reference) (source : Y.Stored) →
+    ((is_reference s target && is_stored s source) ≡ true) ⊎ (is_narrowed s target source ≡ true) →
+    max (stored_needs source) (suc (reference_needs target)) ≤ held_registers →
+    Sets (max (stored_needs source) (suc (reference_needs target))) (max (stored_sets source) (reference_sets target))
+    (set_aside words) (assigned_takes (set_aside words) target source)
+assignment_taken words s target source (inl h) fits =
+    let b = and_parts (is_reference s target) (is_stored s source) h in
+    assigned_taken words s target source b.0 b.1 fits
+assignment_taken words s target source (inr h) fits = narrowed_taken words s target source h fits
 
 -- start, limit and step are evaluated while three words are set aside, and the variable is assigned while two are
 counting_taken :
@@ -451,9 +519,10 @@ mutual
       Sets (statement_needs x) (statement_sets x) (set_aside words) (stmt_takes (set_aside words) x)
   statement_taken words s valued labels (Y.Null line) h fits = sets_none (set_aside words)
   statement_taken words s valued labels (Y.Assign target source line) h fits =
-      let a = and_parts (is_line line) (is_reference s target && is_stored s source) h in
-      let b = and_parts (is_reference s target) (is_stored s source) a.1 in
-      assigned_taken words s target source b.0 b.1 fits
+      let one = is_reference s target && is_stored s source in
+      let other = is_narrowed s target source in
+      let a = and_parts (is_line line) (one || other) h in
+      assignment_taken words s target source (or_cases one other a.1) fits
   statement_taken words s valued labels (Y.If condition unit line) h fits =
       let inner = is_statement s valued labels unit in
       let a = and_parts (is_line line) (is_test s condition && inner) h in
@@ -556,7 +625,9 @@ mutual
 
 known_takes :
     (d : Y.DeclaredVariable) → (is_declared d ≡ true) ⊎ (is_parameter d ≡ true) → variable_takes d ≡ none_taken
-known_takes d (inl h) = of_declared (λ d'. variable_takes d' ≡ none_taken) refl (λ b is. refl) d h
+known_takes d (inl h) =
+    of_declared (λ d'. variable_takes d' ≡ none_taken) refl (λ b is. refl)
+    (by_narrow (λ t. variable_takes (scalar_declared t []) ≡ none_taken) (λ p is. refl) refl) d h
 known_takes d (inr h) = subst (λ d'. variable_takes d' ≡ none_taken) (sym (parameter_declared_is d h)) refl
 
 pub plain_takes : (ds : List Y.DeclaredVariable) → are_known ds ≡ true → variables_take ds ≡ none_taken

@@ -24,7 +24,8 @@ use Rattle.counter_runs.proofs.Turns.{coded, starts_code}
 use Rattle.counter_runs.proofs.Words.{begun_telling}
 use Rattle.number_runs.specs.Knowledge.{AreStandingWith, HasFrame, IsHome, IsReady, KnowsCalls, KnowsPuts, KnowsRaises}
 use Rattle.number_runs.specs.Knowledge.{StandingWith}
-use Rattle.number_runs.specs.Numbers.{Scope, bounds_known, without_given}
+use Rattle.number_runs.specs.Numbers.{Scope, bounds_known, type_known, without_given}
+use Rattle.number_runs.proofs.Narrow.{narrow_told}
 use Rattle.number_runs.proofs.Received.{parameter_told}
 
 -- ---- words in which nothing waits
@@ -89,6 +90,7 @@ ready_told {s} {k = k} r c none waits behind free =
       raises = l.raises waits;
       variables = λ x is. number_told k l.layer l.others waits l.newest x (r.variables x is);
       arrays = λ may x is. array_told k l.layer l.others waits l.newest x (bounds_known s x) (r.arrays may x is);
+      narrows = λ may x is. narrow_told k l.layer l.others waits l.newest x (type_known s x) (r.narrows may x is);
       parameters = λ x is. parameter_told k l.layer l.others waits l.newest x (r.parameters x is);
       calls = l.calls waits;
       given = λ may. absurd (cc (sym none ∙ may));
@@ -154,6 +156,7 @@ ready_without r =
       raises = raises_without r.raises;
       variables = r.variables;
       arrays = r.arrays;
+      narrows = r.narrows;
       parameters = r.parameters;
       calls = calls_without r.calls;
       given = λ may. absurd (cc may);

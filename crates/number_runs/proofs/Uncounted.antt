@@ -1,7 +1,7 @@
 -- Where no loop may count, and no call has an argument, statements set no words of the frame aside.
-use Rattle.std.proofs.Common.{◌≡◌, ℕ, ◌≤◌, List, [], ◌++◌, true, false, refl, sym, ◌∙◌, arith}
-use Rattle.std.specs.Prelude.{◌&&◌, ◌==◌, Bool}
-use Rattle.std.proofs.lemmas.Bool.{and_parts}
+use Rattle.std.proofs.Common.{◌≡◌, ◌⊎◌, inl, inr, ℕ, ◌≤◌, List, [], ◌++◌, true, false, refl, sym, ◌∙◌, arith}
+use Rattle.std.specs.Prelude.{◌&&◌, ◌||◌, ◌==◌, Bool, max}
+use Rattle.std.proofs.lemmas.Bool.{and_parts, or_cases}
 use Rattle.pli_typing.specs.TypedTree as Y
 use Rattle.pli_meaning.specs.Control.{Label}
 use Rattle.pli_meaning.specs.DeclaredShapes.{variables_of_block}
@@ -10,20 +10,52 @@ use Rattle.pli_coding.specs.Environments.{Environment, none_taken}
 use Rattle.pli_coding.specs.Registers.{held_registers}
 use Rattle.pli_coding.specs.Statements.{block_takes, block_words, stmt_takes, stmts_take}
 use Rattle.number_runs.specs.Counting.{is_count}
+use Rattle.number_runs.specs.Narrow.{has_precision, is_bit}
 use Rattle.number_runs.specs.Numbers.{Scope, is_argument, is_fixed, is_number, is_reference, is_test, without_given}
+use Rattle.number_runs.specs.Numbers.{is_narrow_with, reference_sets}
 use Rattle.number_runs.specs.Statements.{are_statements, is_line, is_statement, is_stored, statement_needs}
-use Rattle.number_runs.specs.Statements.{statement_sets, statements_need, statements_set, stored_sets}
+use Rattle.number_runs.specs.Statements.{is_narrowed, statement_sets, statements_need, statements_set, stored_sets}
 use Rattle.number_runs.specs.Variables.{are_plain}
 use Rattle.number_runs.proofs.Takes.{Takes, block_sets, plain_known, statement_taken, statements_taken}
-use Rattle.number_runs.proofs.Unset.{number_unset, reference_unset, test_unset}
+use Rattle.number_runs.proofs.Unset.{narrow_unset, number_unset, reference_unset, test_unset}
 
 stored_unset : (s : Scope) (x : Y.Stored) → s.gives ≡ false → is_stored s x ≡ true → stored_sets x ≡ 0
 stored_unset s (Y.StoredNumber precision x) none h =
     number_unset s x none (and_parts (precision == 31) (is_number s x) h).1
 stored_unset s (Y.StoredText x) none h = refl
-stored_unset s (Y.StoredBit x) none h = refl
+stored_unset s (Y.StoredBit x) none h = absurd (cc h)
 stored_unset s (Y.StoredPointer x) none h = refl
 stored_unset s (Y.StoredOffset x) none h = refl
+
+narrowed_unset :
+    (s : Scope) (target : Y.Reference) (source : Y.Stored) → s.gives ≡ false → is_narrowed s target source ≡ true →
+    max (stored_sets source) (reference_sets target) ≡ 0
+narrowed_unset s target (Y.StoredNumber precision x) none h =
+    let narrow = is_narrow_with s (has_precision precision) target in
+    let a = and_parts s.overflows (narrow && is_number s x) h in
+    let b = and_parts narrow (is_number s x) a.1 in
+    let m = number_unset s x none b.1 in
+    let n = narrow_unset s (has_precision precision) target b.0 in
+    omega (arith, m, n)
+narrowed_unset s target (Y.StoredBit x) none h =
+    let a = and_parts (is_narrow_with s is_bit target) (is_test s x) h in
+    let m = test_unset s x none a.1 in
+    let n = narrow_unset s is_bit target a.0 in
+    omega (arith, m, n)
+narrowed_unset s target (Y.StoredText x) none h = absurd (cc h)
+narrowed_unset s target (Y.StoredPointer x) none h = absurd (cc h)
+narrowed_unset s target (Y.StoredOffset x) none h = absurd (cc h)
+
+assigned_unset :
+    (s : Scope) (target : Y.Reference) (source : Y.Stored) → s.gives ≡ false →
+    ((is_reference s target && is_stored s source) ≡ true) ⊎ (is_narrowed s target source ≡ true) →
+    max (stored_sets source) (reference_sets target) ≡ 0
+assigned_unset s target source none (inl h) =
+    let b = and_parts (is_reference s target) (is_stored s source) h in
+    let m = reference_unset s target none b.0 in
+    let n = stored_unset s source none b.1 in
+    omega (arith, m, n)
+assigned_unset s target source none (inr h) = narrowed_unset s target source none h
 
 mutual
   statement_uncounted :
@@ -79,11 +111,10 @@ mutual
   statement_uncounted s valued labels (Y.Put skip pairs line) none h = refl
   statement_uncounted s valued labels (Y.Null line) none h = refl
   statement_uncounted s valued labels (Y.Assign target source line) none h =
-      let a = and_parts (is_line line) (is_reference s target && is_stored s source) h in
-      let b = and_parts (is_reference s target) (is_stored s source) a.1 in
-      let m = reference_unset s target none.1 b.0 in
-      let n = stored_unset s source none.1 b.1 in
-      omega (arith, m, n)
+      let one = is_reference s target && is_stored s source in
+      let other = is_narrowed s target source in
+      let a = and_parts (is_line line) (one || other) h in
+      assigned_unset s target source none.1 (or_cases one other a.1)
   statement_uncounted s valued labels (Y.CallProcedure (Y.Calling number level Y.NoArgument) line) none h = refl
   statement_uncounted s valued labels
       (Y.CallProcedure (Y.Calling number level (Y.ArgumentThen argument Y.NoArgument)) line) none h =

@@ -1,11 +1,13 @@
 -- Where calls have no arguments numbers set no words of the frame aside.
-use Rattle.std.proofs.Common.{◌≡◌, true, false, refl, sym, ◌∙◌, arith}
+use Rattle.std.proofs.Common.{◌≡◌, ◌⊎◌, inl, inr, Bool, true, false, refl, sym, ap, ◌∙◌, arith}
 use Rattle.std.specs.Prelude.{◌&&◌, ◌==◌}
-use Rattle.std.proofs.lemmas.Bool.{and_parts}
+use Rattle.std.proofs.lemmas.Bool.{and_parts, or_cases}
 use Rattle.pli_typing.specs.TypedTree as Y
 use Rattle.number_runs.specs.Numbers.{Scope, are_numbers, call_sets, is_argument, is_element, is_number, is_reference}
 use Rattle.number_runs.specs.Numbers.{is_test, may_calculate, number_sets, numbers_set, reference_sets, test_sets}
-use Rattle.number_runs.specs.Numbers.{without_given}
+use Rattle.number_runs.specs.Numbers.{is_narrow_with, is_wider, without_given}
+use Rattle.number_runs.specs.Narrow.{is_number_type}
+use Rattle.number_runs.proofs.Narrow.{narrow_with_is}
 
 call_unset :
     (s : Scope) (c : Y.Call) → s.gives ≡ false → is_number s (Y.NumberFrom c) ≡ true → call_sets c ≡ 0
@@ -15,10 +17,25 @@ call_unset s (Y.Calling number level (Y.ArgumentThen argument Y.NoArgument)) non
     absurd (cc (sym none ∙ (and_parts s.gives known h).0))
 call_unset s (Y.Calling number level (Y.ArgumentThen argument (Y.ArgumentThen second rest))) none h = absurd (cc h)
 
+-- nor does a scalar of fewer bits
+pub narrow_unset :
+    (s : Scope) (test : Y.LeafType → Bool) (r : Y.Reference) → is_narrow_with s test r ≡ true → reference_sets r ≡ 0
+narrow_unset s test r h =
+    let w = narrow_with_is s test r h in
+    ap reference_sets w.is
+
+named_unset :
+    (s : Scope) (r : Y.Reference) → (is_reference s r ≡ true) ⊎ (is_narrow_with s is_number_type r ≡ true) →
+    (is_reference s r ≡ true → reference_sets r ≡ 0) → reference_sets r ≡ 0
+named_unset s r (inl h) one = one h
+named_unset s r (inr h) one = narrow_unset s is_number_type r h
+
 mutual
   pub number_unset : (s : Scope) (x : Y.Number) → s.gives ≡ false → is_number s x ≡ true → number_sets x ≡ 0
   number_unset s (Y.NumberConstant n) none h = refl
-  number_unset s (Y.NumberIn r) none h = reference_unset s r none h
+  number_unset s (Y.NumberIn r) none h =
+      named_unset s r (or_cases (is_reference s r) (is_narrow_with s is_number_type r) h)
+      (λ one. reference_unset s r none one)
   number_unset s (Y.NumberFrom c) none h = call_unset s c none h
   number_unset s (Y.Signed sign x) none h =
       number_unset s x none (and_parts s.overflows (is_number s x) h).1
@@ -64,8 +81,8 @@ mutual
       (s : Scope) (r : Y.Reference) → s.gives ≡ false → is_reference s r ≡ true → reference_sets r ≡ 0
   reference_unset s (Y.Referring v Y.NotLocated part Y.NoNumber) none h = refl
   reference_unset s (Y.Referring v Y.NotLocated part (Y.NumberThen subscript Y.NoNumber)) none h =
-      let a = and_parts (is_element s v part) (is_number s subscript) h in
-      let n = number_unset s subscript none a.1 in
+      let a = and_parts (is_element s v part) (is_number s subscript && is_wider s subscript) h in
+      let n = number_unset s subscript none (and_parts (is_number s subscript) (is_wider s subscript) a.1).0 in
       omega (arith, n)
   reference_unset s (Y.Referring v Y.NotLocated part (Y.NumberThen first (Y.NumberThen second rest))) none h =
       absurd (cc h)

@@ -33,11 +33,15 @@ use Rattle.variable_runs.proofs.Known.{known_number, known_own}
 use Rattle.variable_runs.proofs.Lists.{next_layers}
 use Rattle.element_runs.specs.Arrays.{IsArray}
 use Rattle.number_runs.specs.Arrays.{array_bounds, bounds_if, is_array, is_array_if}
+use Rattle.scalar_runs.specs.Scalars.{IsScalar}
+use Rattle.number_runs.specs.Narrow.{is_narrow, is_narrow_if, narrow_type, type_if}
 use Rattle.number_runs.specs.Numbers.{is_plain_if}
-use Rattle.number_runs.specs.Variables.{AreTabled, HasWords, HaveRoom, IsOwnArray, IsOwnWord, IsTabled, are_plain}
-use Rattle.number_runs.specs.Variables.{bytes_of, is_declared, own_bounds, variable_bytes, words_from, words_in}
+use Rattle.number_runs.specs.Variables.{AreTabled, HasWords, HaveRoom, IsOwnArray, IsOwnNarrow, IsOwnWord, IsTabled}
+use Rattle.number_runs.specs.Variables.{are_plain, bytes_of, is_declared, own_bounds, own_type, variable_bytes}
+use Rattle.number_runs.specs.Variables.{words_from, words_in}
 use Rattle.number_runs.proofs.Arrays.{array_is, bounds_are}
 use Rattle.number_runs.proofs.Declared.{makeable, sized}
+use Rattle.number_runs.proofs.Narrow.{narrow_is}
 use Rattle.number_runs.proofs.Variables.{plain_is}
 
 abbrev pub word_made : Environment → (place index : ℕ) → Y.DeclaredVariable → Declared
@@ -316,6 +320,16 @@ found_array : (o : Option Y.DeclaredVariable) → is_array_if o ≡ true → Fou
 found_array None h = absurd (cc h)
 found_array (Some d) h = record { declared = d; is = refl; array = h; bounds = refl }
 
+record FoundNarrow (o : Option Y.DeclaredVariable) : Type 0 where
+  declared : Y.DeclaredVariable
+  is : o ≡ Some declared
+  narrow : is_narrow declared ≡ true
+  type : type_if o ≡ narrow_type declared
+
+found_narrow : (o : Option Y.DeclaredVariable) → is_narrow_if o ≡ true → FoundNarrow o
+found_narrow None h = absurd (cc h)
+found_narrow (Some d) h = record { declared = d; is = refl; narrow = h; type = refl }
+
 -- ---- the laws
 
 pub all_words :
@@ -451,6 +465,14 @@ array_known k x o f known =
       bounds = bounds_are f.declared f.array;
     })
 
+-- and a scalar of fewer bits the type
+narrow_known :
+    (k : Block) (x : Spot) (o : Option Y.DeclaredVariable) (f : FoundNarrow o) → IsKnown k x f.declared →
+    IsScalar k x (type_if o)
+narrow_known k x o f known =
+    subst (λ t. IsScalar k x t) (sym f.type)
+    (record { initial = []; known = subst (λ d. IsKnown k x d) (narrow_is f.declared f.narrow) known })
+
 pub own_word :
     (w : Surroundings) (code : List Instr) (c : Callee) (p q : Point) (numbers : ℕ → ℕ) (x : Spot) →
     HasParts w.parts → HasWords w c q numbers × AreAll w c p numbers (words_in c.environment) → IsOwnWord c x →
@@ -487,4 +509,24 @@ function_array w code c p q numbers x parts known own b =
     let o = declared_variable c.environment.program (variable_of x) in
     let there = found_array o own.array in
     array_known (function_block w code c p numbers) x o there
+    (function_known w code c p q numbers x there.declared parts known (own.block, own.level) there.is b)
+
+pub own_narrow :
+    (w : Surroundings) (code : List Instr) (c : Callee) (p q : Point) (numbers : ℕ → ℕ) (x : Spot) →
+    HasParts w.parts → HasWords w c q numbers × AreAll w c p numbers (words_in c.environment) → IsOwnNarrow c x →
+    IsBegun (block_at w code c p numbers) → IsScalar (block_at w code c p numbers) x (own_type c x)
+own_narrow w code c p q numbers x parts known own b =
+    let o = declared_variable c.environment.program (variable_of x) in
+    let there = found_narrow o own.narrow in
+    narrow_known (block_at w code c p numbers) x o there
+    (own_known w code c p q numbers x there.declared parts known (own.block, own.level) there.is b)
+
+pub function_narrow :
+    (w : Surroundings) (code : List Instr) (c : Callee) (p q : Point) (numbers : ℕ → ℕ) (x : Spot) →
+    HasParts w.parts → HasWords w c q numbers × AreAll w c p numbers (words_in c.environment) → IsOwnNarrow c x →
+    IsBegun (function_block w code c p numbers) → IsScalar (function_block w code c p numbers) x (own_type c x)
+function_narrow w code c p q numbers x parts known own b =
+    let o = declared_variable c.environment.program (variable_of x) in
+    let there = found_narrow o own.narrow in
+    narrow_known (function_block w code c p numbers) x o there
     (function_known w code c p q numbers x there.declared parts known (own.block, own.level) there.is b)

@@ -36,7 +36,9 @@ use Rattle.element_runs.specs.Arrays.{IsArray}
 use Rattle.element_runs.specs.Subscripts.{SubscriptComes}
 use Rattle.argument_runs.specs.CopyFunctions.{setting_in}
 use Rattle.argument_runs.specs.Parameters.{IsParameter}
-use Rattle.number_runs.specs.Numbers.{Scope, bounds_known, is_array_known, is_known, is_received, list_sets}
+use Rattle.scalar_runs.specs.Scalars.{IsScalar}
+use Rattle.number_runs.specs.Numbers.{Scope, bounds_known, is_array_known, is_known, is_narrow_known, is_received}
+use Rattle.number_runs.specs.Numbers.{list_sets, type_known}
 use Rattle.number_runs.specs.Puts.{is_fixed_list, without_calls}
 
 -- ---- around expressions
@@ -64,7 +66,7 @@ pub record KnowsGiven (s : Scope) (k : Setting) : Type 0 where
       L.Does k need (given_number level n x)
 
 -- raises come to what they mean where there may be any, each variable that may be named is a number of the block, or an
--- array of it, or a parameter, and calls of functions that may be called leave what they mean
+-- array of it, a scalar of fewer bits or a parameter, and calls of functions that may be called leave what they mean
 pub record KnowsNumbers (s : Scope) (k : Setting) : Type 0 where
   pub begun : IsBegun k.block
   pub overflow : s.overflows ≡ true → OverflowComes k
@@ -72,6 +74,7 @@ pub record KnowsNumbers (s : Scope) (k : Setting) : Type 0 where
   pub subscript : s.elements ≡ true → SubscriptComes k
   pub variables : (x : Spot) → is_known s x ≡ true → IsNumber k.block x
   pub arrays : s.elements ≡ true → (x : Spot) → is_array_known s x ≡ true → IsArray k.block x (bounds_known s x)
+  pub narrows : s.narrows ≡ true → (x : Spot) → is_narrow_known s x ≡ true → IsScalar k.block x (type_known s x)
   pub parameters : (x : Spot) → is_received s x ≡ true → IsParameter k.block x
   pub functions : (level n : ℕ) → s.is_function level n ≡ true → L.Does k 0 (call_number level n)
   pub given : s.gives ≡ true → KnowsGiven s k
@@ -241,6 +244,7 @@ pub record IsReady (s : Scope) (valued : Bool) (k : Block) (labels : List Label)
   pub raises : KnowsRaises s k labels most
   pub variables : (x : Spot) → is_known s x ≡ true → IsNumber k x
   pub arrays : s.elements ≡ true → (x : Spot) → is_array_known s x ≡ true → IsArray k x (bounds_known s x)
+  pub narrows : s.narrows ≡ true → (x : Spot) → is_narrow_known s x ≡ true → IsScalar k x (type_known s x)
   pub parameters : (x : Spot) → is_received s x ≡ true → IsParameter k x
   pub calls : KnowsCalls s k labels most left'
   pub given : s.gives ≡ true → KnowsGivenCalls s k labels most left'

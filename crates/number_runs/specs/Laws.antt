@@ -17,9 +17,10 @@ use Rattle.test_runs.specs.Tests.{Tests}
 use Rattle.number_runs.specs.Knowledge.{AreAround, AreStanding, HasFrame, IsReady, IsUnraised, KnowsLists, KnowsNumbers}
 use Rattle.number_runs.specs.Knowledge.{KnowsPuts, KnowsRaises, Standing}
 use Rattle.number_runs.specs.Numbers.{Scope, bounds_known, is_array_known, is_known, is_number, is_received, is_test}
-use Rattle.number_runs.specs.Numbers.{number_needs, test_needs}
-use Rattle.number_runs.specs.Statements.{are_statements, is_statement, statement_needs, statement_sets, statements_need}
-use Rattle.number_runs.specs.Statements.{statements_set}
+use Rattle.number_runs.specs.Numbers.{is_narrow_known, number_needs, test_needs, type_known}
+use Rattle.scalar_runs.specs.Scalars.{IsScalar}
+use Rattle.number_runs.specs.Statements.{are_statements, is_statement, statement_needs, statement_sets}
+use Rattle.number_runs.specs.Statements.{statements_need, statements_set}
 use Rattle.number_runs.specs.Variables.{are_known}
 
 pub record ExpressionsDo : Type 0 where
@@ -55,6 +56,7 @@ pub record BodiesDo : Type 0 where
       (s : Scope) (k : Block) (most : ℕ) → IsBegun k → IsUnraised k most →
       ((x : Spot) → is_known s x ≡ true → IsNumber k x) →
       (s.elements ≡ true → (x : Spot) → is_array_known s x ≡ true → IsArray k x (bounds_known s x)) →
+      (s.narrows ≡ true → (x : Spot) → is_narrow_known s x ≡ true → IsScalar k x (type_known s x)) →
       ((x : Spot) → is_received s x ≡ true → IsParameter k x) → KnowsLists k → KnowsPuts s k most
 
 -- a block whose variables and statements are these, and whose temporaries fit registers: its frame has the words that

@@ -1,4 +1,5 @@
 pub mod Arrays
+pub mod Narrow
 pub mod Numbers
 pub mod Counting
 pub mod Puts

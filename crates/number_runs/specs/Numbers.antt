@@ -1,6 +1,6 @@
 -- Expressions of FIXED BINARY(31) numbers and tests of them, as a class that is computed from typed trees.
-use Rattle.std.specs.Prelude.{ℕ, suc, ◌+◌, ◌^◌, ◌==◌, ◌&&◌, ◌||◌, Bool, true, false, List, [], ◌∷◌, max, nat_lt, Option}
-use Rattle.std.specs.Prelude.{None, Some}
+use Rattle.std.specs.Prelude.{ℕ, suc, ◌+◌, ◌^◌, ◌==◌, ◌&&◌, ◌||◌, Bool, true, false, List, [], ◌∷◌, max, nat_lt, not}
+use Rattle.std.specs.Prelude.{Option, None, Some}
 use Rattle.std.specs.List.{list_any}
 use Rattle.pli_typing.specs.Signatures.{Bounds}
 use Rattle.pli_typing.specs.TypedTree as Y
@@ -10,6 +10,7 @@ use Rattle.pli_coding.specs.Environments.{BlockPlace}
 use Rattle.expression_runs.specs.Variables.{Spot, variable_of}
 use Rattle.argument_runs.specs.Parameters.{parameter_of}
 use Rattle.number_runs.specs.Arrays.{bounds_if, is_array_if}
+use Rattle.number_runs.specs.Narrow.{is_bit, is_narrow_if, is_number_type, type_if}
 
 -- ---- what an expression may name
 
@@ -31,6 +32,8 @@ pub record Scope : Type 0 where
   pub counts : Bool
   -- whether statements may write numbers by format lists
   pub puts : Bool
+  -- whether they may name scalars of fewer bits, and bits
+  pub narrows : Bool
   -- whether expressions may raise FIXEDOVERFLOW, and ZERODIVIDE
   pub overflows : Bool
   pub divides : Bool
@@ -97,6 +100,29 @@ is_variable s (Y.Referring v Y.NotLocated part Y.NoNumber) =
     is_automatic v.class && ((part.first == 0) && ((part.count == 1) && is_known s (spot_of v)))
 is_variable s _ = false
 
+-- ---- scalars of fewer bits
+
+-- one that is declared in one of these blocks, and its type
+abbrev pub is_narrow_known : Scope → Spot → Bool
+is_narrow_known s x = list_any (is_place x) s.blocks && is_narrow_if (declared_variable s.program (variable_of x))
+
+abbrev pub type_known : Scope → Spot → Y.LeafType
+type_known s x = type_if (declared_variable s.program (variable_of x))
+
+-- all of one whose type passes a test
+abbrev pub is_narrow_with : Scope → (Y.LeafType → Bool) → Y.Reference → Bool
+is_narrow_with s test (Y.Referring v Y.NotLocated part Y.NoNumber) =
+    s.narrows
+    && (is_automatic v.class
+    && ((part.first == 0)
+    && ((part.count == 1) && (is_narrow_known s (spot_of v) && test (type_known s (spot_of v))))))
+is_narrow_with s test _ = false
+
+-- a number that is none of these by itself
+abbrev pub is_wider : Scope → Y.Number → Bool
+is_wider s (Y.NumberIn r) = not (is_narrow_with s is_number_type r)
+is_wider s _ = true
+
 -- ---- parameters
 
 abbrev pub is_parameter_class : Y.StorageClass → Bool
@@ -154,7 +180,7 @@ may_calculate s _ = s.overflows
 abbrev mutual
   pub is_number : Scope → Y.Number → Bool
   is_number s (Y.NumberConstant n) = nat_lt n (2 ^ 31)
-  is_number s (Y.NumberIn r) = is_reference s r
+  is_number s (Y.NumberIn r) = is_reference s r || is_narrow_with s is_number_type r
   is_number s (Y.NumberFrom (Y.Calling number level Y.NoArgument)) = s.is_function level number
   is_number s (Y.NumberFrom (Y.Calling number level (Y.ArgumentThen argument Y.NoArgument))) =
       s.gives && (s.is_given_function level number && is_argument (without_given s) argument)
@@ -172,7 +198,7 @@ abbrev mutual
   -- a variable, a parameter, or an element of an array
   pub is_reference : Scope → Y.Reference → Bool
   is_reference s (Y.Referring v Y.NotLocated part (Y.NumberThen subscript Y.NoNumber)) =
-      is_element s v part && is_number s subscript
+      is_element s v part && (is_number s subscript && is_wider s subscript)
   is_reference s r = is_variable s r || is_given s r
 
   -- a number that is copied
@@ -256,6 +282,7 @@ abbrev mutual
 
 abbrev pub is_test : Scope → Y.Bit → Bool
 is_test s (Y.BitConstant b) = true
+is_test s (Y.BitIn r) = is_narrow_with s is_bit r
 is_test s (Y.Negated x) = is_test s x
 is_test s (Y.Combined operator left right) = is_test s left && is_test s right
 is_test s (Y.NumbersCompared comparison left right) = is_number s left && is_number s right

@@ -5,7 +5,8 @@ use Rattle.pli_meaning.specs.Control.{Label, is_among}
 use Rattle.pli_meaning.specs.Executing.{labels_in}
 use Rattle.number_runs.specs.Counting.{count_needs, is_count}
 use Rattle.number_runs.specs.Numbers.{Scope, call_needs, call_sets, is_argument, is_fixed, is_number, is_reference}
-use Rattle.number_runs.specs.Numbers.{is_test, number_needs, number_sets, reference_needs, reference_sets, test_needs}
+use Rattle.number_runs.specs.Narrow.{has_precision, is_bit}
+use Rattle.number_runs.specs.Numbers.{is_narrow_with, is_test, number_needs, number_sets, reference_needs, reference_sets, test_needs}
 use Rattle.number_runs.specs.Numbers.{test_sets, without_given}
 use Rattle.number_runs.specs.Puts.{is_put, put_needs}
 
@@ -18,12 +19,21 @@ abbrev pub is_stored : Scope → Y.Stored → Bool
 is_stored s (Y.StoredNumber precision x) = (precision == 31) && is_number s x
 is_stored s _ = false
 
+-- a number on its way into one of fewer bits, which is tested, or a bit into a bit
+abbrev pub is_narrowed : Scope → Y.Reference → Y.Stored → Bool
+is_narrowed s target (Y.StoredNumber precision x) =
+    s.overflows && (is_narrow_with s (has_precision precision) target && is_number s x)
+is_narrowed s target (Y.StoredBit x) = is_narrow_with s is_bit target && is_test s x
+is_narrowed s target _ = false
+
 abbrev pub stored_needs : Y.Stored → ℕ
 stored_needs (Y.StoredNumber precision x) = number_needs x
+stored_needs (Y.StoredBit x) = test_needs x
 stored_needs _ = 0
 
 abbrev pub stored_sets : Y.Stored → ℕ
 stored_sets (Y.StoredNumber precision x) = number_sets x
+stored_sets (Y.StoredBit x) = test_sets x
 stored_sets _ = 0
 
 -- in a block that returns a number or none; a GOTO may name these labels, those of the lists around it in its block, or
@@ -32,7 +42,7 @@ abbrev mutual
   pub is_statement : Scope → (valued : Bool) → List Label → Y.Stmt → Bool
   is_statement s valued labels (Y.Null line) = is_line line
   is_statement s valued labels (Y.Assign target source line) =
-      is_line line && (is_reference s target && is_stored s source)
+      is_line line && ((is_reference s target && is_stored s source) || is_narrowed s target source)
   is_statement s valued labels (Y.If condition unit line) =
       is_line line && (is_test s condition && is_statement s valued labels unit)
   is_statement s valued labels (Y.IfElse condition unit otherwise line) =

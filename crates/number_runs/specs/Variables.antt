@@ -1,5 +1,7 @@
--- The variables of a procedure's block: FIXED BINARY(31) scalars and arrays of one dimension, without INITIAL.
-use Rattle.std.specs.Prelude.{ℕ, ◌+◌, ◌%◌, ◌^◌, ◌<◌, ◌≤◌, ◌≡◌, ◌&&◌, ◌||◌, Bool, true, List, [], ◌∷◌, length, Some, ⊤}
+-- The variables of a procedure's block: FIXED BINARY(31) scalars and arrays of one dimension, and scalars of fewer bits,
+-- without INITIAL.
+use Rattle.std.specs.Prelude.{ℕ, ◌+◌, ◌%◌, ◌^◌, ◌<◌, ◌≤◌, ◌≡◌, ◌&&◌, ◌||◌, Bool, true, List, [], ◌∷◌, length, Some}
+use Rattle.std.specs.Prelude.{⊤}
 use Rattle.rv_meaning.specs.declared.instr.Instr.{Instr}
 use Rattle.pli_typing.specs.Signatures.{Bounds, data_size, footprint}
 use Rattle.pli_typing.specs.TypedTree as Y
@@ -22,12 +24,14 @@ use Rattle.expression_runs.specs.Variables.{IsNumber, Spot, variable_of}
 use Rattle.variable_runs.specs.Lists.{AreAll, newest_all}
 use Rattle.function_runs.specs.Functions.{function_block}
 use Rattle.element_runs.specs.Arrays.{IsArray}
+use Rattle.scalar_runs.specs.Scalars.{IsScalar}
 use Rattle.number_runs.specs.Arrays.{bounds_if, is_array, is_array_if}
+use Rattle.number_runs.specs.Narrow.{is_narrow, is_narrow_if, type_if}
 use Rattle.number_runs.specs.Numbers.{is_parameter, is_plain, is_plain_if}
 
--- a scalar, or an array
+-- a scalar, an array, or a scalar of fewer bits
 abbrev pub is_declared : Y.DeclaredVariable → Bool
-is_declared d = is_plain d || is_array d
+is_declared d = is_plain d || (is_array d || is_narrow d)
 
 abbrev pub are_plain : List Y.DeclaredVariable → Bool
 are_plain [] = true
@@ -99,7 +103,7 @@ pub record HasWords (w : Surroundings) (c : Callee) (p : Point) (numbers : ℕ �
       (fixed_size c.environment.level 0)
       (bytes_of (variables_of_block c.environment.program c.environment.block))
 
--- one of the block's variables: a number, or an array
+-- one of the block's variables: a number, an array, or a scalar of fewer bits
 pub record IsOwnWord (c : Callee) (x : Spot) : Type 0 where
   pub block : x.block ≡ c.environment.block
   pub level : x.level ≡ c.environment.level
@@ -109,6 +113,14 @@ pub record IsOwnArray (c : Callee) (x : Spot) : Type 0 where
   pub block : x.block ≡ c.environment.block
   pub level : x.level ≡ c.environment.level
   pub array : is_array_if (declared_variable c.environment.program (variable_of x)) ≡ true
+
+pub record IsOwnNarrow (c : Callee) (x : Spot) : Type 0 where
+  pub block : x.block ≡ c.environment.block
+  pub level : x.level ≡ c.environment.level
+  pub narrow : is_narrow_if (declared_variable c.environment.program (variable_of x)) ≡ true
+
+abbrev pub own_type : Callee → Spot → Y.LeafType
+own_type c x = type_if (declared_variable c.environment.program (variable_of x))
 
 abbrev pub own_bounds : Callee → Spot → Bounds
 own_bounds c x = bounds_if (declared_variable c.environment.program (variable_of x))
@@ -141,3 +153,12 @@ pub record WordsMade : Type 0 where
       (w : Surroundings) (code : List Instr) (c : Callee) (p q : Point) (numbers : ℕ → ℕ) (x : Spot) →
       HasParts w.parts → HasWords w c q numbers × AreAll w c p numbers (words_in c.environment) → IsOwnArray c x →
       IsBegun (function_block w code c p numbers) → IsArray (function_block w code c p numbers) x (own_bounds c x)
+  -- or a scalar of fewer bits
+  pub own_narrow :
+      (w : Surroundings) (code : List Instr) (c : Callee) (p q : Point) (numbers : ℕ → ℕ) (x : Spot) →
+      HasParts w.parts → HasWords w c q numbers × AreAll w c p numbers (words_in c.environment) → IsOwnNarrow c x →
+      IsBegun (block_at w code c p numbers) → IsScalar (block_at w code c p numbers) x (own_type c x)
+  pub function_narrow :
+      (w : Surroundings) (code : List Instr) (c : Callee) (p q : Point) (numbers : ℕ → ℕ) (x : Spot) →
+      HasParts w.parts → HasWords w c q numbers × AreAll w c p numbers (words_in c.environment) → IsOwnNarrow c x →
+      IsBegun (function_block w code c p numbers) → IsScalar (function_block w code c p numbers) x (own_type c x)

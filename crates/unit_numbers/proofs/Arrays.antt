@@ -17,7 +17,9 @@ use Rattle.expression_runs.specs.Variables.{IsFrameOf, Spot}
 use Rattle.jump_runs.proofs.Numbers.{leaving}
 use Rattle.variable_runs.specs.Known.{IsKnown}
 use Rattle.element_runs.specs.Arrays.{IsArray}
+use Rattle.scalar_runs.specs.Scalars.{IsScalar}
 use Rattle.element_runs.proofs.Outer.{outer_array}
+use Rattle.number_runs.proofs.Narrow.{outer_narrow}
 use Rattle.unit_runs.specs.Changing.{Past, after, past_point}
 use Rattle.unit_runs.specs.Establishing.{unit_of}
 use Rattle.unit_runs.proofs.OwnRaises.{past_like}
@@ -106,6 +108,10 @@ pub past_array :
     (k : Block) (past : Past) (x : Spot) (b : Bounds) → IsArray k x b → IsArray (after k past) x b
 past_array k past x b is = outer_array k (after k past) x b (λ d known. past_known k past x d known) is
 
+pub past_narrow :
+    (k : Block) (past : Past) (x : Spot) (b : Y.LeafType) → IsScalar k x b → IsScalar (after k past) x b
+past_narrow k past x b is = outer_narrow k (after k past) x b (λ d known. past_known k past x d known) is
+
 -- ---- a block, whatever is further out
 
 known_leaving :
@@ -130,3 +136,8 @@ pub array_leaving :
     (k : Block) (os : List Outer) (x : Spot) (b : Bounds) → IsArray (leaving k []) x b → IsArray (leaving k os) x b
 array_leaving k os x b is =
     outer_array (leaving k []) (leaving k os) x b (λ d known. known_leaving k os x d known) is
+
+pub narrow_leaving :
+    (k : Block) (os : List Outer) (x : Spot) (b : Y.LeafType) → IsScalar (leaving k []) x b → IsScalar (leaving k os) x b
+narrow_leaving k os x b is =
+    outer_narrow (leaving k []) (leaving k os) x b (λ d known. known_leaving k os x d known) is

@@ -1,0 +1,89 @@
+-- Scalars of fewer bits in expressions and assignments of the class.
+use Rattle.std.proofs.Common.{◌≡◌, ℕ, ◌≤◌, List, true, sym, subst, arith}
+use Rattle.std.specs.Prelude.{◌&&◌, max, nat_lt, suc}
+use Rattle.std.proofs.lemmas.Bool.{and_parts, ltb-true}
+use Rattle.pli_typing.specs.TypedTree as Y
+use Rattle.pli_meaning.specs.Control.{Label}
+use Rattle.expression_runs.specs.Assignments.{setting_around}
+use Rattle.expression_runs.specs.Variables.{whole}
+use Rattle.scalar_runs.specs.Scalars.{IsBit, IsFixed, IsScalar}
+use Rattle.scalar_runs.proofs.Assignments.{bit_assigned, number_assigned}
+use Rattle.scalar_runs.proofs.Fitting.{fewer_fits}
+use Rattle.number_runs.specs.Knowledge.{Includes}
+use Rattle.number_runs.specs.Narrow.{has_precision, is_bit, is_narrow_type}
+use Rattle.number_runs.specs.Numbers.{is_narrow_with, is_number, is_test, number_needs, reference_needs}
+use Rattle.number_runs.specs.Numbers.{test_needs, type_known}
+use Rattle.number_runs.specs.Statements.{is_line, is_narrowed, stored_needs}
+use Rattle.number_runs.proofs.Expressions.{number_does, test_does}
+use Rattle.number_runs.proofs.Homes.{Coded, Home, act_of, knows, paid_for}
+use Rattle.number_runs.proofs.Narrow.{bit_is, known_narrow, narrow_with_is, precision_is}
+
+-- a number into one of so many bits: it is tested
+number_narrowed :
+    (h : Home) (labels : List Label) (target : Y.Reference) (precision : ℕ) (x : Y.Number) (line index : ℕ) →
+    Includes h.own labels → is_line line ≡ true → h.scope.overflows ≡ true →
+    is_narrow_with h.scope (has_precision precision) target ≡ true → is_number h.scope x ≡ true →
+    max (number_needs x) 1 ≤ h.block.registers →
+    Coded h labels (Y.Assign target (Y.StoredNumber precision x) line) index
+number_narrowed h labels target precision x line index includes is may one two fits =
+    let s = h.scope in
+    let w = narrow_with_is s (has_precision precision) target one in
+    let t = precision_is precision (type_known s w.spot) w.passes in
+    let narrow = subst (λ u. is_narrow_type u ≡ true) t (known_narrow s w.spot w.known) in
+    let less = ltb-true precision 31 (and_parts (nat_lt 0 precision) (nat_lt precision 31) narrow).1 in
+    let fixed : IsFixed h.block w.spot precision =
+    subst (λ u. IsScalar h.block w.spot u) t (h.ready.narrows w.may w.spot w.known) in
+    let k = setting_around h.words h.block labels line h.most in
+    let knows' = knows h labels line includes in
+    subst (λ r. Coded h labels (Y.Assign r (Y.StoredNumber precision x) line) index) (sym w.is)
+    (λ l. number_assigned h.words h.block labels w.spot precision x line index h.left' (max (number_needs x) 1) h.most
+    (record {
+      act = act_of h line is;
+      begun = h.ready.begun;
+      registers = fits;
+      held = h.ready.held;
+      statement = l;
+      paid = paid_for h (Y.Assign (whole w.spot) (Y.StoredNumber precision x) line) index l;
+    })
+    fixed (fewer_fits k x precision (number_needs x) less (knows'.overflow may) (number_does s k x knows' two)))
+
+-- a bit into a bit
+bit_narrowed :
+    (h : Home) (labels : List Label) (target : Y.Reference) (x : Y.Bit) (line index : ℕ) → Includes h.own labels →
+    is_line line ≡ true → is_narrow_with h.scope is_bit target ≡ true → is_test h.scope x ≡ true →
+    test_needs x ≤ h.block.registers → Coded h labels (Y.Assign target (Y.StoredBit x) line) index
+bit_narrowed h labels target x line index includes is one two fits =
+    let s = h.scope in
+    let w = narrow_with_is s is_bit target one in
+    let bit : IsBit h.block w.spot =
+    subst (λ u. IsScalar h.block w.spot u) (bit_is (type_known s w.spot) w.passes)
+    (h.ready.narrows w.may w.spot w.known) in
+    let k = setting_around h.words h.block labels line h.most in
+    subst (λ r. Coded h labels (Y.Assign r (Y.StoredBit x) line) index) (sym w.is)
+    (λ l. bit_assigned h.words h.block labels w.spot x line index h.left' (test_needs x) h.most
+    (record {
+      act = act_of h line is;
+      begun = h.ready.begun;
+      registers = fits;
+      held = h.ready.held;
+      statement = l;
+      paid = paid_for h (Y.Assign (whole w.spot) (Y.StoredBit x) line) index l;
+    })
+    bit (test_does s k x (knows h labels line includes) two))
+
+pub narrowed_does :
+    (h : Home) (labels : List Label) (target : Y.Reference) (source : Y.Stored) (line index : ℕ) →
+    Includes h.own labels → is_line line ≡ true → is_narrowed h.scope target source ≡ true →
+    max (stored_needs source) (suc (reference_needs target)) ≤ h.block.registers →
+    Coded h labels (Y.Assign target source line) index
+narrowed_does h labels target (Y.StoredNumber precision x) line index includes is one fits =
+    let narrow = is_narrow_with h.scope (has_precision precision) target in
+    let a = and_parts h.scope.overflows (narrow && is_number h.scope x) one in
+    let b = and_parts narrow (is_number h.scope x) a.1 in
+    number_narrowed h labels target precision x line index includes is a.0 b.0 b.1 (omega (arith, fits))
+narrowed_does h labels target (Y.StoredBit x) line index includes is one fits =
+    let a = and_parts (is_narrow_with h.scope is_bit target) (is_test h.scope x) one in
+    bit_narrowed h labels target x line index includes is a.0 a.1 (omega (arith, fits))
+narrowed_does h labels target (Y.StoredText x) line index includes is one fits = absurd (cc one)
+narrowed_does h labels target (Y.StoredPointer x) line index includes is one fits = absurd (cc one)
+narrowed_does h labels target (Y.StoredOffset x) line index includes is one fits = absurd (cc one)
