@@ -4,8 +4,8 @@ ghost use Rattle.block_headlines.specs.Constants.{ConstantsTold};
 ghost use Rattle.block_headlines.specs.Headlines.{HeadlinesKept, HeadlinesOfRows, UnitHeadlinesKept};
 
 use code_marks::laws::marked_once;
-use run_keeper::laws::run_keeper_keeps;
 use pli_meaning::laws::{storage_acts_allowed, storage_stays};
+use run_keeper::laws::run_keeper_keeps;
 use storage_relation::laws::table_differs;
 
 /// A program keeps the headline with the image that pli_coding defines for it if each statement of its main procedure
