@@ -138,6 +138,6 @@ array_leaving k os x b is =
     outer_array (leaving k []) (leaving k os) x b (λ d known. known_leaving k os x d known) is
 
 pub narrow_leaving :
-    (k : Block) (os : List Outer) (x : Spot) (b : Y.LeafType) → IsScalar (leaving k []) x b → IsScalar (leaving k os) x b
+    (k : Block) (os : List Outer) (x : Spot) (t : Y.LeafType) → IsScalar (leaving k []) x t → IsScalar (leaving k os) x t
 narrow_leaving k os x b is =
     outer_narrow (leaving k []) (leaving k os) x b (λ d known. known_leaving k os x d known) is

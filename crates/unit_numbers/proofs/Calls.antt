@@ -47,13 +47,13 @@ use Rattle.number_runs.specs.Knowledge.{Includes, KnowsCalls, call_number, call_
 use Rattle.number_runs.specs.Variables.{bytes_of}
 use Rattle.number_headlines.proofs.Mains.{result_of}
 use Rattle.unit_numbers.proofs.Callees.{callee_of, site_of}
-use Rattle.unit_numbers.proofs.Entered.{Moment, are_made, bare_block, called_entered, called_part, entered_at}
-use Rattle.unit_numbers.proofs.Entered.{forced_there, inner_set}
+use Rattle.unit_numbers.proofs.Entered.{called_entered, called_part, forced_there}
 use Rattle.unit_numbers.proofs.Established.{error_system}
 use Rattle.unit_numbers.proofs.Full.{are_full}
 use Rattle.unit_numbers.proofs.Homes.{Home, IsHome', home_block}
 use Rattle.unit_numbers.proofs.Inner.{Inner, inner_is}
 use Rattle.unit_numbers.proofs.Mains.{Main, most_for, run_for}
+use Rattle.unit_numbers.proofs.Named.{Moment, are_made, bare_block, entered_at, inner_set}
 use Rattle.unit_numbers.proofs.NestedJumps.{nested_jump_call_does, nested_jump_function_does}
 use Rattle.unit_numbers.proofs.Raised.{around_for, entry_low}
 use Rattle.unit_numbers.proofs.Scenes.{EachBody, IsAt, Part, Rises, block_of, scope_of}

@@ -27,7 +27,7 @@ use Rattle.number_headlines.proofs.Mains.{result_of}
 use Rattle.number_headlines.proofs.Running.{free_among, table_later}
 use Rattle.number_headlines.proofs.Tables.{block_plain}
 use Rattle.unit_numbers.proofs.Callees.{callee_of}
-use Rattle.unit_numbers.proofs.Entered.{Moment, entered_at, inner_set}
+use Rattle.unit_numbers.proofs.Named.{Moment, entered_at, inner_set}
 use Rattle.unit_numbers.proofs.Homes.{Home, world_of}
 use Rattle.unit_numbers.proofs.Inner.{Inner}
 use Rattle.unit_numbers.proofs.Mains.{Main}

@@ -18,9 +18,11 @@ use Rattle.program_runs.specs.Starts.{image_parts}
 use Rattle.program_runs.specs.Statements.{Block, IsBegun}
 use Rattle.expression_runs.specs.Variables.{IsNumber, Spot}
 use Rattle.element_runs.specs.Arrays.{IsArray}
+use Rattle.scalar_runs.specs.Scalars.{IsScalar}
 use Rattle.counter_runs.proofs.Known.{array_told, number_told}
 use Rattle.counter_runs.proofs.Words.{begun_telling}
-use Rattle.number_runs.specs.Numbers.{bounds_known, is_array_known, is_known}
+use Rattle.number_runs.specs.Numbers.{bounds_known, is_array_known, is_known, is_narrow_known, type_known}
+use Rattle.number_runs.proofs.Narrow.{narrow_told}
 use Rattle.number_runs.specs.Statements.{statements_set}
 use Rattle.number_runs.specs.Variables.{words_in}
 use Rattle.number_headlines.proofs.FullWords.{words_at, words_count, words_lower}
@@ -30,10 +32,10 @@ use Rattle.number_headlines.proofs.Tables.{block_plain}
 use Rattle.unit_runs.specs.Changing.{IsPast, Past, past_point}
 use Rattle.unit_runs.proofs.Changing.{begun_after}
 use Rattle.unit_runs.proofs.OwnRaises.{past_like, past_numbers}
-use Rattle.unit_numbers.proofs.Arrays.{past_array}
+use Rattle.unit_numbers.proofs.Arrays.{past_array, past_narrow}
 use Rattle.unit_numbers.proofs.Established.{start_of}
 use Rattle.unit_numbers.proofs.Mains.{Main, block_for, free, layer_behind_all, level_of, list_of, main_array}
-use Rattle.unit_numbers.proofs.Mains.{main_begun}
+use Rattle.unit_numbers.proofs.Mains.{main_begun, main_narrow, own_narrow_known}
 use Rattle.unit_numbers.proofs.Mains.{main_layer, main_number, main_scope, own_array_known, own_known}
 use Rattle.unit_numbers.proofs.Mains.{own_words, surroundings_for}
 use Rattle.unit_numbers.proofs.Outer.{main_top}
@@ -61,6 +63,9 @@ pub record IsHome' {program : Y.Program} (m : Main program) (h : Home) : Type 0 
   pub arrays :
       (x : Spot) → is_array_known (main_scope m false) x ≡ true →
       IsArray (home_block m h) x (bounds_known (main_scope m false) x)
+  pub narrows :
+      (x : Spot) → is_narrow_known (main_scope m false) x ≡ true →
+      IsScalar (home_block m h) x (type_known (main_scope m false) x)
   pub free : Free (world_of m h) (home_block m h).first most_activations
   -- its frame has the words that its loops set aside
   pub words : free.layer.words ≡ statements_set (list_of m)
@@ -169,6 +174,8 @@ home_is {program} m input acts past few b known =
         begun = begun_after k0 (list_of m) (start_of m) past b known;
         numbers = λ x is. past_numbers k0 past x (main_number m input acts x (own_known m input acts x is) b);
         arrays = λ x is. past_array k0 past x (bounds_known (main_scope m false) x) (main_array m input acts x is b);
+        narrows = λ x is.
+            past_narrow k0 past x (type_known (main_scope m false) x) (main_narrow m input acts x is b);
         free = room.free;
         words = room.words;
         ends = like.top ∙ main_top m input acts
@@ -197,6 +204,7 @@ home_told {program} {m} {h} is waits =
       begun = begun_telling k φ φs waits free.newest is.begun;
       numbers = λ x h. number_told k φ φs waits free.newest x (is.numbers x h);
       arrays = λ x h. array_told k φ φs waits free.newest x (bounds_known (main_scope m false) x) (is.arrays x h);
+      narrows = λ x h. narrow_told k φ φs waits free.newest x (type_known (main_scope m false) x) (is.narrows x h);
       free = record {
         layer = with_waits waits φ;
         below = φs;
@@ -228,5 +236,13 @@ pub low_array :
     x.level ≤ 0
 low_array m h x is =
     let at = (own_array_known m h.input h.acts x is).level in
+    let level = level_of m in
+    omega (arith, at, level)
+
+pub low_narrow :
+    {program : Y.Program} (m : Main program) (h : Home) (x : Spot) → is_narrow_known (main_scope m false) x ≡ true →
+    x.level ≤ 0
+low_narrow m h x is =
+    let at = (own_narrow_known m h.input h.acts x is).level in
     let level = level_of m in
     omega (arith, at, level)

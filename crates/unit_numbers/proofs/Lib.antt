@@ -15,6 +15,7 @@ pub mod Scenes
 pub mod Inner
 pub mod Callees
 pub mod Raised
+pub mod Named
 pub mod Entered
 pub mod Full
 pub mod Calls
@@ -25,6 +26,7 @@ pub mod Rows
 pub mod GuardRows
 pub mod GroupRows
 pub mod MendRows
+pub mod WrapRows
 pub mod AgainRows
 pub mod ClimbRows
 pub mod TallyRows

@@ -35,12 +35,15 @@ use Rattle.pli_headline.specs.Headline.{FitsMemory, parts}
 use Rattle.variable_runs.specs.Lists.{AreAll, all_made, behind_made, layer_after, layer_behind}
 use Rattle.well_formed_trees.specs.WellFormed.{HasMain}
 use Rattle.element_runs.specs.Arrays.{IsArray}
+use Rattle.scalar_runs.specs.Scalars.{IsScalar}
 use Rattle.number_runs.specs.Arrays.{is_array_if}
+use Rattle.number_runs.specs.Narrow.{is_narrow_if}
 use Rattle.number_runs.specs.Numbers.{Scope, bounds_known, has_none, is_array_known, is_known, is_place, is_plain_if}
+use Rattle.number_runs.specs.Numbers.{is_narrow_known, type_known}
 use Rattle.number_runs.specs.Statements.{statements_need, statements_set}
-use Rattle.number_runs.specs.Variables.{HasWords, HaveRoom, IsOwnArray, IsOwnWord, bytes_of, words_in}
+use Rattle.number_runs.specs.Variables.{HasWords, HaveRoom, IsOwnArray, IsOwnNarrow, IsOwnWord, bytes_of, words_in}
 use Rattle.number_runs.proofs.Takes.{Sets}
-use Rattle.number_runs.proofs.Words.{all_words, own_array, own_word, room_behind, room_fewer}
+use Rattle.number_runs.proofs.Words.{all_words, own_array, own_narrow, own_word, room_behind, room_fewer}
 use Rattle.number_headlines.specs.Programs.{are_all_plain, body_of, has_result, most_waiting, most_words}
 use Rattle.number_headlines.specs.Programs.{places_to}
 use Rattle.number_headlines.proofs.Places.{around_is}
@@ -305,6 +308,15 @@ own_array_known {program} m input acts x h =
     let b = main_owns m x a.0 in
     record { block = b.0; level = b.1; array = a.1 }
 
+pub own_narrow_known :
+    {program : Y.Program} (m : Main program) (input : List ℕ) (acts : ℕ) (x : Spot) →
+    is_narrow_known (main_scope m false) x ≡ true → IsOwnNarrow (main_for m input acts) x
+own_narrow_known {program} m input acts x h =
+    let narrow = is_narrow_if (declared_variable program (variable_of x)) in
+    let a = and_parts (list_any (is_place x) (places_to (environment_for program m.head) m.head.level)) narrow h in
+    let b = main_owns m x a.0 in
+    record { block = b.0; level = b.1; narrow = a.1 }
+
 abbrev pub most_for : Y.Program → ℕ
 most_for program = length (linked_code (code_for program)) + 2
 
@@ -332,6 +344,17 @@ pub main_array :
     is_array_known (main_scope m false) x ≡ true → IsBegun (block_for m input acts) →
     IsArray (block_for m input acts) x (bounds_known (main_scope m false) x)
 main_array m input acts x h b = own_main_array m input acts x (own_array_known m input acts x h) b
+
+-- and each scalar of fewer bits one of it
+pub main_narrow :
+    {program : Y.Program} (m : Main program) (input : List ℕ) (acts : ℕ) (x : Spot) →
+    is_narrow_known (main_scope m false) x ≡ true → IsBegun (block_for m input acts) →
+    IsScalar (block_for m input acts) x (type_known (main_scope m false) x)
+main_narrow {program} m input acts x h b =
+    own_narrow (surroundings_for m input acts) (linked_code (code_for program)) (main_for m input acts)
+    (start_for m input acts) (start_for m input acts) no_numbers x
+    (record { high = omega arith; inside = omega arith }) (main_words m input acts, main_all m input acts)
+    (own_narrow_known m input acts x h) b
 
 -- ---- where units are raised in it
 

@@ -33,9 +33,11 @@ use Rattle.expression_runs.specs.Assignments.{setting_around}
 use Rattle.expression_runs.specs.Values.{Setting}
 use Rattle.expression_runs.specs.Variables.{IsNumber, Spot}
 use Rattle.element_runs.specs.Arrays.{IsArray}
+use Rattle.scalar_runs.specs.Scalars.{IsScalar}
 use Rattle.element_runs.proofs.Outer.{outer_array}
 use Rattle.block_headlines.proofs.Constants.{called_of_program}
-use Rattle.number_runs.specs.Numbers.{bounds_known, is_array_known, is_known}
+use Rattle.number_runs.specs.Numbers.{bounds_known, is_array_known, is_known, is_narrow_known, type_known}
+use Rattle.number_runs.proofs.Narrow.{outer_narrow}
 use Rattle.number_runs.specs.Statements.{statements_need, statements_set}
 use Rattle.number_runs.proofs.Takes.{Sets, statements_taken}
 use Rattle.number_headlines.proofs.Running.{free_among, table_later}
@@ -46,7 +48,7 @@ use Rattle.unit_runs.specs.Raised.{unit_layer}
 use Rattle.nested_calls.proofs.NestedVariables.{Over, over_known, over_nested, over_number, same_ancestor}
 use Rattle.unit_numbers.specs.Calls.{scope_in}
 use Rattle.unit_numbers.proofs.Established.{Newest}
-use Rattle.unit_numbers.proofs.Homes.{Home, IsHome', low_array, low_spot, world_of}
+use Rattle.unit_numbers.proofs.Homes.{Home, IsHome', low_array, low_narrow, low_spot, world_of}
 use Rattle.unit_numbers.proofs.Mains.{Main, level_of, list_of, main_scope, most_for, placed}
 use Rattle.unit_numbers.proofs.Places.{one_place}
 use Rattle.unit_numbers.proofs.Scenes.{IsAt, IsEntered, Part, block_of}
@@ -287,6 +289,11 @@ unit_entered {program} m {h} {more} {b} {c} {o} {os} {words} {labels} {line} n {
     outer_array k u s (bounds_known (main_scope m false) s)
     (λ d known. over_known {k = k} {inner = u} s d over a.nested a.begun among (omega arith) (low_array m h s is)
     (sym a.source) (sym a.parts) known) (a.main_arrays s is) in
+    let narrow : (s : Spot) → is_narrow_known (main_scope m false) s ≡ true →
+    IsScalar u s (type_known (main_scope m false) s) = λ s is.
+    outer_narrow k u s (type_known (main_scope m false) s)
+    (λ d known. over_known {k = k} {inner = u} s d over a.nested a.begun among (omega arith) (low_narrow m h s is)
+    (sym a.source) (sym a.parts) known) (a.main_narrows s is) in
     record {
       at = record {
         begun = q.begun;
@@ -301,11 +308,13 @@ unit_entered {program} m {h} {more} {b} {c} {o} {os} {words} {labels} {line} n {
         inside = omega (arith, outer);
         variables = number;
         arrays = array;
+        narrows = narrow;
         forced = λ d. ap (λ as'. force as' d) among.later.activations ∙ a.forced d;
         oldest = ap height_of (same_ancestor {k = k} {inner = u} 0 over a.nested among (omega arith) (omega arith))
             ∙ a.oldest;
         mains = number;
         main_arrays = array;
+        main_narrows = narrow;
         idle = made.idle;
         told = called_of_program program k u r.numbers a.told among refl refl q.begun;
         free = record {

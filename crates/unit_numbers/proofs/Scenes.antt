@@ -20,13 +20,15 @@ use Rattle.program_runs.specs.Starts.{image_parts}
 use Rattle.program_runs.specs.Statements.{Block, EachDoes, IsBegun, Outer, as_outer, outer_block}
 use Rattle.expression_runs.specs.Variables.{IsNumber, Spot}
 use Rattle.element_runs.specs.Arrays.{IsArray}
+use Rattle.scalar_runs.specs.Scalars.{IsScalar}
 use Rattle.counter_runs.proofs.Known.{array_told, number_told}
 use Rattle.counter_runs.proofs.Words.{begun_telling}
 use Rattle.argument_runs.specs.Lists.{with_list}
 use Rattle.block_headlines.specs.Constants.{IsOf}
 use Rattle.nested_calls.specs.Nested.{IsNested, parent_at}
 use Rattle.number_runs.specs.Knowledge.{Includes, IsHome}
-use Rattle.number_runs.specs.Numbers.{Scope, bounds_known, is_array_known, is_known}
+use Rattle.number_runs.specs.Numbers.{Scope, bounds_known, is_array_known, is_known, is_narrow_known, type_known}
+use Rattle.number_runs.proofs.Narrow.{narrow_told}
 use Rattle.number_runs.specs.Statements.{are_statements, statements_need, statements_set}
 use Rattle.number_headlines.specs.Programs.{most_waiting}
 use Rattle.number_headlines.proofs.Running.{Free, HasDepth, HasTable}
@@ -70,6 +72,9 @@ pub record IsAt {program : Y.Program} (m : Main program) (h : Home) (more blocks
     pub arrays :
         (x : Spot) → is_array_known (scope_of m c) x ≡ true →
         IsArray (block_of m h o os) x (bounds_known (scope_of m c) x)
+    pub narrows :
+        (x : Spot) → is_narrow_known (scope_of m c) x ≡ true →
+        IsScalar (block_of m h o os) x (type_known (scope_of m c) x)
     -- the units in force are those of the main procedure
     pub forced :
         (condition : Condition) →
@@ -80,6 +85,9 @@ pub record IsAt {program : Y.Program} (m : Main program) (h : Home) (more blocks
     pub main_arrays :
         (x : Spot) → is_array_known (main_scope m false) x ≡ true →
         IsArray (block_of m h o os) x (bounds_known (main_scope m false) x)
+    pub main_narrows :
+        (x : Spot) → is_narrow_known (main_scope m false) x ≡ true →
+        IsScalar (block_of m h o os) x (type_known (main_scope m false) x)
     pub idle : o.first.control.waiting ≡ None
     -- what the program tells of its static data is told there
     pub told : IsOf program (block_of m h o os)
@@ -164,11 +172,14 @@ at_told {program} {m} {h} {more} {blocks} {c} {o} {os} a waits =
       inside = a.inside;
       variables = λ x is. number_told k φ φs waits free.newest x (a.variables x is);
       arrays = λ x is. array_told k φ φs waits free.newest x (bounds_known (scope_of m c) x) (a.arrays x is);
+      narrows = λ x is. narrow_told k φ φs waits free.newest x (type_known (scope_of m c) x) (a.narrows x is);
       forced = a.forced;
       oldest = a.oldest;
       mains = λ x is. number_told k φ φs waits free.newest x (a.mains x is);
       main_arrays = λ x is.
           array_told k φ φs waits free.newest x (bounds_known (main_scope m false) x) (a.main_arrays x is);
+      main_narrows = λ x is.
+          narrow_told k φ φs waits free.newest x (type_known (main_scope m false) x) (a.main_narrows x is);
       idle = a.idle;
       told = record { code = a.told.code; links = a.told.links; constants = a.told.constants };
       free = record {

@@ -8,6 +8,7 @@ ghost use Rattle.unit_numbers.specs.Headlines.{UnitNumberHeadlinesKept};
 ghost use Rattle.unit_numbers.specs.MendRows.{MendKept};
 ghost use Rattle.unit_numbers.specs.Rows.{HealKept};
 ghost use Rattle.unit_numbers.specs.TallyRows.{TallyKept};
+ghost use Rattle.unit_numbers.specs.WrapRows.{WrapKept};
 
 use block_headlines::laws::unit_headlines_kept;
 use code_marks::laws::marked_once;
@@ -67,6 +68,13 @@ pub fn climb_kept()
 /// A worked row: loops that count, one of them in a unit that is raised in the other, and elements that both assign.
 pub fn tally_kept()
     ensures { TallyKept }
+{
+    unit_number_headlines_kept();
+}
+
+/// A worked row: a FIXED BINARY(15) variable that is raised over its limit, and wraps, since a unit returns.
+pub fn wrap_kept()
+    ensures { WrapKept }
 {
     unit_number_headlines_kept();
 }
