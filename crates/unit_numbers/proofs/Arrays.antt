@@ -1,4 +1,5 @@
--- Variables of a block, arrays among them: units that are established, and blocks further out, leave them as they are.
+-- Variables of a block, arrays and scalars of fewer bits among them: units that are established, and blocks further
+-- out, leave them as they are.
 use Rattle.std.proofs.Common.{◌≡◌, inl, inr, ℕ, ◌<◌, List, [], ◌∷◌, Some, true, false, refl, sym, ap, ◌∙◌, subst}
 use Rattle.std.specs.Prelude.{◌==◌, Bool, cond}
 use Rattle.pli_language.specs.declared.condition.Condition.{Condition}
@@ -138,6 +139,7 @@ array_leaving k os x b is =
     outer_array (leaving k []) (leaving k os) x b (λ d known. known_leaving k os x d known) is
 
 pub narrow_leaving :
-    (k : Block) (os : List Outer) (x : Spot) (t : Y.LeafType) → IsScalar (leaving k []) x t → IsScalar (leaving k os) x t
+    (k : Block) (os : List Outer) (x : Spot) (t : Y.LeafType) → IsScalar (leaving k []) x t →
+    IsScalar (leaving k os) x t
 narrow_leaving k os x b is =
     outer_narrow (leaving k []) (leaving k os) x b (λ d known. known_leaving k os x d known) is

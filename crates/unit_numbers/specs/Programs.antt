@@ -1,5 +1,5 @@
--- Programs of FIXED BINARY(31) numbers whose main procedure has ON FIXEDOVERFLOW or ON ZERODIVIDE, as a class that is
--- computed from typed trees.
+-- Programs of numbers whose main procedure has ON FIXEDOVERFLOW or ON ZERODIVIDE, as a class that is computed from
+-- typed trees.
 use Rattle.std.specs.Prelude.{ℕ, ◌&&◌, ◌||◌, ◌==◌, Bool, true, false, List, [], ◌∷◌, nat_le, not, Option, None, Some}
 use Rattle.pli_typing.specs.TypedTree as Y
 use Rattle.pli_meaning.specs.DeclaredShapes.{head_of}

@@ -1,4 +1,4 @@
--- On-units of FIXEDOVERFLOW and ZERODIVIDE over FIXED BINARY(31) numbers, as a class that is computed from typed trees.
+-- On-units of FIXEDOVERFLOW and ZERODIVIDE over numbers, as a class that is computed from typed trees.
 use Rattle.std.specs.Prelude.{ℕ, ◌&&◌, ◌==◌, Bool, true, false, List, nat_le}
 use Rattle.pli_language.specs.declared.condition.Condition.{Condition}
 use Rattle.pli_language.specs.declared.condition.Condition.TheVariants as C

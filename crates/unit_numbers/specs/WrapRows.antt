@@ -1,4 +1,5 @@
--- A worked row: a program of the class whose unit is raised by a scalar of 15 bits, which goes on with the wrapped number.
+-- A worked row: a program of the class whose unit is raised by a scalar of 15 bits, which goes on with the wrapped
+-- number.
 use Rattle.std.specs.Prelude.{ℕ, ◌≡◌, List, [], ◌∷◌, Some, None}
 use Rattle.pli_language.specs.declared.condition.Condition.TheVariants as C
 use Rattle.pli_typing.specs.TypedTree as Y
