@@ -21,3 +21,4 @@ pub mod NestRows
 pub mod PutRows
 pub mod ArrayRows
 pub mod GivenRows
+pub mod SumRows

@@ -7,3 +7,4 @@ pub mod NestRows
 pub mod PutRows
 pub mod ArrayRows
 pub mod GivenRows
+pub mod SumRows
