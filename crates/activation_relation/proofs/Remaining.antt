@@ -18,7 +18,9 @@ use Rattle.pli_typing.specs.TypedTree as Y
 use Rattle.storage_relation.proofs.Holders.{eqb-refl, eqb-other, living_of-changed, living_of-others}
 use Rattle.storage_relation.proofs.Placing.{none_above}
 use Rattle.storage_relation.proofs.Signatures.{extends_kept}
-use Rattle.storage_relation.specs.Stored.{AreLow, Extends, Lives}
+use Rattle.storage_relation.proofs.Fills.{grows_few, grows_kept, grows_same, grows_then}
+use Rattle.storage_relation.specs.Fills.{most_filled}
+use Rattle.storage_relation.specs.Stored.{AreLow, Extends, KeepNumbers, Lives}
 use Rattle.activation_relation.specs.Changes.{popped, popped_from, pushed, with_act, with_line}
 use Rattle.activation_relation.specs.Layers.{Layer, Point}
 use Rattle.activation_relation.specs.Remaining.{LivesOn, Remains, in_use_up_to, with_assigned}
@@ -34,7 +36,7 @@ remains_same p =
       serials = omega arith;
       at = λ n few. refl;
       number = λ n few. refl;
-      signatures = λ n s e. e;
+      signatures = grows_same p.places.fills p.places.signatures;
       statics = refl;
       low = refl;
       constants = refl;
@@ -43,7 +45,17 @@ remains_same p =
     }
 
 pub shapes_remain : {p q : Point} → Remains p q → Extends p.places.signatures q.places.signatures
-shapes_remain {p} {q} r = extends_kept p.places.signatures q.places.signatures r.signatures
+shapes_remain {p} {q} r =
+    extends_kept p.places.signatures q.places.signatures
+    (grows_kept p.places.fills q.places.fills p.places.signatures q.places.signatures r.signatures)
+
+pub numbers_remain : (p q : Point) → Remains p q → KeepNumbers p.places.signatures q.places.signatures
+numbers_remain p q r = grows_kept p.places.fills q.places.fills p.places.signatures q.places.signatures r.signatures
+
+pub signatures_few :
+    (p q : Point) → Remains p q →
+    length q.places.signatures ≤ length p.places.signatures + most_filled p.places.fills
+signatures_few p q r = grows_few p.places.fills q.places.fills p.places.signatures q.places.signatures r.signatures
 
 pub remains_then : (p q r : Point) → Remains p q → Remains q r → Remains p r
 remains_then p q r a b =
@@ -64,7 +76,8 @@ remains_then p q r a b =
       serials = omega (arith, m, n);
       at = λ i few. b.at i (omega (arith, m, few)) ∙ a.at i few;
       number = λ i few. b.number i (omega (arith, m, few)) ∙ a.number i few;
-      signatures = λ i s e. b.signatures i s (a.signatures i s e);
+      signatures = grows_then p.places.fills q.places.fills r.places.fills p.places.signatures q.places.signatures
+          r.places.signatures a.signatures b.signatures;
       statics = b.statics ∙ a.statics;
       low = b.low ∙ a.low;
       constants = b.constants ∙ a.constants;
@@ -79,7 +92,7 @@ remains_acted p change line =
       serials = omega arith;
       at = λ n few. refl;
       number = λ n few. refl;
-      signatures = λ n s e. e;
+      signatures = grows_same p.places.fills p.places.signatures;
       statics = refl;
       low = refl;
       constants = refl;
@@ -95,7 +108,7 @@ remains_entered p head entry φ line =
       serials = omega arith;
       at = λ n few. refl;
       number = λ n few. refl;
-      signatures = λ n s e. e;
+      signatures = grows_same p.places.fills p.places.signatures;
       statics = refl;
       low = refl;
       constants = refl;
@@ -194,7 +207,7 @@ remains_assigned p serial d v =
       serials = omega arith;
       at = λ n few. refl;
       number = λ n few. refl;
-      signatures = λ n s e. e;
+      signatures = grows_same p.places.fills p.places.signatures;
       statics = refl;
       low = refl;
       constants = refl;

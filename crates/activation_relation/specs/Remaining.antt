@@ -10,6 +10,7 @@ use Rattle.pli_meaning.specs.StorageState.{Activation, Living, automatic_in_use,
 use Rattle.pli_meaning.specs.StorageState.{with_generation}
 use Rattle.pli_meaning.specs.World.{World}
 use Rattle.pli_serving.specs.ServiceState as S
+use Rattle.storage_relation.specs.Fills.{Grows, most_filled}
 use Rattle.storage_relation.specs.Stored.{AreLow, Extends, KeepNumbers, Lives}
 use Rattle.activation_relation.specs.Layers.{Point}
 use Rattle.activation_relation.specs.Changes.{popped, pushed, with_act, with_line}
@@ -34,14 +35,14 @@ in_use_up_to height (l ∷ ls) =
     else footprint_of l.generation + in_use_up_to height ls)
 
 -- serials only grow, and none that was given moves; no signature has another number than it had, whether the run
--- has told its extents yet or not; what is told of static data is told; what was
--- active is active, and no activation that was there has more or less
+-- has told its extents yet or not, and those that came since are such as a run may fill in; what is told of static data
+-- is told; what was active is active, and no activation that was there has more or less
 pub record Remains (p q : Point) : Type 0 where
   pub living : (n : ℕ) (l : Living) → living_of p.state.living n ≡ Some l → LivesOn l (living_of q.state.living n)
   pub serials : p.state.serials ≤ q.state.serials
   pub at : (n : ℕ) → n ≤ p.state.serials → q.places.at n ≡ p.places.at n
   pub number : (n : ℕ) → n ≤ p.state.serials → q.places.number n ≡ p.places.number n
-  pub signatures : KeepNumbers p.places.signatures q.places.signatures
+  pub signatures : Grows p.places.fills q.places.fills p.places.signatures q.places.signatures
   pub statics : q.state.statics ≡ p.state.statics
   pub low : q.places.low ≡ p.places.low
   pub constants : q.places.constants ≡ p.places.constants
@@ -61,6 +62,11 @@ pub record StorageRemains : Type 0 where
   pub same : (p : Point) → Remains p p
   -- what has a shape keeps it
   pub shapes : (p q : Point) → Remains p q → Extends p.places.signatures q.places.signatures
+  -- whatever has a number keeps it, and there are no more signatures than those that were there and that may be filled in
+  pub numbers : (p q : Point) → Remains p q → KeepNumbers p.places.signatures q.places.signatures
+  pub few :
+      (p q : Point) → Remains p q →
+      length q.places.signatures ≤ length p.places.signatures + most_filled p.places.fills
   pub then' : (p q r : Point) → Remains p q → Remains q r → Remains p r
   pub acted :
       (p : Point) (change : World → World) (line : ℕ) → Remains p (with_act change (with_line line p))

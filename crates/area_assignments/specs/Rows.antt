@@ -119,6 +119,7 @@ clear_image input acts =
       units = [];
       signatures = map template_of (table_of clear_program);
       constants = no_constants;
+      fills = [];
       input = input;
       acts = acts;
       serials = 3;

@@ -24,6 +24,7 @@ clear_layout =
       end = clear_finish;
       units = [];
       constants = no_constants;
+      fills = [];
       serials = 3;
       made = newest_all parts clear_variables;
     }

@@ -1,1 +1,2 @@
 mod ClearRuns
+mod ReleaseRuns

@@ -13,6 +13,7 @@ use Rattle.pli_meaning.specs.StorageState.{with_generation}
 use Rattle.area_keeper.specs.Keeper.{Keeper}
 use Rattle.storage_relation.specs.Standing.{bytes_of, holder_by, holder_of}
 use Rattle.storage_relation.specs.Stored.{AreLow}
+use Rattle.storage_relation.proofs.Fills.{grows_same}
 use Rattle.storage_relation.proofs.Holders.{living_of-changed, living_of-others}
 use Rattle.storage_relation.proofs.Living.{Stays, lives_changed, stays_area, stays_generation}
 use Rattle.activation_relation.specs.Entering.{Later}
@@ -221,7 +222,7 @@ living_follows w n change p keeping =
           serials = omega arith;
           at = λ j few. refl;
           number = λ j few. refl;
-          signatures = λ j s e. e;
+          signatures = grows_same p.places.fills p.places.signatures;
           statics = refl;
           low = refl;
           constants = refl;

@@ -130,6 +130,7 @@ locate_image input acts =
       units = [];
       signatures = map template_of (table_of locate_program);
       constants = no_constants;
+      fills = [];
       input = input;
       acts = acts;
       serials = 2;

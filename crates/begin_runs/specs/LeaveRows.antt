@@ -85,6 +85,7 @@ leave_image input acts =
       units = [];
       signatures = [];
       constants = no_constants;
+      fills = [];
       input = input;
       acts = acts;
       serials = 1;

@@ -121,6 +121,7 @@ nest_image input acts =
       units = [];
       signatures = map template_of (table_of nest_program);
       constants = no_constants;
+      fills = [];
       input = input;
       acts = acts;
       serials = 1;

@@ -100,7 +100,7 @@ at_place code d n is few =
 placed_has : (code : Code) (d : Datum) → IsPlaced d (links_of code).data' → Has (static_data code) d
 placed_has code d placed = sym (placed_same d (data_start code) (static_data code)) ∙ placed
 
-datum_told :
+pub datum_told :
     (code : Code) (d : Datum) (n : ℕ) → FitsMemory (picture_of_code code) → is_unwritten d ≡ true →
     IsPlaced d (links_of code).data' → n < length (bytes_for code d) →
     constants_in code (datum_at code d + n) ≡ Some (slice_index (bytes_for code d) n)

@@ -33,6 +33,7 @@ count_layout =
       end = count_finish;
       units = [];
       constants = no_constants;
+      fills = [];
       serials = 2;
       made = newest_all parts count_variables;
     }
@@ -62,6 +63,7 @@ tally_layout =
       end = tally_finish;
       units = tally_units;
       constants = no_constants;
+      fills = [];
       serials = 2;
       made = newest_all parts tally_variables;
     }

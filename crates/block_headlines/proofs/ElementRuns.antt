@@ -29,6 +29,7 @@ pick_layout =
       end = pick_finish;
       units = [];
       constants = no_constants;
+      fills = [];
       serials = 2;
       made = newest_all parts pick_variables;
     }

@@ -67,6 +67,8 @@ use Rattle.text_runs.specs.Rows.{wait_program}
 use Rattle.text_units.specs.Rows.{rise_program}
 use Rattle.element_runs.specs.Rows.{pick_program}
 use Rattle.counter_runs.specs.CountRows.{count_program}
+use Rattle.extent_rows.specs.BendRows.{bend_program}
+use Rattle.extent_rows.specs.GrowRows.{grow_program}
 use Rattle.counter_runs.specs.TallyRows.{tally_program}
 use Rattle.group_runs.specs.Rows.{group_program}
 use Rattle.unit_runs.specs.BeginRows.{host_entry, host_environment, host_main, host_program, host_units}
@@ -90,6 +92,7 @@ use Rattle.block_headlines.proofs.VariableRuns.{locate_layout, locate_program_ru
 use Rattle.block_headlines.proofs.TextRuns.{drop_layout, drop_program_runs, rise_layout, rise_units_run}
 use Rattle.block_headlines.proofs.TextRuns.{wait_layout, wait_program_runs}
 use Rattle.block_headlines.proofs.CounterRuns.{count_layout, count_program_runs, tally_layout, tally_units_run}
+use Rattle.block_headlines.proofs.ExtentRuns.{bend_layout, bend_units_run, grow_layout, grow_program_runs}
 use Rattle.block_headlines.proofs.ElementRuns.{pick_layout, pick_program_runs}
 use Rattle.block_headlines.proofs.GroupRuns.{group_layout, group_program_runs}
 use Rattle.block_headlines.proofs.PlacedRuns.{turning_layout, turning_program_runs}
@@ -196,6 +199,7 @@ row_layout =
       end = row_end main_entry row_main;
       units = [];
       constants = no_constants;
+      fills = [];
       serials = 1;
       made = λ q. q;
     }
@@ -210,6 +214,7 @@ number_layout =
       end = number_end;
       units = [];
       constants = no_constants;
+      fills = [];
       serials = 1;
       made = newest_made parts number_declared;
     }
@@ -227,6 +232,7 @@ double_layout =
       end = double_finish;
       units = [];
       constants = no_constants;
+      fills = [];
       serials = 1;
       made = newest_made parts number_declared;
     }
@@ -253,6 +259,7 @@ fetch_layout =
       end = fetch_finish;
       units = [];
       constants = no_constants;
+      fills = [];
       serials = 1;
       made = newest_made parts number_declared;
     }
@@ -279,6 +286,7 @@ local_layout =
       end = local_finish;
       units = [];
       constants = no_constants;
+      fills = [];
       serials = 1;
       made = newest_made parts number_declared;
     }
@@ -305,6 +313,7 @@ given_layout =
       end = given_finish;
       units = [];
       constants = no_constants;
+      fills = [];
       serials = 1;
       made = newest_made parts number_declared;
     }
@@ -331,6 +340,7 @@ passed_layout =
       end = passed_finish;
       units = [];
       constants = no_constants;
+      fills = [];
       serials = 1;
       made = newest_named parts number_declared;
     }
@@ -357,6 +367,7 @@ kept_layout =
       end = kept_finish;
       units = [];
       constants = no_constants;
+      fills = [];
       serials = 1;
       made = newest_named parts number_declared;
     }
@@ -383,6 +394,7 @@ applied_layout =
       end = applied_finish;
       units = [];
       constants = no_constants;
+      fills = [];
       serials = 1;
       made = newest_made parts number_declared;
     }
@@ -409,6 +421,7 @@ nest_layout =
       end = nest_finish;
       units = [];
       constants = no_constants;
+      fills = [];
       serials = 1;
       made = newest_made parts number_declared;
     }
@@ -435,6 +448,7 @@ leave_layout =
       end = leave_finish;
       units = [];
       constants = no_constants;
+      fills = [];
       serials = 1;
       made = λ q. q;
     }
@@ -461,6 +475,7 @@ host_layout =
       end = host_finish;
       units = host_units;
       constants = no_constants;
+      fills = [];
       serials = 1;
       made = newest_made parts number_declared;
     }
@@ -487,6 +502,7 @@ mend_layout =
       end = mend_finish;
       units = mend_units;
       constants = no_constants;
+      fills = [];
       serials = 1;
       made = newest_made parts number_declared;
     }
@@ -513,6 +529,7 @@ deep_layout =
       end = deep_finish;
       units = deep_units;
       constants = no_constants;
+      fills = [];
       serials = 1;
       made = newest_made parts number_declared;
     }
@@ -539,6 +556,7 @@ skip_layout =
       end = skip_finish;
       units = skip_units;
       constants = no_constants;
+      fills = [];
       serials = 1;
       made = newest_made parts number_declared;
     }
@@ -565,6 +583,7 @@ loop_layout =
       end = loop_finish;
       units = loop_units;
       constants = no_constants;
+      fills = [];
       serials = 1;
       made = newest_made parts number_declared;
     }
@@ -591,6 +610,7 @@ lend_layout =
       end = lend_finish;
       units = lend_units;
       constants = no_constants;
+      fills = [];
       serials = 1;
       made = newest_made parts number_declared;
     }
@@ -658,4 +678,6 @@ rows_kept laws keeps once tables =
       calling_again = kept laws keeps turning_program turning_layout (turning_program_runs once tables);
       counting = kept laws keeps count_program count_layout count_program_runs;
       tallying = unit_kept laws keeps tally_program tally_layout tally_units_run;
+      growing = kept laws keeps grow_program grow_layout grow_program_runs;
+      bending = unit_kept laws keeps bend_program bend_layout bend_units_run;
     }

@@ -42,6 +42,7 @@ bolt_layout =
       end = bolt_finish;
       units = [];
       constants = no_constants;
+      fills = [];
       serials = 1;
       made = newest_made parts number_declared;
     }
@@ -68,6 +69,7 @@ shed_layout =
       end = shed_finish;
       units = [];
       constants = no_constants;
+      fills = [];
       serials = 1;
       made = newest_made parts number_declared;
     }
@@ -94,6 +96,7 @@ flee_layout =
       end = flee_finish;
       units = flee_units;
       constants = no_constants;
+      fills = [];
       serials = 1;
       made = newest_made parts number_declared;
     }
@@ -120,6 +123,7 @@ mute_layout =
       end = mute_finish;
       units = mute_units;
       constants = no_constants;
+      fills = [];
       serials = 1;
       made = newest_made parts number_declared;
     }

@@ -1,5 +1,6 @@
 pub mod Constants
 pub mod CounterRuns
+pub mod ExtentRuns
 pub mod JumpRuns
 pub mod VariableRuns
 pub mod TextRuns

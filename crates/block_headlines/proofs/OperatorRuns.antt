@@ -27,6 +27,7 @@ square_layout =
       end = square_finish;
       units = [];
       constants = no_constants;
+      fills = [];
       serials = 1;
       made = newest_made parts number_declared;
     }
@@ -53,6 +54,7 @@ turn_layout =
       end = turn_finish;
       units = [];
       constants = no_constants;
+      fills = [];
       serials = 1;
       made = newest_made parts number_declared;
     }

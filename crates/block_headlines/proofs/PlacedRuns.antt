@@ -32,6 +32,7 @@ turning_layout =
       end = behind_body turning_program turning_head turning_body;
       units = [];
       constants = constants_in (code_for turning_program);
+      fills = [];
       serials = 1;
       made = λ q. q;
     }

@@ -29,6 +29,7 @@ wait_layout =
       end = wait_finish;
       units = [];
       constants = no_constants;
+      fills = [];
       serials = 1;
       made = newest_made parts number_declared;
     }
@@ -55,6 +56,7 @@ drop_layout =
       end = drop_finish;
       units = [];
       constants = no_constants;
+      fills = [];
       serials = 1;
       made = newest_made parts number_declared;
     }
@@ -81,6 +83,7 @@ rise_layout =
       end = rise_finish;
       units = rise_units;
       constants = no_constants;
+      fills = [];
       serials = 1;
       made = newest_made parts number_declared;
     }

@@ -36,6 +36,7 @@ pair_layout =
       end = pair_finish;
       units = [];
       constants = no_constants;
+      fills = [];
       serials = 2;
       made = newest_all parts pair_variables;
     }
@@ -62,6 +63,7 @@ locate_layout =
       end = locate_finish;
       units = [];
       constants = no_constants;
+      fills = [];
       serials = 2;
       made = newest_all parts locate_variables;
     }

@@ -7,6 +7,7 @@ use Rattle.pli_coding.specs.Environments.{Environment}
 use Rattle.pli_coding.specs.Images.{code_of, linked_code, picture_of}
 use Rattle.pli_coding.specs.Linking.{links_of}
 use Rattle.pli_coding.specs.SignatureTable.{table_of}
+use Rattle.storage_relation.specs.Fills.{Fills}
 use Rattle.activation_relation.specs.Chains.{UnitPlaces}
 use Rattle.activation_relation.specs.Layers.{Point}
 use Rattle.pli_headline.specs.Within.{HeadlineWithin}
@@ -39,6 +40,8 @@ use Rattle.text_units.specs.Rows.{rise_program}
 use Rattle.element_runs.specs.Rows.{pick_program}
 use Rattle.counter_runs.specs.CountRows.{count_program}
 use Rattle.counter_runs.specs.TallyRows.{tally_program}
+use Rattle.extent_rows.specs.BendRows.{bend_program}
+use Rattle.extent_rows.specs.GrowRows.{grow_program}
 use Rattle.group_runs.specs.Rows.{group_program}
 use Rattle.program_places.specs.Rows.{turning_program}
 use Rattle.program_runs.specs.Starts.{no_numbers, start_point, surroundings_of}
@@ -52,8 +55,8 @@ use Rattle.unit_runs.specs.LoopRows.{loop_program}
 use Rattle.unit_runs.specs.Rows.{mend_program}
 
 -- what is said of a program's image beside the program: its main procedure and the others, where its code and its end
--- stand, where the code of its on-units stands, what is told of its static data, how many serials may come for each
--- act, and what becomes of the point where its variables are made
+-- stand, where the code of its on-units stands, what is told of its static data, which signatures a run may fill in, how
+-- many serials may come for each act, and what becomes of the point where its variables are made
 pub record Layout : Type 0 where
   pub main : Procedure
   pub others : List Y.Procedure
@@ -62,6 +65,7 @@ pub record Layout : Type 0 where
   pub end : ℕ
   pub units : UnitPlaces
   pub constants : (place : ℕ) → Option ℕ
+  pub fills : List Fills
   pub serials : ℕ
   pub made : Point → Point
 
@@ -75,6 +79,7 @@ whole_of program x input acts =
         units = x.units;
         signatures = map template_of (table_of program);
         constants = x.constants;
+        fills = x.fills;
         input = input;
         acts = acts;
         serials = x.serials;
@@ -174,3 +179,5 @@ pub record HeadlinesOfRows : Type 0 where
   pub calling_again : Headline turning_program (picture_of parts turning_program) (table_of turning_program)
   pub counting : Headline count_program (picture_of parts count_program) (table_of count_program)
   pub tallying : Headline tally_program (picture_of parts tally_program) (table_of tally_program)
+  pub growing : Headline grow_program (picture_of parts grow_program) (table_of grow_program)
+  pub bending : Headline bend_program (picture_of parts bend_program) (table_of bend_program)

@@ -158,6 +158,7 @@ mute_image input acts =
       units = mute_units;
       signatures = map template_of (table_of mute_program);
       constants = no_constants;
+      fills = [];
       input = input;
       acts = acts;
       serials = 1;

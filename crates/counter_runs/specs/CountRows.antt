@@ -121,6 +121,7 @@ count_image input acts =
       units = [];
       signatures = map template_of (table_of count_program);
       constants = no_constants;
+      fills = [];
       input = input;
       acts = acts;
       serials = 2;

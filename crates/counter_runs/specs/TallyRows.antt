@@ -195,6 +195,7 @@ tally_image input acts =
       units = tally_units;
       signatures = map template_of (table_of tally_program);
       constants = no_constants;
+      fills = [];
       input = input;
       acts = acts;
       serials = 2;

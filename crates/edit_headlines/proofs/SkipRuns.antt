@@ -30,6 +30,7 @@ ruled_layout =
       end = ruled_finish;
       units = [];
       constants = no_constants;
+      fills = [];
       serials = 1;
       made = newest_made parts W.number_declared;
     }

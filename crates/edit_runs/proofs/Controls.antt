@@ -1,4 +1,4 @@
--- Control items of a list: code carries them out, each by an act, as the meaning does, up to the next F item.
+-- Control items of a list: code carries them out, each by an act, as the meaning does, up to the next data item.
 use Rattle.std.proofs.Common.{◌≡◌, ℕ, ◌+◌, ◌^◌, ◌<◌, ◌≤◌, List, [], ◌∷◌, Option, Some, None, Bool, true, false}
 use Rattle.std.proofs.Common.{refl, ap, ◌∙◌, subst, arith, lit<}
 use Rattle.std.specs.Prelude.{cond, ◌==◌}
@@ -29,7 +29,7 @@ use Rattle.run_steps.specs.Engine.{Base, address, call_at}
 use Rattle.run_steps.specs.Items.{At, Linked}
 use Rattle.run_steps.proofs.Items.{straight}
 use Rattle.run_steps.proofs.Jumps.{back_of, front_of, rest_of, skip_passed, skip_taken}
-use Rattle.run_steps.specs.Reach.{Aims, Closed, Comes, Family, Reach, before, cost}
+use Rattle.run_steps.specs.Reach.{Aims, Closed, Comes, Family, Reach, cost}
 use Rattle.run_steps.proofs.Reach.{before_closed, comes_on, onward, reach_then, stay}
 use Rattle.run_steps.specs.Temporaries.{nothing}
 use Rattle.pli_headline.proofs.Loops.{back_piece}
@@ -38,7 +38,7 @@ use Rattle.block_runs.proofs.PointGrounds.{point_ground}
 use Rattle.program_runs.specs.Statements.{Block, IsAmong}
 use Rattle.expression_runs.proofs.Words.{frame_of, valued}
 use Rattle.text_runs.proofs.TextCalls.{Asking, asks}
-use Rattle.edit_runs.specs.Edits.{AreFixed, has_data, placing, putting}
+use Rattle.edit_runs.specs.Edits.{AreItems, IsItem, has_data, placing, putting}
 use Rattle.edit_runs.specs.Writing.{writing}
 use Rattle.edit_runs.proofs.Places.{edits_among, over_place}
 use Rattle.edit_runs.proofs.Writing.{writing_among, writing_comes}
@@ -96,8 +96,10 @@ number_is (ControlFormat item) input = refl
 
 -- ---- the loop
 
--- where it stands, in which block, with the list and what waits in registers; no fewer acts are made there
+-- where it stands, in which block, with the list, whose data items are of a kind, and what waits in registers; no fewer
+-- acts are made there
 pub record Loop : Type 0 where
+  pub textual : Bool
   pub block : Block
   pub line : ℕ
   pub acts : ℕ
@@ -115,7 +117,7 @@ pub record IsLoop (z : Loop) : Type 0 where
   pub over : AreOver z.block.first.control.entries z.block.first.control.edits z.block.first.control.layers
   pub linked : Linked z.block.call.surroundings.links z.block.call.code z.index controls_carried_out
   pub paid : z.credits + 7 ≤ cost z.block.call.code
-  pub are : AreFixed (list_of z)
+  pub are : AreItems z.textual (list_of z)
   pub some : has_data (list_of z) ≡ true
 
 -- a point at which so much of the list is left
@@ -129,16 +131,17 @@ Stands z p h index rs f =
     (b : Base) →
     At b index (Known (point_ground z.block.call.surroundings p h) (services_of p) z.numbers (λ j. 0) rs b) (f b)
 
--- such a point behind the loop, where an F item is next
+-- such a point behind the loop, where a data item is next
 pub record Found (z : Loop) (c : ℕ) (f : Family) (v : Services) (next : DataItem × List FormatItem)
     (s : State) : Type 0
   where
     pub rest : List FormatItem
     pub left' : List FormatItem
-    pub width : ℕ
-    pub next_is : next ≡ (FixedItem width, left')
-    pub current_is : current (list_of z) rest ≡ DataFormat (FixedItem width) ∷ left'
-    pub are : AreFixed left'
+    pub item : DataItem
+    pub fits : IsItem z.textual item
+    pub next_is : next ≡ (item, left')
+    pub current_is : current (list_of z) rest ≡ DataFormat item ∷ left'
+    pub are : AreItems z.textual left'
     pub point : Point
     pub frame : frame_of z.block point
     pub here : Here z rest point
@@ -164,7 +167,8 @@ found_closed z =
       done = λ r next s o. record {
         rest = o.rest;
         left' = o.left';
-        width = o.width;
+        item = o.item;
+        fits = o.fits;
         next_is = o.next_is;
         current_is = o.current_is;
         are = o.are;
@@ -264,6 +268,7 @@ turn_comes z a closed item rest left' {p} h here is c f few at goal =
     writing_comes closed
     (record {
       item = control_written item;
+      texts = p.control.entries;
       edits = next ∷ below;
       first = λ b. number_of x;
       second = y;
@@ -281,8 +286,9 @@ turn_comes z a closed item rest left' {p} h here is c f few at goal =
 
 -- ---- the test behind a call
 
-one_not_zero : (x y : ℕ) → x ≡ 1 → y ≡ 0 → cond (x == y) false true ≡ true
-one_not_zero x y e e' = ap (λ u. cond (u == y) false true) e ∙ ap (λ u. cond (1 == u) false true) e'
+data_not_zero : (item : DataItem) (x y : ℕ) → x ≡ E.data_number item → y ≡ 0 → cond (x == y) false true ≡ true
+data_not_zero (FixedItem width) x y e e' = ap (λ u. cond (u == y) false true) e ∙ ap (λ u. cond (1 == u) false true) e'
+data_not_zero (TextItem width) x y e e' = ap (λ u. cond (u == y) false true) e ∙ ap (λ u. cond (2 == u) false true) e'
 
 none_zero : (x y : ℕ) → x ≡ 0 → y ≡ 0 → cond (x == y) false true ≡ false
 none_zero x y e e' = ap (λ u. cond (u == y) false true) e ∙ ap (λ u. cond (0 == u) false true) e'
@@ -296,13 +302,13 @@ asked_again = skip_where Test.NotEqual a0 zero_register back_code
 free_by_value : (x : ℕ) → Free (valued x) 31
 free_by_value x = record { reserved_stay = λ y u. refl; known_stay = λ b y u q. q; set = λ y u. refl }
 
--- an F item is next
-abbrev FixedBehind : Loop → Aims (Option (DataItem × List FormatItem)) → Type 0
-FixedBehind z aims =
-    (rest left' : List FormatItem) (width : ℕ) (p : Point) (h : frame_of z.block p) → Here z rest p →
-    current (list_of z) rest ≡ DataFormat (FixedItem width) ∷ left' → AreFixed left' → (c : ℕ) (f : Family) →
-    c ≤ z.credits + 5 → Stands z p h (z.index + 5) nothing f →
-    aims.done c f (services_of p) (Some (FixedItem width, left')) p.state
+-- a data item is next
+abbrev DataBehind : Loop → Aims (Option (DataItem × List FormatItem)) → Type 0
+DataBehind z aims =
+    (rest left' : List FormatItem) (item : DataItem) → IsItem z.textual item → (p : Point) (h : frame_of z.block p) →
+    Here z rest p → current (list_of z) rest ≡ DataFormat item ∷ left' → AreItems z.textual left' → (c : ℕ)
+    (f : Family) → c ≤ z.credits + 5 → Stands z p h (z.index + 5) nothing f →
+    aims.done c f (services_of p) (Some (item, left')) p.state
 
 -- the list has ended, and begins again
 abbrev EndBehind : Loop → (items : List FormatItem) → Aims (Option (DataItem × List FormatItem)) → Type 0
@@ -323,22 +329,22 @@ are_left z (x ∷ xs) = refl
 -- behind a call, from what a0 tells on
 passes_come :
     (z : Loop) → IsLoop z → {aims : Aims (Option (DataItem × List FormatItem))}
-    (closed : Closed z.block.call.code aims) (items rest : List FormatItem) → AreFixed items → {p : Point}
+    (closed : Closed z.block.call.code aims) (items rest : List FormatItem) → AreItems z.textual items → {p : Point}
     (h : frame_of z.block p) → Here z rest p → AreLeft z rest items → (c : ℕ) (f : Family) → c ≤ z.credits + 2 →
-    Stands z p h (z.index + 2) (valued (number_of (next_of z.first items))) f → FixedBehind z aims →
+    Stands z p h (z.index + 2) (valued (number_of (next_of z.first items))) f → DataBehind z aims →
     EndBehind z items aims →
     Comes z.block.call.code c f (services_of p) aims
     (P.controls P.control_put items z.block.call.surroundings.acts p.state)
 unfolding P.controls ◌>>◌ give
 passes_come z a closed [] rest are {p} h here is c f few at goal ended =
     record { to = ended refl p h (subst (λ r. Here z r p) is here) c f few at }
-passes_come z a closed (DataFormat (FixedItem width) ∷ left') rest are {p} h here is c f few at goal ended =
+passes_come z a closed (DataFormat item ∷ left') rest are {p} h here is c f few at goal ended =
     let r = skip_taken c f Test.NotEqual a0 zero_register back_code (back_of (service 35) asked_again a.linked) at
-    (λ b. one_not_zero _ _ (at b).holds.regs.0 (zero_is (at b).holds.body)) in
+    (λ b. data_not_zero item _ _ (at b).holds.regs.0 (zero_is (at b).holds.body)) in
     onward closed r
     (λ g at1.
     record {
-      to = goal rest left' width p h here is are (c + 3) g (omega (arith, few))
+      to = goal rest left' item are.0 p h here is are.1 (c + 3) g (omega (arith, few))
           (λ b. record {
             pc = (at1 b).pc ∙ ap (address b) (three_more z.index);
             holds = record { body = (at1 b).holds.body; regs = tt };
@@ -347,7 +353,6 @@ passes_come z a closed (DataFormat (FixedItem width) ∷ left') rest are {p} h h
   where
     three_more : (i : ℕ) → i + 2 + 3 ≡ i + 5
     three_more i = omega arith
-passes_come z a closed (DataFormat (TextItem width) ∷ left') rest are h here is c f few at goal ended = absurd are
 passes_come z a closed (ControlFormat item ∷ left') rest are {p} h here is c f few at goal ended =
     let w = z.block.call.surroundings in
     let l = back_of (service 35) asked_again a.linked in
@@ -370,26 +375,27 @@ passes_come z a closed (ControlFormat item ∷ left') rest are {p} h here is c f
 -- from the loop's beginning on, with an item that is next
 called_comes :
     (z : Loop) → IsLoop z → {aims : Aims (Option (DataItem × List FormatItem))}
-    (closed : Closed z.block.call.code aims) (x : FormatItem) (left' rest : List FormatItem) → AreFixed (x ∷ left') →
-    {p : Point} (h : frame_of z.block p) → Here z rest p → current (list_of z) rest ≡ x ∷ left' → (f : Family) →
-    Stands z p h z.index nothing f → FixedBehind z aims → EndBehind z (x ∷ left') aims →
+    (closed : Closed z.block.call.code aims) (x : FormatItem) (left' rest : List FormatItem) →
+    AreItems z.textual (x ∷ left') → {p : Point} (h : frame_of z.block p) → Here z rest p →
+    current (list_of z) rest ≡ x ∷ left' → (f : Family) →
+    Stands z p h z.index nothing f → DataBehind z aims → EndBehind z (x ∷ left') aims →
     Comes z.block.call.code z.credits f (services_of p) aims
     (P.controls P.control_put (x ∷ left') z.block.call.surroundings.acts p.state)
 unfolding P.controls ◌>>◌ give
-called_comes z a closed (DataFormat (FixedItem width)) left' rest are {p} h here is f at goal ended =
+called_comes z a closed (DataFormat item) left' rest are {p} h here is f at goal ended =
     let w = z.block.call.surroundings in
     let v = services_of p in
     let x : Base → ℕ = λ b. (f b).machine.registers 10 in
     let y : Base → ℕ = λ b. (f b).machine.registers 11 in
     let z' : Base → ℕ = λ b. (f b).machine.registers 12 in
-    let found = current_found (list_of z) rest left' (DataFormat (FixedItem width)) p.control.edits
+    let found = current_found (list_of z) rest left' (DataFormat item) p.control.edits
     z.block.first.control.edits is here.among.later.edits in
     let asking : Asking = record {
       number = 35;
       x = x;
       y = y;
       z = z';
-      first = λ b. 1;
+      first = λ b. E.data_number item;
       second = y;
       answer = λ call x0 x1 x2. E.control_served call x1;
     } in
@@ -407,10 +413,9 @@ called_comes z a closed (DataFormat (FixedItem width)) left' rest are {p} h here
     (λ b. record { pc = (at b).pc; holds = record { body = (at b).holds.body; regs = (refl, (refl, (refl, tt))) } }) in
     onward closed r1
     (λ g at1.
-    passes_come z a closed (DataFormat (FixedItem width) ∷ left') rest are h here is (z.credits + 2) g (omega arith)
+    passes_come z a closed (DataFormat item ∷ left') rest are h here is (z.credits + 2) g (omega arith)
     (λ b. record { pc = (at1 b).pc; holds = record { body = (at1 b).holds.body; regs = ((at1 b).holds.regs.0, tt) } })
     goal ended)
-called_comes z a closed (DataFormat (TextItem width)) left' rest are h here is f at goal ended = absurd are
 called_comes z a closed (ControlFormat item) left' rest are {p} h here is f at goal ended =
     let w = z.block.call.surroundings in
     let next' : Unit {0} → Meaning (Option (DataItem × List FormatItem)) =
@@ -420,7 +425,7 @@ called_comes z a closed (ControlFormat item) left' rest are {p} h here is f at g
     (λ g here1 at1.
     passes_come z a closed left' left' are h here1 (are_left z left') 0 g (omega arith) at1 goal ended))
 
--- ---- the next F item
+-- ---- the next data item
 
 true_not_false : (q : Bool) → q ≡ true → q ≡ false → ⊥
 true_not_false true e e' = cc e'
@@ -431,15 +436,16 @@ abbrev found_again : Option (DataItem × List FormatItem) → Meaning (DataItem 
 found_again o = given o give stuck
 
 is_found :
-    (z : Loop) (rest left' : List FormatItem) (width : ℕ) {p : Point} (h : frame_of z.block p) → Here z rest p →
-    current (list_of z) rest ≡ DataFormat (FixedItem width) ∷ left' → AreFixed left' → (c : ℕ) (f : Family) →
-    c ≤ z.credits + 5 → Stands z p h (z.index + 5) nothing f →
-    Found z c f (services_of p) (FixedItem width, left') p.state
-is_found z rest left' width {p} h here is are c f few at =
+    (z : Loop) (rest left' : List FormatItem) (item : DataItem) → IsItem z.textual item → {p : Point}
+    (h : frame_of z.block p) → Here z rest p → current (list_of z) rest ≡ DataFormat item ∷ left' →
+    AreItems z.textual left' → (c : ℕ) (f : Family) → c ≤ z.credits + 5 → Stands z p h (z.index + 5) nothing f →
+    Found z c f (services_of p) (item, left') p.state
+is_found z rest left' item fits {p} h here is are c f few at =
     record {
       rest = rest;
       left' = left';
-      width = width;
+      item = item;
+      fits = fits;
       next_is = refl;
       current_is = is;
       are = are;
@@ -453,7 +459,7 @@ is_found z rest left' width {p} h here is are c f few at =
     }
 
 pub next_comes :
-    (z : Loop) → IsLoop z → (rest : List FormatItem) → AreFixed rest → {p : Point} (h : frame_of z.block p) →
+    (z : Loop) → IsLoop z → (rest : List FormatItem) → AreItems z.textual rest → {p : Point} (h : frame_of z.block p) →
     Here z rest p → (f : Family) → Stands z p h z.index nothing f →
     Comes z.block.call.code z.credits f (services_of p) (found_aims z)
     (P.next_item P.control_put (list_of z) rest z.block.call.surroundings.acts p.state)
@@ -463,8 +469,8 @@ next_comes z a [] are {p} h here f at =
     let closed = found_closed z in
     comes_on w.acts (P.controls P.control_put (list_of z) w.acts p.state) found_again
     (called_comes z a (before_closed w.acts found_again closed) z.first z.more [] a.are h here refl f at
-    (λ rest left' width p' h' here' is are' c g few at'.
-    record { to = is_found z rest left' width h' here' is are' c g few at' })
+    (λ rest left' item fits p' h' here' is are' c g few at'.
+    record { to = is_found z rest left' item fits h' here' is are' c g few at' })
     (λ none. absurd (true_not_false (has_data (list_of z)) a.some none)))
 next_comes z a (x ∷ left0) are {p} h here f at =
     let w = z.block.call.surroundings in
@@ -474,11 +480,11 @@ next_comes z a (x ∷ left0) are {p} h here f at =
     λ o. given o give again in
     comes_on w.acts (P.controls P.control_put (x ∷ left0) w.acts p.state) next'
     (called_comes z a (before_closed w.acts next' closed) x left0 (x ∷ left0) are h here refl f at
-    (λ rest left' width p' h' here' is are' c g few at'.
-    record { to = is_found z rest left' width h' here' is are' c g few at' })
+    (λ rest left' item fits p' h' here' is are' c g few at'.
+    record { to = is_found z rest left' item fits h' here' is are' c g few at' })
     (λ none p' h' here' c g few at'.
     comes_on w.acts (P.controls P.control_put (list_of z) w.acts p'.state) found_again
     (passes_come z a (before_closed w.acts found_again closed) (list_of z) [] a.are h' here' refl c g few at'
-    (λ rest left' width p2 h2 here2 is are2 c2 g2 few2 at2.
-    record { to = is_found z rest left' width h2 here2 is are2 c2 g2 few2 at2 })
+    (λ rest left' item fits p2 h2 here2 is are2 c2 g2 few2 at2.
+    record { to = is_found z rest left' item fits h2 here2 is are2 c2 g2 few2 at2 })
     (λ none2. absurd (true_not_false (has_data (list_of z)) a.some none2)))))

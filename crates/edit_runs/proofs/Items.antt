@@ -1,22 +1,22 @@
 -- A number of PUT EDIT: it is evaluated, and its field is tested and written; and one behind the other.
 use Rattle.std.proofs.Common.{◌≡◌, ℕ, ◌+◌, ◌^◌, ◌<◌, ◌≤◌, List, [], ◌∷◌, ◌++◌, Option, Some, None}
-use Rattle.std.proofs.Common.{true, false, refl, sym, ap, ◌∙◌, subst, arith, lit<}
+use Rattle.std.proofs.Common.{Bool, true, false, refl, sym, ap, ◌∙◌, subst, arith, lit<}
 use Rattle.std.proofs.lemmas.Bool.Decides.{nat_tests}
 use Rattle.std.proofs.lemmas.Int.{ints}
-use Rattle.std.specs.Prelude.{ℤ, cond, ◌&&◌}
+use Rattle.std.specs.Prelude.{ℤ, cond, not, ◌&&◌}
 use Rattle.rv_meaning.specs.declared.instr.Instr.TheVariants as I
 use Rattle.rv_meaning.specs.declared.instr.BranchTest.TheVariants as Test
 use Rattle.rv_meaning.specs.Words.{signed, word}
 use Rattle.pli_language.specs.Tree as T
 use Rattle.pli_typing.specs.TypedTree as Y
 use Rattle.pli_meaning.specs.Codes.{too_wide_code}
-use Rattle.pli_meaning.specs.Control.{Flow, Label, Meaning, act, give, given, ◌>>=◌, ◌>>◌}
+use Rattle.pli_meaning.specs.Control.{Flow, Label, Meaning, act, give, ◌>>=◌, ◌>>◌}
 use Rattle.pli_meaning.specs.Evaluating.{ComputationalNumber}
 use Rattle.pli_meaning.specs.Raising as R
 use Rattle.pli_meaning.specs.StorageState.{State}
 use Rattle.pli_meaning.specs.Stream.{fixed_field, with_field}
 use Rattle.pli_meaning.specs.Streaming as P
-use Rattle.pli_meaning.specs.Streaming.{DataFormat, DataItem, FixedItem, FormatItem}
+use Rattle.pli_meaning.specs.Streaming.{DataFormat, DataItem, FixedItem, FormatItem, TextItem}
 use Rattle.pli_meaning.specs.World.{written}
 use Rattle.pli_serving.specs.Answers.{Done}
 use Rattle.pli_serving.specs.Edits as E
@@ -58,7 +58,7 @@ use Rattle.expression_runs.proofs.Words.{frame_of, valued}
 use Rattle.text_runs.specs.Texts.{ErrorComes}
 use Rattle.text_runs.proofs.TextCalls.{three, told, two}
 use Rattle.text_runs.proofs.Tested.{Place, Tested, tested_comes}
-use Rattle.edit_runs.specs.Edits.{AreFixed, Item, has_data, placing, putting, within}
+use Rattle.edit_runs.specs.Edits.{AreItems, IsItem, Item, has_data, placing, putting, within}
 use Rattle.edit_runs.specs.Writing.{writing}
 use Rattle.edit_runs.proofs.Controls.{Finds, Loop, current, current_found, found_aims, next_comes}
 use Rattle.edit_runs.proofs.Places.{edits_among, jumps_down, over_place}
@@ -69,8 +69,10 @@ signed-word z h = grind (arith, ints, nat_tests)
 
 -- ---- the code of one number
 
--- what is put, where, how many words are set aside there, and how much a call in it may take to its first act
+-- what is put, texts by A or numbers by F, where, how many words are set aside there, and how much a call in it may
+-- take to its first act
 pub record Puts : Type 0 where
+  pub textual : Bool
   pub words : ℕ
   pub block : Block
   pub labels : List Label
@@ -90,9 +92,9 @@ whole_in u = u.first ∷ u.more
 pub record ArePut (u : Puts) : Type 0 where
   pub acts : u.block.call.surroundings.acts + 1 < 2 ^ 64
   pub over : AreOver u.block.first.control.entries u.block.first.control.edits u.block.first.control.layers
-  pub fixed : has_fixed u.formats ≡ true
-  pub text : has_text u.formats ≡ false
-  pub are : AreFixed (whole_in u)
+  pub fixed : has_fixed u.formats ≡ not u.textual
+  pub text : has_text u.formats ≡ u.textual
+  pub are : AreItems u.textual (whole_in u)
   pub some : has_data (whole_in u) ≡ true
   pub registers : u.need ≤ u.block.registers
   pub one : 1 ≤ u.block.registers
@@ -106,16 +108,16 @@ abbrev pub item_code : Puts → Item → Code
 item_code u x = number_code u.block.environment (set_aside u.words) x.source ++ number_shown
 
 -- lists of F items have no other code
-pub item_coded : (u : Puts) → ArePut u → (x : Item) →
+pub item_coded : (u : Puts) → u.textual ≡ false → ArePut u → (x : Item) →
     C.value_put u.block.environment (set_aside u.words) u.formats (Y.NumberValue x.precision x.source) ≡ item_code u x
-item_coded u a x =
+item_coded u numbers a x =
     let shows = fetch a0 none_taken ++ number_written in
     let texts = fetch a0 none_taken ++ (C.as_text x.precision ++ C.text_written) in
     let rest : Code → Code = λ c. number_code u.block.environment (set_aside u.words) x.source
     ++ (save a0 none_taken ++ (controls_carried_out ++ c)) in
     let both = small u1 1 ∷ choice Test.Equal a0 u1 shows texts in
-    ap (λ q. rest (cond (q && has_text u.formats) both (cond q shows texts))) a.fixed
-    ∙ ap (λ q. rest (cond (true && q) both shows)) a.text
+    ap (λ q. rest (cond (q && has_text u.formats) both (cond q shows texts))) (a.fixed ∙ ap not numbers)
+    ∙ ap (λ q. rest (cond (true && q) both shows)) (a.text ∙ numbers)
 
 -- ---- its field
 
@@ -129,7 +131,7 @@ pub record HasLeft (u : Puts) (acts index wanted : ℕ) (left : List FormatItem)
     pub since : acts ≤ point.state.world.acts
     pub line : point.control.line ≡ u.line
     pub state : s ≡ point.state
-    pub fixed : AreFixed left
+    pub are : AreItems u.textual left
     pub reach :
         Reach u.block.call.code c f v wanted (services_of point)
         (λ b y. IsIn u.block.call.surroundings point numbers index b y)
@@ -152,7 +154,7 @@ left_closed u acts index wanted =
         since = o.since;
         line = o.line;
         state = o.state;
-        fixed = o.fixed;
+        are = o.are;
         reach = reach_then r o.reach;
       };
       jumped = λ r height label s o. jumps_later r o;
@@ -215,7 +217,7 @@ pub record IsReady (u : Puts) (r : Ready) (h : frame_of u.block r.point) (rs : B
     pub among : IsAmong (placing (place_of u r.rest) u.block) r.numbers r.point
     pub line : r.point.control.line ≡ u.line
     pub next : current (whole_in u) r.rest ≡ DataFormat (FixedItem r.width) ∷ r.left'
-    pub fixed : AreFixed r.left'
+    pub are : AreItems u.textual r.left'
     pub wide : IsWide r.z
     pub linked : Linked u.block.call.surroundings.links u.block.call.code r.index code
     pub paid : r.credits + size_of code + u.most ≤ cost u.block.call.code
@@ -302,7 +304,13 @@ field_comes u a r h acts' wanted is field wide since =
           (ap (fixed_field r.width) (signed-word r.z is.wide) ∙ wide)
           ∙ acts v w.acts _ is.among.stands.allowed a.acts;
     } in
-    writing_comes closed (record { item = with_field field; edits = places u r; first = λ b. x; second = λ b. 1 })
+    writing_comes closed (record {
+      item = with_field field;
+      texts = p.control.entries;
+      edits = places u r;
+      first = λ b. x;
+      second = λ b. 1;
+    })
     (r.credits + 2) wanted g h is.among.stands (omega (arith, paid)) at calling
     (λ f' less at'.
     record {
@@ -313,7 +321,7 @@ field_comes u a r h acts' wanted is field wide since =
         since = omega (arith, since);
         line = is.line;
         state = refl;
-        fixed = is.fixed;
+        are = is.are;
         reach = stay code wanted f' (services_of (shown_point u r field)) _
             (λ b. in_known h is.among.image.parts
             (record { pc = (at' b).pc ∙ ap (address b) (three_more r.index); holds = (at' b).holds }));
@@ -426,7 +434,7 @@ number_comes u a r h acts' wanted is since =
       among = is.among;
       line = is.line;
       next = is.next;
-      fixed = is.fixed;
+      are = is.are;
       wide = is.wide;
       linked = linked_at (r.index + 6) behind' (omega arith) (back_of (tested_service 36) behind' l1);
       paid = omega (arith, paid);
@@ -453,7 +461,7 @@ pub record Valued : Type 0 where
 pub record IsValued (u : Puts) (r : Valued) (h : frame_of u.block r.point) : Type 0 where
   pub among : IsAmong (placing (place_of u r.rest) u.block) r.numbers r.point
   pub line : r.point.control.line ≡ u.line
-  pub fixed : AreFixed r.rest
+  pub are : AreItems u.textual r.rest
   pub wide : IsWide r.z
   pub linked : Linked u.block.call.surroundings.links u.block.call.code r.index number_shown
   pub paid : r.credits + size_of number_shown + u.most ≤ cost u.block.call.code
@@ -462,15 +470,22 @@ pub record IsValued (u : Puts) (r : Valued) (h : frame_of u.block r.point) : Typ
       At b r.index (Known (point_ground u.block.call.surroundings r.point h) (services_of r.point) r.numbers (λ j. 0)
       (valued (word r.z)) b) (r.family b)
 
+-- an F item of such a list
+fixed_item : (textual : Bool) (item : DataItem) → textual ≡ false → IsItem textual item →
+    (width : ℕ) × (item ≡ FixedItem width)
+fixed_item false (FixedItem width) e is = (width, refl)
+fixed_item false (TextItem width) e is = absurd is
+fixed_item true item e is = absurd (cc e)
+
 pub valued_comes :
-    (u : Puts) → ArePut u → (x : Item) (r : Valued) (h : frame_of u.block r.point) (acts' wanted i : ℕ) →
-    IsValued u r h → acts' ≤ r.point.state.world.acts → r.index + size_of number_shown ≡ i →
+    (u : Puts) → u.textual ≡ false → ArePut u → (x : Item) (r : Valued) (h : frame_of u.block r.point)
+    (acts' wanted i : ℕ) → IsValued u r h → acts' ≤ r.point.state.world.acts → r.index + size_of number_shown ≡ i →
     Comes u.block.call.code r.credits r.family (services_of r.point) (left_aims u acts' i wanted)
     (((P.next_item P.control_put (whole_in u) r.rest)
     >>= (λ next. (P.shown_by (setting_in u).around (ComputationalNumber x.precision r.z) next.0) >> give next.1))
     u.block.call.surroundings.acts r.point.state)
 unfolding P.shown_by R.or_error ◌>>=◌ ◌>>◌ give
-valued_comes u a x r h acts' wanted i is since end =
+valued_comes u numbers a x r h acts' wanted i is since end =
     let w = u.block.call.surroundings in
     let code = u.block.call.code in
     let p = r.point in
@@ -493,6 +508,7 @@ valued_comes u a x r h acts' wanted i is since end =
     let goal = left_aims u acts' i wanted in
     let closed = left_closed u acts' i wanted in
     let loop : Loop = record {
+      textual = u.textual;
       block = u.block;
       line = u.line;
       acts = acts';
@@ -513,9 +529,10 @@ valued_comes u a x r h acts' wanted i is since end =
     (comes_map (found_aims loop) (before code goal w.acts next') flow
     (λ c1 f1 v1 next s1 o.
     let few = o.few in
+    let item = fixed_item u.textual o.item numbers o.fits in
     let last : Unit {0} → Meaning (List FormatItem) = λ t. give o.left' in
-    subst (λ n. Comes code c1 f1 v1 goal (next' n w.acts s1)) (sym o.next_is)
-    (subst (λ s2. Comes code c1 f1 v1 goal (next' (FixedItem o.width, o.left') w.acts s2)) (sym o.state)
+    subst (λ n. Comes code c1 f1 v1 goal (next' n w.acts s1)) (sym (o.next_is ∙ ap (λ j. (j, o.left')) item.1))
+    (subst (λ s2. Comes code c1 f1 v1 goal (next' (FixedItem item.0, o.left') w.acts s2)) (sym o.state)
     (onward closed o.reach
     (λ g2 at2.
     onward closed
@@ -524,7 +541,7 @@ valued_comes u a x r h acts' wanted i is since end =
     (λ g3 at3.
     let r' : Ready = record {
       rest = o.rest;
-      width = o.width;
+      width = item.0;
       left' = o.left';
       point = o.point;
       numbers = numbers';
@@ -539,8 +556,8 @@ valued_comes u a x r h acts' wanted i is since end =
     (record {
       among = o.here.among;
       line = o.here.line;
-      next = o.current_is;
-      fixed = o.are;
+      next = o.current_is ∙ ap (λ j. DataFormat j ∷ o.left') item.1;
+      are = o.are;
       wide = is.wide;
       linked = back_of back number_written l2;
       paid = omega (arith, paid, few, n1, n2, n3);
@@ -558,7 +575,7 @@ valued_comes u a x r h acts' wanted i is since end =
       are = a.are;
       some = a.some;
     })
-    r.rest is.fixed h
+    r.rest is.are h
     (record {
       among = held_among s 0 1 (word z) registers (omega arith) small' is.among;
       since = since;

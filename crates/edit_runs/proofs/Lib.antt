@@ -4,5 +4,8 @@ pub mod Places
 pub mod Controls
 pub mod Items
 pub mod Puts
+pub mod TextItems
+pub mod NumberTexts
+pub mod DataPuts
 pub mod SkipRows
 pub mod FormatRows

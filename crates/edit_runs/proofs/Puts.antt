@@ -1,8 +1,7 @@
--- PUT EDIT of numbers: lines end, if any; for each list its place begins, its numbers are shown one behind the other,
--- and it ends.
+-- PUT EDIT: lines end, if any; for each list its place begins, its items are shown one behind the other, and it ends.
 use Rattle.std.proofs.Common.{◌≡◌, ℕ, ◌+◌, ◌^◌, ◌<◌, ◌≤◌, List, [], ◌∷◌, ◌++◌, None, Some, refl, sym, ap, ◌∙◌}
-use Rattle.std.proofs.Common.{subst, arith, lit<, true}
-use Rattle.std.specs.Prelude.{ℤ, Option}
+use Rattle.std.proofs.Common.{subst, arith, lit<, false, true, Bool}
+use Rattle.std.specs.Prelude.{ℤ, Option, not, ⊤}
 use Rattle.rv_meaning.specs.declared.instr.Instr.TheVariants as I
 use Rattle.pli_language.specs.Tree as T
 use Rattle.pli_typing.specs.TypedTree as Y
@@ -12,7 +11,7 @@ use Rattle.pli_meaning.specs.Evaluating.{Computational, ComputationalNumber}
 use Rattle.pli_meaning.specs.Executing as M
 use Rattle.pli_meaning.specs.Raising.{at_line}
 use Rattle.pli_meaning.specs.Streaming as P
-use Rattle.pli_meaning.specs.Streaming.{FormatItem, format_items}
+use Rattle.pli_meaning.specs.Streaming.{ControlFormat, DataFormat, FixedItem, FormatItem, TextItem, format_items}
 use Rattle.pli_meaning.specs.World.{counted, written}
 use Rattle.pli_serving.specs.Answers.{Done}
 use Rattle.pli_serving.specs.Edits as E
@@ -26,7 +25,8 @@ use Rattle.pli_coding.specs.Linking.{place_of}
 use Rattle.pli_coding.specs.Registers.{a0, a1, a7, held_registers}
 use Rattle.pli_coding.specs.StaticForms.{formats_datum}
 use Rattle.pli_coding.specs.Streams as C
-use Rattle.pli_coding.specs.Streams.{edit_begun, edit_ended}
+use Rattle.pli_coding.specs.Statements.{stmt_code}
+use Rattle.pli_coding.specs.Streams.{edit_begun, edit_ended, has_fixed, has_text}
 use Rattle.activation_relation.specs.Layers.{Point, services_of}
 use Rattle.activation_relation.specs.Points.{AreOver}
 use Rattle.run_steps.specs.Bodies.{Known}
@@ -50,7 +50,8 @@ use Rattle.block_runs.proofs.BlockEntries.{small_is}
 use Rattle.block_runs.proofs.PointActs.{act_comes}
 use Rattle.block_runs.proofs.CallStatements.{comes_map}
 use Rattle.block_runs.proofs.PointGrounds.{in_known, known_in, point_frame, point_ground}
-use Rattle.program_runs.specs.Statements.{Block, DoesWith, IsAmong, JumpsTo, set_aside, size_with, statement_aims}
+use Rattle.program_runs.specs.Statements.{Block, DoesWith, HasAct, IsAmong, JumpsTo, set_aside, size_with}
+use Rattle.program_runs.specs.Statements.{statement_aims}
 use Rattle.program_runs.proofs.JumpsOut.{jumps_later, jumps_repaid, jumps_since}
 use Rattle.program_runs.proofs.Statements.{acted_among, goes_here, statement_closed}
 use Rattle.program_runs.proofs.Waiting.{over_first}
@@ -60,8 +61,9 @@ use Rattle.expression_runs.specs.Values.{behind, number_aims}
 use Rattle.expression_runs.proofs.Words.{frame_of, known_word}
 use Rattle.text_runs.specs.Texts.{ErrorComes}
 use Rattle.text_runs.proofs.TextCalls.{Asking, asks}
-use Rattle.edit_runs.specs.Edits.{AreFixed, AreListed, IsPut, IsSkipped, Item, ItemsDo, KnowsFormats, Pair, PairsDo}
-use Rattle.edit_runs.specs.Edits.{Put, has_data, placing, put_items, put_of, put_pairs, putting, within}
+use Rattle.edit_runs.specs.Edits.{AreFixed, AreItems, AreListed, IsFixed, IsPut, IsSkipped, Item, ItemsDo}
+use Rattle.edit_runs.specs.Edits.{KnowsFormats, Pair, PairsDo, Put, has_data, placing, put_items, put_of, put_pairs}
+use Rattle.edit_runs.specs.Edits.{putting, within}
 use Rattle.edit_runs.specs.Writing.{with_edits}
 use Rattle.edit_runs.proofs.Items.{ArePut, HasLeft, Puts, item_code, item_coded, left_aims, left_closed}
 use Rattle.edit_runs.proofs.Items.{number_shown, setting_in, valued_comes, whole_in}
@@ -71,7 +73,7 @@ use Rattle.edit_runs.proofs.Writing.{writing_among}
 
 -- ---- one number
 
-abbrev put_item : Item → Y.PutItem
+abbrev pub put_item : Item → Y.PutItem
 put_item x = Y.PutValue (Y.NumberValue x.precision x.source)
 
 -- a point at which a number is due, and so much of the list
@@ -86,20 +88,32 @@ pub record Due : Type 0 where
 pub record IsDue (u : Puts) (d : Due) (acts' size : ℕ) : Type 0 where
   pub among : IsAmong (placing (putting (whole_in u) d.rest) u.block) d.numbers d.point
   pub line : d.point.control.line ≡ u.line
-  pub fixed : AreFixed d.rest
+  pub are : AreItems u.textual d.rest
   pub since : acts' ≤ d.point.state.world.acts
   pub paid : d.credits + size + u.most ≤ cost u.block.call.code
   pub there : AreIn u.block.call.surroundings d.point d.numbers d.index d.family
 
+-- what its code does, wherever the list is
+abbrev pub ItemGoes : Puts → Y.PutItem → Type 0
+ItemGoes u x =
+    (d : Due) (acts' wanted i : ℕ) →
+    IsDue u d acts' (size_of (C.item_put u.block.environment (set_aside u.words) u.formats x)) →
+    Linked u.block.call.surroundings.links u.block.call.code d.index
+    (C.item_put u.block.environment (set_aside u.words) u.formats x) →
+    d.index + size_of (C.item_put u.block.environment (set_aside u.words) u.formats x) ≡ i →
+    Comes u.block.call.code d.credits d.family (services_of d.point) (left_aims u acts' i wanted)
+    (P.item_put (setting_in u).around (whole_in u) d.rest x u.block.call.surroundings.acts d.point.state)
+
 item_comes :
-    (u : Puts) → ArePut u → (x : Item) → ((place : EditPlace) → L.Does (within place (setting_in u)) u.need x.source) →
+    (u : Puts) → u.textual ≡ false → ArePut u → (x : Item) →
+    ((place : EditPlace) → L.Does (within place (setting_in u)) u.need x.source) →
     (d : Due) (acts' wanted i : ℕ) → IsDue u d acts' (size_of (item_code u x)) →
     Linked u.block.call.surroundings.links u.block.call.code d.index (item_code u x) →
     d.index + size_of (item_code u x) ≡ i →
     Comes u.block.call.code d.credits d.family (services_of d.point) (left_aims u acts' i wanted)
     (P.item_put (setting_in u).around (whole_in u) d.rest (put_item x) u.block.call.surroundings.acts d.point.state)
 unfolding P.item_put V.computational ◌>>=◌ give
-item_comes u a x does d acts' wanted i is l end =
+item_comes u numbers a x does d acts' wanted i is l end =
     let w = u.block.call.surroundings in
     let code = u.block.call.code in
     let p = d.point in
@@ -127,7 +141,7 @@ item_comes u a x does d acts' wanted i is l end =
       to = subst (λ s. Comes code c1 f1 v1 goal (next1 (ComputationalNumber x.precision z) w.acts s)) (sym o.state)
           (onward (left_closed u acts' i wanted) o.reach
           (λ g at.
-          valued_comes u a x
+          valued_comes u numbers a x
           (record {
             rest = d.rest;
             point = o.point;
@@ -141,7 +155,7 @@ item_comes u a x does d acts' wanted i is l end =
           (record {
             among = o.among;
             line = o.line ∙ is.line;
-            fixed = is.fixed;
+            are = is.are;
             wide = q.0;
             linked = back_of part number_shown l;
             paid = omega (arith, paid, n0);
@@ -155,7 +169,30 @@ item_comes u a x does d acts' wanted i is l end =
     (let room = a.registers in omega (arith, room), a.held) (front_of part number_shown l)
     (omega (arith, paid, n0)) is.there)))
 
+-- so does a number by F
+pub number_goes :
+    (u : Puts) → u.textual ≡ false → ArePut u → (x : Item) →
+    ((place : EditPlace) → L.Does (within place (setting_in u)) u.need x.source) → ItemGoes u (put_item x)
+number_goes u numbers a x does d acts' wanted i is l end =
+    let same = item_coded u numbers a x in
+    let n1 = ap (λ c. size_of c) same in
+    let paid = is.paid in
+    item_comes u numbers a x does d acts' wanted i
+    (record {
+      among = is.among;
+      line = is.line;
+      are = is.are;
+      since = is.since;
+      paid = omega (arith, paid, n1);
+      there = is.there;
+    })
+    (subst (Linked u.block.call.surroundings.links u.block.call.code d.index) same l) (omega (arith, n1, end))
+
 -- ---- one behind the other
+
+abbrev pub AllGo : Puts → List Y.PutItem → Type 0
+AllGo u [] = ⊤
+AllGo u (x ∷ xs) = ItemGoes u x × AllGo u xs
 
 abbrev items_aims : Puts → (acts' index wanted : ℕ) → Aims (Unit {0})
 items_aims u acts' index wanted =
@@ -173,58 +210,55 @@ items_closed u acts' index wanted =
       returned = λ r t s o. absurd o;
     }
 
-abbrev items_code : Puts → List Item → Code
-items_code u xs = C.items_put u.block.environment (set_aside u.words) u.formats (put_items xs)
+abbrev one_code : Puts → Y.PutItem → Code
+one_code u x = C.item_put u.block.environment (set_aside u.words) u.formats x
+
+abbrev items_code : Puts → List Y.PutItem → Code
+items_code u xs = C.items_put u.block.environment (set_aside u.words) u.formats xs
 
 items_comes :
-    (u : Puts) → ArePut u → (x : Item) (xs : List Item) → ItemsDo (setting_in u) u.need (x ∷ xs) → (d : Due)
-    (acts' wanted i : ℕ) → IsDue u d acts' (size_of (items_code u (x ∷ xs))) →
+    (u : Puts) (x : Y.PutItem) (xs : List Y.PutItem) → AllGo u (x ∷ xs) → (d : Due) (acts' wanted i : ℕ) →
+    IsDue u d acts' (size_of (items_code u (x ∷ xs))) →
     Linked u.block.call.surroundings.links u.block.call.code d.index (items_code u (x ∷ xs)) →
     d.index + size_of (items_code u (x ∷ xs)) ≡ i →
     Comes u.block.call.code d.credits d.family (services_of d.point) (items_aims u acts' i wanted)
-    (P.items_put (setting_in u).around (whole_in u) d.rest (put_items (x ∷ xs)) u.block.call.surroundings.acts
-    d.point.state)
+    (P.items_put (setting_in u).around (whole_in u) d.rest (x ∷ xs) u.block.call.surroundings.acts d.point.state)
 unfolding P.items_put ◌>>=◌ give
-items_comes u a x [] does d acts' wanted i is l end =
+items_comes u x [] go d acts' wanted i is l end =
     let w = u.block.call.surroundings in
     let code = u.block.call.code in
     let around = (setting_in u).around in
-    let one = C.value_put u.block.environment (set_aside u.words) u.formats (Y.NumberValue x.precision x.source) in
-    let same = item_coded u a x in
+    let one = one_code u x in
     let n0 = size_append one [] in
-    let n1 = ap (λ c. size_of c) same in
     let paid = is.paid in
-    let flow = P.item_put around (whole_in u) d.rest (put_item x) w.acts d.point.state in
+    let flow = P.item_put around (whole_in u) d.rest x w.acts d.point.state in
     let next' : List FormatItem → Meaning (Unit {0}) = λ rest. P.items_put around (whole_in u) rest [] in
     comes_on w.acts flow next'
     (comes_map (left_aims u acts' i wanted) (before code (items_aims u acts' i wanted) w.acts next') flow
     (λ c1 f1 v1 left' s o. record { to = (left', o) })
     (λ c1 f1 v1 height label s q. q)
     (λ c1 f1 v1 r s q. absurd q)
-    (item_comes u a x does.0 d acts' wanted i
+    (go.0 d acts' wanted i
     (record {
       among = is.among;
       line = is.line;
-      fixed = is.fixed;
+      are = is.are;
       since = is.since;
-      paid = omega (arith, paid, n0, n1);
+      paid = omega (arith, paid, n0);
       there = is.there;
     })
-    (subst (Linked w.links code d.index) same (front_of one [] l)) (omega (arith, n0, n1, end))))
-items_comes u a x (x' ∷ xs) does d acts' wanted i is l end =
+    (front_of one [] l) (omega (arith, n0, end))))
+items_comes u x (x' ∷ xs) go d acts' wanted i is l end =
     let w = u.block.call.surroundings in
     let code = u.block.call.code in
     let around = (setting_in u).around in
-    let one = C.value_put u.block.environment (set_aside u.words) u.formats (Y.NumberValue x.precision x.source) in
+    let one = one_code u x in
     let others = items_code u (x' ∷ xs) in
-    let same = item_coded u a x in
     let n0 = size_append one others in
-    let n1 = ap (λ c. size_of c) same in
     let paid = is.paid in
     let mid = d.index + size_of one in
-    let flow = P.item_put around (whole_in u) d.rest (put_item x) w.acts d.point.state in
-    let next' : List FormatItem → Meaning (Unit {0}) =
-    λ rest. P.items_put around (whole_in u) rest (put_items (x' ∷ xs)) in
+    let flow = P.item_put around (whole_in u) d.rest x w.acts d.point.state in
+    let next' : List FormatItem → Meaning (Unit {0}) = λ rest. P.items_put around (whole_in u) rest (x' ∷ xs) in
     let goal = items_aims u acts' i wanted in
     comes_on w.acts flow next'
     (comes_map (left_aims u acts' mid 0) (before code goal w.acts next') flow
@@ -232,13 +266,13 @@ items_comes u a x (x' ∷ xs) does d acts' wanted i is l end =
     subst (λ s'. Comes code c1 f1 v1 goal (next' left' w.acts s')) (sym o.state)
     (onward (items_closed u acts' i wanted) o.reach
     (λ g at.
-    items_comes u a x' xs does.1
+    items_comes u x' xs go.1
     (record { rest = left'; point = o.point; numbers = o.numbers; credits = 0; index = mid; family = g })
     acts' wanted i
     (record {
       among = o.among;
       line = o.line;
-      fixed = o.fixed;
+      are = o.are;
       since = o.since;
       paid = omega (arith, paid, n0);
       there = at;
@@ -246,16 +280,16 @@ items_comes u a x (x' ∷ xs) does d acts' wanted i is l end =
     (back_of one others l) (omega (arith, n0, end)))))
     (λ c1 f1 v1 height label s q. q)
     (λ c1 f1 v1 r s q. absurd q)
-    (item_comes u a x does.0 d acts' 0 mid
+    (go.0 d acts' 0 mid
     (record {
       among = is.among;
       line = is.line;
-      fixed = is.fixed;
+      are = is.are;
       since = is.since;
-      paid = omega (arith, paid, n0, n1);
+      paid = omega (arith, paid, n0);
       there = is.there;
     })
-    (subst (Linked w.links code d.index) same (front_of one others l)) (omega (arith, n1))))
+    (front_of one others l) refl))
 
 -- ---- the place begins, and ends
 
@@ -373,18 +407,19 @@ opened : (xs : List FormatItem) → has_data xs ≡ true → Opened xs
 opened [] h = absurd (cc h)
 opened (x ∷ xs) h = record { first = x; more = xs; is = refl }
 
-abbrev puts_of :
-    (words : ℕ) → Block → List Label → Pair → (line need most : ℕ) → (first : FormatItem) →
+abbrev pub puts_of :
+    (textual : Bool) → (words : ℕ) → Block → List Label → T.Formats → (line need most : ℕ) → (first : FormatItem) →
     (more : List FormatItem) → Puts
-puts_of words k labels x line need most first more =
+puts_of textual words k labels formats line need most first more =
     record {
+      textual = textual;
       words = words;
       block = k;
       labels = labels;
       line = line;
       most = most;
       need = need;
-      formats = x.formats;
+      formats = formats;
       first = first;
       more = more;
     }
@@ -394,21 +429,42 @@ abbrev debt : ℕ
 debt = 2
 
 -- what is known around its lists
-record IsAround (words : ℕ) (k : Block) (labels : List Label) (line need most : ℕ) : Type 0 where
-  acts : k.call.surroundings.acts + 1 < 2 ^ 64
-  over : AreOver k.first.control.entries k.first.control.edits k.first.control.layers
-  registers : need ≤ k.registers
-  one : 1 ≤ k.registers
-  held : k.registers ≤ held_registers
-  error : (place : EditPlace) → ErrorComes (List ℕ) (within place (setting_around words k labels line most))
+pub record IsAround (words : ℕ) (k : Block) (labels : List Label) (line need most : ℕ) : Type 0 where
+  pub acts : k.call.surroundings.acts + 1 < 2 ^ 64
+  pub over : AreOver k.first.control.entries k.first.control.edits k.first.control.layers
+  pub registers : need ≤ k.registers
+  pub one : 1 ≤ k.registers
+  pub held : k.registers ≤ held_registers
+  pub error : (place : EditPlace) → ErrorComes (List ℕ) (within place (setting_around words k labels line most))
 
-abbrev lists_code : (words : ℕ) → Block → List Pair → Code
-lists_code words k xs = C.put_pairs k.environment (set_aside words) (put_pairs xs)
+-- one of its lists: the block knows its format list, which has data items of one kind, and each of its items is shown
+pub record ListGoes (words : ℕ) (k : Block) (labels : List Label) (line need most : ℕ) (x : Y.PutPair) : Type 0 where
+  pub textual : Bool
+  pub fixed : has_fixed x.formats ≡ not textual
+  pub text : has_text x.formats ≡ textual
+  pub are : AreItems textual (format_items x.formats)
+  pub some : has_data (format_items x.formats) ≡ true
+  pub knows : KnowsFormats k x.formats
+  pub item : Y.PutItem
+  pub items : List Y.PutItem
+  pub shown : x.items ≡ item ∷ items
+  pub go :
+      (first : FormatItem) (more : List FormatItem) →
+      ArePut (puts_of textual words k labels x.formats line need most first more) →
+      AllGo (puts_of textual words k labels x.formats line need most first more) (item ∷ items)
+
+abbrev pub ListsGo : (words : ℕ) → Block → List Label → (line need most : ℕ) → List Y.PutPair → Type 0
+ListsGo words k labels line need most [] = ⊤
+ListsGo words k labels line need most (x ∷ xs) =
+    ListGoes words k labels line need most x × ListsGo words k labels line need most xs
+
+abbrev lists_code : (words : ℕ) → Block → List Y.PutPair → Code
+lists_code words k xs = C.put_pairs k.environment (set_aside words) xs
 
 -- from a point before a list on, one list behind the other
 lists_come :
     (words : ℕ) (k : Block) (labels : List Label) (line need most left' : ℕ) → IsAround words k labels line need most →
-    (xs : List Pair) → AreListed k xs → PairsDo (setting_around words k labels line most) need xs →
+    (xs : List Y.PutPair) → ListsGo words k labels line need most xs →
     (acts' c wanted i j : ℕ) (f : Family) {p : Point} {numbers : ℕ → ℕ} → IsAmong k numbers p →
     p.control.line ≡ line → acts' ≤ p.state.world.acts →
     (c ≤ debt) × (c + size_of (lists_code words k xs) + most ≤ cost k.call.code) →
@@ -416,10 +472,9 @@ lists_come :
     AreIn k.call.surroundings p numbers i f →
     Comes k.call.code c f (services_of p)
     (owing k.call.code debt (statement_aims k labels acts' j wanted left'))
-    (P.pairs_put (at_line k.around line) (put_pairs xs) k.call.surroundings.acts p.state)
+    (P.pairs_put (at_line k.around line) xs k.call.surroundings.acts p.state)
 unfolding P.pairs_put ◌>>◌ ◌>>=◌ give
-lists_come words k labels line need most left' a [] known does acts' c wanted i j f {p} {numbers} o at since few l end
-    there =
+lists_come words k labels line need most left' a [] go acts' c wanted i j f {p} {numbers} o at since few l end there =
     let code = k.call.code in
     let low = few.0 in
     record {
@@ -429,18 +484,21 @@ lists_come words k labels line need most left' a [] known does acts' c wanted i 
           goes_here acts' wanted g since o
           (λ b. subst (λ n. IsIn k.call.surroundings p numbers n b (g b)) (omega (arith, end)) (at' b)));
     }
-lists_come words k labels line need most left' a (x ∷ xs) known does acts' c wanted i j f {p} {numbers} o at since few
-    l end there =
+lists_come words k labels line need most left' a (x ∷ xs) go acts' c wanted i j f {p} {numbers} o at since few l end
+    there =
     let w = k.call.surroundings in
     let code = k.call.code in
     let fs = x.formats in
-    let fixed = known.0.0 in
-    let list = opened (format_items fs) fixed.some in
-    let u = puts_of words k labels x line need most list.first list.more in
+    let one = go.0 in
+    let list = opened (format_items fs) one.some in
+    let u = puts_of one.textual words k labels fs line need most list.first list.more in
     let here = at_line k.around line in
     let first = k.first.control in
     let begun = edit_begun fs 1 in
-    let items = items_code u (x.first ∷ x.more) in
+    let items = items_code u x.items in
+    let shown = items_code u (one.item ∷ one.items) in
+    let same = ap (λ ys. items_code u ys) one.shown in
+    let n4 = ap (λ ys. size_of ys) same in
     let pair = begun ++ (items ++ edit_ended) in
     let rest = lists_code words k xs in
     let n1 = size_append pair rest in
@@ -452,18 +510,17 @@ lists_come words k labels line need most left' a (x ∷ xs) known does acts' c w
     let l2 = back_of begun (items ++ edit_ended) l1 in
     let owed = owing code debt (statement_aims k labels acts' j wanted left') in
     let closed = owing_closed code debt (statement_aims k labels acts' j wanted left') in
-    let shown = put_items (x.first ∷ x.more) in
-    let next2 : Unit {0} → Meaning (Unit {0}) = λ t. P.pairs_put here (put_pairs xs) in
+    let next2 : Unit {0} → Meaning (Unit {0}) = λ t. P.pairs_put here xs in
     let h = point_frame o.stands o.image in
     let whole = format_items fs in
     let place = putting whole whole in
     let b : ArePut u = record {
       acts = a.acts;
       over = a.over;
-      fixed = fixed.fixed;
-      text = fixed.text;
-      are = subst AreFixed list.is fixed.are;
-      some = subst (λ ws. has_data ws ≡ true) list.is fixed.some;
+      fixed = one.fixed;
+      text = one.text;
+      are = subst (AreItems one.textual) list.is one.are;
+      some = subst (λ ws. has_data ws ≡ true) list.is one.some;
       registers = a.registers;
       one = a.one;
       held = a.held;
@@ -475,8 +532,8 @@ lists_come words k labels line need most left' a (x ∷ xs) known does acts' c w
     let among1 : IsAmong (placing place k) numbers q1 =
     edits_among k first.edits (place ∷ first.edits) (place ∷ p.control.edits) o
     (ap (λ es. place ∷ es) o.later.edits) (over_place place first.entries first.edits first.layers a.over) in
-    let flow = P.items_put here whole whole shown w.acts q1.state in
-    onward closed (begin_reach k fs h c f (front_of begun (items ++ edit_ended) l1) known.0.1 o there)
+    let flow = P.items_put here whole whole x.items w.acts q1.state in
+    onward closed (begin_reach k fs h c f (front_of begun (items ++ edit_ended) l1) one.knows o there)
     (λ g1 at1.
     comes_on w.acts flow next2
     (comes_map (items_aims u acts' i2 0) (before code owed w.acts next2) flow
@@ -492,109 +549,167 @@ lists_come words k labels line need most left' a (x ∷ xs) known does acts' c w
     subst (λ s'. Comes code c1 f1 v1 owed (next2 t w.acts s')) (sym o2.state)
     (onward closed (reach_then o2.reach r2)
     (λ g2 at2.
-    lists_come words k labels line need most left' a xs known.1 does.1 acts' 2 wanted (i + size_of pair) j g2 among2
+    lists_come words k labels line need most left' a xs go.1 acts' 2 wanted (i + size_of pair) j g2 among2
     o2.line o2.since (omega arith, omega (arith, all, n1, n2, n3)) (back_of pair rest l) (omega (arith, n1, end))
     (λ b'. in_known h2 o2.among.image.parts (moved_at b' (g2 b') (omega (arith, n2, n3)) (at2 b'))))))
     (λ c1 f1 v1 height label s e. λ i0 f0 v0 from. jumps_repaid debt from e)
     (λ c1 f1 v1 r' s e. absurd e)
+    (subst (λ ys. Comes code (c + 5) g1 (services_of q1) (items_aims u acts' i2 0)
+    (P.items_put here whole whole ys w.acts q1.state)) (sym one.shown)
     (subst (λ ws. Comes code (c + 5) g1 (services_of q1) (items_aims u acts' i2 0)
-    (P.items_put here ws ws shown w.acts q1.state)) (sym list.is)
-    (items_comes u b x.first x.more does.0
+    (P.items_put here ws ws (one.item ∷ one.items) w.acts q1.state)) (sym list.is)
+    (items_comes u one.item one.items (one.go list.first list.more b)
     (record { rest = whole_in u; point = q1; numbers = numbers; credits = c + 5; index = i1; family = g1 })
     acts' 0 i2
     (record {
       among = subst (λ ws. IsAmong (placing (putting ws ws) k) numbers q1) list.is among1;
       line = at;
-      fixed = subst AreFixed list.is fixed.are;
+      are = subst (AreItems one.textual) list.is one.are;
       since = since;
-      paid = omega (arith, all, n1, n2, n3);
+      paid = omega (arith, all, n1, n2, n3, n4);
       there = λ b'. in_known h o.image.parts (at1 b');
     })
-    (front_of items edit_ended l2) refl))))
+    (subst (Linked w.links code i1) same (front_of items edit_ended l2)) (omega (arith, n4)))))))
 
 -- lines end first, or none
 skipped_come :
     (words : ℕ) (k : Block) (labels : List Label) (line need most left' : ℕ) → IsAround words k labels line need most →
-    (skip : Option ℕ) → IsSkipped skip → (xs : List Pair) → AreListed k xs →
-    PairsDo (setting_around words k labels line most) need xs → (acts' wanted i j : ℕ) (f : Family) {p : Point}
-    {numbers : ℕ → ℕ} → IsAmong k numbers p → p.control.line ≡ line → acts' ≤ p.state.world.acts →
+    (skip : Option ℕ) → IsSkipped skip → (xs : List Y.PutPair) → ListsGo words k labels line need most xs →
+    (acts' wanted i j : ℕ) (f : Family) {p : Point} {numbers : ℕ → ℕ} → IsAmong k numbers p →
+    p.control.line ≡ line → acts' ≤ p.state.world.acts →
     size_of (C.skip_option 1 skip ++ lists_code words k xs) + most ≤ cost k.call.code →
     Linked k.call.surroundings.links k.call.code i (C.skip_option 1 skip ++ lists_code words k xs) →
     i + size_of (C.skip_option 1 skip ++ lists_code words k xs) ≡ j → AreIn k.call.surroundings p numbers i f →
     Comes k.call.code 0 f (services_of p) (owing k.call.code debt (statement_aims k labels acts' j wanted left'))
-    (P.put (at_line k.around line) skip (put_pairs xs) k.call.surroundings.acts p.state)
+    (P.put (at_line k.around line) skip xs k.call.surroundings.acts p.state)
 unfolding P.put P.control_put ◌>>◌ ◌>>=◌
-skipped_come words k labels line need most left' a None some xs known does acts' wanted i j f o at since paid l end
+skipped_come words k labels line need most left' a None some xs go acts' wanted i j f o at since paid l end
     there =
-    lists_come words k labels line need most left' a xs known does acts' 0 wanted i j f o at since
+    lists_come words k labels line need most left' a xs go acts' 0 wanted i j f o at since
     (omega arith, omega (arith, paid)) l end there
-skipped_come words k labels line need most left' a (Some lines) some xs known does acts' wanted i j f {p} {numbers} o
+skipped_come words k labels line need most left' a (Some lines) some xs go acts' wanted i j f {p} {numbers} o
     at since paid l end there =
     let w = k.call.surroundings in
     let option = C.skip_option 1 (Some lines) in
     let rest = lists_code words k xs in
     let n0 = size_append option rest in
     let closed = owing_closed k.call.code debt (statement_aims k labels acts' j wanted left') in
-    let next' : Unit {0} → Meaning (Unit {0}) = λ t. P.pairs_put (at_line k.around line) (put_pairs xs) in
+    let next' : Unit {0} → Meaning (Unit {0}) = λ t. P.pairs_put (at_line k.around line) xs in
     comes_on w.acts (act (written (item_of lines)) w.acts p.state) next'
     (skip_comes (before_closed w.acts next' closed) lines 0 0 f (o.stands, o.image) (some, a.acts)
     (omega (arith, paid, n0)) (front_of option rest l) there
     (λ g less at'.
-    lists_come words k labels line need most left' a xs known does acts' 0 wanted (i + size_of option) j g
+    lists_come words k labels line need most left' a xs go acts' 0 wanted (i + size_of option) j g
     (writing_among (item_of lines) o less) at (omega (arith, since)) (omega arith, omega (arith, paid, n0))
     (back_of option rest l) (omega (arith, n0, end)) at'))
+
+pub lists_do :
+    (words : ℕ) (k : Block) (labels : List Label) (skip : Option ℕ) (first : Y.PutPair) (more : List Y.PutPair)
+    (line index left' need most : ℕ) → HasAct k line → IsSkipped skip →
+    ListsGo words k labels line need most (first ∷ more) →
+    (need ≤ k.registers) × ((1 ≤ k.registers) × (k.registers ≤ held_registers)) →
+    ((place : EditPlace) → ErrorComes (List ℕ) (within place (setting_around words k labels line most))) →
+    Linked k.call.surroundings.links k.call.code index
+    (stmt_code k.environment (set_aside words) (Y.Put skip (first ∷ more) line)) →
+    size_with words k (Y.Put skip (first ∷ more) line) + most ≤ cost k.call.code →
+    DoesWith words k labels (Y.Put skip (first ∷ more) line) index left'
+unfolding M.statement ◌>>◌ ◌>>=◌
+lists_do words k labels skip x xs line index left' need most act' some go registers error l all p numbers c wanted f o
+    paid there =
+    let w = k.call.surroundings in
+    let code = k.call.code in
+    let here = at_line k.around line in
+    let acts' = p.state.world.acts in
+    let first = k.first.control in
+    let one = act_code line in
+    let behind' = C.skip_option 1 skip ++ lists_code words k (x ∷ xs) in
+    let n0 = size_append one behind' in
+    let stmt = Y.Put skip (x ∷ xs) line in
+    let j = index + size_with words k stmt in
+    let owed = owing code debt (statement_aims k labels acts' j wanted left') in
+    let closed = owing_closed code debt (statement_aims k labels acts' j wanted left') in
+    let next1 : Unit {0} → Meaning (Unit {0}) = λ t. P.put here skip (x ∷ xs) in
+    let over' : AreOver first.entries first.edits first.layers = over_first k [] o in
+    let behind = some_behind words k skip x xs in
+    comes_owing debt (M.statement k.around stmt w.acts p.state)
+    (comes_on w.acts (act counted w.acts p.state) next1
+    (act_comes (before_closed w.acts next1 closed) line (c + debt) 0 f (o.stands, o.image)
+    (act'.line_fits, act'.acts, omega (arith, paid, n0, behind)) (front_of one behind' l) there
+    (λ g less at.
+    skipped_come words k labels line need most left'
+    (record {
+      acts = act'.acts;
+      over = over';
+      registers = registers.0;
+      one = registers.1.0;
+      held = registers.1.1;
+      error = error;
+    })
+    skip some (x ∷ xs) go acts' wanted (index + size_of one) j g (acted_among line o less) refl (omega arith)
+    (omega (arith, all, n0)) (back_of one behind' l) (omega (arith, n0)) at)))
+  where
+    some_behind :
+        (words : ℕ) (k : Block) (skip : Option ℕ) (x : Y.PutPair) (xs : List Y.PutPair) →
+        debt ≤ size_of (C.skip_option 1 skip ++ lists_code words k (x ∷ xs))
+    some_behind words k skip x xs =
+        let begun = edit_begun x.formats 1 in
+        let items = C.items_put k.environment (set_aside words) x.formats x.items in
+        let pair = begun ++ (items ++ edit_ended) in
+        let rest = lists_code words k xs in
+        let n0 = size_append (C.skip_option 1 skip) (pair ++ rest) in
+        let n1 = size_append pair rest in
+        let n2 = size_append begun (items ++ edit_ended) in
+        omega (arith, n0, n1, n2)
+
+-- ---- of numbers by F
+
+all_fixed : (xs : List FormatItem) → AreFixed xs → AreItems false xs
+all_fixed [] are = tt
+all_fixed (DataFormat (FixedItem width) ∷ xs) are = (tt, all_fixed xs are)
+all_fixed (DataFormat (TextItem width) ∷ xs) are = absurd are
+all_fixed (ControlFormat item ∷ xs) are = all_fixed xs are
+
+numbers_go :
+    (u : Puts) → u.textual ≡ false → ArePut u → (xs : List Item) → ItemsDo (setting_in u) u.need xs →
+    AllGo u (put_items xs)
+numbers_go u numbers a [] does = tt
+numbers_go u numbers a (x ∷ xs) does = (number_goes u numbers a x does.0, numbers_go u numbers a xs does.1)
+
+pub number_list :
+    (words : ℕ) (k : Block) (labels : List Label) (line need most : ℕ) (x : Pair) → IsFixed x.formats →
+    KnowsFormats k x.formats → ItemsDo (setting_around words k labels line most) need (x.first ∷ x.more) →
+    ListGoes words k labels line need most (record { items = put_items (x.first ∷ x.more); formats = x.formats })
+number_list words k labels line need most x is knows does =
+    record {
+      textual = false;
+      fixed = is.fixed;
+      text = is.text;
+      are = all_fixed (format_items x.formats) is.are;
+      some = is.some;
+      knows = knows;
+      item = put_item x.first;
+      items = put_items x.more;
+      shown = refl;
+      go = λ first more a.
+          numbers_go (puts_of false words k labels x.formats line need most first more) refl a (x.first ∷ x.more) does;
+    }
+
+number_lists :
+    (words : ℕ) (k : Block) (labels : List Label) (line need most : ℕ) (xs : List Pair) → AreListed k xs →
+    PairsDo (setting_around words k labels line most) need xs → ListsGo words k labels line need most (put_pairs xs)
+number_lists words k labels line need most [] known does = tt
+number_lists words k labels line need most (x ∷ xs) known does = (
+  number_list words k labels line need most x known.0.0 known.0.1 does.0,
+  number_lists words k labels line need most xs known.1 does.1,
+)
 
 pub put_does :
     (words : ℕ) (k : Block) (labels : List Label) (x : Put) (index left' need most : ℕ) →
     IsPut words k labels x index need most →
     PairsDo (setting_around words k labels x.line most) need (x.first ∷ x.more) →
     DoesWith words k labels (put_of x) index left'
-unfolding M.statement ◌>>◌ ◌>>=◌
-put_does words k labels x index left' need most is does p numbers c wanted f o paid there =
-    let w = k.call.surroundings in
-    let code = k.call.code in
-    let line = x.line in
-    let here = at_line k.around line in
-    let acts' = p.state.world.acts in
-    let first = k.first.control in
-    let one = act_code line in
-    let xs = x.first ∷ x.more in
-    let behind' = C.skip_option 1 x.skip ++ lists_code words k xs in
-    let n0 = size_append one behind' in
-    let all = is.paid in
-    let j = index + size_with words k (put_of x) in
-    let owed = owing code debt (statement_aims k labels acts' j wanted left') in
-    let closed = owing_closed code debt (statement_aims k labels acts' j wanted left') in
-    let next1 : Unit {0} → Meaning (Unit {0}) = λ t. P.put here x.skip (put_pairs xs) in
-    let over' : AreOver first.entries first.edits first.layers = over_first k [] o in
-    let some = some_behind words k x in
-    comes_owing debt (M.statement k.around (put_of x) w.acts p.state)
-    (comes_on w.acts (act counted w.acts p.state) next1
-    (act_comes (before_closed w.acts next1 closed) line (c + debt) 0 f (o.stands, o.image)
-    (is.act.line_fits, is.act.acts, omega (arith, paid, n0, some)) (front_of one behind' is.statement) there
-    (λ g less at.
-    skipped_come words k labels line need most left'
-    (record {
-      acts = is.act.acts;
-      over = over';
-      registers = is.registers;
-      one = is.one;
-      held = is.held;
-      error = is.error;
-    })
-    x.skip is.skip xs is.lists does acts' wanted (index + size_of one) j g (acted_among line o less) refl (omega arith)
-    (omega (arith, all, n0)) (back_of one behind' is.statement) (omega (arith, n0)) at)))
-  where
-    some_behind :
-        (words : ℕ) (k : Block) (x : Put) →
-        debt ≤ size_of (C.skip_option 1 x.skip ++ lists_code words k (x.first ∷ x.more))
-    some_behind words k x =
-        let begun = edit_begun x.first.formats 1 in
-        let items = C.items_put k.environment (set_aside words) x.first.formats
-        (put_items (x.first.first ∷ x.first.more)) in
-        let pair = begun ++ (items ++ edit_ended) in
-        let rest = lists_code words k x.more in
-        let n0 = size_append (C.skip_option 1 x.skip) (pair ++ rest) in
-        let n1 = size_append pair rest in
-        let n2 = size_append begun (items ++ edit_ended) in
-        omega (arith, n0, n1, n2)
+put_does words k labels x index left' need most is does =
+    let pair : Pair → Y.PutPair = λ y. record { items = put_items (y.first ∷ y.more); formats = y.formats } in
+    lists_do words k labels x.skip (pair x.first) (put_pairs x.more) x.line index left' need most is.act is.skip
+    (number_lists words k labels x.line need most (x.first ∷ x.more) is.lists does)
+    (is.registers, (is.one, is.held)) is.error is.statement is.paid

@@ -137,7 +137,14 @@ skip_comes {w} {code} {p} {numbers} {i} closed lines c wanted f known fits paid 
           o.body.services o.regs.1.1.0 o.regs.0 o.regs.1.0 refl refl refl (λ call y. refl)
           ∙ skip_answered code p (g b).machine.memory lines w.acts fits.0 allowed fits.1;
     } in
-    writing_comes closed (record { item = item_of lines; edits = p.control.edits; first = λ b. lines; second = λ b. 1 })
+    writing_comes closed
+    (record {
+      item = item_of lines;
+      texts = p.control.entries;
+      edits = p.control.edits;
+      first = λ b. lines;
+      second = λ b. 1;
+    })
     (c + size_of m + 2) wanted g h known.0 (omega (arith, n0, paid)) at calling
     (λ f' less at'. goal f' less (λ b. in_known h known.1.parts (moved_at b (f' b) (omega (arith, n0)) (at' b)))))
 

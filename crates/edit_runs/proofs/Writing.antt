@@ -4,7 +4,7 @@ use Rattle.rv_meaning.specs.declared.instr.Instr.{Instr}
 use Rattle.pli_meaning.specs.Control.{act}
 use Rattle.pli_meaning.specs.World.{written}
 use Rattle.pli_serving.specs.Answers.{Done}
-use Rattle.pli_serving.specs.ServiceState.{EditPlace}
+use Rattle.pli_serving.specs.ServiceState.{EditPlace, Entry}
 use Rattle.storage_relation.specs.Served.{Holds}
 use Rattle.storage_relation.proofs.Making.{same_held}
 use Rattle.activation_relation.specs.Entering.{Later}
@@ -25,7 +25,8 @@ use Rattle.run_steps.proofs.Reach.{reached_holds}
 use Rattle.block_runs.specs.Machines.{IsImage}
 use Rattle.block_runs.proofs.Places.{IsFrame}
 use Rattle.block_runs.proofs.PointGrounds.{point_ground}
-use Rattle.program_runs.specs.Statements.{Block, IsAmong}
+use Rattle.program_runs.specs.Statements.{Block, IsAmong, with_texts}
+use Rattle.program_runs.proofs.Waiting.{texts_in}
 use Rattle.edit_runs.specs.Writing.{writing}
 
 -- ---- points
@@ -106,15 +107,17 @@ writing_among {k} {numbers} {p} item o less =
 
 -- ---- the call
 
--- what is written, the places in format lists behind it, and what the service leaves in a0 and a1
+-- what is written, the texts that wait and the places in format lists behind it, and what the service leaves in a0 and
+-- a1
 pub record Shown : Type 0 where
   pub item : List ℕ → List ℕ
+  pub texts : List Entry
   pub edits : List EditPlace
   pub first : Base → ℕ
   pub second : Base → ℕ
 
 abbrev pub shown : Shown → Point → Point
-shown x p = writing x.item x.edits p
+shown x p = writing x.item x.edits (with_texts x.texts p)
 
 -- a0 and a1
 abbrev pub answered_regs : (x y : Base → ℕ) → Base → List (ℕ × ℕ)
@@ -152,7 +155,8 @@ writing_comes {w} {code} {p} {numbers} {i} closed x c wanted f h stands few at c
         registers = o.registers;
         bytes = o.bytes;
         memory = record {
-          storage = holds_writing x.item x.edits p (f b).machine.memory o.memory.storage;
+          storage = holds_writing x.item x.edits (with_texts x.texts p) (f b).machine.memory
+              (texts_in x.texts o.memory).storage;
           frames = o.memory.frames;
         };
       };

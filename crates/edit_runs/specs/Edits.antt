@@ -3,7 +3,8 @@ use Rattle.std.specs.Prelude.{ℕ, Bool, ◌+◌, ◌^◌, ◌<◌, ◌≤◌, �
 use Rattle.pli_language.specs.Tree as T
 use Rattle.pli_typing.specs.TypedTree as Y
 use Rattle.pli_meaning.specs.Control.{Label}
-use Rattle.pli_meaning.specs.Streaming.{ControlFormat, DataFormat, FixedItem, FormatItem, format_items}
+use Rattle.pli_meaning.specs.Streaming.{ControlFormat, DataFormat, DataItem, FixedItem, FormatItem, TextItem}
+use Rattle.pli_meaning.specs.Streaming.{format_items}
 use Rattle.pli_serving.specs.FormatLists.{formats_at}
 use Rattle.pli_serving.specs.ServiceState.{EditPlace, Putting, Services}
 use Rattle.pli_coding.specs.Assembly.{DataPlace}
@@ -65,6 +66,18 @@ abbrev pub has_data : List FormatItem → Bool
 has_data [] = false
 has_data (DataFormat item ∷ items) = true
 has_data (ControlFormat item ∷ items) = has_data items
+
+-- an F item, or an A item
+abbrev pub IsItem : (textual : Bool) → DataItem → Type 0
+IsItem false (FixedItem width) = ⊤
+IsItem true (TextItem width) = ⊤
+IsItem textual item = ⊥
+
+-- their data items are all of a kind
+abbrev pub AreItems : (textual : Bool) → List FormatItem → Type 0
+AreItems textual [] = ⊤
+AreItems textual (DataFormat item ∷ items) = IsItem textual item × AreItems textual items
+AreItems textual (ControlFormat item ∷ items) = AreItems textual items
 
 -- a list of F items, one at least, and of control items
 pub record IsFixed (fs : T.Formats) : Type 0 where

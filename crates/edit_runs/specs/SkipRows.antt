@@ -102,6 +102,7 @@ ruled_image input acts =
       units = [];
       signatures = map template_of (table_of ruled_program);
       constants = no_constants;
+      fills = [];
       input = input;
       acts = acts;
       serials = 1;

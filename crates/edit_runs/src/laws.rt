@@ -4,6 +4,7 @@ ghost use Rattle.edit_runs.specs.Edits.{PlacesWait, PutsDo};
 ghost use Rattle.edit_runs.specs.FormatRows.{NumbersShown};
 ghost use Rattle.edit_runs.specs.SkipRows.{RuledRan};
 ghost use Rattle.edit_runs.specs.Skips.{SkipsDo};
+ghost use Rattle.edit_runs.specs.TextEdits.{DataPutsDo};
 
 use run_keeper::laws::run_keeper_keeps;
 
@@ -27,6 +28,12 @@ pub fn places_wait()
 /// PUT EDIT of numbers by F does what it means, in a block that knows the format list.
 pub fn puts_do()
     ensures { PutsDo }
+{}
+
+/// PUT EDIT with some data lists of numbers by F and others of numbers or texts by A does what it means, in a block
+/// that knows the format lists.
+pub fn data_puts_do()
+    ensures { DataPutsDo }
 {}
 
 /// Worked rows: lists of F items, and a program that writes three numbers by one.

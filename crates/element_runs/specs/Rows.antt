@@ -165,6 +165,7 @@ pick_image input acts =
       units = [];
       signatures = map template_of (table_of pick_program);
       constants = no_constants;
+      fills = [];
       input = input;
       acts = acts;
       serials = 2;

@@ -94,6 +94,7 @@ double_image input acts =
       units = [];
       signatures = map template_of (table_of double_program);
       constants = no_constants;
+      fills = [];
       input = input;
       acts = acts;
       serials = 1;

@@ -7,7 +7,9 @@ pub mod Placing
 pub mod PlacingCode
 pub mod Both
 pub mod Lists
+pub mod PassedLimits
 pub mod Entered
 pub mod Arrays
 pub mod MadeArrays
+pub mod FittingArrays
 pub mod UnpaidCalls

@@ -1,5 +1,5 @@
 -- An array whose upper bound is evaluated comes to where it is made.
-use Rattle.std.proofs.Common.{◌≡◌, inr, ℕ, zero, suc, ◌+◌, ◌^◌, ◌<◌, ◌≤◌, List, [], ◌∷◌, ◌++◌, length, min, Option}
+use Rattle.std.proofs.Common.{◌≡◌, ◌⊎◌, inl, inr, ℕ, zero, suc, ◌+◌, ◌^◌, ◌<◌, ◌≤◌, List, [], ◌∷◌, ◌++◌, length, min, Option}
 use Rattle.std.proofs.Common.{Some}
 use Rattle.std.proofs.Common.{Bool, true, false, refl, sym, ap}
 use Rattle.std.proofs.Common.{◌∙◌, subst, arith, append_assoc, append-nil}
@@ -17,7 +17,9 @@ use Rattle.pli_meaning.specs.DeclaredShapes.{initial_of, shape_of, variables_of_
 use Rattle.pli_meaning.specs.Executing as M
 use Rattle.pli_meaning.specs.Making as K
 use Rattle.pli_meaning.specs.Raising.{Around}
-use Rattle.pli_meaning.specs.StorageState.{Binding, State}
+use Rattle.pli_meaning.specs.StorageState.{Activation, Binding, State}
+use Rattle.pli_meaning.specs.declared.outcome.End.TheVariants as E
+use Rattle.pli_meaning.specs.declared.outcome.Limit.TheVariants as L
 use Rattle.pli_types.specs.Templates.{Template}
 use Rattle.pli_serving.specs.Arguments.{own_signature}
 use Rattle.pli_serving.specs.ServiceState.{Services}
@@ -34,13 +36,15 @@ use Rattle.pli_coding.specs.Locating.{table_number}
 use Rattle.pli_coding.specs.Registers.{a0, frame_register}
 use Rattle.pli_coding.specs.SignatureTable.{signature_of}
 use Rattle.storage_relation.specs.Stored.{Lives}
+use Rattle.storage_relation.specs.Fills.{Grows, most_filled}
+use Rattle.storage_relation.proofs.Fills.{grows_few, grows_then, number_within}
 use Rattle.storage_relation.proofs.Numbering.{template_itself}
 use Rattle.activation_relation.specs.FrameLaws.{with_waits}
 use Rattle.activation_relation.specs.Landing.{closed}
 use Rattle.activation_relation.specs.Layers.{Layer, Point, services_of}
 use Rattle.activation_relation.specs.Points.{Stands}
 use Rattle.activation_relation.specs.Variables.{Made, newest_grown, with_made}
-use Rattle.activation_relation.proofs.Remaining.{remains_made, remains_then}
+use Rattle.activation_relation.proofs.Remaining.{numbers_remain, remains_made, remains_then, signatures_few}
 use Rattle.activation_relation.proofs.Serials.{few_made}
 use Rattle.run_steps.specs.Items.{Linked}
 use Rattle.run_steps.proofs.Jumps.{back_of, front_of}
@@ -59,20 +63,22 @@ use Rattle.begin_runs.specs.BehindLists.{from_point}
 use Rattle.begin_runs.proofs.Begins.{out_of_all}
 use Rattle.argument_runs.specs.Lists.{with_list}
 use Rattle.argument_runs.proofs.GivenLists.{with_list_stands}
+use Rattle.nested_calls.proofs.FullVariables.{over_comes, over_then}
 use Rattle.extent_runs.specs.Both.{evaluated_from, evaluating_code, placed_from}
 use Rattle.extent_runs.specs.Extents.{HasBounds, bounded_code, extent_aims, tested_code}
-use Rattle.extent_runs.specs.MadeArrays.{EvaluatedArray, IsEvaluatedArray, declared_as, extents_of}
+use Rattle.extent_runs.specs.MadeArrays.{EvaluatedArray, Fits, IsEvaluatedArray, Passes, declared_as, extents_of}
 use Rattle.extent_runs.specs.MadeArrays.{filled_with, filling_with, layer_meanwhile, made_code, places_of}
 use Rattle.extent_runs.specs.MadeArrays.{placement_with, template_with}
 use Rattle.extent_runs.specs.MadeArrays.{IsFront}
 use Rattle.extent_runs.specs.Making.{Site}
 use Rattle.extent_runs.specs.Placing.{made_below, placing_code}
-use Rattle.extent_runs.specs.Signatures.{IsFilling, filled_point}
-use Rattle.extent_runs.specs.Unpaid.{GoesUnpaid, MakesUnpaid, unpaid_aims}
+use Rattle.extent_runs.specs.Signatures.{IsFilling, MayFill, filled_point}
+use Rattle.extent_runs.specs.Unpaid.{GoesUnpaid, MakesUnpaid, unbound, unpaid_aims}
 use Rattle.extent_runs.specs.Words.{IsWaiting, both_wait, number_kept, number_waits}
 use Rattle.extent_runs.proofs.Arrays.{array_filled}
 use Rattle.extent_runs.proofs.Both.{extents_evaluated}
 use Rattle.extent_runs.proofs.Lists.{bounds_placed}
+use Rattle.extent_runs.proofs.PassedLimits.{bounds_end, passed_means}
 use Rattle.extent_runs.proofs.Placing.{adjusted_means, adjusted_stands}
 use Rattle.extent_runs.proofs.Signatures.{filled_remains, filled_stands}
 use Rattle.extent_runs.proofs.Words.{remains_with, waits_begun}
@@ -129,8 +135,33 @@ pub signature_early :
     (k : Block) (numbers : ℕ → ℕ) (p : Point) (u : Template) (n : ℕ) → IsAmong k numbers p →
     slice_get k.first.places.signatures n ≡ Some u → number_of u p.places.signatures ≤ n
 signature_early k numbers p u n o e =
-    let early = number_early 0 u p.places.signatures n (o.later.remains.signatures n u e) in
+    let early = number_early 0 u p.places.signatures n (numbers_remain k.first p o.later.remains n u e) in
     omega (arith, early)
+
+pub signature_few :
+    (k : Block) (numbers : ℕ → ℕ) (p : Point) (u : Template) → IsAmong k numbers p →
+    (number_of u p.places.signatures ≤ length k.first.places.signatures + most_filled k.first.places.fills)
+    × (p.places.fills ≡ k.first.places.fills)
+signature_few k numbers p u o =
+    let within = number_within u p.places.signatures in
+    let few = signatures_few k.first p o.later.remains in
+    (omega (arith, within, few), o.later.remains.signatures.same)
+
+pub signature_inside :
+    (k inner : Block) (numbers held : ℕ → ℕ) (p q : Point) (u : Template) → IsAmong k numbers p →
+    (inner.first.places.signatures ≡ p.places.signatures) × (inner.first.places.fills ≡ p.places.fills) →
+    IsAmong inner held q →
+    (number_of u q.places.signatures ≤ length k.first.places.signatures + most_filled k.first.places.fills)
+    × (q.places.fills ≡ k.first.places.fills)
+signature_inside k inner numbers held p q u o same r =
+    let within = number_within u q.places.signatures in
+    let since = subst (λ t. Grows p.places.fills q.places.fills t q.places.signatures) same.0
+    (subst (λ f. Grows f q.places.fills inner.first.places.signatures q.places.signatures) same.1
+    r.later.remains.signatures) in
+    let all = grows_then k.first.places.fills p.places.fills q.places.fills k.first.places.signatures
+    p.places.signatures q.places.signatures o.later.remains.signatures since in
+    let few = grows_few k.first.places.fills q.places.fills k.first.places.signatures q.places.signatures all in
+    (omega (arith, within, few), all.same)
 
 -- ---- a variable is made in a block
 
@@ -138,10 +169,10 @@ signature_early k numbers p u n o e =
 -- variable
 made_begun :
     (k : Block) {numbers : ℕ → ℕ} {q : Point} (φ : Layer) (φs : List Layer) (waits : ℕ → Option ℕ) (u : Template)
-    (m : Made) → IsBegun k → IsAmong k numbers q → q.control.layers ≡ φ ∷ φs →
+    (m : Made) → IsBegun k → IsAmong k numbers q → MayFill q u → q.control.layers ≡ φ ∷ φs →
     Stands k.call.surroundings (with_made m (with_list waits φ φs (filled_point u q))) →
     IsBegun (from_point k (with_made m (with_list waits φ φs (filled_point u q))))
-made_begun k {q = q} φ φs waits u m b o newest stands =
+made_begun k {q = q} φ φs waits u m b o may newest stands =
     let r = resumes_among b o in
     let filled' = filled_point u q in
     let answered = with_list waits φ φs filled' in
@@ -164,7 +195,7 @@ made_begun k {q = q} φ φs waits u m b o newest stands =
       remains = remains_made k.call.point answered m
           (remains_then k.call.point filled' answered
           (remains_then k.call.point q filled' (remains_then k.call.point k.first q b.remains o.later.remains)
-          (filled_remains q u))
+          (filled_remains q u may))
           (remains_with filled' φ φs waits))
           lives (omega (arith, own));
       outer = b.outer;
@@ -182,6 +213,12 @@ made_begun k {q = q} φ φs waits u m b o newest stands =
     lives =
         let l = (filled_stands k.call.surroundings k.call.code q u (o.stands, o.image)).0.lives in
         record { falling = l.falling; numbered = l.numbered; extents = l.extents }
+
+-- one more binding alone
+made_bound :
+    (b : Binding) (as' : List Activation) → unbound (K.with_binding b as') ≡ unbound as'
+made_bound b [] = refl
+made_bound b (a ∷ as') = refl
 
 -- ---- what it comes to, where its bound is known
 
@@ -210,18 +247,54 @@ number_fits n few = grind (arith, few, nat_tests)
 bytes_fit : (n : ℕ) → min (2 ^ 30) n < 2 ^ 32
 bytes_fit n = omega arith
 
--- from both bounds in registers
-bounds_go :
+-- the extent can be filled in there
+record IsReady (x : EvaluatedArray) (upper : ℤ) (q : Point) : Type 0 where
+  filling : IsFilling q (filling_with x upper)
+  waits : IsWaiting q (filling_with x upper) (layer_meanwhile x) x.evaluated.others
+
+is_ready :
+    {i : Block} {k : Setting} {x : EvaluatedArray} {p : Point} {numbers held : ℕ → ℕ}
+    (h : IsEvaluatedArray i k x p numbers) (q : Point) (upper : ℤ) → IsAmong k.block held q → IsWide upper →
+    int_le x.evaluated.extent.lower upper ≡ true →
+    nat_lt (number_of (template_with x upper) q.places.signatures) own_signature ≡ true → IsReady x upper q
+is_ready {i} {k} {x} h q upper among wide less few =
+    let same = h.evaluated.block in
+    let kept = numbers_remain k.block.first q among.later.remains x.evaluated.signature
+    (template_of (signature_of (declared_as x)))
+    (subst (λ (m : Block). slice_get m.first.places.signatures x.evaluated.signature
+    ≡ Some (template_of (signature_of (declared_as x)))) (sym same) h.template) in
+    record {
+      filling = record {
+        filled = array_filled x.declared x.precision x.evaluated.extent upper q.places.signatures
+            x.evaluated.signature h.evaluated.lower wide less kept;
+        few = few;
+      };
+      waits = record {
+        newest = among.later.layers ∙ ap (λ (m : Block). m.first.control.layers) same;
+        words = h.words;
+        number = refl;
+        fits = number_fits (number_of (template_with x upper) q.places.signatures) few;
+        bytes = bytes_fit _;
+      };
+    }
+
+-- what follows both bounds ends at an index, and its credits are enough
+abbrev IsPaid : Setting → EvaluatedArray → Stretch → (end wanted : ℕ) → Type 0
+IsPaid k x y end wanted =
+    (end ≡ y.index + size_of (behind_bounds k x)) × (y.wanted + size_of (behind_bounds k x) ≤ wanted)
+    × (y.wanted + size_of (behind_bounds k x) ≤ cost k.block.call.code)
+
+-- from both bounds in registers, where it fits
+bounds_fit :
     {i : Block} {k : Setting} {x : EvaluatedArray} {p : Point} {numbers : ℕ → ℕ} (h : IsEvaluatedArray i k x p numbers)
     (y : Stretch) (acts end wanted left' c : ℕ) (f : Family) (v : Services) (upper : ℤ) (s : State) →
     IsBegun k.block → acts ≤ y.acts → IsWide upper → int_le x.evaluated.extent.lower upper ≡ true →
-    extents_of k x i.call.surroundings.acts p.state ≡ Normal (upper ∷ []) s →
     Linked k.block.call.surroundings.links k.block.call.code y.index (behind_bounds k x) →
-    (end ≡ y.index + size_of (behind_bounds k x)) × (y.wanted + size_of (behind_bounds k x) ≤ wanted) →
-    HasBounds k.block y (word x.evaluated.extent.lower) (word upper) c f v s →
-    Comes k.block.call.code c f v (unpaid_aims k.block acts end wanted left')
+    IsPaid k x y end wanted →
+    (o : HasBounds k.block y (word x.evaluated.extent.lower) (word upper) c f v s) → Fits k.block x upper o.point →
+    Comes k.block.call.code c f v (unpaid_aims (Some p) k.block acts end wanted left')
     (variable_with x (upper ∷ []) k.block.call.surroundings.acts s)
-bounds_go {i} {k} {x} {p} h y acts end wanted left' c f v upper s b since wide less e l size o =
+bounds_fit {i} {k} {x} {p} h y acts end wanted left' c f v upper s b since wide less l size o fit =
     let i' = k.block in
     let w = i'.call.surroundings in
     let code = i'.call.code in
@@ -232,27 +305,8 @@ bounds_go {i} {k} {x} {p} h y acts end wanted left' c f v upper s b since wide l
     let place = placement_with i'.environment x upper q in
     let answered = filled_with x upper q in
     let first = placed_from fill φ x.evaluated.others place q in
-    let fit = h.fits q o.numbers upper among wide less
-    (e ∙ ap (λ s'. Normal (upper ∷ []) s') o.state) in
-    let same = h.evaluated.block in
-    let kept = among.later.remains.signatures x.evaluated.signature
-    (template_of (signature_of (declared_as x)))
-    (subst (λ (m : Block). slice_get m.first.places.signatures x.evaluated.signature
-    ≡ Some (template_of (signature_of (declared_as x)))) (sym same) h.template) in
-    let newest : q.control.layers ≡ φ ∷ x.evaluated.others =
-    among.later.layers ∙ ap (λ (m : Block). m.first.control.layers) same in
-    let filling : IsFilling q fill = record {
-      filled = array_filled x.declared x.precision x.evaluated.extent upper q.places.signatures x.evaluated.signature
-          h.evaluated.lower wide less kept;
-      few = fit.few;
-    } in
-    let waits : IsWaiting q fill φ x.evaluated.others = record {
-      newest = newest;
-      words = h.words;
-      number = refl;
-      fits = number_fits (number_of (template_with x upper) q.places.signatures) fit.few;
-      bytes = bytes_fit _;
-    } in
+    let ready = is_ready h q upper among wide less fit.few in
+    let newest = ready.waits.newest in
     let z = both_wait (number_of (template_with x upper) q.places.signatures)
     (reserved_for q.keeper (T.shape_of (template_with x upper))) in
     let known = with_list_stands w code (filled_point (template_with x upper) q) φ x.evaluated.others z
@@ -263,7 +317,7 @@ bounds_go {i} {k} {x} {p} h y acts end wanted left' c f v upper s b since wide l
     let later = size.1 in
     let r = bounds_placed i' q fill φ x.evaluated.others place o.numbers (places_of x) y.wanted y.index
     (reached o.reach) among
-    (record { fit = ((omega arith, omega arith), tt); constants = h.constants }) (filling, waits)
+    (record { fit = ((omega arith, omega arith), tt); constants = h.constants }) (ready.filling, ready.waits)
     (record {
       is = fit.is;
       initial = refl;
@@ -272,15 +326,17 @@ bounds_go {i} {k} {x} {p} h y acts end wanted left' c f v upper s b since wide l
       bytes = refl;
     })
     h.list l (reached_holds o.reach) in
-    subst (λ s'. Comes code c f v (unpaid_aims i' acts end wanted left')
+    subst (λ s'. Comes code c f v (unpaid_aims (Some p) i' acts end wanted left')
     (variable_with x (upper ∷ []) w.acts s')) (sym o.state)
-    (subst (λ flow. Comes code c f v (unpaid_aims i' acts end wanted left') flow)
+    (subst (λ flow. Comes code c f v (unpaid_aims (Some p) i' acts end wanted left') flow)
     (sym (adjusted_means w answered place.variable place.layer place.others w.acts fit.is))
     (record {
       to = record {
         first = first;
         begun = made_begun i' φ x.evaluated.others z (template_with x upper) (made_below place.layer place.variable) b
-            among newest new.0;
+            among fit.may newest new.0;
+        bound = made_bound _ answered.state.activations
+            ∙ ap unbound (among.later.activations ∙ ap (λ (m : Block). m.first.state.activations) h.evaluated.block);
         image = new.1;
         few = few_made w q (acted 0 first) among.few (omega (arith, serials)) (omega arith);
         numbers = o.numbers;
@@ -293,16 +349,70 @@ bounds_go {i} {k} {x} {p} h y acts end wanted left' c f v upper s b since wide l
       };
     }))
 
+-- where it passes the limit
+bounds_pass :
+    {i : Block} {k : Setting} {x : EvaluatedArray} {p : Point} {numbers : ℕ → ℕ} (h : IsEvaluatedArray i k x p numbers)
+    (y : Stretch) (acts end wanted left' c : ℕ) (f : Family) (v : Services) (upper : ℤ) (s : State) →
+    IsWide upper → int_le x.evaluated.extent.lower upper ≡ true →
+    Linked k.block.call.surroundings.links k.block.call.code y.index (behind_bounds k x) →
+    IsPaid k x y end wanted →
+    (o : HasBounds k.block y (word x.evaluated.extent.lower) (word upper) c f v s) → Passes k.block x upper o.point →
+    Comes k.block.call.code c f v (unpaid_aims (Some p) k.block acts end wanted left')
+    (variable_with x (upper ∷ []) k.block.call.surroundings.acts s)
+bounds_pass {i} {k} {x} {p} h y acts end wanted left' c f v upper s wide less l size o pass =
+    let i' = k.block in
+    let w = i'.call.surroundings in
+    let code = i'.call.code in
+    let q = o.point in
+    let φ = layer_meanwhile x in
+    let place = placement_with i'.environment x upper q in
+    let answered = filled_with x upper q in
+    let ready = is_ready h q upper o.among wide less pass.few in
+    let acts' = subst (λ (m : Block). m.call.surroundings.acts + 1 < 2 ^ 64) (sym h.evaluated.block) h.evaluated.acts in
+    let over = over_then o.reach
+    (bounds_end i' q (filling_with x upper) φ x.evaluated.others place o.numbers (places_of x) y.wanted y.index
+    (reached o.reach) o.among
+    (record { fit = ((omega arith, omega arith), tt); constants = h.constants }) (ready.filling, ready.waits)
+    (record { is = pass.is; initial = refl; words = h.words; number = refl; bytes = refl })
+    h.list (size.2, acts') l (reached_holds o.reach)) in
+    subst (λ s'. Comes code c f v (unpaid_aims (Some p) i' acts end wanted left')
+    (variable_with x (upper ∷ []) w.acts s')) (sym o.state)
+    (subst (λ flow. Comes code c f v (unpaid_aims (Some p) i' acts end wanted left') flow)
+    (sym (passed_means answered place.variable place.layer place.others w.acts pass.is))
+    (over_comes (E.Limit L.Automatic) w.acts q.state over))
+
+-- in either way
+bounds_go :
+    {i : Block} {k : Setting} {x : EvaluatedArray} {p : Point} {numbers : ℕ → ℕ} (h : IsEvaluatedArray i k x p numbers)
+    (y : Stretch) (acts end wanted left' c : ℕ) (f : Family) (v : Services) (upper : ℤ) (s : State) →
+    IsBegun k.block → acts ≤ y.acts → IsWide upper → int_le x.evaluated.extent.lower upper ≡ true →
+    extents_of k x i.call.surroundings.acts p.state ≡ Normal (upper ∷ []) s →
+    Linked k.block.call.surroundings.links k.block.call.code y.index (behind_bounds k x) →
+    IsPaid k x y end wanted → HasBounds k.block y (word x.evaluated.extent.lower) (word upper) c f v s →
+    Comes k.block.call.code c f v (unpaid_aims (Some p) k.block acts end wanted left')
+    (variable_with x (upper ∷ []) k.block.call.surroundings.acts s)
+bounds_go {i} {k} {x} {p} h y acts end wanted left' c f v upper s b since wide less e l size o =
+    by (h.fits o.point o.numbers upper o.among wide less (e ∙ ap (λ s'. Normal (upper ∷ []) s') o.state))
+  where
+    by :
+        Fits k.block x upper o.point ⊎ Passes k.block x upper o.point →
+        Comes k.block.call.code c f v (unpaid_aims (Some p) k.block acts end wanted left')
+        (variable_with x (upper ∷ []) k.block.call.surroundings.acts s)
+    by (inl fit) = bounds_fit h y acts end wanted left' c f v upper s b since wide less l size o fit
+    by (inr pass) = bounds_pass h y acts end wanted left' c f v upper s wide less l size o pass
+
 -- whatever first point the block had
 from_first :
-    {i : Block} {acts end wanted left' c : ℕ} {f : Family} {v : Services} {flow : Flow (Unit {0})} (a : Point) →
-    Comes i.call.code c f v (unpaid_aims (from_point i a) acts end wanted left') flow →
-    Comes i.call.code c f v (unpaid_aims i acts end wanted left') flow
-from_first {i} {acts} {end} {wanted} {left'} {flow = flow} a o =
-    comes_map (unpaid_aims (from_point i a) acts end wanted left') (unpaid_aims i acts end wanted left') flow
-    (λ c f v r s (g : GoesUnpaid (from_point i a) acts end wanted c f v s). record {
+    {like : Option Point} {i : Block} {acts end wanted left' c : ℕ} {f : Family} {v : Services}
+    {flow : Flow (Unit {0})} (a : Point) →
+    Comes i.call.code c f v (unpaid_aims like (from_point i a) acts end wanted left') flow →
+    Comes i.call.code c f v (unpaid_aims like i acts end wanted left') flow
+from_first {like} {i} {acts} {end} {wanted} {left'} {flow = flow} a o =
+    comes_map (unpaid_aims like (from_point i a) acts end wanted left') (unpaid_aims like i acts end wanted left') flow
+    (λ c f v r s (g : GoesUnpaid like (from_point i a) acts end wanted c f v s). record {
       first = g.first;
       begun = again g.begun;
+      bound = g.bound;
       image = g.image;
       few = g.few;
       numbers = g.numbers;
@@ -330,7 +440,7 @@ pub array_made :
     × (c + size_of (made_code k.block.environment x) ≤ cost i.call.code) →
     AreIn i.call.surroundings p numbers index f →
     Comes i.call.code c f (services_of p)
-    (unpaid_aims i p.state.world.acts (index + size_of (made_code k.block.environment x)) wanted left')
+    (unpaid_aims (Some p) i p.state.world.acts (index + size_of (made_code k.block.environment x)) wanted left')
     (K.automatic_made k.around x.index (declared_as x) Y.AutomaticClass i.call.surroundings.acts p.state)
 unfolding K.automatic_made ◌>>=◌
 array_made i k x p numbers c wanted index left' f known h l paid there =
@@ -355,7 +465,7 @@ array_made i k x p numbers c wanted index left' f known h l paid there =
     let y : Stretch =
     behind (evaluated_from e p) numbers 0 (0 + size_of (number_kept e.signature))
     (index + size_of (act_code e.line) + size_of (number_kept e.signature)) (bounded_code k e.extent) in
-    let aims = unpaid_aims i acts end wanted left' in
+    let aims = unpaid_aims (Some p) i acts end wanted left' in
     comes_known (extent_aims k.block k.labels y e.extent.lower) aims w.acts (variable_with x) flow
     (λ values s is o.
     let z = o.0 in
@@ -367,15 +477,18 @@ array_made i k x p numbers c wanted index left' f known h l paid there =
     let b = waits_begun (from_point i (acted e.line p)) (acted e.line p) numbers e.layer e.others
     (number_waits e.signature) ready.0 ready.1 h.evaluated.newest in
     from_first (evaluated_from e p)
-    (subst (λ (m : Block). Comes m.call.code c f (services_of p) (unpaid_aims m acts end wanted left')
+    (subst (λ (m : Block). Comes m.call.code c f (services_of p) (unpaid_aims (Some p) m acts end wanted left')
     (variable_with x values m.call.surroundings.acts s)) same
-    (subst (λ vs. Comes k.block.call.code c f (services_of p) (unpaid_aims k.block acts end wanted left')
+    (subst (λ vs. Comes k.block.call.code c f (services_of p) (unpaid_aims (Some p) k.block acts end wanted left')
     (variable_with x vs k.block.call.surroundings.acts s)) (sym o.1)
     (bounds_go h y acts end wanted left' c f (services_of p) z s (subst IsBegun (sym same) b.0) (omega arith) o.2 o.3
     (is ∙ ap (λ vs. Normal vs s) o.1)
     (subst (λ (m : Block). Linked m.call.surroundings.links m.call.code y.index last) (sym same)
-    (subst (λ j. Linked w.links code j last) (omega (arith, n1, n2)) (back_of first last l')))
-    (omega (arith, size, n, n1, n2), omega (arith, size, n, n1, n2, less')) q))))
+    (subst (λ j. Linked w.links code j last) (omega (arith, n1, n2)) (back_of first last l'))) (
+      omega (arith, size, n, n1, n2),
+      omega (arith, size, n, n1, n2, less'),
+      subst (λ (m : Block). y.wanted + size_of last ≤ cost m.call.code) (sym same) (omega (arith, size, n, n1, n2, low)),
+    ) q))))
     (λ height label s o.
     let out = out_of_all (subst (λ labels. JumpsTo k.block labels y.acts c f (services_of p) height label s) h.labels o)
     in
@@ -448,12 +561,15 @@ given_back A acts (Paused s) o = record { to = o.to }
 given_back A acts Stuck o = absurd o.to
 
 -- what is aimed at may be reached later, and since fewer acts
-unpaid_closed : (k : Block) (acts index wanted left' : ℕ) → Closed k.call.code (unpaid_aims k acts index wanted left')
-unpaid_closed k acts index wanted left' =
+unpaid_closed :
+    (like : Option Point) (k : Block) (acts index wanted left' : ℕ) →
+    Closed k.call.code (unpaid_aims like k acts index wanted left')
+unpaid_closed like k acts index wanted left' =
     record {
-      done = λ r u s (o : GoesUnpaid k acts index wanted _ _ _ s). record {
+      done = λ r u s (o : GoesUnpaid like k acts index wanted _ _ _ s). record {
         first = o.first;
         begun = o.begun;
+        bound = o.bound;
         image = o.image;
         few = o.few;
         numbers = o.numbers;
@@ -468,16 +584,17 @@ unpaid_closed k acts index wanted left' =
     }
 
 unpaid_since :
-    {k : Block} {acts more index wanted left' c : ℕ} {f : Family} {v : Services} {flow : Flow (Unit {0})} →
-    acts ≤ more → Comes k.call.code c f v (unpaid_aims k more index wanted left') flow →
-    Comes k.call.code c f v (unpaid_aims k acts index wanted left') flow
-unpaid_since {k} {acts} {more} {index} {wanted} {left'} {flow = flow} since o =
-    comes_map (unpaid_aims k more index wanted left') (unpaid_aims k acts index wanted left') flow
-    (λ c f v r s (g : GoesUnpaid k more index wanted c f v s).
+    {like : Option Point} {k : Block} {acts more index wanted left' c : ℕ} {f : Family} {v : Services} {flow : Flow (Unit {0})} →
+    acts ≤ more → Comes k.call.code c f v (unpaid_aims like k more index wanted left') flow →
+    Comes k.call.code c f v (unpaid_aims like k acts index wanted left') flow
+unpaid_since {like} {k} {acts} {more} {index} {wanted} {left'} {flow = flow} since o =
+    comes_map (unpaid_aims like k more index wanted left') (unpaid_aims like k acts index wanted left') flow
+    (λ c f v r s (g : GoesUnpaid like k more index wanted c f v s).
     let on = g.since in
     record {
       first = g.first;
       begun = g.begun;
+      bound = g.bound;
       image = g.image;
       few = g.few;
       numbers = g.numbers;
@@ -498,7 +615,7 @@ pub last_array :
     IsEvaluatedArray z.block k x q z.numbers → head.kind ≡ Y.ProcedureBlock →
     variables_of_block k.around.program head.number ≡ before' ++ declared_as x ∷ [] → x.index ≡ length before' →
     z.variables ≡ front ++ made_code k.block.environment x →
-    MakesUnpaid z left' (M.block_variables_made k.around head head.kind)
+    MakesUnpaid (Some q) z left' (M.block_variables_made k.around head head.kind)
 last_array z k x left' head front before' q is h kind all last coded c wanted f known l paid there =
     let i = z.block in
     let w = i.call.surroundings in
@@ -511,15 +628,15 @@ last_array z k x left' head front before' q is h kind all last coded c wanted f 
     let low = paid.1 in
     let end = z.index + size_of z.variables in
     let here : z.index + size_of front + size_of array ≡ end = omega (arith, size, n) in
-    let aims = unpaid_aims i acts end wanted left' in
+    let aims = unpaid_aims (Some q) i acts end wanted left' in
     let l' = subst (Linked w.links code z.index) coded l in
     let flow = K.automatic_made k.around x.index (declared_as x) Y.AutomaticClass w.acts q.state in
     subst (Comes code c f (services_of z.start) aims)
     (sym (last_means x k.around head before' w.acts z.start.state q.state kind all last is.means))
-    (onward (unpaid_closed i acts end wanted left') (is.comes c f known (front_of front array l') there)
+    (onward (unpaid_closed (Some q) i acts end wanted left') (is.comes c f known (front_of front array l') there)
     (λ g at.
     given_back aims w.acts flow
-    (subst (λ j. Comes code (c + size_of front) g (services_of q) (unpaid_aims i acts j wanted left') flow) here
+    (subst (λ j. Comes code (c + size_of front) g (services_of q) (unpaid_aims (Some q) i acts j wanted left') flow) here
     (unpaid_since {k = i} is.since
     (array_made i k x q z.numbers (c + size_of front) wanted (z.index + size_of front) left' g (is.stands known) h
     (back_of front array l') (omega (arith, size, n, enough), omega (arith, size, n, low)) at)))))
@@ -548,6 +665,6 @@ pub only_array :
     IsEvaluatedArray z.block k x z.start z.numbers → head.kind ≡ Y.ProcedureBlock →
     variables_of_block k.around.program head.number ≡ declared_as x ∷ [] → x.index ≡ 0 →
     z.variables ≡ made_code k.block.environment x →
-    MakesUnpaid z left' (M.block_variables_made k.around head head.kind)
+    MakesUnpaid (Some z.start) z left' (M.block_variables_made k.around head head.kind)
 only_array z k x left' head h kind only first coded =
     last_array z k x left' head [] [] z.start (nothing_before z k) h kind only first coded

@@ -1,5 +1,6 @@
 -- A procedure comes behind its call if the making of its variables does what it means, and then its statements.
 use Rattle.std.proofs.Common.{◌≡◌, ℕ, ◌+◌, ◌*◌, ◌^◌, ◌<◌, ◌≤◌, List, [], ◌∷◌, ◌++◌, refl, sym, subst, arith}
+use Rattle.std.specs.Prelude.{Option, None}
 use Rattle.rv_meaning.specs.declared.instr.Instr.{Instr}
 use Rattle.pli_meaning.specs.Control.{Meaning, act, ◌>>◌}
 use Rattle.pli_meaning.specs.Executing as M
@@ -40,7 +41,7 @@ use Rattle.program_runs.proofs.Procedures.{layer_begins}
 use Rattle.program_runs.proofs.Statements.{at_end, resumes_among}
 use Rattle.begin_runs.specs.BehindLists.{GoesBehind, from_point, list_aims}
 use Rattle.extent_runs.specs.Making.{Makes, Site, block_from, made_at, site_at}
-use Rattle.extent_runs.specs.Unpaid.{GoesUnpaid, MakesUnpaid, unpaid_aims}
+use Rattle.extent_runs.specs.Unpaid.{AreBound, GoesUnpaid, MakesUnpaid, unpaid_aims}
 
 -- ---- the call
 
@@ -82,16 +83,18 @@ is_call w code c p numbers known h words =
 
 -- ---- its statements
 
-abbrev EachGoes : Surroundings → List Instr → Callee → Point → (numbers : ℕ → ℕ) → Type 0
-EachGoes w code c p numbers =
-    (first : Point) → IsBegun (block_from w code c p numbers first) →
+abbrev EachGoes :
+    (like : Option Point) → Surroundings → List Instr → Callee → Point → (numbers : ℕ → ℕ) → Type 0
+EachGoes like w code c p numbers =
+    (first : Point) → IsBegun (block_from w code c p numbers first) → AreBound like first →
     EachDoes (block_from w code c p numbers first) (labels_of c) c.procedure.body (body_index c) left_over
 
 -- from behind the act of its entry
 body_goes :
     (w : Surroundings) (code : List Instr) (c : Callee) (p first q : Point) (numbers held : ℕ → ℕ) (f : Family) →
     IsCallee w code c → IsBegun (block_from w code c p numbers first) →
-    IsAmong (block_from w code c p numbers first) held q → EachGoes w code c p numbers →
+    IsAmong (block_from w code c p numbers first) held q →
+    EachDoes (block_from w code c p numbers first) (labels_of c) c.procedure.body (body_index c) left_over →
     w.acts < c.around.turns + q.state.world.acts → AreIn w q held (body_index c) f →
     Comes code 0 f (services_of q) (body_aims (called_at w code c p numbers) left_over)
     (M.list (at_line c.around c.procedure.head.line) c.procedure.body w.acts q.state)
@@ -111,7 +114,7 @@ body_goes w code c p first q numbers held f h b o each few there =
     (λ c' f' v' height label s g. no_jump refl g)
     (λ c' f' v' r s g. g.to)
     (subst (λ j. Comes code 0 f (services_of q) (statement_aims k [] acts j left_over left_over) flow) (sym h.end)
-    (list_does k [] x.body (body_index c) left_over q held 0 left_over f b few (each first b) h.labels o l2
+    (list_does k [] x.body (body_index c) left_over q held 0 left_over f b few each h.labels o l2
     (omega arith, omega (arith, inside)) there))
 
 -- the act of its entry, which pays for the variables, and then these
@@ -146,7 +149,8 @@ entry_goes :
     (f : Family) → IsCallee w code c → IsBegun (block_from w code c p numbers first) →
     IsImage w code first × (first.state.serials ≤ w.serials * (first.state.world.acts + 1)) →
     ((n : ℕ) → c.procedure.saved ≤ n → held n ≡ numbers n) × ((n : ℕ) → held n < 2 ^ 32) →
-    EachGoes w code c p numbers → w.acts < c.around.turns + (first.state.world.acts + 1) →
+    EachDoes (block_from w code c p numbers first) (labels_of c) c.procedure.body (body_index c) left_over →
+    w.acts < c.around.turns + (first.state.world.acts + 1) →
     credits + size_of (act_code c.procedure.head.line) ≤ cost code →
     AreIn w first held (act_index c) f →
     Comes code credits f (services_of first) (body_aims (called_at w code c p numbers) left_over)
@@ -171,12 +175,13 @@ entry_goes w code c p first numbers held credits f h b known registers each few 
 -- ---- the whole
 
 -- what is paid already
-pub paid_makes : (z : Site) (left' : ℕ) (made : Meaning (Unit {0})) → Makes z left' made → MakesUnpaid z left' made
+pub paid_makes : (z : Site) (left' : ℕ) (made : Meaning (Unit {0})) → Makes z left' made →
+    MakesUnpaid None z left' made
 paid_makes z left' made makes c wanted f known l paid there =
     let k = z.block in
     let acts = z.start.state.world.acts in
     let end = z.index + size_of z.variables in
-    comes_map (list_aims k acts end wanted left') (unpaid_aims k acts end wanted left')
+    comes_map (list_aims k acts end wanted left') (unpaid_aims None k acts end wanted left')
     (made k.call.surroundings.acts z.start.state)
     (λ c' f' v' r s (o : GoesBehind k acts end wanted c' f' v' s). paid_goes o)
     (λ c' f' v' height label s o. o)
@@ -185,7 +190,7 @@ paid_makes z left' made makes c wanted f known l paid there =
   where
     paid_goes :
         {k : Block} {acts index wanted c : ℕ} {f : Family} {v : Services} {s : State} →
-        GoesBehind k acts index wanted c f v s → GoesUnpaid k acts index wanted c f v s
+        GoesBehind k acts index wanted c f v s → GoesUnpaid None k acts index wanted c f v s
     paid_goes {k} o =
         let q = o.goes.point in
         let among = o.goes.among in
@@ -200,6 +205,7 @@ paid_makes z left' made makes c wanted f known l paid there =
             remains = remains_then k.call.point o.first q o.begun.remains among.later.remains;
             outer = o.begun.outer;
           };
+          bound = tt;
           image = among.image;
           few = few_acted k.call.surroundings q 0 among.few;
           numbers = o.goes.numbers;
@@ -211,17 +217,17 @@ paid_makes z left' made makes c wanted f known l paid there =
         }
 
 pub unpaid_runs :
-    (w : Surroundings) (code : List Instr) (c : Callee) (p : Point) (numbers : ℕ → ℕ) (credits wanted : ℕ)
-    (f : Family) → Stands w p × IsImage w code p → IsCallee w code c × HasRoom w p c.procedure c.calling →
-    MakesUnpaid (site_at w code c p numbers) left_over (made_at c) → ((n : ℕ) → numbers n < 2 ^ 32) →
-    EachGoes w code c p numbers → w.acts < c.around.turns + (p.state.world.acts + 1) →
+    (like : Option Point) (w : Surroundings) (code : List Instr) (c : Callee) (p : Point) (numbers : ℕ → ℕ)
+    (credits wanted : ℕ) (f : Family) → Stands w p × IsImage w code p → IsCallee w code c × HasRoom w p c.procedure c.calling →
+    MakesUnpaid like (site_at w code c p numbers) left_over (made_at c) → ((n : ℕ) → numbers n < 2 ^ 32) →
+    EachGoes like w code c p numbers → w.acts < c.around.turns + (p.state.world.acts + 1) →
     credits + 4 + size_of (procedure_code c.environment c.procedure) ≤ cost code →
     AreIn w p numbers c.calling.call f →
     ((b : Base) → IsCalling p (beginning_for w p numbers c.procedure c.calling) b (f b)) →
     Comes code credits f (services_of p) (behind_aims (called_at w code c p numbers) wanted)
     (M.block_run c.around (block_of c.procedure) (begun (block_of c.procedure) c.calling.parent) w.acts p.state)
 unfolding ◌>>◌
-unpaid_runs w code c p numbers credits wanted f known h makes words each few paid there gives =
+unpaid_runs like w code c p numbers credits wanted f known h makes words each few paid there gives =
     let k = called_at w code c p numbers in
     let i = block_at w code c p numbers in
     let x = c.procedure in
@@ -253,15 +259,16 @@ unpaid_runs w code c p numbers credits wanted f known h makes words each few pai
     (λ g at.
     let flow = made_at c w.acts start.state in
     comes_on w.acts flow next'
-    (comes_map (unpaid_aims i low (act_index c) c1 left_over)
+    (comes_map (unpaid_aims like i low (act_index c) c1 left_over)
     (before code (body_aims k left_over) w.acts next') flow
-    (λ c' f' v' r s (o : GoesUnpaid i low (act_index c) c1 c' f' v' s).
+    (λ c' f' v' r s (o : GoesUnpaid like i low (act_index c) c1 c' f' v' s).
     let since = o.since in
     onward closed o.reach
     (λ g' at'.
     subst (λ s'. Comes code c1 g' (services_of o.first) (body_aims k left_over)
     (behind_variables around' x.body w.acts s')) (sym o.state)
-    (entry_goes w code c p o.first numbers o.numbers c1 g' h.0 o.begun (o.image, o.few) (o.others, o.words) each
+    (entry_goes w code c p o.first numbers o.numbers c1 g' h.0 o.begun (o.image, o.few) (o.others, o.words)
+    (each o.first o.begun o.bound)
     (omega (arith, few, since, same)) (omega (arith, n0, n1, n2, n3, paid)) at')))
     (λ c' f' v' height label s o. absurd o)
     (λ c' f' v' r s o. o.to)
@@ -272,12 +279,14 @@ pub procedure_runs :
     (w : Surroundings) (code : List Instr) (c : Callee) (p : Point) (numbers : ℕ → ℕ) (credits wanted : ℕ)
     (f : Family) → Stands w p × IsImage w code p → IsCallee w code c × HasRoom w p c.procedure c.calling →
     Makes (site_at w code c p numbers) left_over (made_at c) → ((n : ℕ) → numbers n < 2 ^ 32) →
-    EachGoes w code c p numbers → w.acts < c.around.turns + (p.state.world.acts + 1) →
+    ((first : Point) → IsBegun (block_from w code c p numbers first) →
+    EachDoes (block_from w code c p numbers first) (labels_of c) c.procedure.body (body_index c) left_over) →
+    w.acts < c.around.turns + (p.state.world.acts + 1) →
     credits + 4 + size_of (procedure_code c.environment c.procedure) ≤ cost code →
     AreIn w p numbers c.calling.call f →
     ((b : Base) → IsCalling p (beginning_for w p numbers c.procedure c.calling) b (f b)) →
     Comes code credits f (services_of p) (behind_aims (called_at w code c p numbers) wanted)
     (M.block_run c.around (block_of c.procedure) (begun (block_of c.procedure) c.calling.parent) w.acts p.state)
-procedure_runs w code c p numbers credits wanted f known h makes =
-    unpaid_runs w code c p numbers credits wanted f known h
-    (paid_makes (site_at w code c p numbers) left_over (made_at c) makes)
+procedure_runs w code c p numbers credits wanted f known h makes words each =
+    unpaid_runs None w code c p numbers credits wanted f known h
+    (paid_makes (site_at w code c p numbers) left_over (made_at c) makes) words (λ first b bound. each first b)

@@ -323,7 +323,7 @@ owner_is {w} {p = p} {φ = φ} {φs = φs} k =
 owner_some : (height : ℕ) → 0 < height → G.owner_of 0 height ≡ Some height
 owner_some height some = ap (λ q. cond q (Some height) None) (lt-ltb 0 height some)
 
-owner_given : (p : Point) (φ : Layer) (φs : List Layer) → p.control.layers ≡ φ ∷ φs →
+pub owner_given : (p : Point) (φ : Layer) (φs : List Layer) → p.control.layers ≡ φ ∷ φs →
     G.owner_of 0 (S.height (services_of p)) ≡ Some (S.height (services_of p))
 owner_given p φ φs e =
     let n = ap (λ ls. length (map activation_of ls)) e in

@@ -1,5 +1,5 @@
 -- The code that makes a variable on the lower stack, behind its extents.
-use Rattle.std.proofs.Common.{◌≡◌, inl, ℕ, ◌+◌, ◌-◌, ◌*◌, ◌^◌, ◌<◌, ◌≤◌, List, [], ◌∷◌, ◌++◌, length}
+use Rattle.std.proofs.Common.{◌≡◌, inl, ℕ, ◌+◌, ◌-◌, ◌*◌, ◌^◌, ◌<◌, ◌≤◌, List, [], ◌∷◌, ◌++◌, length, None, Some}
 use Rattle.std.proofs.Common.{refl, sym, ap, ◌∙◌, subst, arith}
 use Rattle.std.proofs.lemmas.Int.{ints}
 use Rattle.std.specs.Prelude.{negsuc, pos}
@@ -20,6 +20,7 @@ use Rattle.pli_coding.specs.Extents.{bytes_word, initial_code, initial_given, nu
 use Rattle.pli_coding.specs.Frames.{name_bytes, own_offset}
 use Rattle.pli_coding.specs.Instructions.{is_immediate, load_word, move, plus, small, service}
 use Rattle.pli_coding.specs.Registers.{a0, a1, a2, a3, a4, a7, frame_register, stack_register, u1, u2}
+use Rattle.pli_coding.specs.StaticForms.{initial_datum}
 use Rattle.storage_relation.specs.Changes.{with_memory}
 use Rattle.storage_relation.specs.Served.{Holds}
 use Rattle.activation_relation.specs.Frames.{AreLaid, FramesStand, frame_bytes, frame_start, frame_under, upper_top}
@@ -51,7 +52,7 @@ use Rattle.block_runs.proofs.Places.{IsFrame, bounds, ground_at, word_in}
 use Rattle.block_runs.proofs.PointGrounds.{StandsIn, in_known, known_in, point_frame, point_ground}
 use Rattle.program_runs.proofs.Variables.{own_code, own_coded}
 use Rattle.extent_runs.specs.Placing.{Adjustable, IsPlacement, Placement, PlacingCoded, adjusted}
-use Rattle.extent_runs.specs.Placing.{adjusted_memory, lowered_memory, made_below, placing_code}
+use Rattle.extent_runs.specs.Placing.{adjusted_memory, made_below, placing_code}
 use Rattle.extent_runs.proofs.Placing.{adjusted_frames, adjusted_holds, adjusted_served, adjusted_stands, made_length}
 use Rattle.extent_runs.proofs.Words.{first_place, second_place}
 
@@ -60,19 +61,31 @@ placing_coded z line = refl
 
 -- ---- grounds
 
+-- where the code begins: the name's place is the end of the frame, number and bytes wait in words of it, and the lower
+-- stack's new top is a word, whether it has that much room or not
+pub record IsSited (w : Surroundings) (p : Point) (z : Placement) (low : ℕ) : Type 0 where
+  pub newest : p.control.layers ≡ z.layer ∷ z.others
+  pub here : z.layer.at + z.variable.place ≡ z.layer.top
+  pub initial : initial_datum z.declared ≡ None
+  pub words : 2 ≤ z.layer.words
+  pub number : z.layer.waits 0 ≡ Some z.variable.number
+  pub bytes : z.layer.waits 1 ≡ Some z.variable.bytes
+  pub lowers : operated Op.Subtract z.layer.lower z.variable.bytes ≡ low
+  pub small' : low < 2 ^ 32
+
 -- the top of the lower stack has been kept in the frame
-pub record IsLowered (w : Surroundings) (p : Point) (φ : Layer) (x : Adjustable) (b : Base) (m : List ℕ) : Type 0 where
+pub record IsLowered (w : Surroundings) (p : Point) (φ : Layer) (low : ℕ) (b : Base) (m : List ℕ) : Type 0 where
   pub first : List ℕ
   pub bytes : length first ≡ memory_size
   pub stands : StandsIn w p b first
-  pub is : m ≡ lowered_memory φ x first
+  pub is : m ≡ store 4 first (φ.at + 40) low
 
 -- the upper stack has grown by the name
-abbrev grown_ground : (w : Surroundings) (p : Point) (φ : Layer) → Adjustable → IsFrame φ.at → Ground
+abbrev pub grown_ground : (w : Surroundings) (p : Point) (φ : Layer) → Adjustable → IsFrame φ.at → Ground
 grown_ground w p φ x h = ground_at φ.at (φ.at + (x.place + name_bytes)) h (λ b m. StandsIn w p b m)
 
-abbrev lowered_ground : (w : Surroundings) (p : Point) (φ : Layer) → Adjustable → IsFrame φ.at → Ground
-lowered_ground w p φ x h = ground_at φ.at (φ.at + (x.place + name_bytes)) h (λ b m. IsLowered w p φ x b m)
+abbrev pub lowered_ground : (w : Surroundings) (p : Point) (φ : Layer) → Adjustable → (low : ℕ) → IsFrame φ.at → Ground
+lowered_ground w p φ x low h = ground_at φ.at (φ.at + (x.place + name_bytes)) h (λ b m. IsLowered w p φ low b m)
 
 -- words of the newest frame
 pub record FrameTold (φ : Layer) (x : Adjustable) (m : List ℕ) : Type 0 where
@@ -82,10 +95,10 @@ pub record FrameTold (φ : Layer) (x : Adjustable) (m : List ℕ) : Type 0 where
   pub bytes : load 4 m (φ.at - 8) ≡ x.bytes
 
 frame_told :
-    {w : Surroundings} {p : Point} (z : Placement) (base : ℕ) (m : List ℕ) → IsPlacement w p z →
+    {w : Surroundings} {p : Point} {low : ℕ} (z : Placement) (base : ℕ) (m : List ℕ) → IsSited w p z low →
     FramesStand w.parts base m p.state.activations p.control.layers → FrameTold z.layer z.variable m
 frame_told {w} {p} z base m k frames =
-    by p.state.activations (subst (FramesStand w.parts base m p.state.activations) k.is.newest frames)
+    by p.state.activations (subst (FramesStand w.parts base m p.state.activations) k.newest frames)
   where
     by : (as' : List Activation) → FramesStand w.parts base m as' (z.layer ∷ z.others) →
         FrameTold z.layer z.variable m
@@ -101,14 +114,14 @@ frame_told {w} {p} z base m k frames =
 
 -- the same once the lower stack's top has been kept
 lowered_told :
-    {w : Surroundings} {p : Point} {b : Base} {m : List ℕ} (z : Placement) → IsPlacement w p z → 8 ≤ z.layer.at →
-    IsLowered w p z.layer z.variable b m →
+    {w : Surroundings} {p : Point} {low : ℕ} {b : Base} {m : List ℕ} (z : Placement) → IsSited w p z low →
+    8 ≤ z.layer.at → IsLowered w p z.layer low b m →
     (load 4 m (z.layer.at + 36) ≡ z.layer.at) × (load 4 m (z.layer.at - 4) ≡ z.variable.number)
-lowered_told {b = b} {m = m} z k some o =
+lowered_told {low = low} {b = b} {m = m} z k some o =
     let φ = z.layer in
     let x = z.variable in
     let t = frame_told z b.at o.first k o.stands.frames in
-    let v = φ.lower - x.bytes in (
+    let v = low in (
       ap (λ m'. load 4 m' (φ.at + 36)) o.is
           ∙ load-store_other 4 4 o.first (φ.at + 40) v (φ.at + 36) (inl (omega arith))
           ∙ t.own,
@@ -127,27 +140,27 @@ pub record Bounded (w : Surroundings) (p : Point) (z : Placement) : Type 0 where
   pub few : z.layer.at + (z.variable.place + name_bytes) < 2 ^ 24
   pub start : z.layer.at + 48 ≤ z.layer.top
 
-bounded :
-    {w : Surroundings} {code : List Instr} {p : Point} (z : Placement) → Stands w p × IsImage w code p →
-    IsPlacement w p z → Bounded w p z
+pub bounded :
+    {w : Surroundings} {code : List Instr} {p : Point} {low : ℕ} (z : Placement) → Stands w p × IsImage w code p →
+    IsSited w p z low → Bounded w p z
 bounded {w} {p = p} z known k =
-    let same = ap (λ ls. frame_under w.parts ls) k.is.newest in
-    let laid = subst (AreLaid w.parts) k.is.newest known.0.laid in
+    let same = ap (λ ls. frame_under w.parts ls) k.newest in
+    let laid = subst (AreLaid w.parts) k.newest known.0.laid in
     let o = bounds w.parts (z.layer ∷ z.others) laid in
     let high = o.high in
     let above = o.above in
     let last = known.1.parts.inside in
-    let here = k.is.here in
-    let fits = k.is.fits in
+    let here = k.here in
+    let free = laid.0.free in
     record {
       frame = same;
       is = subst IsFrame same (point_frame known.0 known.1);
       room = omega (arith, high, last);
-      few = omega (arith, here, fits, high, last);
+      few = omega (arith, here, free, high, last);
       start = above;
     }
 
-stack_grows :
+pub stack_grows :
     {w : Surroundings} {code : List Instr} {p : Point} {numbers : ℕ → ℕ} {i : ℕ} (z : Placement) (c : ℕ) (f : Family) →
     Stands w p × IsImage w code p → (o : Bounded w p z) →
     Linked w.links code i (plus stack_register frame_register (pos (z.variable.place + name_bytes))) →
@@ -188,35 +201,32 @@ stack_grows {w} {p = p} {numbers = numbers} z c f known o l there =
 
 -- ---- the lower one by the bytes to reserve
 
-abbrev lowering_code : Code
+abbrev pub lowering_code : Code
 lowering_code = load_word u2 frame_register (bytes_word none_taken) ++ lower_taken
 
-less_bytes :
-    (x y n k : ℕ) → x ≡ n → y ≡ k → k ≤ n → n < 2 ^ 32 → operated Op.Subtract x y ≡ n - k
-less_bytes x y n k e f some few = omega (arith, e, f, some, few)
+less_bytes : (n k : ℕ) → k ≤ n → n < 2 ^ 32 → operated Op.Subtract n k ≡ n - k
+less_bytes n k some few = omega (arith, some, few)
 
-abbrev lower_regs : Layer → Adjustable → Base → List (ℕ × ℕ)
-lower_regs φ x b = (6, φ.lower - x.bytes) ∷ []
+abbrev pub lower_regs : (low : ℕ) → Base → List (ℕ × ℕ)
+lower_regs low b = (6, low) ∷ []
 
-lower_grows :
-    {w : Surroundings} {code : List Instr} {p : Point} {numbers : ℕ → ℕ} {i : ℕ} (z : Placement) (c : ℕ) (f : Family) →
-    IsPlacement w p z → (o : Bounded w p z) → Linked w.links code i lowering_code →
+pub lower_grows :
+    {w : Surroundings} {code : List Instr} {p : Point} {numbers : ℕ → ℕ} {i : ℕ} {low : ℕ} (z : Placement) (c : ℕ)
+    (f : Family) → IsSited w p z low → (o : Bounded w p z) → Linked w.links code i lowering_code →
     ((b : Base) → At b i (Known (grown_ground w p z.layer z.variable o.is) (services_of p) numbers (λ n. 0) nothing b)
     (f b)) →
     Reach code c f (services_of p) (c + 4) (services_of p)
-    (λ b y. At b (i + 4) (Known (lowered_ground w p z.layer z.variable o.is) (services_of p) numbers (λ n. 0)
-    (lower_regs z.layer z.variable) b) y)
-lower_grows {w} {p = p} {numbers = numbers} z c f k o l there =
+    (λ b y. At b (i + 4) (Known (lowered_ground w p z.layer z.variable low o.is) (services_of p) numbers (λ n. 0)
+    (lower_regs low) b) y)
+lower_grows {w} {p = p} {numbers = numbers} {low = low} z c f k o l there =
     let v = services_of p in
     let φ = z.layer in
     let x = z.variable in
     let h = o.is in
     let high = h.high in
-    let room = o.room in
-    let fits = k.is.fits in
     let small' = l.small' in
     straight c f v v
-    (λ b y. Known (lowered_ground w p φ x h) v numbers (λ n. 0) (lower_regs φ x) b y) l (omega arith)
+    (λ b y. Known (lowered_ground w p φ x low h) v numbers (λ n. 0) (lower_regs low) b y) l (omega arith)
     (λ b. (there b).pc)
     (λ b.
     let q = (there b).holds in
@@ -224,8 +234,8 @@ lower_grows {w} {p = p} {numbers = numbers} z c f k o l there =
     let m = (f b).machine.memory in
     let frame = frame_is q.body in
     let t = frame_told z b.at m k q.body.memory.frames in
-    let less = less_bytes (load 4 m (φ.at + 40)) (load 4 m (φ.at - 8)) φ.lower x.bytes t.lower t.bytes
-    (omega (arith, fits)) (omega (arith, room)) in (
+    let less = ap (λ u. operated Op.Subtract u (load 4 m (φ.at - 8))) t.lower
+    ∙ ap (λ u. operated Op.Subtract φ.lower u) t.bytes ∙ k.lowers in (
       at_place b (second_place φ.at h) (sum (y 8) (word (negsuc 7))) (ap (λ u. sum u (word (negsuc 7))) frame),
       (
         at_place b (word_in φ.at 40 h refl (omega arith)) (sum (y 8) (word (pos 40)))
@@ -258,26 +268,26 @@ lower_grows {w} {p = p} {numbers = numbers} z c f k o l there =
 offset_sum : (at n : ℕ) → at + n < 2 ^ 24 → sum at (word (pos n)) ≡ at + n
 offset_sum at n few = omega (arith, ints, few)
 
-abbrev name_regs : Layer → Adjustable → Base → List (ℕ × ℕ)
-name_regs φ x b = (10, φ.at + x.place) ∷ lower_regs φ x b
+abbrev pub name_regs : Layer → Adjustable → (low : ℕ) → Base → List (ℕ × ℕ)
+name_regs φ x low b = (10, φ.at + x.place) ∷ lower_regs low b
 
-name_placed :
-    {w : Surroundings} {code : List Instr} {p : Point} {numbers : ℕ → ℕ} {i : ℕ} (z : Placement) (c : ℕ) (f : Family) →
-    IsPlacement w p z → (o : Bounded w p z) → Linked w.links code i (own_code a0 z.variable.place) →
-    ((b : Base) → At b i (Known (lowered_ground w p z.layer z.variable o.is) (services_of p) numbers (λ n. 0)
-    (lower_regs z.layer z.variable) b) (f b)) →
+pub name_placed :
+    {w : Surroundings} {code : List Instr} {p : Point} {numbers : ℕ → ℕ} {i : ℕ} {low : ℕ} (z : Placement) (c : ℕ)
+    (f : Family) → IsSited w p z low → (o : Bounded w p z) → Linked w.links code i (own_code a0 z.variable.place) →
+    ((b : Base) → At b i (Known (lowered_ground w p z.layer z.variable low o.is) (services_of p) numbers (λ n. 0)
+    (lower_regs low) b) (f b)) →
     Reach code c f (services_of p) (c + size_of (own_code a0 z.variable.place)) (services_of p)
-    (λ b y. At b (i + size_of (own_code a0 z.variable.place)) (Known (lowered_ground w p z.layer z.variable o.is)
-    (services_of p) numbers (λ n. 0) (name_regs z.layer z.variable) b) y)
-name_placed {w} {p = p} {numbers = numbers} z c f k o l there =
+    (λ b y. At b (i + size_of (own_code a0 z.variable.place)) (Known (lowered_ground w p z.layer z.variable low o.is)
+    (services_of p) numbers (λ n. 0) (name_regs z.layer z.variable low) b) y)
+name_placed {w} {p = p} {numbers = numbers} {low = low} z c f k o l there =
     let φ = z.layer in
     let x = z.variable in
     let place = x.place in
-    let g = lowered_ground w p φ x o.is in
+    let g = lowered_ground w p φ x low o.is in
     let v = services_of p in
     let few = o.few in
     let high = o.is.high in
-    let rs = lower_regs φ x in
+    let rs = lower_regs low in
     let first = load_word a0 frame_register own_offset in
     let second = plus a0 a0 (pos place) in
     let n = size_append first second in
@@ -288,7 +298,7 @@ name_placed {w} {p = p} {numbers = numbers} z c f k o l there =
     (front_of first second l) there in
     let r2 = displaced_by (is_immediate (pos place)) (c + size_of first) (reached r1)
     (λ q d. I.Immediate Imm.Add a0 q d) a0 (pos place) (λ b. φ.at)
-    (Known g v numbers (λ n'. 0) (with' 10 (λ b. φ.at) rs)) (Known g v numbers (λ n'. 0) (name_regs φ x))
+    (Known g v numbers (λ n'. 0) (with' 10 (λ b. φ.at) rs)) (Known g v numbers (λ n'. 0) (name_regs φ x low))
     (above_small place (omega (arith, few))) (λ b. omega (arith, few)) (λ y u. refl)
     (λ b. (reached_holds r1 b).holds.regs.0) (omega arith)
     (record {
@@ -305,35 +315,34 @@ name_placed {w} {p = p} {numbers = numbers} z c f k o l there =
 
 -- ---- what service 7 is given, and its call
 
-abbrev given_code : Code
+abbrev pub given_code : Code
 given_code =
     load_word a1 frame_register (number_word none_taken)
     ++ (small a2 0 ∷ move a3 u1 ∷ small a4 0 ∷ small a7 7 ∷ [])
 
-abbrev asked_regs : Layer → Adjustable → Base → List (ℕ × ℕ)
-asked_regs φ x b =
-    (17, 7) ∷ (14, 0) ∷ (13, φ.lower - x.bytes) ∷ (12, 0) ∷ (11, x.number) ∷ (10, φ.at + x.place) ∷ []
+abbrev pub asked_regs : Layer → Adjustable → (low : ℕ) → Base → List (ℕ × ℕ)
+asked_regs φ x low b =
+    (17, 7) ∷ (14, 0) ∷ (13, low) ∷ (12, 0) ∷ (11, x.number) ∷ (10, φ.at + x.place) ∷ []
 
 moved_is : (x n : ℕ) → x ≡ n → n < 2 ^ 32 → sum x (word (pos 0)) ≡ n
 moved_is x n e few = omega (arith, e, few)
 
-given_comes :
-    {w : Surroundings} {code : List Instr} {p : Point} {numbers : ℕ → ℕ} {i : ℕ} (z : Placement) (c : ℕ) (f : Family) →
-    IsPlacement w p z → (o : Bounded w p z) → Linked w.links code i given_code →
-    ((b : Base) → At b i (Known (lowered_ground w p z.layer z.variable o.is) (services_of p) numbers (λ n. 0)
-    (name_regs z.layer z.variable) b) (f b)) →
+pub given_comes :
+    {w : Surroundings} {code : List Instr} {p : Point} {numbers : ℕ → ℕ} {i : ℕ} {low : ℕ} (z : Placement) (c : ℕ)
+    (f : Family) → IsSited w p z low → (o : Bounded w p z) → Linked w.links code i given_code →
+    ((b : Base) → At b i (Known (lowered_ground w p z.layer z.variable low o.is) (services_of p) numbers (λ n. 0)
+    (name_regs z.layer z.variable low) b) (f b)) →
     Reach code c f (services_of p) (c + 5) (services_of p)
-    (λ b y. At b (i + 5) (Known (lowered_ground w p z.layer z.variable o.is) (services_of p) numbers (λ n. 0)
-    (asked_regs z.layer z.variable) b) y)
-given_comes {w} {p = p} {numbers = numbers} z c f k o l there =
+    (λ b y. At b (i + 5) (Known (lowered_ground w p z.layer z.variable low o.is) (services_of p) numbers (λ n. 0)
+    (asked_regs z.layer z.variable low) b) y)
+given_comes {w} {p = p} {numbers = numbers} {low = low} z c f k o l there =
     let v = services_of p in
     let φ = z.layer in
     let x = z.variable in
     let h = o.is in
     let high = h.high in
-    let room = o.room in
     straight c f v v
-    (λ b y. Known (lowered_ground w p φ x h) v numbers (λ n. 0) (asked_regs φ x) b y) l (omega arith)
+    (λ b y. Known (lowered_ground w p φ x low h) v numbers (λ n. 0) (asked_regs φ x low) b y) l (omega arith)
     (λ b. (there b).pc)
     (λ b.
     let q = (there b).holds in
@@ -353,7 +362,7 @@ given_comes {w} {p = p} {numbers = numbers} z c f k o l there =
           (
             small_is (y 0) 0 (zero_is q.body) (omega arith),
             (
-              moved_is (y 6) (φ.lower - x.bytes) q.regs.1.0 (omega (arith, room)),
+              moved_is (y 6) low q.regs.1.0 k.small',
               (small_is (y 0) 0 (zero_is q.body) (omega arith), (t.1, (q.regs.0, tt))),
             ),
           ),
@@ -362,19 +371,19 @@ given_comes {w} {p = p} {numbers = numbers} z c f k o l there =
     ))
 
 -- what is stored is as it was while the top of the lower stack is kept
-lowered_holds :
-    {w : Surroundings} {code : List Instr} {p : Point} {b : Base} {m : List ℕ} (z : Placement) →
-    Stands w p × IsImage w code p → IsPlacement w p z → Bounded w p z → IsLowered w p z.layer z.variable b m →
+pub lowered_holds :
+    {w : Surroundings} {code : List Instr} {p : Point} {low : ℕ} {b : Base} {m : List ℕ} (z : Placement) →
+    Stands w p × IsImage w code p → IsSited w p z low → Bounded w p z → IsLowered w p z.layer low b m →
     Holds (now p m)
-lowered_holds {w} {p = p} {m = m} z known k o is =
+lowered_holds {w} {p = p} {low = low} {m = m} z known k o is =
     let φ = z.layer in
-    let laid = subst (AreLaid w.parts) k.is.newest known.0.laid in
-    let owned = subst (AreOwned p.keeper p.places p.state w.parts) k.is.newest known.0.owned in
+    let laid = subst (AreLaid w.parts) k.newest known.0.laid in
+    let owned = subst (AreOwned p.keeper p.places p.state w.parts) k.newest known.0.owned in
     let room = o.is.room in
     let bytes = is.bytes in
     let above = laid.0.above in
     let covered = levels_covered φ.level φ.parameters in
-    let h = stores_hold (now p is.first) (φ.at + 40) 4 ((φ.at + 40, φ.lower - z.variable.bytes) ∷ []) is.stands.storage
+    let h = stores_hold (now p is.first) (φ.at + 40) 4 ((φ.at + 40, low) ∷ []) is.stands.storage
     (clear_within p.keeper p.places p.state (frame_start φ) (frame_bytes φ) (φ.at + 40) 4
     (frame_clear p.keeper p.places p.state w.parts φ z.others owned laid) (omega (arith, above))
     (omega (arith, covered, above)))
@@ -391,12 +400,32 @@ lowered_holds {w} {p = p} {m = m} z known k o is =
           distinct = h.distinct;
         }
 
+-- where it fits
+sited :
+    {w : Surroundings} {code : List Instr} {p : Point} (z : Placement) → Stands w p × IsImage w code p →
+    IsPlacement w p z → IsSited w p z (z.layer.lower - z.variable.bytes)
+sited {w} z known k =
+    let laid = subst (AreLaid w.parts) k.is.newest known.0.laid in
+    let high = (bounds w.parts (z.layer ∷ z.others) laid).high in
+    let last = known.1.parts.inside in
+    let fits = k.is.fits in
+    record {
+      newest = k.is.newest;
+      here = k.is.here;
+      initial = k.initial;
+      words = k.words;
+      number = k.number;
+      bytes = k.bytes;
+      lowers = less_bytes z.layer.lower z.variable.bytes (omega (arith, fits)) (omega (arith, high, last));
+      small' = omega (arith, high, last);
+    }
+
 calling_placed :
     {w : Surroundings} {code : List Instr} {p : Point} {numbers : ℕ → ℕ} {i : ℕ} (z : Placement) (f : Family)
     (known : Stands w p × IsImage w code p) (k : IsPlacement w p z) (o : Bounded w p z) →
     Linked w.links code i (Plain I.Ecall ∷ []) →
-    ((b : Base) → At b i (Known (lowered_ground w p z.layer z.variable o.is) (services_of p) numbers (λ n. 0)
-    (asked_regs z.layer z.variable) b) (f b)) →
+    ((b : Base) → At b i (Known (lowered_ground w p z.layer z.variable (z.layer.lower - z.variable.bytes) o.is) (services_of p) numbers (λ n. 0)
+    (asked_regs z.layer z.variable (z.layer.lower - z.variable.bytes)) b) (f b)) →
     Calling w.links code i f
     (λ b. Done (services_of (adjusted z.layer z.variable p))
     (adjusted_memory p z.layer z.variable (f b).machine.memory) (z.layer.at + z.variable.place) z.variable.number)
@@ -414,20 +443,20 @@ calling_placed {w} {code} {p} z f known k o l there =
           (λ call x0 x1 x2 x3 x4. U.make_served call x0 x1 x2 x3 x4) q.body.services q.regs.0 q.regs.1.1.1.1.1.0
           q.regs.1.1.1.1.0 q.regs.1.1.1.0 q.regs.1.1.0 q.regs.1.0 (λ call y. refl)
           ∙ adjusted_served w code p x φ z.others m known k.is (q.body.bytes, omega (arith, small'))
-          (lowered_holds z known k o q.body.memory);
+          (lowered_holds z known (sited z known k) o q.body.memory);
     }
 
 -- ---- the whole
 
-abbrev behind_lower : Placement → Code
+abbrev pub behind_lower : Placement → Code
 behind_lower z = own_code a0 z.variable.place ++ (given_code ++ (Plain I.Ecall ∷ []))
 
-abbrev pieces : Placement → Code
+abbrev pub pieces : Placement → Code
 pieces z =
     plus stack_register frame_register (pos (z.variable.place + name_bytes)) ++ (lowering_code ++ behind_lower z)
 
-pieces_coded : {w : Surroundings} {p : Point} (z : Placement) → IsPlacement w p z → placing_code z ≡ pieces z
-pieces_coded z k =
+pub pieces_coded : (z : Placement) → initial_datum z.declared ≡ None → placing_code z ≡ pieces z
+pieces_coded z none =
     let stack = plus stack_register frame_register (pos (z.variable.place + name_bytes)) in
     let front : Code → Code =
     λ u. stack ++ (load_word u2 frame_register (bytes_word none_taken) ++ (lower_taken ++ u)) in
@@ -435,18 +464,19 @@ pieces_coded z k =
     ++ (initial_code a2 z.declared ++ (move a3 u1 ∷ small a4 0 ∷ service 7)))))
     (own_coded z.environment a0 z.variable.place)
     ∙ ap (λ d. front (own_code a0 z.variable.place ++ (load_word a1 frame_register (number_word none_taken)
-    ++ (initial_given a2 d ++ (move a3 u1 ∷ small a4 0 ∷ service 7))))) k.initial
+    ++ (initial_given a2 d ++ (move a3 u1 ∷ small a4 0 ∷ service 7))))) none
 
 placed_stand :
     {w : Surroundings} {code : List Instr} {p : Point} {b : Base} {m : List ℕ} (z : Placement) →
     Stands w p × IsImage w code p → IsPlacement w p z → Bounded w p z → length m ≡ memory_size →
-    IsLowered w p z.layer z.variable b m →
+    IsLowered w p z.layer (z.layer.lower - z.variable.bytes) b m →
     StandsIn w (adjusted z.layer z.variable p) b (adjusted_memory p z.layer z.variable m)
 placed_stand {w} {code} {p} {b} {m} z known k o bytes is =
     let φ = z.layer in
     let x = z.variable in
     record {
-      storage = adjusted_holds w code p x φ z.others m known k.is bytes (lowered_holds z known k o is);
+      storage = adjusted_holds w code p x φ z.others m known k.is bytes
+          (lowered_holds z known (sited z known k) o is);
       frames = subst (λ m'. FramesStand w.parts b.at (adjusted_memory p φ x m') (adjusted φ x p).state.activations
           (adjusted φ x p).control.layers) (sym is.is)
           (adjusted_frames w code p x φ z.others b.at is.first known k.is is.bytes is.stands.frames);
@@ -462,8 +492,9 @@ placing_comes w code p numbers z c index f known k l there =
     let φ = z.layer in
     let x = z.variable in
     let q = adjusted φ x p in
-    let o = bounded z known k in
-    let coded = pieces_coded z k in
+    let site = sited z known k in
+    let o = bounded z known site in
+    let coded = pieces_coded z k.initial in
     let size = ap (λ u. size_of u) coded in
     let new = adjusted_stands w code p x φ z.others known k.is in
     let hq = point_frame new.0 new.1 in
@@ -483,11 +514,11 @@ placing_comes w code p numbers z c index f known k l there =
     let n0 = size_append stack (lowering_code ++ behind_lower z) in
     let n1 = size_append own (given_code ++ last) in
     let r1 = stack_grows z c f known o (front_of stack (lowering_code ++ behind_lower z) l0) there in
-    let r2 = lower_grows z (c + size_of stack) (reached r1) k o (front_of lowering_code (behind_lower z) l1)
+    let r2 = lower_grows z (c + size_of stack) (reached r1) site o (front_of lowering_code (behind_lower z) l1)
     (reached_holds r1) in
-    let r3 = name_placed z (c + size_of stack + 4) (reached r2) k o (front_of own (given_code ++ last) l2)
+    let r3 = name_placed z (c + size_of stack + 4) (reached r2) site o (front_of own (given_code ++ last) l2)
     (reached_holds r2) in
-    let r4 = given_comes z (c + size_of stack + 4 + size_of own) (reached r3) k o (front_of given_code last l3)
+    let r4 = given_comes z (c + size_of stack + 4 + size_of own) (reached r3) site o (front_of given_code last l3)
     (reached_holds r3) in
     let g = reached r4 in
     let r5 = call_done (c + size_of stack + 4 + size_of own + 5) g v v'

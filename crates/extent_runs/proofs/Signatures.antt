@@ -19,6 +19,7 @@ use Rattle.pli_coding.specs.Registers.{a1, a7}
 use Rattle.storage_relation.specs.Served.{AreDistinct, Holds}
 use Rattle.storage_relation.proofs.Changes.{table_holds}
 use Rattle.storage_relation.proofs.Holders.{eqb-other, eqb-refl}
+use Rattle.storage_relation.proofs.Fills.{grows_one}
 use Rattle.storage_relation.proofs.Numbering.{template_is, template_itself}
 use Rattle.storage_relation.proofs.Signatures.{extends_kept, kept_template, template_same}
 use Rattle.storage_relation.specs.Stored.{Extends}
@@ -45,7 +46,7 @@ use Rattle.block_runs.proofs.BlockEntries.{small_is}
 use Rattle.block_runs.proofs.Places.{IsFrame, ground_at}
 use Rattle.block_runs.proofs.PointGrounds.{StandsIn, call_is, in_known, known_in, point_frame, point_ground}
 use Rattle.program_runs.specs.Statements.{Block, IsAmong}
-use Rattle.extent_runs.specs.Signatures.{Filling, HasList, IsAsked, IsFilled, IsFilling, filled_point}
+use Rattle.extent_runs.specs.Signatures.{Filling, HasList, IsAsked, IsFilled, IsFilling, MayFill, filled_point}
 use Rattle.extent_runs.specs.Signatures.{filling_code}
 
 -- ---- numbers are still those of one shape each
@@ -165,14 +166,14 @@ filled_holds p u m h =
       distinct = new.distinct;
     }
 
-pub filled_remains : (p : Point) (u : Template) → Remains p (filled_point u p)
-filled_remains p u =
+pub filled_remains : (p : Point) (u : Template) → MayFill p u → Remains p (filled_point u p)
+filled_remains p u may =
     record {
       living = λ n l e. lives_same l (living_of p.state.living n) e;
       serials = omega arith;
       at = λ n few. refl;
       number = λ n few. refl;
-      signatures = kept_template u p.places.signatures;
+      signatures = grows_one p.places.fills u p.places.signatures may;
       statics = refl;
       low = refl;
       constants = refl;
@@ -184,9 +185,9 @@ filled_remains p u =
     lives_same l o e = record { there = l; lives = e; owner = refl; shape = refl }
 
 pub filled_among :
-    (k : Block) (numbers : ℕ → ℕ) (p : Point) (u : Template) → IsAmong k numbers p →
+    (k : Block) (numbers : ℕ → ℕ) (p : Point) (u : Template) → IsAmong k numbers p → MayFill p u →
     IsAmong k numbers (filled_point u p)
-filled_among k numbers p u o =
+filled_among k numbers p u o may =
     let known = filled_stands k.call.surroundings k.call.code p u (o.stands, o.image) in
     record {
       stands = known.0;
@@ -198,7 +199,7 @@ filled_among k numbers p u o =
             edits = refl;
             waiting = refl;
             acts = omega arith;
-            remains = filled_remains p u;
+            remains = filled_remains p u may;
           });
       few = o.few;
       entries = o.entries;

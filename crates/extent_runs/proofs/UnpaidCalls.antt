@@ -34,7 +34,7 @@ use Rattle.nested_calls.proofs.GivenCode.{given}
 use Rattle.nested_calls.proofs.NestedCalls.{behind_call, call_coded, call_of, called_means, given_in, parent_inside}
 use Rattle.nested_calls.proofs.NestedCalls.{parent_reached, room_among}
 use Rattle.extent_runs.specs.Making.{block_from, made_at, site_at}
-use Rattle.extent_runs.specs.Unpaid.{MakesUnpaid}
+use Rattle.extent_runs.specs.Unpaid.{AreBound, MakesUnpaid}
 use Rattle.extent_runs.proofs.MakingProcedures.{unpaid_runs}
 
 -- behind the call its block goes on
@@ -65,18 +65,19 @@ behind_goes {k} {numbers = numbers} {p = p} h o since q =
       reach = reach_map _ q.reach (λ b y is. subst (λ n. IsIn w q.point numbers n b y) h.call is.0);
     }
 
-abbrev EachGoes : Block → Callee → Point → (numbers : ℕ → ℕ) → Type 0
-EachGoes k c p numbers =
-    (first : Point) → IsBegun (block_from k.call.surroundings k.call.code c p numbers first) →
+abbrev EachGoes : (like : Option Point) → Block → Callee → Point → (numbers : ℕ → ℕ) → Type 0
+EachGoes like k c p numbers =
+    (first : Point) → IsBegun (block_from k.call.surroundings k.call.code c p numbers first) → AreBound like first →
     EachDoes (block_from k.call.surroundings k.call.code c p numbers first) (labels_of c) c.procedure.body
     (body_index c) left_over
 
 call_goes :
-    (k : Block) (c : Callee) (labels : List Label) (acts level line index left' more : ℕ)
+    (like : Option Point) (k : Block) (c : Callee) (labels : List Label) (acts level line index left' more : ℕ)
     (h : IsNestedCall 0 k c level line index more) (p : Point) (numbers : ℕ → ℕ) (wanted : ℕ) (f : Family)
     (o : IsAmong k numbers p) → nat_lt (length k.first.state.activations) most_activations ≡ true → IsBegun k →
     acts ≤ p.state.world.acts →
-    MakesUnpaid (site_at k.call.surroundings k.call.code c p numbers) left_over (made_at c) × EachGoes k c p numbers →
+    MakesUnpaid like (site_at k.call.surroundings k.call.code c p numbers) left_over (made_at c)
+    × EachGoes like k c p numbers →
     Linked k.call.surroundings.links k.call.code (index + size_of (act_code line)) (given_in 0 k level ++ call_of c) →
     size_in k (call_at c level line) ≡ size_of (act_code line) + size_of (given_in 0 k level ++ call_of c) →
     AreIn k.call.surroundings p numbers (index + size_of (act_code line)) f →
@@ -86,7 +87,7 @@ call_goes :
     (M.block_run c.around (block_of c.procedure) (begun (block_of c.procedure) c.calling.parent)
     k.call.surroundings.acts p.state)
 unfolding give
-call_goes k c labels acts level line index left' more h p numbers wanted f o few b since goes l size there =
+call_goes like k c labels acts level line index left' more h p numbers wanted f o few b since goes l size there =
     let w = k.call.surroundings in
     let given' = given_in 0 k level in
     let call = call_of c in
@@ -117,23 +118,25 @@ call_goes k c labels acts level line index left' more h p numbers wanted f o few
     (λ c' f' v' r s q. record { to = behind_goes h o since q })
     (λ c' f' v' height label s q. absurd q)
     (λ c' f' v' r s q. absurd q)
-    (unpaid_runs w k.call.code c p numbers (0 + size_of given') wanted g (o.stands, o.image)
+    (unpaid_runs like w k.call.code c p numbers (0 + size_of given') wanted g (o.stands, o.image)
     (h.callee, room_among h few o) goes.0 o.words goes.1 (omega (arith, enough, turns, later))
     (omega (arith, n, inside, proc))
     (λ b. subst (λ j. IsIn w p numbers j b (g b)) (omega (arith, n, size, at_call)) (at b).0)
     (λ b. (at b).1)))
 
 pub unpaid_call_does :
-    (k : Block) (c : Callee) (level line index left' more : ℕ) → IsNestedCall 0 k c level line index more →
+    (like : Point → (numbers : ℕ → ℕ) → Option Point) (k : Block) (c : Callee)
+    (level line index left' more : ℕ) → IsNestedCall 0 k c level line index more →
     nat_lt (length k.first.state.activations) most_activations ≡ true →
     ((p : Point) (numbers : ℕ → ℕ) → IsAmong k numbers p →
-    MakesUnpaid (site_at k.call.surroundings k.call.code c p numbers) left_over (made_at c)) →
+    MakesUnpaid (like p numbers) (site_at k.call.surroundings k.call.code c p numbers) left_over (made_at c)) →
     ((p first : Point) (numbers : ℕ → ℕ) → IsAmong k numbers p →
     IsBegun (block_from k.call.surroundings k.call.code c p numbers first) →
+    AreBound (like p numbers) first →
     EachDoes (block_from k.call.surroundings k.call.code c p numbers first) (labels_of c) c.procedure.body
     (body_index c) left_over) → IsBegun k → (labels : List Label) → Does k labels (call_at c level line) index left'
 unfolding M.statement ◌>>=◌ ◌>>◌
-unpaid_call_does k c level line index left' more h few makes each b labels p numbers credits wanted f o paid there =
+unpaid_call_does like k c level line index left' more h few makes each b labels p numbers credits wanted f o paid there =
     let w = k.call.surroundings in
     let p' = acted line p in
     let one = act_code line in
@@ -157,5 +160,5 @@ unpaid_call_does k c level line index left' more h few makes each b labels p num
     (before k.call.code (statement_aims k labels acts (index + size_in k (call_at c level line)) wanted left') w.acts
     behind_call))
     (sym (called_means h o'))
-    (call_goes k c labels acts level line index left' more h p' numbers wanted g o' few b (omega arith)
+    (call_goes (like p' numbers) k c labels acts level line index left' more h p' numbers wanted g o' few b (omega arith)
     (makes p' numbers o', λ first. each p' first numbers o') (back_of one (given' ++ call) l) (size ∙ n0) at))))

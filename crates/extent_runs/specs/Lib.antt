@@ -5,8 +5,10 @@ pub mod Words
 pub mod Placing
 pub mod Both
 pub mod Lists
+pub mod PassedLimits
 pub mod Entered
 pub mod Arrays
 pub mod Unpaid
 pub mod MadeArrays
+pub mod FittingArrays
 pub mod UnpaidCalls

@@ -1,6 +1,6 @@
 -- An array whose upper bound is evaluated, from the act of its extents up to the variable on the lower stack: what its
 -- code comes to, whatever the bound calls and raises.
-use Rattle.std.specs.Prelude.{ℕ, ℤ, ◌+◌, ◌≤◌, ◌≡◌, int_le, List, [], ◌∷◌, ◌++◌, length, nat_lt, slice_get, Some, true}
+use Rattle.std.specs.Prelude.{ℕ, ℤ, ◌+◌, ◌≤◌, ◌≡◌, ◌⊎◌, int_le, List, [], ◌∷◌, ◌++◌, length, nat_lt, slice_get, Some, true}
 use Rattle.rv_meaning.specs.Memory.{bytes_of_words}
 use Rattle.rv_meaning.specs.Words.{word}
 use Rattle.pli_typing.specs.TypedTree as Y
@@ -20,6 +20,7 @@ use Rattle.pli_coding.specs.Linking.{place_of}
 use Rattle.pli_coding.specs.Locating.{table_number}
 use Rattle.pli_coding.specs.SignatureTable.{signature_of}
 use Rattle.pli_coding.specs.StaticForms.{bounds_datum}
+use Rattle.storage_relation.specs.Fills.{most_filled}
 use Rattle.activation_relation.specs.FrameLaws.{with_waits}
 use Rattle.activation_relation.specs.Layers.{Layer, Point, services_of}
 use Rattle.activation_relation.specs.Points.{Stands}
@@ -35,8 +36,9 @@ use Rattle.extent_runs.specs.Both.{Evaluated, IsEvaluated}
 use Rattle.extent_runs.specs.Extents.{bounds_of, evaluation_of}
 use Rattle.extent_runs.specs.Lists.{list_words}
 use Rattle.extent_runs.specs.Making.{Site}
+use Rattle.extent_runs.specs.PassedLimits.{PassesLimit}
 use Rattle.extent_runs.specs.Placing.{Adjustable, IsAdjustable, Placement}
-use Rattle.extent_runs.specs.Signatures.{Filling}
+use Rattle.extent_runs.specs.Signatures.{Filling, MayFill}
 use Rattle.extent_runs.specs.Unpaid.{MakesUnpaid, unpaid_aims}
 use Rattle.extent_runs.specs.Words.{answered_point, both_wait, number_waits}
 
@@ -111,17 +113,25 @@ placement_with e x upper q =
       declared = declared_as x;
     }
 
--- at a point of the block a number is left for its signature, and the variable can be made
+-- at a point of the block a number is left for its signature, which a run may fill in, and the variable can be made
 pub record Fits (k : Block) (x : EvaluatedArray) (upper : ℤ) (q : Point) : Type 0 where
   pub few : nat_lt (number_of (template_with x upper) q.places.signatures) own_signature ≡ true
+  pub may : MayFill q (template_with x upper)
   pub is :
       IsAdjustable k.call.surroundings (filled_with x upper q) (adjustable_with x upper q)
       (placement_with k.environment x upper q).layer x.evaluated.others
 
+-- or it passes the limit on what is AUTOMATIC
+pub record Passes (k : Block) (x : EvaluatedArray) (upper : ℤ) (q : Point) : Type 0 where
+  pub few : nat_lt (number_of (template_with x upper) q.places.signatures) own_signature ≡ true
+  pub is :
+      PassesLimit (filled_with x upper q) (adjustable_with x upper q) (placement_with k.environment x upper q).layer
+      x.evaluated.others
+
 -- ---- the law
 
--- its template has its number where the extents are evaluated; and whatever they come to, the array fits there. Its
--- upper bound is known to be what its extents mean, so what is known of that helps.
+-- its template has its number where the extents are evaluated; and whatever they come to, the array fits there or
+-- passes the limit. Its upper bound is known to be what its extents mean, so what is known of that helps.
 pub record IsEvaluatedArray (i : Block) (k : Setting) (x : EvaluatedArray) (p : Point) (numbers : ℕ → ℕ) : Type 0
   where
     pub evaluated : IsEvaluated i k x.evaluated p numbers
@@ -137,7 +147,8 @@ pub record IsEvaluatedArray (i : Block) (k : Setting) (x : EvaluatedArray) (p : 
     pub fits :
         (q : Point) (held : ℕ → ℕ) (upper : ℤ) → IsAmong k.block held q → IsWide upper →
         int_le x.evaluated.extent.lower upper ≡ true →
-        extents_of k x i.call.surroundings.acts p.state ≡ Normal (upper ∷ []) q.state → Fits k.block x upper q
+        extents_of k x i.call.surroundings.acts p.state ≡ Normal (upper ∷ []) q.state →
+        Fits k.block x upper q ⊎ Passes k.block x upper q
 
 -- what straight code makes of the variables that are declared before it, up to a point
 pub record IsFront (z : Site) (k : Setting) (front : Code) (before' : List Y.DeclaredVariable) (q : Point) : Type 0
@@ -161,6 +172,18 @@ pub record ArraysMade : Type 0 where
   pub early :
       (k : Block) (numbers : ℕ → ℕ) (p : Point) (u : Template) (n : ℕ) → IsAmong k numbers p →
       slice_get k.first.places.signatures n ≡ Some u → number_of u p.places.signatures ≤ n
+  -- and no number is greater than those that were there and those that may be filled in, which are the same ones
+  pub few :
+      (k : Block) (numbers : ℕ → ℕ) (p : Point) (u : Template) → IsAmong k numbers p →
+      (number_of u p.places.signatures ≤ length k.first.places.signatures + most_filled k.first.places.fills)
+      × (p.places.fills ≡ k.first.places.fills)
+  -- nor at a point of a block that was entered at one of its points
+  pub inside :
+      (k inner : Block) (numbers held : ℕ → ℕ) (p q : Point) (u : Template) → IsAmong k numbers p →
+      (inner.first.places.signatures ≡ p.places.signatures) × (inner.first.places.fills ≡ p.places.fills) →
+      IsAmong inner held q →
+      (number_of u q.places.signatures ≤ length k.first.places.signatures + most_filled k.first.places.fills)
+      × (q.places.fills ≡ k.first.places.fills)
   -- its code comes to where it is made, or the extents' code leaves the block by a jump, or the run ends: as it means
   pub one :
       (i : Block) (k : Setting) (x : EvaluatedArray) (p : Point) (numbers : ℕ → ℕ)
@@ -171,7 +194,7 @@ pub record ArraysMade : Type 0 where
       × (credits + size_of (made_code k.block.environment x) ≤ cost i.call.code) →
       AreIn i.call.surroundings p numbers index f →
       Comes i.call.code credits f (services_of p)
-      (unpaid_aims i p.state.world.acts (index + size_of (made_code k.block.environment x)) wanted left')
+      (unpaid_aims (Some p) i p.state.world.acts (index + size_of (made_code k.block.environment x)) wanted left')
       (automatic_made k.around x.index (declared_as x) Y.AutomaticClass i.call.surroundings.acts p.state)
   -- a procedure's only variable is made so
   pub only :
@@ -179,7 +202,7 @@ pub record ArraysMade : Type 0 where
       IsEvaluatedArray z.block k x z.start z.numbers → head.kind ≡ Y.ProcedureBlock →
       variables_of_block k.around.program head.number ≡ declared_as x ∷ [] → x.index ≡ 0 →
       z.variables ≡ made_code k.block.environment x →
-      MakesUnpaid z left' (block_variables_made k.around head head.kind)
+      MakesUnpaid (Some z.start) z left' (block_variables_made k.around head head.kind)
   -- and so is the last one, behind what straight code makes
   pub behind :
       (z : Site) (k : Setting) (x : EvaluatedArray) (left' : ℕ) (head : Y.BlockHead) (front : Code)
@@ -187,4 +210,4 @@ pub record ArraysMade : Type 0 where
       IsEvaluatedArray z.block k x q z.numbers → head.kind ≡ Y.ProcedureBlock →
       variables_of_block k.around.program head.number ≡ before' ++ declared_as x ∷ [] → x.index ≡ length before' →
       z.variables ≡ front ++ made_code k.block.environment x →
-      MakesUnpaid z left' (block_variables_made k.around head head.kind)
+      MakesUnpaid (Some q) z left' (block_variables_made k.around head head.kind)

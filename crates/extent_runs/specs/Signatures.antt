@@ -1,6 +1,6 @@
 -- Service 3 at a point: an extent is filled in at all places that share it, and the signature that has it is known by a
 -- number from then on.
-use Rattle.std.specs.Prelude.{ℕ, ◌+◌, ◌^◌, ◌<◌, ◌≡◌, List, ◌∷◌, Some, nat_lt, slice_get, true}
+use Rattle.std.specs.Prelude.{ℕ, ◌+◌, ◌^◌, ◌<◌, ◌≡◌, List, ◌∷◌, Some, length, nat_lt, slice_get, true}
 use Rattle.rv_meaning.specs.declared.instr.Instr.{Instr}
 use Rattle.rv_meaning.specs.Machine.{value}
 use Rattle.pli_types.specs.Templates.{Template}
@@ -12,6 +12,7 @@ use Rattle.pli_coding.specs.Assembly.{Code, DataPlace, Datum, OffsetOf, size_of}
 use Rattle.pli_coding.specs.Instructions.{service}
 use Rattle.pli_coding.specs.Linking.{place_of}
 use Rattle.pli_coding.specs.Registers.{a0, a1, a2, a3}
+use Rattle.storage_relation.specs.Fills.{IsFill}
 use Rattle.storage_relation.specs.Stored.{with_signatures}
 use Rattle.activation_relation.specs.Layers.{Point, services_of}
 use Rattle.activation_relation.specs.Points.{Stands, Surroundings}
@@ -50,6 +51,10 @@ pub record IsFilling (p : Point) (x : Filling) : Type 0 where
       filled (bounds_given x.lower x.upper) x.places (slice_get p.places.signatures x.number) ≡ Some x.template
   pub few : nat_lt (number_of x.template p.places.signatures) own_signature ≡ true
 
+-- if the signature wasn't there it is one that a run may fill in
+abbrev pub MayFill : Point → Template → Type 0
+MayFill p u = number_of u p.places.signatures ≡ length p.places.signatures → IsFill p.places.fills u
+
 -- the list stands in static data
 abbrev pub HasList : Point → Filling → (memory : List ℕ) → Type 0
 HasList p x m = places_at p.layout x.at m ≡ Some x.places
@@ -83,9 +88,9 @@ pub record SignaturesFilled : Type 0 where
       (w : Surroundings) (code : List Instr) (p : Point) (u : Template) → Stands w p × IsImage w code p →
       Stands w (filled_point u p) × IsImage w code (filled_point u p)
   -- what is stored stays, and it is a point of the same block
-  pub remains : (p : Point) (u : Template) → Remains p (filled_point u p)
+  pub remains : (p : Point) (u : Template) → MayFill p u → Remains p (filled_point u p)
   pub among :
-      (k : Block) (numbers : ℕ → ℕ) (p : Point) (u : Template) → IsAmong k numbers p →
+      (k : Block) (numbers : ℕ → ℕ) (p : Point) (u : Template) → IsAmong k numbers p → MayFill p u →
       IsAmong k numbers (filled_point u p)
   -- the number means the template's shape
   pub shape :

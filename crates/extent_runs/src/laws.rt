@@ -4,9 +4,11 @@ ghost use Rattle.extent_runs.specs.Arrays.{ArraysFilled};
 ghost use Rattle.extent_runs.specs.Both.{ExtentsEvaluated, ExtentsPlaced};
 ghost use Rattle.extent_runs.specs.Entered.{BlocksEntered};
 ghost use Rattle.extent_runs.specs.Extents.{ExtentsDo, ExtentsEnd};
+ghost use Rattle.extent_runs.specs.FittingArrays.{ArraysFit};
 ghost use Rattle.extent_runs.specs.Lists.{ListsFound};
 ghost use Rattle.extent_runs.specs.MadeArrays.{ArraysMade};
 ghost use Rattle.extent_runs.specs.Making.{MakingBeginsDo, MakingProceduresRun, StraightMakes};
+ghost use Rattle.extent_runs.specs.PassedLimits.{AdjustablesEnd};
 ghost use Rattle.extent_runs.specs.Placing.{AdjustablesPlaced};
 ghost use Rattle.extent_runs.specs.Signatures.{SignaturesFilled};
 ghost use Rattle.extent_runs.specs.Unpaid.{UnpaidProceduresRun};
@@ -53,6 +55,11 @@ pub fn adjustables_placed()
     ensures { AdjustablesPlaced }
 {}
 
+/// Where it passes the limit on what is AUTOMATIC the run ends, whether the stacks have room for it or not.
+pub fn adjustables_end()
+    ensures { AdjustablesEnd }
+{}
+
 /// The extents of a variable are evaluated behind their act, up to both bounds in registers.
 pub fn extents_evaluated()
     ensures { ExtentsEvaluated }
@@ -86,6 +93,11 @@ pub fn unpaid_procedures_run()
 /// An array whose upper bound is evaluated is made where its procedure begins, whatever the bound calls and raises.
 pub fn arrays_made()
     ensures { ArraysMade }
+{}
+
+/// It fits wherever the stacks have room for all that may be AUTOMATIC, or it passes that limit.
+pub fn arrays_fit()
+    ensures { ArraysFit }
 {}
 
 /// CALL of such a procedure does what it means if the making of its variables does, and then each of its statements.

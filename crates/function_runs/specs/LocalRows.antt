@@ -138,6 +138,7 @@ local_image input acts =
       units = [];
       signatures = map template_of (table_of local_program);
       constants = no_constants;
+      fills = [];
       input = input;
       acts = acts;
       serials = 1;

@@ -123,6 +123,7 @@ fetch_image input acts =
       units = [];
       signatures = map template_of (table_of fetch_program);
       constants = no_constants;
+      fills = [];
       input = input;
       acts = acts;
       serials = 1;

@@ -101,6 +101,7 @@ group_image input acts =
       units = [];
       signatures = map template_of (table_of group_program);
       constants = no_constants;
+      fills = [];
       input = input;
       acts = acts;
       serials = 1;

@@ -197,7 +197,7 @@ ListExits z acts =
     Comes z.block.call.code 0 f (services_of (own_block z).first) (exit_aims (own_block z) acts left_over)
     (M.list (own_block z).around z.callee.procedure.body z.block.call.surroundings.acts (own_block z).first.state)
 
-list_exits :
+pub list_exits :
     (z : Here) (h : IsHere z) (acts : ℕ) → acts ≤ z.point.state.world.acts →
     (IsList (own_block z) z.callee.procedure.body (body_index z.callee) →
     ListDoes (own_block z) z.callee.procedure.body (body_index z.callee) left_over) → ListExits z acts
@@ -357,7 +357,7 @@ behind_goes {k} {numbers = numbers} {p = p} h o since q =
       reach = reach_map _ q.reach (λ b y is. subst (λ n. IsIn w q.point numbers n b y) h.call is.0);
     }
 
-abbrev here_of : Block → List Label → Callee → Point → (numbers : ℕ → ℕ) → Here
+abbrev pub here_of : Block → List Label → Callee → Point → (numbers : ℕ → ℕ) → Here
 here_of k labels c p numbers =
     record { block = k; labels = labels; callee = c; point = p; numbers = numbers }
 

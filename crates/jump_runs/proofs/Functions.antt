@@ -142,8 +142,15 @@ callee_of z = called_from z.callee z.call
 abbrev pub own_block : Here → Block
 own_block z = function_in z.setting (callee_of z) z.point z.numbers
 
+-- what is asked of it wherever it is called
+pub record IsCalled (k : Setting) (c : Callee) : Type 0 where
+  pub begun : IsBegun k.block
+  pub function : IsFunction k.block.call.surroundings k.block.call.code c
+  pub room : HasRoom k.block.call.surroundings k.block.first c.procedure c.calling
+  pub enough : k.block.call.surroundings.acts < c.around.turns + k.block.first.state.world.acts
+
 pub record IsHere (z : Here) : Type 0 where
-  pub is : IsFunctionCall z.setting z.callee z.more
+  pub is : IsCalled z.setting z.callee
   pub among : IsAmong (waiting z.entries z.setting.block) z.numbers z.point
   pub calls :
       Linked z.setting.block.call.surroundings.links z.setting.block.call.code z.call
@@ -307,7 +314,6 @@ is_list z h b o =
     let y = h.is.function in
     let same = ap (λ (u : World). u.acts) h.made.world in
     let enough = h.is.enough in
-    let turns = ap (λ (a : Around). a.turns) h.is.around in
     let later = h.among.later.acts in
     record {
       begun = b;
@@ -319,7 +325,7 @@ is_list z h b o =
       line = y.line;
       acts = y.acts;
       called = omega (arith, same);
-      enough = omega (arith, enough, turns, same, later);
+      enough = omega (arith, enough, same, later);
       routines = y.routines;
       raises = y.raises;
     }
@@ -537,8 +543,15 @@ jump_function_does entries k c more h made' does p numbers taken credits index f
     let flow = M.block_run c.around (block_of c.procedure) entry w.acts p.state in
     let most = h.most in
     let acts = p.state.world.acts in
+    let enough = h.enough in
+    let turns = ap (λ (a : Around). a.turns) h.around in
     let is : IsHere z = record {
-      is = h;
+      is = record {
+        begun = h.begun;
+        function = h.function;
+        room = h.room;
+        enough = omega (arith, enough, turns);
+      };
       among = o;
       calls = back_of given' call' l';
       made = made' call p numbers o;

@@ -133,6 +133,7 @@ drop_image input acts =
       units = [];
       signatures = map template_of (table_of drop_program);
       constants = no_constants;
+      fills = [];
       input = input;
       acts = acts;
       serials = 1;

@@ -132,6 +132,7 @@ shed_image input acts =
       units = [];
       signatures = map template_of (table_of shed_program);
       constants = no_constants;
+      fills = [];
       input = input;
       acts = acts;
       serials = 1;

@@ -158,6 +158,7 @@ flee_image input acts =
       units = flee_units;
       signatures = map template_of (table_of flee_program);
       constants = no_constants;
+      fills = [];
       input = input;
       acts = acts;
       serials = 1;

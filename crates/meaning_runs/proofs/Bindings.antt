@@ -1,28 +1,33 @@
 -- What variables stand for: each binding has the shape that its variable is declared with, in activations and of STATIC
 -- variables, and so has what is found for a variable of a block around.
-use Rattle.std.proofs.Common.{◌≡◌, ℕ, suc, ◌+◌, ◌<◌, List, [], ◌∷◌, Option, Some, None, Bool, true, false}
+use Rattle.std.proofs.Common.{◌≡◌, ℕ, suc, ◌<◌, List, [], ◌∷◌, Option, Some, None, Bool, true, false}
 use Rattle.std.proofs.Common.{refl, ap, sym, ◌∙◌, subst, arith, inl, inr}
 use Rattle.std.specs.Prelude.{◌==◌, ◌&&◌, cond, ⊤, length, slice_get}
 use Rattle.std.proofs.lemmas.Bool.Decides.{nat_tests}
 use Rattle.pli_language.specs.declared.condition.Condition.{Condition}
 use Rattle.pli_typing.specs.TypedTree as Y
 use Rattle.pli_meaning.specs.StorageState.{State, Binding, StaticBinding, OnUnit, Activation, established, reverted}
+use Rattle.pli_meaning.specs.BasicValues.{BasedName}
+use Rattle.pli_meaning.specs.Contents.{Placed}
+use Rattle.pli_meaning.specs.StorageState.{offsets_of, newest_placed, newest_in, heap_serial}
 use Rattle.pli_meaning.specs.StorageState.{ancestor, ancestor_at, binding_of, binding_in, static_binding, binding_at}
 use Rattle.pli_meaning.specs.DeclaredShapes as D
 use Rattle.pli_meaning.specs.Making as K
 use Rattle.well_formed_trees.specs.Every.{Every}
 use Rattle.well_formed_trees.specs.Surroundings.{Around, Table, IsAround}
-use Rattle.meaning_runs.specs.Plain as P
+use Rattle.well_formed_trees.specs.Declarations.{HoldsArea}
 use Rattle.meaning_runs.proofs.Frames.{Frame, outlines, skeleton, with_labels, first_outline, rest_outlines, Holds}
 use Rattle.meaning_runs.proofs.Frames.{Chain, AtLevel, around_at, lower_level, newest_ancestor, chosen, passed_over}
-use Rattle.meaning_runs.proofs.Shapes.{IsShapedAs, both_true}
+use Rattle.meaning_runs.proofs.Shapes.{IsShapedAs, IsAreaVariable, StandsAs, both_true}
+use Rattle.meaning_runs.proofs.Values.{HasStored}
+use Rattle.meaning_runs.proofs.Heaps.{HasHeap, IsPlacedFor, offsets_placed}
 
 -- ---- bindings
 
 abbrev pub IsBinding : Y.Program → (block : ℕ) → Binding → Type 0
 IsBinding p block b =
-    (d : Y.DeclaredVariable) → slice_get (D.variables_of_block p block) b.variable ≡ Some d → P.IsShapeKnown d.class
-    → IsShapedAs d b.shape
+    (d : Y.DeclaredVariable) → slice_get (D.variables_of_block p block) b.variable ≡ Some d
+    → StandsAs d b.name b.shape
 
 abbrev pub HasBindings : Y.Program → List Frame → List Activation → Type 0
 HasBindings p [] as' = ⊤
@@ -32,9 +37,10 @@ HasBindings p (f ∷ fs) (a ∷ as') = Every (IsBinding p f.number) a.bindings �
 abbrev pub HasStatics : Y.Program → List StaticBinding → Type 0
 HasStatics p bs = Every (λ b. IsBinding p b.block b.binding) bs
 
--- those of all activations, and of STATIC variables
+-- those of all activations, of STATIC variables and of CONTROLLED ones; and values are of their leaves' kinds
 abbrev pub HasShapes : Y.Program → List Frame → State → Type 0
-HasShapes p fs s = HasBindings p fs s.activations × HasStatics p s.statics
+HasShapes p fs s =
+    HasBindings p fs s.activations × ((HasStatics p s.statics × HasStored s) × HasHeap p s.heap s.controlled)
 
 -- one that the newest activation may have
 abbrev pub IsNewBinding : Y.Program → List Frame → Binding → Type 0
@@ -169,17 +175,29 @@ pub record Ground (table : Table) (fs : List Frame) (blocks : List Around) : Typ
   pub chain : Chain table around
   pub inside : (number level : ℕ) → IsAround number level blocks → IsAround number level around
 
--- what a variable of a block around stands for is shaped as it is declared
+newest_shaped : (p : Y.Program) (heap : List Placed) (block variable : ℕ) (os : List ℕ) (b : Binding)
+    (d : Y.DeclaredVariable) → Every (IsPlacedFor p heap block variable) os → newest_in heap variable os ≡ Some b
+    → slice_get (D.variables_of_block p block) variable ≡ Some d → IsShapedAs d b.shape
+newest_shaped p heap block variable [] b d h e f = absurd (cc e)
+newest_shaped p heap block variable (o ∷ os) b d h e f =
+    let found : newest_placed variable o (Some h.0.generation) ≡ Some b =
+    subst (λ x. newest_placed variable o x ≡ Some b) h.0.there e in
+    let same : record { variable = variable; name = BasedName heap_serial o; shape = h.0.generation.shape } ≡ b =
+    cc found in
+    subst (λ x. IsShapedAs d x.shape) same (h.0.shaped d f)
+
+-- what a variable of a block around stands for is as it is declared
 pub standing_shaped : (p : Y.Program) (table : Table) (fs : List Frame) (blocks : List Around) (s : State)
     (class : Y.StorageClass) (v : Y.Variable) (d : Y.DeclaredVariable) (b : Binding) → Ground table fs blocks
-    → skeleton s.activations ≡ outlines fs → HasShapes p fs s → D.declared_variable p v ≡ Some d → d.class ≡ class
-    → IsAround v.block v.level blocks → binding_at s class v ≡ Some b → P.IsShapeKnown class → IsShapedAs d b.shape
-standing_shaped p table fs blocks s class v d b g e h found same around is known =
-    of_class class same is known
+    → skeleton s.activations ≡ outlines fs → HasShapes p fs s → D.declared_variable p v ≡ Some d
+    → (IsAreaVariable d → HoldsArea class) → IsAround v.block v.level blocks → binding_at s class v ≡ Some b
+    → StandsAs d b.name b.shape
+standing_shaped p table fs blocks s class v d b g e h found areas around is =
+    of_class class areas is
   where
-    of_variable : P.IsShapeKnown d.class → IsOfVariable p v.block v.index b → IsShapedAs d b.shape
-    of_variable k x =
-        x.bound d (subst (λ n. slice_get (D.variables_of_block p v.block) n ≡ Some d) (sym x.variable_is) found) k
+    of_variable : IsOfVariable p v.block v.index b → StandsAs d b.name b.shape
+    of_variable x =
+        x.bound d (subst (λ n. slice_get (D.variables_of_block p v.block) n ≡ Some d) (sym x.variable_is) found)
 
     in_activation : (o : Option Activation) → AreBound p v.block o → binding_in o v.index ≡ Some b
         → IsOfVariable p v.block v.index b
@@ -193,11 +211,14 @@ standing_shaped p table fs blocks s class v d b g e h found same around is known
         (ancestor_bound p table v.level v.block fs s.activations (length fs) g.around e h.0 g.holds g.chain
         (around_at v.block v.level g.around (g.inside v.block v.level around))))
 
-    of_class : (c : Y.StorageClass) → d.class ≡ c → binding_at s c v ≡ Some b → P.IsShapeKnown c
-        → IsShapedAs d b.shape
-    of_class Y.AutomaticClass q f k = of_variable (subst P.IsShapeKnown (sym q) k) (of_ancestor f)
-    of_class Y.ParameterClass q f k = absurd k
-    of_class Y.StaticClass q f k =
-        of_variable (subst P.IsShapeKnown (sym q) k) (static_found p v.block v.index s.statics b h.1 f)
-    of_class Y.BasedClass q f k = absurd (cc f)
-    of_class Y.ControlledClass q f k = absurd k
+    of_class : (c : Y.StorageClass) → (IsAreaVariable d → HoldsArea c) → binding_at s c v ≡ Some b
+        → StandsAs d b.name b.shape
+    of_class Y.AutomaticClass a f = of_variable (of_ancestor f)
+    of_class Y.ParameterClass a f = of_variable (of_ancestor f)
+    of_class Y.StaticClass a f = of_variable (static_found p v.block v.index s.statics b h.1.0.0 f)
+    of_class Y.BasedClass a f = absurd (cc f)
+    of_class Y.ControlledClass a f = (
+      newest_shaped p s.heap v.block v.index (offsets_of s.controlled v.block v.index) b d
+          (offsets_placed p s.heap v.block v.index s.controlled h.1.1.1.0) f found,
+      λ area. absurd (a area),
+    )

@@ -1,5 +1,5 @@
--- The blocks and whole runs of a plain well-formed program are there.
-use Rattle.std.proofs.Common.{◌≡◌, ℕ, zero, suc, ◌+◌, ◌<◌, List, [], ◌∷◌, ◌++◌, Some, None, Bool, true, false}
+-- The blocks and whole runs of a well-formed program are there.
+use Rattle.std.proofs.Common.{◌≡◌, ℕ, zero, suc, ◌+◌, ◌<◌, pos, List, [], ◌∷◌, Some, None, Bool, true, false}
 use Rattle.std.proofs.Common.{refl, ap, sym, ◌∙◌, subst, arith, inl}
 use Rattle.std.specs.Prelude.{⊤, drop, length, slice_get}
 use Rattle.pli_language.specs.declared.condition.Condition.{Condition}
@@ -23,10 +23,12 @@ use Rattle.well_formed_trees.specs.Expressions.{SoundNumber}
 use Rattle.well_formed_trees.specs.Statements as T
 use Rattle.well_formed_trees.specs.Statements.{IsListed, IsListedUnit}
 use Rattle.well_formed_trees.specs.WellFormed.{HasMain, IsHeld}
-use Rattle.meaning_runs.specs.Plain as P
+use Rattle.meaning_runs.proofs.Calling as P
 use Rattle.meaning_runs.proofs.Frames.{Frame, outlines, skeleton, closed, rest_outlines, IsOpen, AreAmong, Stands}
 use Rattle.meaning_runs.proofs.Frames.{Chain, among_first, enters_own, covers_own, stands_wider, holds_of}
 use Rattle.meaning_runs.proofs.Shapes.{IsShapedAs, shape_declared}
+use Rattle.meaning_runs.proofs.Values.{fresh_values}
+use Rattle.well_formed_trees.proofs.Lists.{every_map}
 use Rattle.meaning_runs.proofs.Bindings.{Ground, same_bindings}
 use Rattle.meaning_runs.proofs.Demands.{placed, block_around, Bearing, SoundOnUnit, HasUnits, Kept, Demand}
 use Rattle.meaning_runs.proofs.Demands.{Anything, There, force_sound}
@@ -35,7 +37,7 @@ use Rattle.meaning_runs.proofs.Steps.{act_there, act_then, finish_there, choose_
 use Rattle.meaning_runs.proofs.Steps.{list_there, block_there, Leads, leads_there, leads_then, Passes}
 use Rattle.meaning_runs.proofs.Ways.{Whole, Declares, FineProcedure, SoundEntry, Expected, statics_kept}
 use Rattle.meaning_runs.proofs.Expressions.{error_unit_there}
-use Rattle.meaning_runs.proofs.Ways.{AreParameters, listed_unit, next_of}
+use Rattle.meaning_runs.proofs.Ways.{ArePassedAs, listed_unit, next_of}
 use Rattle.meaning_runs.proofs.Stored.{evaluations_there, variable_made_there, parameters_bound_there}
 use Rattle.meaning_runs.proofs.Statements.{Level, FootAt, demand_at, around_at, place_at, lower, apart}
 use Rattle.meaning_runs.proofs.Statements.{listed_frame, labels_same, newest_there, statements_there}
@@ -51,11 +53,11 @@ Grounds l =
 extents_begun : (d : Y.DeclaredVariable) (l : Level) → Grounds l → Declares l.program l.table l.frame.number d
     → There (demand_at l) 0 1 l.left Anything (K.extents (around_at l) d.evaluations)
 unfolding K.extents
-extents_begun d l g h = of_list d.evaluations h.sound h.plain
+extents_begun d l g h = of_list d.evaluations h.sound h.allowed
   where
     of_list : (xs : List Y.Evaluation)
         → Every (λ x. SoundNumber (placed l.program l.table h.blocks NoReturn) x.value) xs
-        → Every (λ x. P.PlainNumber P.NoCall x.value) xs
+        → Every (λ x. P.AllowedNumber P.NoCall x.value) xs
         → There (demand_at l) 0 1 l.left Anything (K.extents (around_at l) xs)
     of_list [] s p = give_there [] tt
     of_list (x ∷ xs) s p =
@@ -70,8 +72,10 @@ automatic_begun : (variable : ℕ) (d : Y.DeclaredVariable) (class : Y.StorageCl
 unfolding K.automatic_made
 automatic_begun variable d Y.AutomaticClass l g e h =
     bind_there (extents_begun d l g h) (λ values k. variable_made_there variable _
-    (λ n x f known.
-    let same : d ≡ x = cc (e, f) in subst (λ y. IsShapedAs y (D.shape_of values d)) same (shape_declared values d)))
+    (λ n own x f.
+    let same : d ≡ x = cc (e, f) in
+    (subst (λ y. IsShapedAs y (D.shape_of values d)) same (shape_declared values d), λ area. own))
+    (fresh_values (D.shape_of values d) (pos 0) d.leaves (shape_declared values d) h.initial))
 automatic_begun variable d Y.ParameterClass l g e h = give_there tt tt
 automatic_begun variable d Y.StaticClass l g e h = give_there tt tt
 automatic_begun variable d Y.BasedClass l g e h = give_there tt tt
@@ -234,19 +238,18 @@ end_there l =
 
 block_list_there : (r : Run) (head : Y.BlockHead) (body : Y.Stmts) (entry : Entry) (is_function : Bool)
     (t : FootAt (list_level r head body entry)) → T.SoundStmts (place_at (list_level r head body entry) t) body
-    → P.PlainStmts body
     → There (entering (Some r.returning) (run_frame head body entry) (outside r)) 0 1 r.left (EndsSo is_function)
     (M.block_list (around_at (fresh_level r head entry)) body is_function)
 unfolding M.block_list M.list M.list_with
-block_list_there r head body entry false t h p =
+block_list_there r head body entry false t h =
     bind_there looked_there (λ s k. list_there r.turns r.left _ (M.labels_in body) None r.few
     (newest_there s.activations (run_frame head body entry) r.outer.frames k.1)
-    (λ x c q. statements_there body x (lower (list_level r head body entry) c q) t h p))
-block_list_there r head body entry true t h p =
+    (λ x c q. statements_there body x (lower (list_level r head body entry) c q) t h))
+block_list_there r head body entry true t h =
     bind_there looked_there (λ s k. list_there r.turns r.left _ (M.labels_in body) None r.few
     (newest_there s.activations (run_frame head body entry) r.outer.frames k.1)
     (λ x c q. let l : Level = lower (list_level r head body entry) c q in
-    then_there (statements_there body x l t h p) (end_there l)))
+    then_there (statements_there body x l t h) (end_there l)))
 
 -- around the declarations of a block
 fresh_grounds : (r : Run) (head : Y.BlockHead) (body : Y.Stmts) (entry : Entry)
@@ -280,18 +283,17 @@ block_variables_begun r head body entry Y.SimpleUnit t i = give_there tt tt
 -- what is known of the arguments of a block, and of its declarations
 record Entered (r : Run) (head : Y.BlockHead) (body : Y.Stmts) (entry : Entry)
     (t : FootAt (list_level r head body entry)) : Type 0 where
-  counts : length entry.arguments ≡ length entry.parameters
-  parameters : AreParameters r.program head.number entry.parameters
+  passed : ArePassedAs r.program head.number entry.parameters entry.arguments
   listed : IsListedUnit r.table head (t.own ∷ t.outer) head.kind
 
 block_body_there : (r : Run) (head : Y.BlockHead) (body : Y.Stmts) (entry : Entry)
     (t : FootAt (list_level r head body entry)) → T.SoundStmts (place_at (list_level r head body entry) t) body
-    → P.PlainStmts body → Entered r head body entry t
+    → Entered r head body entry t
     → Leads (entering (Some r.returning) (fresh_frame head entry) (outside r))
     (entering (Some r.returning) (run_frame head body entry) (outside r)) r.left (EndsSo entry.is_function)
     (M.block_body (around_at (fresh_level r head entry)) head body entry)
 unfolding M.block_body
-block_body_there r head body entry t h p e =
+block_body_there r head body entry t h e =
     let f : Frame = fresh_frame head entry in
     let g : Frame = run_frame head body entry in
     let widens : (s : State) → Kept (entering (Some r.returning) f (outside r)) s
@@ -306,12 +308,12 @@ block_body_there r head body entry t h p e =
     in
     let u : Level = fresh_level r head entry in
     leads_then (outside r) (Some r.returning) f g (EndsSo entry.is_function) widens refl
-    (parameters_bound_there entry.parameters entry.arguments e.parameters e.counts)
+    (parameters_bound_there entry.parameters entry.arguments e.passed)
     (leads_then (outside r) (Some r.returning) f g (EndsSo entry.is_function) widens refl
     (block_variables_begun r head body entry head.kind t e.listed)
     (leads_then (outside r) (Some r.returning) f g (EndsSo entry.is_function) widens refl (entry_act_there head.kind)
     (leads_there (outside r) (Some r.returning) f g (EndsSo entry.is_function) widens
-    (block_list_there r head body entry entry.is_function t h p))))
+    (block_list_there r head body entry entry.is_function t h))))
 
 -- the new activation is one higher than those further down, and has no on-units
 entered_kept : (r : Run) (head : Y.BlockHead) (entry : Entry) (s : State) → Kept (outside r) s
@@ -351,17 +353,16 @@ around_in r = record { program = r.program; enter = r.enter; turns = r.turns; li
 block_run_there : (r : Run) (head : Y.BlockHead) (body : Y.Stmts) (entry : Entry)
     (t : FootAt (list_level r head body entry))
     → T.SoundStmts (place_at (list_level (run_on_line r head.line) head body entry) t) body
-    → P.PlainStmts body
     → Entered (run_on_line r head.line) head body entry t
     → Passes (M.is_own_return head.kind) (Expected entry.is_function) (Some r.returning) r.outer.answers
     → There (outside r) 0 1 r.left (Expected entry.is_function) (M.block_run (around_in r) (Y.BlockOf head body) entry)
 unfolding M.block_run
-block_run_there r head body entry t h p e passes =
+block_run_there r head body entry t h e passes =
     bind_there looked_there (λ s k. choose_there _
     (block_there (M.is_own_return head.kind) (Expected entry.is_function) (Some r.returning)
     (fresh_frame head entry) (run_frame head body entry) (EndsSo entry.is_function) (M.with_activation head entry)
     (entered_kept r head entry) refl
-    (block_body_there (run_on_line r head.line) head body entry t h p e) (none_expected entry.is_function) passes)
+    (block_body_there (run_on_line r head.line) head body entry t h e) (none_expected entry.is_function) passes)
     (finish_there (E.Limit L.Depth) tt))
 
 -- ---- the whole
@@ -392,8 +393,8 @@ entered_there p table whole (suc n) left few outer entry s =
     (sym s.block.is)
     (block_run_there r s.block.head s.block.body entry
     (list_foot r entry s.block.head s.block.body s.block.outer s.chain s.stands)
-    s.block.statements s.block.plain
-    (record { counts = s.counts; parameters = s.parameters; listed = s.listed }) s.passes)
+    s.block.statements
+    (record { passed = s.passed; listed = s.listed }) s.passes)
 
 -- the main procedure stands in no block
 main_outer : (table : Table) (level : ℕ) (blocks : List W.Around) → IsHeld table level blocks → level ≡ 0 → blocks ≡ []
@@ -422,8 +423,7 @@ main_entry p table q f e =
       opens = tt;
       passes =
           subst (λ own. Passes own (Expected false) (Some f.block.returning) None) (sym f.own) (λ v h. tt);
-      counts = refl;
-      parameters = tt;
+      passed = tt;
       listed = listed_unit table f.block.head (own ∷ f.block.outer) f.block.head.kind f.listed;
     }
 
@@ -451,7 +451,8 @@ run_there p table whole h n left few =
     let m = main_there (FineProcedure p table) p.procedures h whole.procedures in
     found_there (M.main_of p.procedures) m.main _ _ m.is
     (then_there (stored_there (K.statics_from 0 p.variables)
-    (statics_kept (at_start p table)))
+    (λ s k. statics_kept (at_start p table) s
+    (λ block. every_map (Declares p table block) _ (λ d e. e.initial) _ (whole.declares block)) k))
     (then_there (entered_there p table whole n left few (at_start p table).bearing (M.begun m.main.block 0)
     (main_entry p table m.main m.fine m.outermost))
     (finish_there E.Finished tt)))

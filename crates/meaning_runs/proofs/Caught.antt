@@ -1,4 +1,4 @@
--- The program whose jump is caught at the end of a function is well formed and plain, and its run is computed.
+-- The program whose jump is caught at the end of a function is well formed, and its run is computed.
 use Rattle.std.proofs.Common.{◌≡◌, ℕ, zero, suc, ◌<◌, ◌≤◌, [], ◌∷◌, Some, refl, subst, arith, inl, inr}
 use Rattle.std.proofs.lemmas.Bool.Decides.{nat_tests}
 use Rattle.pli_language.specs.declared.condition.Condition.TheVariants as C
@@ -15,7 +15,6 @@ use Rattle.well_formed_trees.specs.Surroundings.{Around, Table}
 use Rattle.well_formed_trees.specs.Blocks.{times}
 use Rattle.well_formed_trees.specs.Ranges.{IsFormatList}
 use Rattle.well_formed_trees.specs.WellFormed as T
-use Rattle.meaning_runs.specs.Plain.{IsPlain}
 use Rattle.meaning_runs.specs.Caught.{head, formats, main_body, function_body, main, function, function_ends}
 use Rattle.meaning_runs.specs.Caught.{JumpCaught}
 
@@ -168,12 +167,5 @@ well_formed =
       variables = variables;
     }
 
-plain : IsPlain function_ends
-plain =
-    record {
-      procedures = ((((tt, tt), ((tt, tt), tt)), tt), (((tt, tt), (tt, (tt, tt))), tt));
-      variables = (tt, (tt, (tt, tt)));
-    }
-
 pub jump_caught : JumpCaught
-jump_caught = record { well_formed = well_formed; plain = plain; caught = caught }
+jump_caught = record { well_formed = well_formed; caught = caught }

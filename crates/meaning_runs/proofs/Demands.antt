@@ -16,9 +16,10 @@ use Rattle.well_formed_trees.specs.Surroundings.{Table, Where, Returning, Return
 use Rattle.well_formed_trees.specs.Surroundings as W
 use Rattle.well_formed_trees.specs.Statements.{SoundStmts, IsListedUnit}
 use Rattle.well_formed_trees.specs.Statements as T
-use Rattle.meaning_runs.specs.Plain.{PlainStmts}
 use Rattle.meaning_runs.specs.Present.{IsOver}
 use Rattle.meaning_runs.proofs.Frames.{Frame, outlines, skeleton, closed, IsOpen, Chain, Stands}
+use Rattle.meaning_runs.proofs.Heaps.{HasHeap}
+use Rattle.meaning_runs.proofs.Values.{HasStored, owner_ended}
 use Rattle.meaning_runs.proofs.Bindings.{HasBindings, HasStatics, HasShapes, established_bindings, reverted_bindings}
 use Rattle.meaning_runs.proofs.Frames.{stands_under, stands_wider, first_outline, rest_outlines}
 
@@ -33,7 +34,7 @@ abbrev pub block_around : Y.BlockHead → Y.Stmts → W.Around
 block_around head body =
     record { number = head.number; level = head.level; outermost = T.labels_in body; inner = [] }
 
--- the statements of a block are sound, somewhere in the program, and plain
+-- the statements of a block are sound, somewhere in the program
 pub record SoundBlock (p : Y.Program) (table : Table) (b : Y.Block) : Type 0 where
   pub head : Y.BlockHead
   pub body : Y.Stmts
@@ -41,7 +42,6 @@ pub record SoundBlock (p : Y.Program) (table : Table) (b : Y.Block) : Type 0 whe
   pub outer : List W.Around
   pub returning : Returning
   pub statements : SoundStmts (placed p table (block_around head body ∷ outer) returning) body
-  pub plain : PlainStmts body
 
 -- a unit takes a RETURN in it for its own; where it is established, the blocks around it stand at a height
 pub record SoundUnit (p : Y.Program) (table : Table) (fs : List Frame) (height : ℕ) (b : Y.Block) : Type 0 where
@@ -130,10 +130,15 @@ ended_kept d f s h e = of_list s.activations s h e
   where
     of_list : (as' : List Activation) (s : State)
         → HasUnits d.program d.table (f ∷ d.bearing.frames) as'
-        × (HasBindings d.program (f ∷ d.bearing.frames) as' × HasStatics d.program s.statics)
+        × (HasBindings d.program (f ∷ d.bearing.frames) as'
+        × ((HasStatics d.program s.statics × HasStored s) × HasHeap d.program s.heap s.controlled))
         → skeleton as' ≡ outlines (f ∷ d.bearing.frames) → Kept d (without_newest as' s)
     of_list [] s a e = absurd (cc e)
-    of_list (y ∷ ys) s a e = ((a.0.1, (a.1.0.1, a.1.1)), cc e)
+    of_list (y ∷ ys) s a e =
+        let stored = a.1.1.0.1 in (
+          (a.0.1, (a.1.0.1, ((a.1.1.0.0, (owner_ended y.height s.living stored.0, stored.1)), a.1.1.1))),
+          cc e,
+        )
 
 established_heights : (c : Condition) (u : OnUnit) (as' : List Activation)
     → skeleton (established c u as') ≡ skeleton as'

@@ -1,12 +1,12 @@
 -- The first leaf of a member has at least as many bounds as the member has dimensions.
-use Rattle.std.proofs.Common.{◌≡◌, ℕ, zero, suc, ◌+◌, ◌-◌, ◌<◌, ◌≤◌, List, [], ◌∷◌, ◌++◌, Some, None, Bool, true, false}
+use Rattle.std.proofs.Common.{◌≡◌, ℕ, zero, suc, ◌+◌, ◌-◌, ◌<◌, ◌≤◌, List, [], ◌∷◌, ◌++◌, Some, Bool, true, false}
 use Rattle.std.proofs.Common.{refl, ap, sym, ◌∙◌, subst, arith}
-use Rattle.std.specs.Prelude.{nat_lt, fold, length, take, drop, slice_get, cond, if◌then◌else◌}
+use Rattle.std.specs.Prelude.{nat_lt, fold, length, take, drop, slice_get, cond}
 use Rattle.std.specs.List.{sum}
 use Rattle.std.proofs.lemmas.Bool.Decides.{nat_tests}
 use Rattle.std.proofs.lemmas.List.{length-append, length-take-le, take_all}
 use Rattle.pli_typing.specs.TypedTree as Y
-use Rattle.well_formed_trees.specs.Members.{IsMember, leaves_among, dimensions_with, all_dimensions, part_from}
+use Rattle.well_formed_trees.specs.Members.{IsMember, leaves_among, dimensions_with, all_dimensions}
 use Rattle.well_formed_trees.specs.Declarations.{AreMembers, IsBelow, HaveBounds, leaf_dimensions}
 
 sum_with : (xs : List ℕ) (n : ℕ) → sum (xs ++ n ∷ []) ≡ sum xs + n

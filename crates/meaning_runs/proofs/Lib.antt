@@ -1,6 +1,9 @@
+mod Calling
 mod Dimensions
 mod Shapes
 mod Frames
+mod Heaps
+mod Values
 mod Bindings
 mod Demands
 mod Steps
@@ -8,6 +11,8 @@ mod Ways
 mod Callees
 mod Extents
 mod Expressions
+mod AtStates
+mod Designating
 mod Stored
 mod Streams
 mod Statements

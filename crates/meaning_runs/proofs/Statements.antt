@@ -1,7 +1,7 @@
--- The statements of a plain well-formed program are there; they enter other blocks only behind an act.
-use Rattle.std.proofs.Common.{◌≡◌, ℕ, suc, ◌<◌, ◌≤◌, ℤ, List, [], ◌∷◌, ◌++◌, Option, Some, None, Bool, true, false}
-use Rattle.std.proofs.Common.{refl, ap, sym, ◌∙◌, subst, arith, inl, inr}
-use Rattle.std.specs.Prelude.{◌==◌, ◌||◌, ◌+◌, ◌⊎◌, cond, length, slice_get}
+-- The statements of a well-formed program are there; they enter other blocks only behind an act.
+use Rattle.std.proofs.Common.{◌≡◌, ℕ, suc, ◌<◌, ◌≤◌, ℤ, List, [], ◌∷◌, ◌++◌, Option, Some, None, true, false}
+use Rattle.std.proofs.Common.{refl, ap, sym, subst, arith, inl, inr}
+use Rattle.std.specs.Prelude.{◌⊎◌, length, slice_get}
 use Rattle.pli_language.specs.declared.condition.Condition.{Condition}
 use Rattle.pli_language.specs.declared.condition.Condition.TheVariants as C
 use Rattle.pli_meaning.specs.declared.outcome.End.TheVariants as E
@@ -9,8 +9,8 @@ use Rattle.pli_meaning.specs.World.{counted}
 use Rattle.pli_typing.specs.TypedTree as Y
 use Rattle.pli_meaning.specs.BasicValues.{BasicValue}
 use Rattle.pli_meaning.specs.StorageState.{State, Activation, BlockUnit, SystemUnit, established, reverted}
-use Rattle.pli_meaning.specs.StorageState.{with_activations, newest_height, ancestor, ancestor_at, height_of}
-use Rattle.pli_meaning.specs.Control.{Label, is_among, Meaning}
+use Rattle.pli_meaning.specs.StorageState.{with_activations, newest_height, ancestor_at, height_of}
+use Rattle.pli_meaning.specs.Control.{Label, Meaning}
 use Rattle.well_formed_trees.specs.Every.{Every}
 use Rattle.pli_meaning.specs.Raising.{Around, Enter, Entry}
 use Rattle.pli_meaning.specs.Evaluating as V
@@ -19,73 +19,89 @@ use Rattle.well_formed_trees.specs.Surroundings.{Table, Where, Returning, Return
 use Rattle.well_formed_trees.specs.Surroundings as W
 use Rattle.well_formed_trees.specs.Expressions as X
 use Rattle.well_formed_trees.specs.Statements as T
-use Rattle.meaning_runs.specs.Plain as P
+use Rattle.meaning_runs.proofs.Calling as P
 use Rattle.meaning_runs.proofs.Frames.{Frame, skeleton, outlines, closed, first_outline, IsOpen, AreAmong, Stands}
 use Rattle.meaning_runs.proofs.Frames.{IsOf, holds_of, Covers, covers_own}
 use Rattle.meaning_runs.proofs.Bindings.{Ground}
 use Rattle.meaning_runs.proofs.Frames.{Enters, Chain, among_first, among_second, among_either, enters_own, target_at}
-use Rattle.meaning_runs.proofs.Frames.{lower_level, reached, newest_ancestor}
+use Rattle.meaning_runs.proofs.Frames.{reached, newest_ancestor}
 use Rattle.meaning_runs.proofs.Demands.{Bearing, Jumps, block_around, placed, SoundUnit, Demand, Kept}
 use Rattle.meaning_runs.proofs.Demands.{Anything, There}
 use Rattle.meaning_runs.proofs.Demands.{Answered, established_kept}
 use Rattle.meaning_runs.proofs.Demands.{reverted_kept}
 use Rattle.meaning_runs.proofs.Steps.{loose, slow, give_there, bind_there, then_there, looked_there, stored_there}
 use Rattle.meaning_runs.proofs.Steps.{act_there, act_made, act_then, finish_there, returns_there, jumps_there}
-use Rattle.meaning_runs.proofs.Steps.{choose_there, while_there, list_there, Passes, labelled, nat_same}
+use Rattle.meaning_runs.proofs.Steps.{choose_there, while_there, list_there, Passes, labelled}
 use Rattle.meaning_runs.proofs.Ways.{Ways, demand, around, here, on_line, smaller, ThereAround, Whole, SoundEntry}
 use Rattle.meaning_runs.proofs.Ways.{Expected, listed_unit}
 use Rattle.meaning_runs.proofs.Expressions.{error_there, raised_there, value_of_there, or_error_there, number_there}
 use Rattle.meaning_runs.proofs.Expressions.{bit_there, designated_there, called_there, stored_value_there}
 use Rattle.meaning_runs.proofs.Expressions.{computational_there}
-use Rattle.meaning_runs.proofs.Stored.{element_stored_there, elements_stored_there, aggregate_assigned_there}
+use Rattle.meaning_runs.proofs.Shapes.{type_number}
+use Rattle.meaning_runs.proofs.Values.{IsNumber, IsText, IsOfNumber}
+use Rattle.meaning_runs.proofs.Expressions.{fits_kind}
+use Rattle.meaning_runs.proofs.Designating.{designated_then, element_stored_at, elements_stored_at, found_valued}
+use Rattle.meaning_runs.proofs.Designating.{scalar_fits, array_fits}
+use Rattle.meaning_runs.proofs.Stored.{aggregate_assigned_there}
+use Rattle.well_formed_trees.specs.References.{IsScalar, IsArray}
 use Rattle.meaning_runs.proofs.Stored.{area_assigned_there, area_emptied_there, allocations_there, freeings_there}
 use Rattle.meaning_runs.proofs.Streams.{get_there, put_there}
 
 -- ---- assignment and DO
 
-assigned_there : (r : Y.Reference) (v : BasicValue) (w : Ways) → X.SoundReference (here w) r
-    → P.PlainReference w.calls r
+-- a value of the target's kind
+assigned_there : (r : Y.Reference) (type : Y.LeafType) (v : BasicValue) (w : Ways) → IsScalar (here w) type r
+    → IsOfNumber (type_number type) v → X.SoundReference (here w) r → P.AllowedReference w.calls r
     → There (demand w) 0 1 w.left Anything (M.assigned (around w) r v)
 unfolding M.assigned
-assigned_there r v w h p = bind_there (designated_there r w h p) (λ d k. element_stored_there d v)
+assigned_there r type v w s kind h p =
+    designated_then r w _ h p (λ t x f standing. element_stored_at w t x v standing (found_valued w.program r x f)
+    (scalar_fits w r type x v s f kind))
 
-elements_assigned_there : (r : Y.Reference) (v : BasicValue) (w : Ways) → X.SoundReference (here w) r
-    → P.PlainReference w.calls r → There (demand w) 0 1 w.left Anything (M.elements_assigned (around w) r v)
+elements_assigned_there : (r : Y.Reference) (type : Y.LeafType) (v : BasicValue) (w : Ways)
+    → IsArray (here w) type r → IsOfNumber (type_number type) v → X.SoundReference (here w) r
+    → P.AllowedReference w.calls r → There (demand w) 0 1 w.left Anything (M.elements_assigned (around w) r v)
 unfolding M.elements_assigned
-elements_assigned_there r v w h p = bind_there (designated_there r w h p) (λ d k. elements_stored_there d _)
+elements_assigned_there r type v w s kind h p =
+    designated_then r w _ h p (λ t x f standing. elements_stored_at w t x (λ leaf subscripts. v) standing
+    (found_valued w.program r x f) (array_fits w r type x v s f kind))
 
 -- a counter with what is so of it
 record SoundCounting (k : P.Calls) (w : Where) (c : Y.Counter) : Type 0 where
   sound : T.SoundCounter w c
-  plain : P.PlainCounter k c
+  allowed : P.AllowedCounter k c
 
-counter_reference : (w : Where) (c : Y.Counter) → T.SoundCounter w c → X.SoundReference w (M.reference_of c)
-counter_reference w (Y.NumberCounter precision r) h = h.1
-counter_reference w (Y.TextCounter r) h = h.1
+-- what a counter may be
+abbrev IsCounted : Y.Counter → BasicValue → Type 0
+IsCounted (Y.NumberCounter precision r) v = IsNumber v
+IsCounted (Y.TextCounter r) v = IsText v
 
-counter_plain : (k : P.Calls) (c : Y.Counter) → P.PlainCounter k c → P.PlainReference k (M.reference_of c)
-counter_plain k (Y.NumberCounter precision r) p = p
-counter_plain k (Y.TextCounter r) p = p
-
-counter_assigned : (c : Y.Counter) (v : BasicValue) (w : Ways) → SoundCounting w.calls (here w) c
+counter_assigned : (c : Y.Counter) (v : BasicValue) (w : Ways) → SoundCounting w.calls (here w) c → IsCounted c v
     → There (demand w) 0 1 w.left Anything (M.assigned (around w) (M.reference_of c) v)
-counter_assigned c v w h =
-    assigned_there (M.reference_of c) v w (counter_reference (here w) c h.sound) (counter_plain w.calls c h.plain)
+counter_assigned (Y.NumberCounter precision r) v w h k =
+    assigned_there r (Y.FixedLeaf precision) v w h.sound.0 k h.sound.1 h.allowed
+counter_assigned (Y.TextCounter r) v w h k = by_kind h.sound.0.scalar
+  where
+    by_kind : IsScalar (here w) (Y.CharacterLeaf h.sound.0.size) r ⊎ IsScalar (here w) (Y.VaryingLeaf h.sound.0.size) r
+        → There (demand w) 0 1 w.left Anything (M.assigned (around w) r v)
+    by_kind (inl s) = assigned_there r (Y.CharacterLeaf h.sound.0.size) v w s k h.sound.1 h.allowed
+    by_kind (inr s) = assigned_there r (Y.VaryingLeaf h.sound.0.size) v w s k h.sound.1 h.allowed
 
 counter_number_there : (c : Y.Counter) (w : Ways) → SoundCounting w.calls (here w) c
     → There (demand w) 0 1 w.left Anything (M.counter_number (around w) c)
 unfolding M.counter_number
 counter_number_there (Y.NumberCounter precision r) w h =
-    bind_there (designated_there r w h.sound.1 h.plain) (λ d k. give_there _ tt)
+    bind_there (designated_there r w h.sound.1 h.allowed) (λ d k. give_there _ tt)
 counter_number_there (Y.TextCounter r) w h =
-    bind_there (designated_there r w h.sound.1 h.plain) (λ d k. or_error_there _ _ w)
+    bind_there (designated_there r w h.sound.1 h.allowed) (λ d k. or_error_there _ _ w)
 
-counter_value_there : (c : Y.Counter) (z : ℤ) → ThereAround Anything (λ a. M.counter_value a c z)
+counter_value_there : (c : Y.Counter) (z : ℤ) → ThereAround (IsCounted c) (λ a. M.counter_value a c z)
 unfolding M.counter_value
 counter_value_there (Y.NumberCounter precision r) z w = bind_there (value_of_there _ w) (λ y k. give_there _ tt)
 counter_value_there (Y.TextCounter r) z w = give_there _ tt
 
-counter_started_there : (c : Y.Counter) (v : V.Computational) → ThereAround Anything (λ a. M.counter_started a c v)
+counter_started_there : (c : Y.Counter) (v : V.Computational)
+    → ThereAround (IsCounted c) (λ a. M.counter_started a c v)
 unfolding M.counter_started
 counter_started_there (Y.NumberCounter precision r) v w =
     bind_there (or_error_there _ _ w) (λ z k. counter_value_there (Y.NumberCounter precision r) z w)
@@ -96,9 +112,9 @@ stepped_there : (c : Y.Counter) (step : ℤ) (w : Ways) → SoundCounting w.call
 unfolding M.stepped
 stepped_there c step w h =
     bind_there (counter_number_there c w h) (λ z k. bind_there (value_of_there _ w) (λ next j. bind_there
-    (counter_value_there c next w) (λ v i. counter_assigned c v w h)))
+    (counter_value_there c next w) (λ v i. counter_assigned c v w h i)))
 
-limit_of_there : (limit : Option Y.Number) (w : Ways) → T.SoundNumberIf (here w) limit → P.PlainNumberIf w.calls limit
+limit_of_there : (limit : Option Y.Number) (w : Ways) → T.SoundNumberIf (here w) limit → P.AllowedNumberIf w.calls limit
     → There (demand w) 0 1 w.left Anything (M.limit_of (around w) limit)
 unfolding M.limit_of
 limit_of_there None w h p = give_there None tt
@@ -111,13 +127,13 @@ within_limit_there c None step w h = give_there true tt
 within_limit_there c (Some limit) step w h = bind_there (counter_number_there c w h) (λ z k. give_there _ tt)
 
 condition_met_there : (condition : Option Y.Bit) (w : Ways) → T.SoundBitIf (here w) condition
-    → P.PlainBitIf w.calls condition → There (demand w) 0 1 w.left Anything (M.condition_met (around w) condition)
+    → P.AllowedBitIf w.calls condition → There (demand w) 0 1 w.left Anything (M.condition_met (around w) condition)
 unfolding M.condition_met
 condition_met_there None w h p = give_there true tt
 condition_met_there (Some e) w h p = bit_there e w h p
 
 turn_due_there : (c : Y.Counter) (limit : Option ℤ) (step : ℤ) (condition : Option Y.Bit) (w : Ways)
-    → SoundCounting w.calls (here w) c → T.SoundBitIf (here w) condition → P.PlainBitIf w.calls condition
+    → SoundCounting w.calls (here w) c → T.SoundBitIf (here w) condition → P.AllowedBitIf w.calls condition
     → There (demand w) 1 1 w.left Anything (M.turn_due (around w) c limit step condition)
 unfolding M.turn_due
 turn_due_there c limit step condition w h i p =
@@ -125,14 +141,14 @@ turn_due_there c limit step condition w h i p =
     bind_there (within_limit_there c limit step u h) (λ within k. choose_there within
     (condition_met_there condition u i p) (give_there false tt))))
 
-met_after_act_there : (x : Y.Bit) (w : Ways) → X.SoundBit (here w) x → P.PlainBit w.calls x
+met_after_act_there : (x : Y.Bit) (w : Ways) → X.SoundBit (here w) x → P.AllowedBit w.calls x
     → There (demand w) 1 1 w.left Anything (M.met_after_act (around w) x)
 unfolding M.met_after_act
 met_after_act_there x w h p =
     act_then counted (λ v. refl) (λ n e. loose (bit_there x (smaller w n (omega (arith, e))) h p))
 
 once_there : (condition : Option Y.Bit) {body : Meaning (Unit {0})} (w : Ways) → T.SoundBitIf (here w) condition
-    → P.PlainBitIf w.calls condition → There (demand w) 0 1 w.left Anything body
+    → P.AllowedBitIf w.calls condition → There (demand w) 0 1 w.left Anything body
     → There (demand w) 0 1 w.left Anything (M.once (around w) condition body)
 unfolding M.once
 once_there None w h p a = a
@@ -365,9 +381,8 @@ list_with_there labels l a =
 begun_sound : (l : Level) (t : FootAt l) (head : Y.BlockHead) (body : Y.Stmts) (s : State)
     → skeleton s.activations ≡ outlines (l.frame ∷ l.further)
     → T.SoundStmt (place_at l t) (Y.Begin (Y.BlockOf head body))
-    → P.PlainStmts body
     → SoundEntry l.program l.table (bearing_at l) (M.begun (Y.BlockOf head body) (newest_height s.activations))
-begun_sound l t head body s e h p =
+begun_sound l t head body s e h =
     record {
       block = record {
         head = head;
@@ -376,7 +391,6 @@ begun_sound l t head body s e h p =
         outer = t.own ∷ t.outer;
         returning = l.returning;
         statements = h.1;
-        plain = p;
       };
       chain = (
         (
@@ -393,8 +407,7 @@ begun_sound l t head body s e h p =
       passes =
           subst (λ kind. Passes (M.is_own_return kind) (Expected false) (Some l.returning) (Some l.returning))
           (sym h.0.0) (λ v a. a);
-      counts = refl;
-      parameters = tt;
+      passed = tt;
       listed = listed_unit l.table head (block_around head body ∷ t.own ∷ t.outer) head.kind h.0.1.1;
     }
 
@@ -438,9 +451,8 @@ unit_covers l t head body Y.BeginBlock h i = absurd h
 
 unit_sound : (l : Level) (t : FootAt l) (c : Condition) (head : Y.BlockHead) (body : Y.Stmts) (line : ℕ)
     → T.SoundStmt (place_at l t) (Y.OnUnit c (Y.BlockOf head body) line)
-    → P.PlainStmts body
     → SoundUnit l.program l.table (closed l.frame ∷ l.further) (suc (length l.further)) (Y.BlockOf head body)
-unit_sound l t c head body line h p =
+unit_sound l t c head body line h =
     record {
       block = record {
         head = head;
@@ -449,7 +461,6 @@ unit_sound l t c head body line h p =
         outer = unit_around t.own ∷ t.outer;
         returning = NoReturn;
         statements = h.1.0;
-        plain = p;
       };
       own = unit_own (place_at l t) head head.kind h.0.0;
       chain = (
@@ -494,103 +505,119 @@ mutual
   unfolding M.statement M.statements
 
   statement_there : (x : Y.Stmt) (l : Level) (t : FootAt l) → T.SoundStmt (place_at l t) x
-      → P.PlainStmt x
       → There (demand_at l) 1 1 l.left Anything (M.statement (around_at l) x)
-  statement_there (Y.Null line) l t h p = act_made counted (λ v. refl)
-  statement_there (Y.Assign target source line) l t h p =
+  statement_there (Y.Null line) l t h = act_made counted (λ v. refl)
+  statement_there (Y.Assign target source line) l t h =
       act_then counted (λ v. refl) (λ c e. loose (let w = on_line line (within l t c e) in
-      bind_there (stored_value_there source w h.1.1.0 p.1) (λ v k. assigned_there target v w h.1.0 p.0)))
-  statement_there (Y.AssignElements target source line) l t h p =
+      bind_there (stored_value_there source w h.1.1.0 (P.any_stored source))
+      (λ v k. assigned_there target h.0.type v w h.0.scalar
+      (fits_kind h.0.type source v h.0.fits k) h.1.0 (P.any_reference target))))
+  statement_there (Y.AssignElements target source line) l t h =
       act_then counted (λ v. refl) (λ c e. loose (let w = on_line line (within l t c e) in
-      bind_there (stored_value_there source w h.1.1.0 p.1) (λ v k. elements_assigned_there target v w h.1.0 p.0)))
-  statement_there (Y.AssignAggregate target source line) l t h p =
+      bind_there (stored_value_there source w h.1.1.0 (P.any_stored source))
+      (λ v k. elements_assigned_there target h.0.type v w
+      h.0.array (fits_kind h.0.type source v h.0.fits k) h.1.0 (P.any_reference target))))
+  statement_there (Y.AssignAggregate target source line) l t h =
       act_then counted (λ v. refl) (λ c e. loose (aggregate_assigned_there target source
-      (on_line line (within l t c e)) h.1.0 h.1.1.0 p.0 p.1))
-  statement_there (Y.AssignArea target source line) l t h p =
-      act_then counted (λ v. refl) (λ c e. loose (area_assigned_there target source (on_line line (within l t c e))))
-  statement_there (Y.EmptyArea target line) l t h p =
-      act_then counted (λ v. refl) (λ c e. loose (area_emptied_there target (on_line line (within l t c e))))
-  statement_there (Y.If condition unit line) l t h p =
+      (on_line line (within l t c e)) h.0 h.1.0 h.1.1.0
+      (P.any_reference target) (P.any_reference source)))
+  statement_there (Y.AssignArea target source line) l t h =
+      act_then counted (λ v. refl) (λ c e. loose
+      (area_assigned_there target source (on_line line (within l t c e)) h.0))
+  statement_there (Y.EmptyArea target line) l t h =
+      act_then counted (λ v. refl) (λ c e. loose (area_emptied_there target (on_line line (within l t c e)) h.0))
+  statement_there (Y.If condition unit line) l t h =
       act_then counted (λ v. refl) (λ c e. loose (bind_there
-      (bit_there condition (on_line line (within l t c e)) h.0 p.0)
-      (λ met k. choose_there met (slow (statement_there unit (below l c e) t h.1.0 p.1)) (give_there tt tt))))
-  statement_there (Y.IfElse condition unit otherwise line) l t h p =
+      (bit_there condition (on_line line (within l t c e)) h.0 (P.any_bit condition))
+      (λ met k. choose_there met (slow (statement_there unit (below l c e) t h.1.0)) (give_there tt tt))))
+  statement_there (Y.IfElse condition unit otherwise line) l t h =
       act_then counted (λ v. refl) (λ c e. loose (bind_there
-      (bit_there condition (on_line line (within l t c e)) h.0 p.0)
-      (λ met k. choose_there met (slow (statement_there unit (below l c e) t h.1.0 p.1.0))
-      (slow (statement_there otherwise (below l c e) t h.1.1.0 p.1.1)))))
-  statement_there (Y.Do body line) l t h p =
+      (bit_there condition (on_line line (within l t c e)) h.0 (P.any_bit condition))
+      (λ met k. choose_there met (slow (statement_there unit (below l c e) t h.1.0))
+      (slow (statement_there otherwise (below l c e) t h.1.1.0)))))
+  statement_there (Y.Do body line) l t h =
       act_then counted (λ v. refl) (λ c e. loose (let u = below l c e in
       list_with_there _ u (λ x d r. statements_there body x (listed body (lower u d r))
-      (group body (lower u d r) t) h.0 p)))
-  statement_there (Y.DoWhile condition body line) l t h p =
+      (group body (lower u d r) t) h.0)))
+  statement_there (Y.DoWhile condition body line) l t h =
       act_then counted (λ v. refl) (λ c e. loose (let u = below l c e in
       while_there u.turns c u.few
-      (λ d r. met_after_act_there condition (on_line line (smaller (within l t c e) d r)) h.0 p.0)
+      (λ d r. met_after_act_there condition (on_line line (smaller (within l t c e) d r)) h.0
+      (P.any_bit condition))
       (λ d r. list_with_there _ (lower u d r)
       (λ x f q. statements_there body x (listed body (lower (lower u d r) f q))
-      (group body (lower (lower u d r) f q) t) h.1.0 p.1))))
-  statement_there (Y.DoOnce variable start condition body line) l t h p =
+      (group body (lower (lower u d r) f q) t) h.1.0))))
+  statement_there (Y.DoOnce variable start condition body line) l t h =
       act_then counted (λ v. refl) (λ c e. loose (let u = below l c e in let w = on_line line (within l t c e) in
-      bind_there (stored_value_there start w h.0.1.1 p.0.1)
-      (λ v k. then_there (assigned_there variable v w h.0.1.0 p.0.0)
-      (once_there condition w h.1.0 p.1.0
+      bind_there (stored_value_there start w h.0.1.1 (P.any_stored start))
+      (λ v k. then_there (assigned_there variable h.0.0.type v w h.0.0.scalar
+      (fits_kind h.0.0.type start v h.0.0.fits k) h.0.1.0 (P.any_reference variable))
+      (once_there condition w h.1.0 (P.any_bit_if condition)
       (list_with_there _ u (λ x d r. statements_there body x (listed body (lower u d r))
-      (group body (lower u d r) t) h.1.1.0 p.1.1))))))
-  statement_there (Y.DoCount counter start limit step condition body line) l t h p =
+      (group body (lower u d r) t) h.1.1.0))))))
+  statement_there (Y.DoCount counter start limit step condition body line) l t h =
       act_then counted (λ v. refl) (λ c e. loose (let u = below l c e in let w = on_line line (within l t c e) in
-      let counting : SoundCounting P.AnyCall (place_at l t) counter = record { sound = h.0.0; plain = p.0.0 } in
-      bind_there (computational_there start w h.0.1.0 p.0.1.0) (λ v k.
-      bind_there (limit_of_there limit w h.0.1.1.0 p.0.1.1.0) (λ most j.
-      bind_there (number_there step w h.0.1.1.1 p.0.1.1.1) (λ by i.
+      let counting : SoundCounting P.AnyCall (place_at l t) counter = record {
+        sound = h.0.0;
+        allowed = P.any_counter counter;
+      } in
+      bind_there (computational_there start w h.0.1.0 (P.any_value start)) (λ v k.
+      bind_there (limit_of_there limit w h.0.1.1.0 (P.any_number_if limit)) (λ most j.
+      bind_there (number_there step w h.0.1.1.1 (P.any_number step)) (λ by i.
       bind_there (counter_started_there counter v w) (λ first m.
-      then_there (counter_assigned counter first w counting) (while_there u.turns c u.few
-      (λ d r. turn_due_there counter most by condition (smaller w d r) counting h.1.0 p.1.0)
+      then_there (counter_assigned counter first w counting m) (while_there u.turns c u.few
+      (λ d r. turn_due_there counter most by condition (smaller w d r) counting h.1.0
+      (P.any_bit_if condition))
       (λ d r. then_there (list_with_there _ (lower u d r)
       (λ x f q. statements_there body x (listed body (lower (lower u d r) f q))
-      (group body (lower (lower u d r) f q) t) h.1.1.0 p.1.1))
+      (group body (lower (lower u d r) f q) t) h.1.1.0))
       (stepped_there counter by (smaller w d r) counting)))))))))
-  statement_there (Y.Begin (Y.BlockOf head body)) l t h p =
+  statement_there (Y.Begin (Y.BlockOf head body)) l t h =
       act_then counted (λ v. refl) (λ c e. loose (bind_there looked_there
-      (λ s k. then_there ((within l t c e).keeps (bearing_at l) _ (begun_sound l t head body s k.1 h p))
+      (λ s k. then_there ((within l t c e).keeps (bearing_at l) _ (begun_sound l t head body s k.1 h))
       (give_there tt tt))))
-  statement_there (Y.OnSystem c line) l t h p =
+  statement_there (Y.OnSystem c line) l t h =
       established_by_there c (established c SystemUnit)
       (λ s k. established_kept (demand_at l) c SystemUnit s tt k)
-  statement_there (Y.OnUnit c (Y.BlockOf head body) line) l t h p =
+  statement_there (Y.OnUnit c (Y.BlockOf head body) line) l t h =
       established_by_there c (established c (BlockUnit (Y.BlockOf head body)))
       (λ s k. established_kept (demand_at l) c (BlockUnit (Y.BlockOf head body)) s
-      (unit_sound l t c head body line h p) k)
-  statement_there (Y.CallProcedure call line) l t h p =
-      act_then counted (λ v. refl) (λ c e. loose (then_there (called_there call (on_line line (within l t c e)) h.1.0 p)
+      (unit_sound l t c head body line h) k)
+  statement_there (Y.CallProcedure call line) l t h =
+      act_then counted (λ v. refl) (λ c e. loose (then_there (called_there call (on_line line (within l t c e)) h.1.0
+      (P.any_call call))
       (give_there tt tt)))
-  statement_there (Y.Return line) l t h p =
+  statement_there (Y.Return line) l t h =
       act_then counted (λ v. refl) (λ c e. returns_there None (subst (λ r. Answered r None) (sym h.0) tt))
-  statement_there (Y.ReturnValue type source line) l t h p =
+  statement_there (Y.ReturnValue type source line) l t h =
       act_then counted (λ v. refl) (λ c e. loose (bind_there
-      (stored_value_there source (on_line line (within l t c e)) h.1.1.0 p)
+      (stored_value_there source (on_line line (within l t c e)) h.1.1.0 (P.any_stored source))
       (λ v k. returns_there _ (answered_some l.returning _))))
-  statement_there (Y.Goto level label line) l t h p =
+  statement_there (Y.Goto level label line) l t h =
       act_then counted (λ v. refl) (λ c e. bind_there looked_there (λ s k. jumps_there _ label
       (goto_there l t s level label k.1 h.0)))
-  statement_there (Y.Stop line) l t h p = act_then counted (λ v. refl) (λ c e. finish_there E.Stopped tt)
-  statement_there (Y.Signal condition line) l t h p =
+  statement_there (Y.Stop line) l t h = act_then counted (λ v. refl) (λ c e. finish_there E.Stopped tt)
+  statement_there (Y.Signal condition line) l t h =
       act_then counted (λ v. refl) (λ c e. loose (signalled_there condition (on_line line (within l t c e))))
-  statement_there (Y.Revert c line) l t h p =
+  statement_there (Y.Revert c line) l t h =
       established_by_there c (reverted c) (λ s k. reverted_kept (demand_at l) c s k)
-  statement_there (Y.Allocate all line) l t h p =
-      act_then counted (λ v. refl) (λ c e. loose (allocations_there all (on_line line (within l t c e)) h.0 p))
-  statement_there (Y.Free all line) l t h p =
-      act_then counted (λ v. refl) (λ c e. loose (freeings_there all (on_line line (within l t c e)) h.0 p))
-  statement_there (Y.Get skip pairs line) l t h p =
-      act_then counted (λ v. refl) (λ c e. loose (get_there skip pairs (on_line line (within l t c e)) h.1.0 p))
-  statement_there (Y.Put skip pairs line) l t h p =
-      act_then counted (λ v. refl) (λ c e. loose (put_there skip pairs (on_line line (within l t c e)) h.1.0 p))
+  statement_there (Y.Allocate all line) l t h =
+      act_then counted (λ v. refl) (λ c e. loose (allocations_there all (on_line line (within l t c e)) h.0
+      (P.any_allocations all)))
+  statement_there (Y.Free all line) l t h =
+      act_then counted (λ v. refl) (λ c e. loose (freeings_there all (on_line line (within l t c e)) h.0
+      (P.any_freeings all)))
+  statement_there (Y.Get skip pairs line) l t h =
+      act_then counted (λ v. refl) (λ c e. loose (get_there skip pairs (on_line line (within l t c e)) h.1.0
+      (P.any_get pairs)))
+  statement_there (Y.Put skip pairs line) l t h =
+      act_then counted (λ v. refl) (λ c e. loose (put_there skip pairs (on_line line (within l t c e)) h.1.0
+      (P.any_put pairs)))
 
   pub statements_there : (xs : Y.Stmts) (from : Option Label) (l : Level) (t : FootAt l)
-      → T.SoundStmts (place_at l t) xs → P.PlainStmts xs
+      → T.SoundStmts (place_at l t) xs
       → There (demand_at l) 0 1 l.left Anything (M.statements (around_at l) xs from)
-  statements_there (Y.EndOfList labels) from l t h p = give_there tt tt
-  statements_there (Y.StmtThen labels first rest) from l t h p =
-      choose_there _ (then_there (slow (statement_there first l t h.0 p.0)) (statements_there rest None l t h.1 p.1))
-      (statements_there rest from l t h.1 p.1)
+  statements_there (Y.EndOfList labels) from l t h = give_there tt tt
+  statements_there (Y.StmtThen labels first rest) from l t h =
+      choose_there _ (then_there (slow (statement_there first l t h.0)) (statements_there rest None l t h.1))
+      (statements_there rest from l t h.1)

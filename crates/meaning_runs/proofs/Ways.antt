@@ -1,7 +1,7 @@
--- What stands around a part of a run: a program all of whose procedures and variables are sound and plain, a place in
+-- What stands around a part of a run: a program all of whose procedures and variables are sound, a place in
 -- it, the activations of the blocks around, and how blocks are entered.
-use Rattle.std.proofs.Common.{◌∙◌, ◌≡◌, ℕ, zero, suc, ◌+◌, ◌<◌, ◌≤◌, List, [], ◌∷◌, Option, Some, None, Bool, true}
-use Rattle.std.proofs.Common.{false}
+use Rattle.std.proofs.Common.{◌∙◌, ◌≡◌, ℕ, zero, suc, ◌+◌, ◌<◌, ◌≤◌, pos, List, [], ◌∷◌, Option, Some, None, Bool}
+use Rattle.std.proofs.Common.{true, false}
 use Rattle.std.proofs.Common.{refl, ap}
 use Rattle.std.proofs.Common.{sym, subst, arith}
 use Rattle.std.specs.Prelude.{◌==◌, cond, ⊤, drop, length, slice_get, is_some, unwrap_or}
@@ -9,9 +9,9 @@ use Rattle.pli_typing.specs.TypedTree as Y
 use Rattle.pli_meaning.specs.BasicValues.{Name, NullName, VariableName, BasedName, BasicValue}
 use Rattle.pli_meaning.specs.Contents.{Shape, Generation, Placed, changed_at}
 use Rattle.pli_meaning.specs.StorageState.{State, Binding, Activation, with_area, with_generation, area_changed}
-use Rattle.pli_meaning.specs.StorageState.{living_changed, heap_serial, offsets_of}
+use Rattle.pli_meaning.specs.StorageState.{living_changed, heap_serial, offsets_of, generation_at}
 use Rattle.pli_meaning.specs.Control.{Meaning}
-use Rattle.pli_meaning.specs.Raising.{Around, Enter, Entry, unit_entered}
+use Rattle.pli_meaning.specs.Raising.{Around, Enter, Entry, Passed, PassedName, PassedValue, unit_entered}
 use Rattle.pli_meaning.specs.DeclaredShapes as D
 use Rattle.pli_meaning.specs.Making as K
 use Rattle.pli_meaning.specs.Placing as A
@@ -20,15 +20,18 @@ use Rattle.well_formed_trees.specs.Every.{Every}
 use Rattle.well_formed_trees.specs.WellFormed.{IsHeld}
 use Rattle.well_formed_trees.specs.Statements.{IsListed, IsListedUnit}
 use Rattle.well_formed_trees.specs.Members.{all_dimensions}
-use Rattle.well_formed_trees.specs.Declarations.{AreMembers, HaveBounds, leaf_dimensions}
+use Rattle.well_formed_trees.specs.Declarations.{IsReferIf, AreMembers, AreasAlone, HaveBounds, leaf_dimensions}
 use Rattle.well_formed_trees.specs.Surroundings.{Table, Where, Returning, Returns, NoReturn}
 use Rattle.well_formed_trees.specs.Surroundings as W
 use Rattle.well_formed_trees.specs.Expressions.{SoundNumber}
-use Rattle.meaning_runs.specs.Plain.{Calls, AnyCall, NoCall, PlainVariable}
+use Rattle.meaning_runs.proofs.Calling.{Calls, AnyCall, NoCall, AllowedVariable}
 use Rattle.meaning_runs.proofs.Frames.{Frame, skeleton, Stands, Chain, IsOpen}
 use Rattle.meaning_runs.proofs.Demands.{Bearing, block_around, placed, SoundBlock, SoundUnit, HasUnits}
 use Rattle.meaning_runs.proofs.Demands.{Demand, Kept}
-use Rattle.meaning_runs.proofs.Shapes.{IsShapedAs, shape_declared}
+use Rattle.meaning_runs.proofs.Shapes.{IsShapedAs, IsOwnName, StandsAs, shape_declared, kind_number}
+use Rattle.meaning_runs.proofs.Values.{IsOfNumber, HasValues, HasInitial, AllHave, HasStored, fresh_values}
+use Rattle.meaning_runs.proofs.Values.{area_stored, generation_stored, removed_all}
+use Rattle.meaning_runs.proofs.Heaps.{HasHeap, KeepsShape, heap_changed, heap_popped}
 use Rattle.meaning_runs.proofs.Bindings.{IsNewBinding, binding_added, Ground}
 use Rattle.meaning_runs.proofs.Demands.{There}
 use Rattle.meaning_runs.proofs.Demands.{IsThere, Answered}
@@ -36,21 +39,31 @@ use Rattle.meaning_runs.proofs.Steps.{Passes, fewer_left}
 
 -- ---- a whole program
 
--- what is evaluated for a variable's extents is sound, where it is declared, and plain; it calls nothing. Each leaf has
+-- what is evaluated for a variable's extents is sound, where it is declared; it calls nothing. Each leaf has
 -- the bounds of the members that hold it
 pub record Declares (p : Y.Program) (table : Table) (block : ℕ) (d : Y.DeclaredVariable) : Type 0 where
   pub blocks : List W.Around
   pub listed : slice_get table block ≡ Some blocks
   pub sound : Every (λ x. SoundNumber (placed p table blocks NoReturn) x.value) d.evaluations
-  pub plain : PlainVariable NoCall d
+  pub allowed : AllowedVariable NoCall d
   pub members : AreMembers d.members
+  pub areas : AreasAlone d
+  pub initial : HasInitial d.leaves
+  pub refer : IsReferIf d d.refer
   pub dimensions : HaveBounds d.leaves (leaf_dimensions d.members (all_dimensions d.members))
 
--- variables of a block that are parameters
-abbrev pub AreParameters : Y.Program → (block : ℕ) → List ℕ → Type 0
-AreParameters p block vs =
-    Every (λ v. (d : Y.DeclaredVariable) → slice_get (D.variables_of_block p block) v ≡ Some d
-    → d.class ≡ Y.ParameterClass) vs
+-- what a parameter takes
+abbrev pub TakesPassed : Y.DeclaredVariable → Passed → Type 0
+TakesPassed d (PassedName n shape) = StandsAs d n shape
+TakesPassed d (PassedValue kind v) = IsShapedAs d (K.plain kind) × IsOfNumber (kind_number kind) v
+
+-- as many arguments as variables of a block, each of which takes its argument
+abbrev pub ArePassedAs : Y.Program → (block : ℕ) → List ℕ → List Passed → Type 0
+ArePassedAs p block [] [] = ⊤
+ArePassedAs p block (v ∷ vs) (x ∷ xs) =
+    ((d : Y.DeclaredVariable) × (slice_get (D.variables_of_block p block) v ≡ Some d) × TakesPassed d x)
+    × ArePassedAs p block vs xs
+ArePassedAs p block _ _ = ⊥
 
 pub record FineProcedure (p : Y.Program) (table : Table) (q : Y.Procedure) : Type 0 where
   pub block : SoundBlock p table q.block
@@ -59,7 +72,6 @@ pub record FineProcedure (p : Y.Program) (table : Table) (q : Y.Procedure) : Typ
   pub held : IsHeld table block.head.level block.outer
   pub listed :
       slice_get table block.head.number ≡ Some (block_around block.head block.body ∷ block.outer)
-  pub parameters : AreParameters p block.head.number q.parameters
 
 pub record Whole (p : Y.Program) (table : Table) : Type 0 where
   pub declares : (block : ℕ) → Every (Declares p table block) (D.variables_of_block p block)
@@ -80,8 +92,7 @@ pub record SoundEntry (p : Y.Program) (table : Table) (outer : Bearing) (e : Ent
   pub opens : Every IsOpen outer.frames
   pub passes :
       Passes (is_own_return block.head.kind) (Expected e.is_function) (Some block.returning) outer.answers
-  pub counts : length e.arguments ≡ length e.parameters
-  pub parameters : AreParameters p block.head.number e.parameters
+  pub passed : ArePassedAs p block.head.number e.parameters e.arguments
   pub listed : IsListedUnit table block.head (block_around block.head block.body ∷ block.outer) block.head.kind
 
 -- a block with a number of its own
@@ -103,8 +114,7 @@ unit_entry p table outer b a code o u =
       opens = o;
       passes =
           subst (λ own. Passes own (Expected false) (Some u.block.returning) outer.answers) (sym u.own) (λ v h. tt);
-      counts = refl;
-      parameters = tt;
+      passed = tt;
       listed = u.listed;
     }
 
@@ -262,21 +272,61 @@ procedure_fine F n (p ∷ ps) q h e =
 
 -- ---- changes of a state that keep its on-units
 
-either_kept : (d : Demand) (t : Bool) (a b : State) → Kept d a → Kept d b → Kept d (cond t a b)
-either_kept d true a b x y = x
-either_kept d false a b x y = y
+-- the generations of an area are changed; where it is the heap, those of CONTROLLED variables are kept
+pub area_kept : (d : Demand) (serial : ℕ) (change : List Placed → List Placed) (s : State)
+    → ((serial == heap_serial) ≡ true → HasHeap d.program (change s.heap) s.controlled)
+    → ((ps : List Placed) → AllHave ps → AllHave (change ps)) → Kept d s → Kept d (with_area serial change s)
+area_kept d serial change s heap values h =
+    by_test (serial == heap_serial) heap (area_stored s serial change values h.0.1.1.0.1)
+  where
+    by_test : (t : Bool) → (t ≡ true → HasHeap d.program (change s.heap) s.controlled)
+        → HasStored (cond t (record s { heap = change s.heap })
+        (record s { living = living_changed serial (area_changed change) s.living }))
+        → Kept d (cond t (record s { heap = change s.heap })
+        (record s { living = living_changed serial (area_changed change) s.living }))
+    by_test true k stored = ((h.0.0, (h.0.1.0, ((h.0.1.1.0.0, stored), k refl))), h.1)
+    by_test false k stored = ((h.0.0, (h.0.1.0, ((h.0.1.1.0.0, stored), h.0.1.1.1))), h.1)
 
-pub area_kept : (d : Demand) (serial : ℕ) (change : List Placed → List Placed) (s : State) → Kept d s
-    → Kept d (with_area serial change s)
-area_kept d serial change s h =
-    either_kept d (serial == heap_serial) (record s { heap = change s.heap })
-    (record s { living = living_changed serial (area_changed change) s.living }) h h
-
-pub generation_kept : (d : Demand) (n : Name) (change : Generation → Generation) (s : State) → Kept d s
+-- a generation is changed that stands there
+pub generation_kept : (d : Demand) (n : Name) (change : Generation → Generation) (s : State) (g : Generation)
+    → KeepsShape change → generation_at s n ≡ Some g → HasValues (change g) → Kept d s
     → Kept d (with_generation n change s)
-generation_kept d NullName change s h = h
-generation_kept d (VariableName serial) change s h = h
-generation_kept d (BasedName area offset) change s h = area_kept d area (changed_at offset change) s h
+generation_kept d NullName change s g c e v h = h
+generation_kept d (VariableName serial) change s g c e v h = (
+  (
+    h.0.0,
+    (
+      h.0.1.0,
+      ((h.0.1.1.0.0, generation_stored s (VariableName serial) change g e v h.0.1.1.0.1), h.0.1.1.1),
+    ),
+  ),
+  h.1,
+)
+generation_kept d (BasedName area offset) change s g c e v h =
+    by_test (area == heap_serial) (generation_stored s (BasedName area offset) change g e v h.0.1.1.0.1)
+  where
+    changed : List Placed → List Placed
+    changed = changed_at offset change
+
+    by_test : (t : Bool)
+        → HasStored (cond t (record s { heap = changed s.heap })
+        (record s { living = living_changed area (area_changed changed) s.living }))
+        → Kept d (cond t (record s { heap = changed s.heap })
+        (record s { living = living_changed area (area_changed changed) s.living }))
+    by_test true stored = (
+      (
+        h.0.0,
+        (
+          h.0.1.0,
+          (
+            (h.0.1.1.0.0, stored),
+            heap_changed d.program offset change s.heap s.controlled c h.0.1.1.1,
+          ),
+        ),
+      ),
+      h.1,
+    )
+    by_test false stored = ((h.0.0, (h.0.1.0, ((h.0.1.1.0.0, stored), h.0.1.1.1))), h.1)
 
 binding_kept : (p : Y.Program) (table : Table) (b : Binding) (fs : List Frame) (as' : List Activation)
     → HasUnits p table fs as' → HasUnits p table fs (K.with_binding b as')
@@ -289,32 +339,52 @@ binding_heights b [] = refl
 binding_heights b (a ∷ as') = refl
 
 -- what the newest block's variable may stand for
-abbrev pub MayStand : Demand → (variable : ℕ) → Shape → Type 0
-MayStand d variable shape =
-    (n : Name) → IsNewBinding d.program d.bearing.frames (record { variable = variable; name = n; shape = shape })
+abbrev pub MayStand : Demand → (variable : ℕ) → Name → Shape → Type 0
+MayStand d variable n shape =
+    IsNewBinding d.program d.bearing.frames (record { variable = variable; name = n; shape = shape })
 
-pub bound_kept : (d : Demand) (variable : ℕ) (n : Name) (shape : Shape) (s : State) → MayStand d variable shape
+pub bound_kept : (d : Demand) (variable : ℕ) (n : Name) (shape : Shape) (s : State) → MayStand d variable n shape
     → Kept d s → Kept d (K.bound variable n shape s)
 bound_kept d variable n shape s new h =
     let b : Binding = record { variable = variable; name = n; shape = shape } in (
       (
         binding_kept d.program d.table b d.bearing.frames s.activations h.0.0,
-        (binding_added d.program b d.bearing.frames s.activations (new n) h.0.1.0, h.0.1.1),
+        (binding_added d.program b d.bearing.frames s.activations new h.0.1.0, h.0.1.1),
       ),
       binding_heights b s.activations ∙ h.1,
     )
 
-pub variable_kept : (d : Demand) (variable : ℕ) (g : Generation) (s : State) → MayStand d variable g.shape
-    → Kept d s → Kept d (K.with_variable variable g s)
-variable_kept d variable g s new h =
-    bound_kept d variable (VariableName (s.serials + 1)) g.shape (K.with_living g s) new h
+-- one more generation lives
+living_kept : (d : Demand) (g : Generation) (s : State) → HasValues g → Kept d s → Kept d (K.with_living g s)
+living_kept d g s v h =
+    let stored = h.0.1.1.0.1 in
+    ((h.0.0, (h.0.1.0, ((h.0.1.1.0.0, (((v, tt), stored.0), stored.1)), h.0.1.1.1))), h.1)
+
+pub variable_kept : (d : Demand) (variable : ℕ) (g : Generation) (s : State)
+    → ((n : Name) → IsOwnName n → MayStand d variable n g.shape) → HasValues g → Kept d s
+    → Kept d (K.with_variable variable g s)
+variable_kept d variable g s new v h =
+    bound_kept d variable (VariableName (s.serials + 1)) g.shape (K.with_living g s)
+    (new (VariableName (s.serials + 1)) (omega arith)) (living_kept d g s v h)
 
 pub freed_kept : (d : Demand) (v : Y.Variable) (s : State) → Kept d s → Kept d (A.controlled_freed v s)
-freed_kept d v s h = of_stack (offsets_of s.controlled v.block v.index)
+freed_kept d v s h = of_stack (offsets_of s.controlled v.block v.index) refl
   where
-    of_stack : (os : List ℕ) → Kept d (A.without_newest_of v os s)
-    of_stack [] = h
-    of_stack (o ∷ os) = h
+    of_stack : (os : List ℕ) → offsets_of s.controlled v.block v.index ≡ os → Kept d (A.without_newest_of v os s)
+    of_stack [] e = h
+    of_stack (o ∷ os) e = (
+      (
+        h.0.0,
+        (
+          h.0.1.0,
+          (
+            (h.0.1.1.0.0, (h.0.1.1.0.1.0, removed_all o s.heap h.0.1.1.0.1.1)),
+            heap_popped d.program s.heap v.block v.index o os s.controlled e h.0.1.1.1,
+          ),
+        ),
+      ),
+      h.1,
+    )
 
 -- where a list goes on
 pub next_of : {X : Type 0} (xs : List X) (n : ℕ) (y : X) (ys : List X) → drop n xs ≡ y ∷ ys
@@ -331,36 +401,57 @@ next_of {X} xs n y ys e =
     by_place (x ∷ xs) (suc n) e = by_place xs n e
 
 static_kept : (d : Demand) (block variable : ℕ) (v : Y.DeclaredVariable) (class : Y.StorageClass) (s : State)
-    → slice_get (D.variables_of_block d.program block) variable ≡ Some v → Kept d s
+    → HasInitial v.leaves → slice_get (D.variables_of_block d.program block) variable ≡ Some v → Kept d s
     → Kept d (K.static_made block variable v class s)
-static_kept d block variable v Y.AutomaticClass s e h = h
-static_kept d block variable v Y.ParameterClass s e h = h
-static_kept d block variable v Y.StaticClass s e h =
-    ((h.0.0, (h.0.1.0, (λ x f known. of_declared x f, h.0.1.1))), h.1)
+static_kept d block variable v Y.AutomaticClass s i e h = h
+static_kept d block variable v Y.ParameterClass s i e h = h
+static_kept d block variable v Y.StaticClass s i e h =
+    let stored = h.0.1.1.0.1 in
+    let values = fresh_values (D.shape_of [] v) (pos 0) v.leaves (shape_declared [] v) i in (
+      (
+        h.0.0,
+        (
+          h.0.1.0,
+          (
+            ((λ x f. of_declared x f, h.0.1.1.0.0), (((values, tt), stored.0), stored.1)),
+            h.0.1.1.1,
+          ),
+        ),
+      ),
+      h.1,
+    )
   where
     of_declared : (x : Y.DeclaredVariable)
-        → slice_get (D.variables_of_block d.program block) variable ≡ Some x → IsShapedAs x (D.shape_of [] v)
+        → slice_get (D.variables_of_block d.program block) variable ≡ Some x
+        → StandsAs x (VariableName (s.serials + 1)) (D.shape_of [] v)
     of_declared x f =
-        let same : v ≡ x = cc (e, f) in subst (λ y. IsShapedAs y (D.shape_of [] v)) same (shape_declared [] v)
-static_kept d block variable v Y.BasedClass s e h = h
-static_kept d block variable v Y.ControlledClass s e h = h
+        let same : v ≡ x = cc (e, f) in
+        (subst (λ y. IsShapedAs y (D.shape_of [] v)) same (shape_declared [] v), λ a. omega arith)
+static_kept d block variable v Y.BasedClass s i e h = h
+static_kept d block variable v Y.ControlledClass s i e h = h
 
 block_kept : (d : Demand) (block variable : ℕ) (vs : List Y.DeclaredVariable) (s : State)
-    → drop variable (D.variables_of_block d.program block) ≡ vs → Kept d s
+    → Every (λ v. HasInitial v.leaves) vs → drop variable (D.variables_of_block d.program block) ≡ vs → Kept d s
     → Kept d (K.statics_of_block block variable vs s)
-block_kept d block variable [] s e h = h
-block_kept d block variable (v ∷ vs) s e h =
+block_kept d block variable [] s i e h = h
+block_kept d block variable (v ∷ vs) s i e h =
     let next = next_of (D.variables_of_block d.program block) variable v vs e in
-    block_kept d block (variable + 1) vs (K.static_made block variable v v.class s) next.1
-    (static_kept d block variable v v.class s next.0 h)
+    block_kept d block (variable + 1) vs (K.static_made block variable v v.class s) i.1 next.1
+    (static_kept d block variable v v.class s i.0 next.0 h)
 
-statics_on : (d : Demand) (block : ℕ) (vs : List (List Y.DeclaredVariable)) (s : State)
+-- what INITIAL says of all variables
+abbrev pub AllInitial : Y.Program → Type 0
+AllInitial p = (block : ℕ) → Every (λ v. HasInitial v.leaves) (D.variables_of_block p block)
+
+statics_on : (d : Demand) (block : ℕ) (vs : List (List Y.DeclaredVariable)) (s : State) → AllInitial d.program
     → drop block d.program.variables ≡ vs → Kept d s → Kept d (K.statics_from block vs s)
-statics_on d block [] s e h = h
-statics_on d block (v ∷ vs) s e h =
+statics_on d block [] s i e h = h
+statics_on d block (v ∷ vs) s i e h =
     let next = next_of d.program.variables block v vs e in
-    statics_on d (block + 1) vs (K.statics_of_block block 0 v s) next.1
-    (block_kept d block 0 v s (ap (λ o. unwrap_or o []) next.0) h)
+    let same : D.variables_of_block d.program block ≡ v = ap (λ o. unwrap_or o []) next.0 in
+    statics_on d (block + 1) vs (K.statics_of_block block 0 v s) i next.1
+    (block_kept d block 0 v s (subst (λ xs. Every (λ x. HasInitial x.leaves) xs) same (i block)) same h)
 
-pub statics_kept : (d : Demand) (s : State) → Kept d s → Kept d (K.statics_from 0 d.program.variables s)
-statics_kept d s h = statics_on d 0 d.program.variables s refl h
+pub statics_kept : (d : Demand) (s : State) → AllInitial d.program → Kept d s
+    → Kept d (K.statics_from 0 d.program.variables s)
+statics_kept d s i h = statics_on d 0 d.program.variables s i refl h

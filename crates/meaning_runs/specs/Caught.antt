@@ -7,7 +7,6 @@ use Rattle.pli_meaning.specs.declared.outcome.End.TheVariants as E
 use Rattle.pli_typing.specs.TypedTree as Y
 use Rattle.pli_meaning.specs.Executing.{meaning}
 use Rattle.well_formed_trees.specs.WellFormed.{IsWellFormed}
-use Rattle.meaning_runs.specs.Plain.{IsPlain}
 
 abbrev pub head : Y.BlockKind → (number level : ℕ) → Y.BlockHead
 head kind number level = record { kind = kind; number = number; level = level; line = 1 }
@@ -49,10 +48,9 @@ function =
 abbrev pub function_ends : Y.Program
 function_ends = record { variables = [] ∷ [] ∷ [] ∷ []; procedures = main ∷ function ∷ [] }
 
--- the law: it is well formed and plain; ERROR 112 is raised, and the run goes on behind it, writes and ends
+-- the law: it is well formed; ERROR 112 is raised, and the run goes on behind it, writes and ends
 pub record JumpCaught : Type 0 where
   pub well_formed : IsWellFormed function_ends
-  pub plain : IsPlain function_ends
   pub caught :
       meaning function_ends [] 20
       ≡ Some (record { acts = 12; output = 65 ∷ 10 ∷ []; raised = (C.Error, 112) ∷ []; end = E.Finished })

@@ -14,7 +14,6 @@ use Rattle.pli_meaning.specs.StorageState.{first_state}
 use Rattle.pli_meaning.specs.Control.{Flow, Normal, Jump, Return, Ended, Paused, Stuck}
 use Rattle.pli_meaning.specs.Executing.{run, meaning}
 use Rattle.well_formed_trees.specs.WellFormed.{IsWellFormed}
-use Rattle.meaning_runs.specs.Plain.{IsPlain}
 
 abbrev pub IsOver : End → Type 0
 IsOver E.Running = ⊥
@@ -31,9 +30,9 @@ EndsOrPauses k Stuck = ⊥
 
 -- ---- the laws
 
--- the run of a plain well-formed program is never stuck, and no jump goes out of it
+-- the run of a well-formed program is never stuck, and no jump goes out of it
 abbrev pub NeverStuck : Type 0
-NeverStuck = (program : Y.Program) (input : List ℕ) (k : ℕ) → IsWellFormed program → IsPlain program
+NeverStuck = (program : Y.Program) (input : List ℕ) (k : ℕ) → IsWellFormed program
     → EndsOrPauses k (run program (suc k) k (first_state input))
 
 -- a world, of at most so many acts, and of exactly as many where the run goes on behind them
@@ -45,12 +44,11 @@ pub record IsMeant (program : Y.Program) (input : List ℕ) (k : ℕ) : Type 0 w
 
 -- its meaning is there at every number of acts
 abbrev pub MeaningThere : Type 0
-MeaningThere = (program : Y.Program) (input : List ℕ) (k : ℕ) → IsWellFormed program → IsPlain program
-    → IsMeant program input k
+MeaningThere = (program : Y.Program) (input : List ℕ) (k : ℕ) → IsWellFormed program → IsMeant program input k
 
 -- so it is of each accepted source
 abbrev pub AcceptedMeaningThere : Type 0
 AcceptedMeaningThere =
     (s : List ℕ) (tokens : List Token) (tree : T.Tree) → Tokens s tokens → Spells s tokens tree
-    → declaring_faults tree ≡ [] → typing_faults tree ≡ [] → IsPlain (typed_tree tree)
-    → (input : List ℕ) (k : ℕ) → IsMeant (typed_tree tree) input k
+    → declaring_faults tree ≡ [] → typing_faults tree ≡ [] → (input : List ℕ) (k : ℕ)
+    → IsMeant (typed_tree tree) input k

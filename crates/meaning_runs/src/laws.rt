@@ -5,17 +5,17 @@ ghost use Rattle.meaning_runs.specs.Caught.{JumpCaught};
 
 use well_formed_trees::laws::accepted_well_formed;
 
-/// A run of a plain well-formed program is never stuck, and no jump goes out of it: it ends or pauses.
+/// A run of a well-formed program is never stuck, and no jump goes out of it: it ends or pauses.
 pub fn never_stuck()
     ensures { NeverStuck }
 {}
 
-/// A plain well-formed program has a meaning at every number of acts.
+/// A well-formed program has a meaning at every number of acts.
 pub fn meaning_there()
     ensures { MeaningThere }
 {}
 
-/// So has each accepted source whose typed tree is plain.
+/// So has the typed tree of each accepted source.
 pub fn accepted_meaning_there()
     ensures { AcceptedMeaningThere }
 {

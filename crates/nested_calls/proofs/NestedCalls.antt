@@ -193,7 +193,7 @@ abbrev pub behind_call : Option BasicValue → Meaning (Unit {0})
 behind_call r = give tt
 
 -- behind the call its block goes on
-behind_goes :
+pub behind_goes :
     {words : ℕ} {k : Block} {c : Callee} {acts level line index more wanted credits : ℕ} {numbers : ℕ → ℕ}
     {p : Point} {f : Family} {r : Option BasicValue} {s : State} {v : _}
     (h : IsNestedCall words k c level line index more)

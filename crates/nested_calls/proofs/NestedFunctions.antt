@@ -126,7 +126,7 @@ called_means k c level more {p = p} h o =
 abbrev pub as_number : Option BasicValue → Meaning ℤ
 as_number r = V.returned r >>= (λ v. give (number_in v))
 
-behind_goes :
+pub behind_goes :
     (k : Setting) (c : Callee) (taken index credits : ℕ) {numbers : ℕ → ℕ} {p : Point} (o : IsAmong k.block numbers p)
     (part : Code) (call : ℕ) → call + 2 ≡ index + size_of part → (c' : ℕ) (f : Family) (v : Services)
     (r : Option BasicValue) (s : State) →

@@ -78,7 +78,7 @@ pub record Over (k inner : Block) (level : ℕ) (p : Point) : Type 0 where
   pub layer_level : inner.call.beginning.layer.level ≡ suc level
   pub few : suc level < most_levels
 
-same_ancestor :
+pub same_ancestor :
     {k inner : Block} {level : ℕ} {numbers : ℕ → ℕ} {p : Point} (n : ℕ) → Over k inner level p → IsNested k →
     IsAmong k numbers p → level ≤ k.environment.level → n ≤ level →
     ancestor_at inner.first.state n ≡ ancestor_at k.first.state n

@@ -242,6 +242,7 @@ layout_for {program} m =
       end = behind_body program m.head m.body;
       units = [];
       constants = constants_in (code_for program);
+      fills = [];
       serials = serials_for program;
       made = made_for program m.head;
     }

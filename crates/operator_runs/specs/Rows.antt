@@ -94,6 +94,7 @@ square_image input acts =
       units = [];
       signatures = map template_of (table_of square_program);
       constants = no_constants;
+      fills = [];
       input = input;
       acts = acts;
       serials = 1;

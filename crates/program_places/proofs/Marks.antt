@@ -124,7 +124,7 @@ named_has d (Mark s ∷ xs) (inr h) = named_has d xs h
 
 -- ---- the whole code
 
-whole_linked : (c : Code) → length (linked_code c) ≤ most_code → Linked (links_of c) (linked_code c) 0 c
+pub whole_linked : (c : Code) → length (linked_code c) ≤ most_code → Linked (links_of c) (linked_code c) 0 c
 whole_linked c fits =
     let n = linked_length (links_of c) 0 c in
     record {

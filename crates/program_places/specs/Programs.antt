@@ -52,6 +52,7 @@ image_for program r =
       units = r.units;
       signatures = map template_of (table_of program);
       constants = constants_in (code_for program);
+      fills = [];
       input = r.input;
       acts = r.acts;
       serials = r.serials;

@@ -102,7 +102,7 @@ start_holds i main first keeps h =
     let bytes = h.bytes in
     let f = first_version (4 * length i.code) in
     let before = first_holds f p.keeper keeps (first_sound (4 * length i.code) (code_low i main first h))
-    i.signatures h.differ i.constants (services_of p) i.input first bytes
+    i.signatures h.differ i.constants i.fills (services_of p) i.input first bytes
     (λ n v e. let t = h.told n v e in let low = t.1 in (t.0, omega (arith, low), t.2)) in
     stores_hold (now p first) frame_at 48 (first_stores image_parts) before.0
     (start_clear p.keeper p.places p.state image_parts (point_stands i main first h).owned

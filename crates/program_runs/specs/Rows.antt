@@ -82,6 +82,7 @@ row_image input acts =
       units = [];
       signatures = [];
       constants = no_constants;
+      fills = [];
       input = input;
       acts = acts;
       serials = 1;

@@ -12,6 +12,7 @@ use Rattle.pli_coding.specs.Instructions.{move, small}
 use Rattle.pli_coding.specs.Linking.{Links}
 use Rattle.pli_coding.specs.Procedures.{finish_code}
 use Rattle.pli_coding.specs.Registers.{frame_register, a0, a1, a2}
+use Rattle.storage_relation.specs.Fills.{Fills}
 use Rattle.storage_relation.specs.Served.{AllDiffer}
 use Rattle.storage_relation.specs.Stored.{AreTold}
 use Rattle.storage_relation.specs.Versions.{first_version, first_places, layout_in}
@@ -47,14 +48,15 @@ finish_index = 15
 
 -- ---- its first moment
 
--- a program's image in a run: its code, its signatures, the bytes that are told of its static data, the input, how many
--- acts are allowed, and how many serials may come for each
+-- a program's image in a run: its code, its signatures, the bytes that are told of its static data, the signatures that
+-- a run may fill in, the input, how many acts are allowed, and how many serials may come for each
 pub record Image : Type 0 where
   pub code : List Instr
   pub links : Links
   pub units : UnitPlaces
   pub signatures : List Template
   pub constants : (place : ℕ) → Option ℕ
+  pub fills : List Fills
   pub input : List ℕ
   pub acts : ℕ
   pub serials : ℕ
@@ -72,7 +74,7 @@ surroundings_of i =
 abbrev pub start_point : Image → Point
 start_point i =
     first_point run_keeper (layout_in (first_version (4 * length i.code)))
-    (first_places (first_version (4 * length i.code)) i.signatures i.constants) i.input
+    (first_places (first_version (4 * length i.code)) i.signatures i.constants i.fills) i.input
 
 -- all registers are 0, and memory is anything but for what is told of it
 abbrev pub first_family : (first : List ℕ) → Services → Family

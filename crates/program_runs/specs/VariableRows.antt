@@ -79,6 +79,7 @@ number_image input acts =
       units = [];
       signatures = map template_of (table_of number_program);
       constants = no_constants;
+      fills = [];
       input = input;
       acts = acts;
       serials = 1;

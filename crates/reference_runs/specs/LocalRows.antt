@@ -145,6 +145,7 @@ kept_image input acts =
       units = [];
       signatures = map template_of (table_of kept_program);
       constants = no_constants;
+      fills = [];
       input = input;
       acts = acts;
       serials = 1;

@@ -131,6 +131,7 @@ passed_image input acts =
       units = [];
       signatures = map template_of (table_of passed_program);
       constants = no_constants;
+      fills = [];
       input = input;
       acts = acts;
       serials = 1;

@@ -131,6 +131,7 @@ brim_image input acts =
       units = [];
       signatures = map template_of (table_of brim_program);
       constants = no_constants;
+      fills = [];
       input = input;
       acts = acts;
       serials = 2;

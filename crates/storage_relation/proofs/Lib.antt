@@ -27,6 +27,7 @@ pub mod NameWords
 pub mod FoundValues
 pub mod Signatures
 pub mod Numbering
+pub mod Fills
 pub mod Taking
 pub mod InitialItems
 pub mod InitialLeaves

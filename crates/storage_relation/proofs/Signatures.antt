@@ -162,7 +162,7 @@ are_distinct t differ i j a b e f = by (slice_get t i) (slice_get t j) refl refl
 
 -- ---- more templates
 
-get_left : (xs ys : List Template) (n : ℕ) (x : Template) → slice_get xs n ≡ Some x → slice_get (xs ++ ys) n ≡ Some x
+pub get_left : (xs ys : List Template) (n : ℕ) (x : Template) → slice_get xs n ≡ Some x → slice_get (xs ++ ys) n ≡ Some x
 get_left [] ys n x e = absurd (cc e)
 get_left (z ∷ xs) ys zero x e = e
 get_left (z ∷ xs) ys (suc n) x e = get_left xs ys n x e

@@ -1,5 +1,6 @@
 pub mod Telling
 pub mod Standing
+pub mod Fills
 pub mod Stored
 pub mod Served
 pub mod Keeping

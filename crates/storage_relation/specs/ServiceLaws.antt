@@ -50,6 +50,7 @@ use Rattle.storage_relation.specs.Changes.{with_memory, assigned, area_then, all
 use Rattle.storage_relation.specs.Changes.{with_storage}
 use Rattle.storage_relation.specs.Controlled.{Begins, offsets_in, Variable, offsets_at, ControlledAs, IsNewest}
 use Rattle.storage_relation.specs.Controlled.{same_variable, after_push, after_pop, StacksStand}
+use Rattle.storage_relation.specs.Fills.{Fills, Grows, IsFill, most_filled}
 use Rattle.storage_relation.specs.ItemShapes.{AreWords, part_nest, part_shape, shape_words}
 use Rattle.storage_relation.specs.Keeping.{AreSound, AreInitial}
 use Rattle.storage_relation.specs.Numbered.{IsMeant, element_of, IsListed, described, Numbered, IsNumbered}
@@ -268,6 +269,18 @@ pub record SignaturesGrow : Type 0 where
   pub numbered : (u : Template) (t : List Template) → shape_at (with_template u t) (number_of u t) ≡ T.shape_of u
   pub kept : (u : Template) (t : List Template) → KeepNumbers t (with_template u t)
   pub extended : (old new : List Template) → KeepNumbers old new → Extends old new
+  -- a table that only gets what a run may fill in keeps all numbers, and gets no more than that
+  pub grows :
+      (fills : List Fills) (u : Template) (t : List Template) → (number_of u t ≡ length t → IsFill fills u) →
+      Grows fills fills t (with_template u t)
+  pub still : (fills : List Fills) (t : List Template) → Grows fills fills t t
+  pub then' :
+      (fills still then' : List Fills) (s t u : List Template) → Grows fills still s t → Grows still then' t u →
+      Grows fills then' s u
+  pub keeps : (fills still : List Fills) (s t : List Template) → Grows fills still s t → KeepNumbers s t
+  pub few :
+      (fills still : List Fills) (s t : List Template) → Grows fills still s t →
+      length t ≤ length s + most_filled fills
   pub differ : (u : Template) (t : List Template) → AllDiffer t → AllDiffer (with_template u t)
   -- what is stored stays, whatever signatures there are besides
   pub holds :
@@ -309,13 +322,13 @@ pub record HeldInData : Type 0 where
 pub record RunBegins : Type 0 where
   pub holds :
       (f : Version) (k : Keeper) → Keeps k → IsSoundVersion f → (t : List Template) → AllDiffer t →
-      (constants : ℕ → Option ℕ) (v : S.Services) (input m : List ℕ) → length m ≡ f.end →
+      (constants : ℕ → Option ℕ) (fills : List Fills) (v : S.Services) (input m : List ℕ) → length m ≡ f.end →
       AreTold constants f.code_bytes f.heap_at m →
-      Holds (first_now f k t constants v input m) × IsLaidOut f (first_now f k t constants v input m)
+      Holds (first_now f k t constants fills v input m) × IsLaidOut f (first_now f k t constants fills v input m)
   pub stacks :
-      (f : Version) (k : Keeper) (t : List Template) (constants : ℕ → Option ℕ) (v : S.Services) (input m : List ℕ)
-      (of : ℕ → Option Variable) → ((i : ℕ) → v.controlled i ≡ []) →
+      (f : Version) (k : Keeper) (t : List Template) (constants : ℕ → Option ℕ) (fills : List Fills)
+      (v : S.Services) (input m : List ℕ) (of : ℕ → Option Variable) → ((i : ℕ) → v.controlled i ≡ []) →
       ((i j : ℕ) (x y : Variable) → of i ≡ Some x → of j ≡ Some y → i ≢ j → same_variable x y ≡ false) →
-      StacksStand (first_now f k t constants v input m) of
+      StacksStand (first_now f k t constants fills v input m) of
   -- version 1 is sound
   pub sound : (code_bytes : ℕ) → code_bytes ≤ 14 * 2 ^ 20 → IsSoundVersion (first_version code_bytes)

@@ -9,6 +9,7 @@ use Rattle.pli_types.specs.Templates.{Template}
 use Rattle.area_keeper.specs.Keeper.{Keeper}
 use Rattle.area_keeper.specs.KeptAreas.{part}
 use Rattle.pli_serving.specs.Templates.{shape_at}
+use Rattle.storage_relation.specs.Fills.{Fills}
 use Rattle.storage_relation.specs.Standing.{Holder, bytes_of, held, Stands, Alone, AreaOf, holder_of}
 
 -- ---- where it stands
@@ -26,6 +27,8 @@ pub record Places : Type 0 where
   pub heap_made : Bool
   -- bytes of static data that no run changes, by place
   pub constants : (place : ℕ) → Option ℕ
+  -- the signatures that a run may fill in
+  pub fills : List Fills
 
 -- a heap in which nothing was placed yet is empty, whatever its bytes
 abbrev pub made_if : Keeper → (is_made : Bool) → List ℕ → List ℕ

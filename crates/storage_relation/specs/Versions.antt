@@ -6,6 +6,7 @@ use Rattle.pli_types.specs.Templates.{Template}
 use Rattle.area_keeper.specs.Keeper.{Keeper}
 use Rattle.pli_serving.specs.Bytes.{Layout}
 use Rattle.pli_serving.specs.ServiceState as S
+use Rattle.storage_relation.specs.Fills.{Fills}
 use Rattle.storage_relation.specs.Served.{Now}
 use Rattle.storage_relation.specs.Stored.{Places}
 
@@ -43,8 +44,8 @@ pub record IsLaidOut (f : Version) (w : Now) : Type 0 where
 
 -- where memory and services begin: nothing lives, the heap isn't made, the signatures are the table's, and bytes of
 -- static data are told
-abbrev pub first_places : Version → List Template → (constants : ℕ → Option ℕ) → Places
-first_places f t constants =
+abbrev pub first_places : Version → List Template → (constants : ℕ → Option ℕ) → List Fills → Places
+first_places f t constants fills =
     record {
       at = λ n. f.heap_at;
       number = λ n. 0;
@@ -52,6 +53,7 @@ first_places f t constants =
       signatures = t;
       heap_made = false;
       constants = constants;
+      fills = fills;
     }
 
 -- of a program without static data none is told
@@ -59,12 +61,13 @@ abbrev pub no_constants : (place : ℕ) → Option ℕ
 no_constants place = None
 
 abbrev pub first_now :
-    Version → Keeper → List Template → (constants : ℕ → Option ℕ) → S.Services → (input memory : List ℕ) → Now
-first_now f k t constants v input m =
+    Version → Keeper → List Template → (constants : ℕ → Option ℕ) → List Fills → S.Services →
+    (input memory : List ℕ) → Now
+first_now f k t constants fills v input m =
     record {
       keeper = k;
       layout = layout_in f;
-      places = first_places f t constants;
+      places = first_places f t constants fills;
       state = first_state input;
       services = v;
       memory = m;

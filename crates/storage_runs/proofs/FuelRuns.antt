@@ -10,6 +10,7 @@ use Rattle.pli_meaning.specs.World.{counted, raising}
 use Rattle.pli_typing.specs.TypedTree as Y
 use Rattle.pli_meaning.specs.BasicValues.{BasicValue}
 use Rattle.pli_meaning.specs.StorageState.{Activation, force}
+use Rattle.pli_meaning.specs.Codes.{no_value_code}
 use Rattle.pli_meaning.specs.Control.{Label, Meaning}
 use Rattle.pli_meaning.specs.Raising as G
 use Rattle.pli_meaning.specs.Raising.{Around, Enter, at_line, Entry, Passed, PassedName, PassedValue}
@@ -316,7 +317,7 @@ entry_act_same Y.SimpleUnit = act_same counted (λ w. refl)
 
 -- ERROR is an act, before its unit is entered
 end_error_same : (l : Level)
-    → Same 0 1 l.left (G.error (fewer_at l) no_value_code) (G.error (more_at l) no_value_code)
+    → Same {R = Unit {0}} 0 1 l.left (G.error (fewer_at l) no_value_code) (G.error (more_at l) no_value_code)
 unfolding G.error
 end_error_same l =
     slow (act_then (raising C.Error _) (λ w. refl) (λ c e. loose

@@ -75,7 +75,7 @@ constant_tests k false p numbers taken c index f o line registers l paid there =
 
 -- ---- comparisons
 
-compared_reach :
+pub compared_reach :
     (k : Setting) (p : Point) (numbers : ℕ → ℕ) (c index : ℕ) (f : Family) (h : frame_of k.block p)
     (comparison : Y.Comparison) (left right : ℕ) (z : Bool) → compared_word comparison left right ≡ flag z →
     Linked k.block.call.surroundings.links k.block.call.code index (compared_code comparison) →

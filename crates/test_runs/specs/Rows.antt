@@ -115,6 +115,7 @@ turn_image input acts =
       units = [];
       signatures = map template_of (table_of turn_program);
       constants = no_constants;
+      fills = [];
       input = input;
       acts = acts;
       serials = 1;

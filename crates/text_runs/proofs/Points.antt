@@ -108,7 +108,7 @@ value_further entries k {x} {y} {flow = flow} i o =
 -- ---- numbers in the block that has what waits
 
 -- a jump that names no label of it goes to a block further out, which knows nothing of what waits
-jumps_down :
+pub jumps_down :
     (entries : List Entry) (k : Setting) {acts c : ℕ} {f : Family} {v : Services} {height : ℕ} {label : Label}
     {s : State} → JumpsTo (waiting entries k.block) [] acts c f v height label s →
     JumpsTo k.block k.labels acts c f v height label s

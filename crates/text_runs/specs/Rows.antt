@@ -146,6 +146,7 @@ wait_image input acts =
       units = [];
       signatures = map template_of (table_of wait_program);
       constants = no_constants;
+      fills = [];
       input = input;
       acts = acts;
       serials = 1;

@@ -118,6 +118,7 @@ rise_image input acts =
       units = rise_units;
       signatures = map template_of (table_of rise_program);
       constants = no_constants;
+      fills = [];
       input = input;
       acts = acts;
       serials = 1;

@@ -6,7 +6,6 @@ use Rattle.std.specs.Prelude.{Bool, not}
 use Rattle.pli_language.specs.declared.condition.Condition.{Condition}
 use Rattle.pli_language.specs.declared.condition.Condition.TheVariants as C
 use Rattle.pli_typing.specs.TypedTree as Y
-use Rattle.pli_meaning.specs.Executing.{labels_in}
 use Rattle.pli_meaning.specs.StorageState.{BlockUnit, force, same_condition}
 use Rattle.code_marks.specs.CodeMarks.{MarkedOnce}
 use Rattle.activation_relation.specs.ServiceLaws.{IsSystem}
@@ -23,7 +22,7 @@ use Rattle.number_headlines.proofs.Mains.{made_system}
 use Rattle.unit_runs.specs.Changing.{IsPast, Past, StandsIn}
 use Rattle.unit_runs.specs.Establishing.{OnUnit, unit_of}
 use Rattle.unit_runs.proofs.Establishing.{unit_forced}
-use Rattle.unit_numbers.specs.Units.{has_unit}
+use Rattle.unit_numbers.specs.Calls.{has_unit}
 use Rattle.unit_numbers.proofs.Forces.{Forced, forced_still, same_is, system_still}
 use Rattle.unit_numbers.proofs.Mains.{Main, block_for, list_of, placed, units_for}
 use Rattle.unit_numbers.proofs.Spread.{all_code}
@@ -35,7 +34,8 @@ use Rattle.unit_numbers.proofs.Units.{not_error, unit_is}
 abbrev pub IsUnitOf : {program : Y.Program} → Main program → (input : List ℕ) → (acts : ℕ) → OnUnit → (index : ℕ) →
     Type 0
 IsUnitOf {program} m input acts x index =
-    IsPlaced program m.head (list_of m) (block_for m input acts) (units_for m) (body_for program m.head m.body) x
+    IsPlaced program m.called m.head (list_of m) (block_for m input acts) (units_for m) (body_for program m.head m.body)
+    x
     index
 
 abbrev pub start_of : {program : Y.Program} → Main program → ℕ
@@ -53,7 +53,7 @@ pub unit_stands :
     MarkedOnce → {program : Y.Program} (m : Main program) (input : List ℕ) (acts : ℕ) (e : OnUnit × ℕ) →
     StandsIn (block_for m input acts) (list_of m) (start_of m) e → IsUnitOf m input acts e.0 e.1
 unit_stands once {program} m input acts e there =
-    on_placed program m.head (list_of m) (block_for m input acts) (list_of m) (start_of m) e m.steps
+    on_placed program m.called m.head (list_of m) (block_for m input acts) (list_of m) (start_of m) e m.steps
     (list_placed once m input acts) there
 
 -- ---- the unit in force for a condition: the last one for it that the main procedure has established
@@ -128,7 +128,7 @@ error_system once {program} m input acts past known = by (in_force once m input 
         IsSystem (force (main_past m input acts past).first.state.activations C.Error)
     by (inl system) = system
     by (inr n) =
-        absurd (not_error n.condition (unit_is program m.head (list_of m) n.unit n.placed.is).condition)
+        absurd (not_error n.condition (unit_is program m.called m.head (list_of m) n.unit n.placed.is).condition)
 
 -- nor for a condition for which the list has none
 pub none_system :

@@ -1,5 +1,5 @@
 -- Which unit is in force for a condition where another one has been established: the one that was.
-use Rattle.std.proofs.Common.{◌≡◌, ℕ, List, [], ◌∷◌, Option, Some, None, true, false, refl, sym, ap, ◌∙◌, subst}
+use Rattle.std.proofs.Common.{◌≡◌, List, [], ◌∷◌, Option, Some, None, true, false, refl, sym, ap, ◌∙◌, subst}
 use Rattle.std.specs.Prelude.{Bool, cond}
 use Rattle.std.proofs.lemmas.Option.{same_Some}
 use Rattle.pli_language.specs.declared.condition.Condition.{Condition}

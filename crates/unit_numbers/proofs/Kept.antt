@@ -1,5 +1,5 @@
 -- Each program of the class keeps the headline.
-use Rattle.std.proofs.Common.{refl}
+use Rattle.std.proofs.Common.{[], refl}
 use Rattle.std.proofs.lemmas.Bool.{and_parts}
 use Rattle.pli_typing.specs.TypedTree as Y
 use Rattle.pli_meaning.specs.Pictures.{first_bytes}
@@ -8,7 +8,8 @@ use Rattle.pli_coding.specs.SignatureTable.{table_of}
 use Rattle.code_marks.specs.CodeMarks.{MarkedOnce}
 use Rattle.storage_relation.specs.ServiceLaws.{TableDiffers}
 use Rattle.program_places.specs.Constants.{constants_in}
-use Rattle.program_places.specs.Programs.{IsLoadable, behind_body, code_for, entry_for, environment_for, procedure_for}
+use Rattle.program_places.specs.Programs.{IsLoadable, behind_body, code_for, entry_for, environment_for}
+use Rattle.program_places.specs.Programs.{procedure_for}
 use Rattle.program_places.proofs.Memory.{first_length}
 use Rattle.program_places.proofs.Starts.{whole_stands}
 use Rattle.program_runs.specs.Starts.{no_numbers}
@@ -36,6 +37,7 @@ layout_for {program} m =
       end = behind_body program m.head m.body;
       units = units_for m;
       constants = constants_in (code_for program);
+      fills = [];
       serials = most_words;
       made = made_for program m.head;
     }

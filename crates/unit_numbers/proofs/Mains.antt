@@ -1,25 +1,27 @@
 -- The main procedure of a program of the class where it begins: its variables are made, and there is room for a unit.
-use Rattle.std.proofs.Common.{◌≡◌, ℕ, ◌+◌, ◌≤◌, List, [], ◌∷◌, None, true, false, length, refl, sym, ap, ◌∙◌, subst}
-use Rattle.std.proofs.Common.{arith}
-use Rattle.std.specs.Prelude.{◌&&◌, ◌==◌, ◌||◌, Bool, nat_le}
-use Rattle.std.proofs.lemmas.Bool.{and_parts, eqb-true, leb-true}
+use Rattle.std.proofs.Common.{◌≡◌, ℕ, ◌+◌, ◌≤◌, List, [], ◌∷◌, None, true, false}
+use Rattle.std.proofs.Common.{length, refl, sym, ap, ◌∙◌, subst, arith}
+use Rattle.std.specs.Prelude.{◌&&◌, Bool, nat_le}
+use Rattle.std.specs.List.{list_any}
+use Rattle.std.proofs.lemmas.Bool.{and_parts, leb-true}
 use Rattle.pli_language.specs.declared.condition.Condition.{Condition}
 use Rattle.pli_typing.specs.TypedTree as Y
 use Rattle.pli_meaning.specs.BasicValues.{VariableName}
 use Rattle.pli_meaning.specs.DeclaredShapes.{declared_variable, head_of, variables_of_block}
 use Rattle.pli_meaning.specs.Making.{with_binding}
 use Rattle.pli_meaning.specs.StorageState.{Activation, Binding, OnUnit}
-use Rattle.pli_coding.specs.Environments.{BlockPlace, none_taken}
 use Rattle.pli_coding.specs.Frames.{fixed_size, parameters_in}
-use Rattle.pli_coding.specs.Images.{linked_code, picture_of, place_of_head}
+use Rattle.pli_coding.specs.Images.{linked_code, picture_of}
 use Rattle.pli_coding.specs.Registers.{held_registers}
-use Rattle.pli_coding.specs.Statements.{block_held, stmts_take}
+use Rattle.pli_coding.specs.Environments.{block_around, none_taken}
+use Rattle.pli_coding.specs.Statements.{block_held, block_takes, stmts_take}
 use Rattle.activation_relation.specs.Chains.{HasParent, UnitPlaces}
 use Rattle.activation_relation.specs.Layers.{Layer, Point}
 use Rattle.activation_relation.specs.Points.{Surroundings}
 use Rattle.program_places.specs.Programs.{IsLoadable, IsMain, Run, body_for, code_for, environment_for, image_for}
 use Rattle.program_places.specs.Programs.{procedure_for, whole_for}
 use Rattle.program_places.specs.Programs as Placed
+use Rattle.program_places.proofs.Blocks.{own_block}
 use Rattle.program_places.proofs.Found.{known}
 use Rattle.program_places.proofs.Starts.{main_found}
 use Rattle.program_runs.specs.Calls.{Callee, begun_at, block_at}
@@ -34,16 +36,18 @@ use Rattle.variable_runs.specs.Lists.{AreAll, all_made, behind_made, layer_after
 use Rattle.well_formed_trees.specs.WellFormed.{HasMain}
 use Rattle.element_runs.specs.Arrays.{IsArray}
 use Rattle.number_runs.specs.Arrays.{is_array_if}
-use Rattle.number_runs.specs.Numbers.{bounds_known, has_none, is_array_known, is_known, is_place, is_plain_if}
-use Rattle.number_runs.specs.Statements.{statements_need}
+use Rattle.number_runs.specs.Numbers.{Scope, bounds_known, has_none, is_array_known, is_known, is_place, is_plain_if}
+use Rattle.number_runs.specs.Statements.{statements_need, statements_set}
 use Rattle.number_runs.specs.Variables.{HasWords, HaveRoom, IsOwnArray, IsOwnWord, bytes_of, words_in}
-use Rattle.number_runs.proofs.Takes.{Takes}
+use Rattle.number_runs.proofs.Takes.{Sets}
 use Rattle.number_runs.proofs.Words.{all_words, own_array, own_word, room_behind, room_fewer}
-use Rattle.number_headlines.specs.Programs.{are_all_plain, body_of, has_result, most_words}
+use Rattle.number_headlines.specs.Programs.{are_all_plain, body_of, has_result, most_waiting, most_words}
+use Rattle.number_headlines.specs.Programs.{places_to}
+use Rattle.number_headlines.proofs.Places.{around_is}
 use Rattle.number_headlines.proofs.Mains.{made_for, procedure_is, spare}
 use Rattle.number_headlines.proofs.Tables.{all_known, block_plain, has_table}
 use Rattle.unit_numbers.specs.Programs.{are_apart, are_steps, has_unit_main, is_unit_body}
-use Rattle.unit_numbers.specs.Units.{own_scope}
+use Rattle.unit_numbers.specs.Calls.{are_called, called_ones, scope_in}
 use Rattle.unit_numbers.proofs.Places.{units_of}
 use Rattle.unit_numbers.specs.Groups.{spread_all}
 use Rattle.unit_numbers.proofs.Spread.{all_takes}
@@ -58,9 +62,13 @@ pub record Main (program : Y.Program) : Type 0 where
   pub plain : are_all_plain program.variables ≡ true
   pub loadable : IsLoadable program
   pub memory : FitsMemory (picture_of parts program)
-  pub steps : are_steps program head (spread_all body) (spread_all body) ≡ true
+  -- the numbers of the procedures that it calls, and that they call
+  pub called : List ℕ
+  pub steps : are_steps program called head (spread_all body) (spread_all body) ≡ true
   pub apart : are_apart (spread_all body) ≡ true
   pub fits : statements_need (spread_all body) ≤ held_registers
+  pub waiting : statements_set (spread_all body) ≤ most_waiting
+  pub calls : are_called program (spread_all body) called called ≡ true
 
 -- its list, in which groups with ON stand for their statements
 abbrev pub list_of : {program : Y.Program} → Main program → Y.Stmts
@@ -79,12 +87,17 @@ main_is program (p ∷ ps) e plain load memory h =
     let head = head_of p.block in
     let body = body_of p.block in
     let list' = spread_all body in
-    let inner = is_unit_body program head list' in
+    let called = called_ones program list' in
+    let inner = is_unit_body program called head list' in
     let fits = nat_le (statements_need list') held_registers in
+    let waiting = nat_le (statements_set list') most_waiting in
+    let all = are_called program list' called called in
     let a = and_parts (has_none p.parameters) (has_result false p.result && inner) h in
     let b = and_parts (has_result false p.result) inner a.1 in
-    let c = and_parts (are_steps program head list' list') (are_apart list' && fits) b.1 in
-    let d = and_parts (are_apart list') fits c.1 in
+    let c = and_parts (are_steps program called head list' list') (are_apart list' && (fits && (waiting && all))) b.1 in
+    let d = and_parts (are_apart list') (fits && (waiting && all)) c.1 in
+    let f = and_parts fits (waiting && all) d.1 in
+    let g = and_parts waiting all f.1 in
     record {
       head = head;
       body = body;
@@ -93,9 +106,12 @@ main_is program (p ∷ ps) e plain load memory h =
       plain = plain;
       loadable = load;
       memory = memory;
+      called = called;
       steps = c.0;
       apart = d.0;
-      fits = leb-true (statements_need list') held_registers d.1;
+      fits = leb-true (statements_need list') held_registers f.0;
+      waiting = leb-true (statements_set list') most_waiting g.0;
+      calls = g.1;
     }
 
 -- ---- in a run
@@ -123,9 +139,9 @@ level_of {program} m = (subst HasMain m.main m.loadable.well_formed.main).0
 -- what its temporaries take
 list_takes :
     {program : Y.Program} (m : Main program) →
-    Takes (statements_need (list_of m)) none_taken (stmts_take none_taken m.body)
+    Sets (statements_need (list_of m)) (statements_set (list_of m)) none_taken (stmts_take none_taken m.body)
 list_takes {program} m =
-    let x = steps_taken program m.head (list_of m) (list_of m) m.steps m.fits in
+    let x = steps_taken program m.called m.head (list_of m) (list_of m) m.steps m.fits in
     let y = all_takes m.body in
     let p = x.registers in
     let q = y.registers in
@@ -133,21 +149,30 @@ list_takes {program} m =
     let v = y.words in
     record { registers = omega (arith, p, q); words = omega (arith, u, v) }
 
-no_words : {program : Y.Program} (m : Main program) → (procedure_for program m.head m.body).words ≡ 0
-no_words {program} m =
+-- the statements that it may have, as a scope
+abbrev pub main_scope : {program : Y.Program} → Main program → (writes : Bool) → Scope
+main_scope {program} m writes = scope_in program m.called (list_of m) m.head false writes
+
+block_taken :
+    {program : Y.Program} (m : Main program) →
+    Sets (statements_need (list_of m)) (statements_set (list_of m)) none_taken
+    (block_takes program m.head.number m.body)
+block_taken {program} m =
     let plain = block_plain program.variables m.head.number m.plain in
-    (behind_variables (own_scope program m.head) program m.head.number (statements_need (list_of m)) m.body
-    plain.plain (list_takes m)).words
+    behind_variables (main_scope m false) program m.head.number (statements_need (list_of m))
+    (statements_set (list_of m)) m.body plain.plain (list_takes m)
+
+pub own_words :
+    {program : Y.Program} (m : Main program) →
+    (procedure_for program m.head m.body).words ≡ statements_set (list_of m)
+own_words {program} m = let n = (block_taken m).words in omega (arith, n)
 
 -- it saves as many registers as they take
 pub main_held :
     {program : Y.Program} (m : Main program) →
     statements_need (list_of m) ≤ block_held (environment_for program m.head) m.head.number m.body
 main_held {program} m =
-    let plain = block_plain program.variables m.head.number m.plain in
-    let s = own_scope program m.head in
-    let n = (behind_variables s program m.head.number (statements_need (list_of m)) m.body plain.plain
-    (list_takes m)).registers in
+    let n = (block_taken m).registers in
     let fits = m.fits in
     omega (arith, n, fits)
 
@@ -160,10 +185,11 @@ pub main_room :
     (start_for m input acts) (procedure_for program m.head m.body)
     (main_for m input acts).calling
 main_room {program} m input acts =
-    let words = no_words m in
+    let words = own_words m in
+    let waiting = m.waiting in
     let level = level_of m in
     record {
-      room = omega (arith, words, level);
+      room = omega (arith, words, waiting, level);
       shallow = refl;
       parent = parented m.head.level 0 level;
       idle = refl;
@@ -187,7 +213,8 @@ pub main_spare :
     (main_layer m input acts) [] (fixed_size m.head.level 0)
     (bytes_of (variables_of_block program m.head.number) + spare)
 main_spare {program} m input acts =
-    let words = no_words m in
+    let words = own_words m in
+    let waiting = m.waiting in
     let level = level_of m in
     let few = (block_plain program.variables m.head.number m.plain).room in
     let code = m.loadable.fits in
@@ -196,7 +223,7 @@ main_spare {program} m input acts =
       here = refl;
       even = omega (arith, words, level);
       counted = omega (arith, level, few);
-      fits = omega (arith, words, level, few);
+      fits = omega (arith, words, waiting, level, few);
       low = omega (arith, code);
       limit = omega (arith, few);
     }
@@ -244,33 +271,38 @@ block_for {program} m input acts =
     (main_for m input acts)
     (start_for m input acts) no_numbers
 
-in_place : (x : Spot) (b : BlockPlace) → (is_place x b || false) ≡ true → (x.block ≡ b.number) × (x.level ≡ b.level)
-in_place x b h =
-    let c = and_parts (x.block == b.number) (x.level == b.level) (one (is_place x b) h) in
-    (eqb-true x.block b.number c.0, eqb-true x.level b.level c.1)
-  where
-    one : (q : Bool) → (q || false) ≡ true → q ≡ true
-    one true e = refl
-    one false e = absurd (cc e)
+-- it may name its own variables
+main_owns :
+    {program : Y.Program} (m : Main program) (x : Spot) →
+    list_any (is_place x) (places_to (environment_for program m.head) m.head.level) ≡ true →
+    (x.block ≡ m.head.number) × (x.level ≡ m.head.level)
+main_owns {program} m x h =
+    let e = environment_for program m.head in
+    let there = around_is e m.head.level x h in
+    let less = there.0 in
+    let level = level_of m in
+    let same : x.level ≡ m.head.level = omega (arith, less, level) in (
+      there.1 ∙ ap (λ n. block_around e n) same
+          ∙ own_block program m.head m.body None (main_found program (placed m) m.main),
+      same,
+    )
 
 pub own_known :
     {program : Y.Program} (m : Main program) (input : List ℕ) (acts : ℕ) (x : Spot) →
-    is_known (own_scope program m.head) x ≡ true →
-    IsOwnWord (main_for m input acts) x
+    is_known (main_scope m false) x ≡ true → IsOwnWord (main_for m input acts) x
 own_known {program} m input acts x h =
     let plain = is_plain_if (declared_variable program (variable_of x)) in
-    let a = and_parts (is_place x (place_of_head m.head) || false) plain h in
-    let b = in_place x (place_of_head m.head) a.0 in
+    let a = and_parts (list_any (is_place x) (places_to (environment_for program m.head) m.head.level)) plain h in
+    let b = main_owns m x a.0 in
     record { block = b.0; level = b.1; plain = a.1 }
 
-own_array_known :
+pub own_array_known :
     {program : Y.Program} (m : Main program) (input : List ℕ) (acts : ℕ) (x : Spot) →
-    is_array_known (own_scope program m.head) x ≡ true →
-    IsOwnArray (main_for m input acts) x
+    is_array_known (main_scope m false) x ≡ true → IsOwnArray (main_for m input acts) x
 own_array_known {program} m input acts x h =
     let array = is_array_if (declared_variable program (variable_of x)) in
-    let a = and_parts (is_place x (place_of_head m.head) || false) array h in
-    let b = in_place x (place_of_head m.head) a.0 in
+    let a = and_parts (list_any (is_place x) (places_to (environment_for program m.head) m.head.level)) array h in
+    let b = main_owns m x a.0 in
     record { block = b.0; level = b.1; array = a.1 }
 
 abbrev pub most_for : Y.Program → ℕ
@@ -289,7 +321,7 @@ main_number {program} m input acts x own b =
 pub own_main_array :
     {program : Y.Program} (m : Main program) (input : List ℕ) (acts : ℕ) (x : Spot) →
     IsOwnArray (main_for m input acts) x → IsBegun (block_for m input acts) →
-    IsArray (block_for m input acts) x (bounds_known (own_scope program m.head) x)
+    IsArray (block_for m input acts) x (bounds_known (main_scope m false) x)
 own_main_array {program} m input acts x own b =
     own_array (surroundings_for m input acts) (linked_code (code_for program)) (main_for m input acts)
     (start_for m input acts) (start_for m input acts) no_numbers x
@@ -297,8 +329,8 @@ own_main_array {program} m input acts x own b =
 
 pub main_array :
     {program : Y.Program} (m : Main program) (input : List ℕ) (acts : ℕ) (x : Spot) →
-    is_array_known (own_scope program m.head) x ≡ true → IsBegun (block_for m input acts) →
-    IsArray (block_for m input acts) x (bounds_known (own_scope program m.head) x)
+    is_array_known (main_scope m false) x ≡ true → IsBegun (block_for m input acts) →
+    IsArray (block_for m input acts) x (bounds_known (main_scope m false) x)
 main_array m input acts x h b = own_main_array m input acts x (own_array_known m input acts x h) b
 
 -- ---- where units are raised in it

@@ -17,7 +17,8 @@ use Rattle.number_runs.specs.Knowledge.{AreStanding}
 use Rattle.unit_runs.specs.Changing.{StandsIn}
 use Rattle.unit_runs.specs.Establishing.{OnUnit, on_of, unit_index, unit_of}
 use Rattle.unit_numbers.specs.Programs.{are_apart, are_steps, has_alike, is_alike, is_alone, is_step}
-use Rattle.unit_numbers.specs.Units.{has_unit, is_unit, is_unit_for, unit_in}
+use Rattle.unit_numbers.specs.Calls.{has_unit, is_unit_for, unit_in}
+use Rattle.unit_numbers.specs.Units.{is_unit}
 use Rattle.unit_numbers.proofs.Forces.{condition_same}
 
 -- ---- by a walk along the list
@@ -105,10 +106,11 @@ one_place e (Y.StmtThen own first rest) index unit one other h a b =
 -- ---- an ON of the list
 
 -- it is of the class, and its code stands with its marks
-pub record IsPlaced (program : Y.Program) (main : Y.BlockHead) (all : Y.Stmts) (k : Block) (units : UnitPlaces)
+pub record IsPlaced (program : Y.Program) (ns : List ℕ) (main : Y.BlockHead) (all : Y.Stmts) (k : Block)
+    (units : UnitPlaces)
     (start : ℕ) (x : OnUnit) (index : ℕ) : Type 0
   where
-    pub is : is_unit program main all x ≡ true
+    pub is : is_unit program ns main all x ≡ true
     pub placed :
         Placed k.call.surroundings.links k.call.code index (stmt_code k.environment none_taken (on_of x))
     pub stands : StandsAt units (unit_of x) (4 * unit_index x index)
@@ -117,10 +119,10 @@ pub record IsPlaced (program : Y.Program) (main : Y.BlockHead) (all : Y.Stmts) (
 
 -- with more units before them
 placed_more :
-    {program : Y.Program} {main : Y.BlockHead} {all : Y.Stmts} {k : Block} {units : UnitPlaces} {next : ℕ}
+    {program : Y.Program} {ns : List ℕ} {main : Y.BlockHead} {all : Y.Stmts} {k : Block} {units : UnitPlaces} {next : ℕ}
     {x : OnUnit} {index : ℕ}
-    (o : Option OnUnit) (at start : ℕ) → start ≤ next → IsPlaced program main all k units next x index →
-    IsPlaced program main all k (with_unit_of o at units) start x index
+    (o : Option OnUnit) (at start : ℕ) → start ≤ next → IsPlaced program ns main all k units next x index →
+    IsPlaced program ns main all k (with_unit_of o at units) start x index
 placed_more {units = units} {x = x} {index = index} o at start less h =
     let b = h.behind in
     record {
@@ -131,19 +133,19 @@ placed_more {units = units} {x = x} {index = index} o at start less h =
     }
 
 pub on_placed :
-    (program : Y.Program) (main : Y.BlockHead) (all : Y.Stmts) (k : Block) (body : Y.Stmts) (index : ℕ)
-    (e : OnUnit × ℕ) → are_steps program main all body ≡ true → AreStanding k body index →
-    StandsIn k body index e → IsPlaced program main all k (units_of k.environment body index) index e.0 e.1
-on_placed program main all k (Y.EndOfList own) index e is at h = absurd h
-on_placed program main all k (Y.StmtThen own first rest) index e is at (inl h) =
+    (program : Y.Program) (ns : List ℕ) (main : Y.BlockHead) (all : Y.Stmts) (k : Block) (body : Y.Stmts) (index : ℕ)
+    (e : OnUnit × ℕ) → are_steps program ns main all body ≡ true → AreStanding k body index →
+    StandsIn k body index e → IsPlaced program ns main all k (units_of k.environment body index) index e.0 e.1
+on_placed program ns main all k (Y.EndOfList own) index e is at h = absurd h
+on_placed program ns main all k (Y.StmtThen own first rest) index e is at (inl h) =
     let here = index + size_of (marked k.environment.block own) in
-    let a = and_parts (is_step program main all first) (are_steps program main all rest) is in
+    let a = and_parts (is_step program ns main all first) (are_steps program ns main all rest) is in
     let one = stmt_code k.environment none_taken first in
     let more = stmts_code k.environment none_taken rest in
     let at' = placed_front one more (placed_back (marked k.environment.block own) (one ++ more) at) in
     let units = units_of k.environment rest (here + size_of one) in
     record {
-      is = subst (λ f. is_step program main all f ≡ true) h.0 a.0;
+      is = subst (λ f. is_step program ns main all f ≡ true) h.0 a.0;
       placed = subst (λ i. Placed k.call.surroundings.links k.call.code i
           (stmt_code k.environment none_taken (on_of e.0))) (sym h.1)
           (subst (λ f. Placed k.call.surroundings.links k.call.code here (stmt_code k.environment none_taken f)) h.0
@@ -153,14 +155,14 @@ on_placed program main all k (Y.StmtThen own first rest) index e is at (inl h) =
           (zero, ap (λ i. Some (record { unit = unit_of e.0; at = 4 * unit_index e.0 i })) (sym h.1));
       behind = let n = h.1 in omega (arith, n);
     }
-on_placed program main all k (Y.StmtThen own first rest) index e is at (inr h) =
+on_placed program ns main all k (Y.StmtThen own first rest) index e is at (inr h) =
     let here = index + size_of (marked k.environment.block own) in
-    let a = and_parts (is_step program main all first) (are_steps program main all rest) is in
+    let a = and_parts (is_step program ns main all first) (are_steps program ns main all rest) is in
     let one = stmt_code k.environment none_taken first in
     let more = stmts_code k.environment none_taken rest in
     let at' = placed_back one more (placed_back (marked k.environment.block own) (one ++ more) at) in
     placed_more (unit_in first) here index (omega arith)
-    (on_placed program main all k rest (here + size_of one) e a.1 at' h)
+    (on_placed program ns main all k rest (here + size_of one) e a.1 at' h)
 
 -- so the list has one for its condition
 pub unit_listed :

@@ -1,19 +1,16 @@
--- Statements that write numbers by format lists, of the main procedure and of its units: they raise nothing for which
--- it has a unit, so what is known around them is known while a place in a format list is in use, too.
-use Rattle.std.proofs.Common.{◌≡◌, ℕ, suc, ◌+◌, ◌*◌, ◌^◌, ◌<◌, List, [], ◌∷◌, true, false, refl, ◌∙◌, arith}
+-- Statements that write numbers by format lists: they raise nothing for which the main procedure has a unit, so what is
+-- known around them is known while a place in a format list is in use, too.
+use Rattle.std.proofs.Common.{◌≡◌, ℕ, ◌+◌, ◌*◌, ◌^◌, ◌<◌, List, [], ◌∷◌, true, refl}
+use Rattle.std.proofs.Common.{◌∙◌, arith}
 use Rattle.pli_language.specs.declared.condition.Condition.TheVariants as C
 use Rattle.pli_typing.specs.Signatures.{Bounds}
 use Rattle.pli_typing.specs.TypedTree as Y
-use Rattle.pli_meaning.specs.Executing.{labels_in}
 use Rattle.pli_meaning.specs.StorageState.{force}
 use Rattle.pli_serving.specs.ServiceState.{EditPlace}
 use Rattle.pli_coding.specs.Assembly.{RaiseError}
 use Rattle.pli_coding.specs.Linking.{place_of}
-use Rattle.code_marks.specs.CodeMarks.{MarkedOnce}
 use Rattle.activation_relation.specs.Layers.{Point}
 use Rattle.activation_relation.specs.ServiceLaws.{IsSystem}
-use Rattle.program_places.proofs.Procedures.{raise_routines}
-use Rattle.program_runs.specs.Calls.{left_over}
 use Rattle.program_runs.specs.Statements.{Block, IsBegun}
 use Rattle.expression_runs.specs.Assignments.{setting_around}
 use Rattle.expression_runs.specs.Raises.{Routines}
@@ -27,15 +24,12 @@ use Rattle.edit_runs.specs.Edits.{placing, within}
 use Rattle.edit_runs.proofs.Places.{begun_placed, number_placed}
 use Rattle.block_headlines.specs.Constants.{IsOf}
 use Rattle.block_headlines.proofs.Constants.{main_of_program}
-use Rattle.argument_runs.specs.Parameters.{IsParameter}
-use Rattle.number_runs.specs.Knowledge.{IsReady, KnowsLists, KnowsPuts}
+use Rattle.number_runs.specs.Knowledge.{KnowsLists, KnowsPuts}
 use Rattle.number_runs.specs.Numbers.{Scope, bounds_known, is_array_known, is_known, is_received}
 use Rattle.number_runs.proofs.Received.{parameter_placed}
-use Rattle.number_headlines.proofs.Puts.{error_routine, lists_known}
-use Rattle.unit_runs.specs.Changing.{IsPast, Past, after, past_point}
-use Rattle.unit_numbers.specs.Units.{own_scope, written_scope}
-use Rattle.unit_numbers.proofs.Established.{error_system, none_system, start_of}
-use Rattle.unit_numbers.proofs.Mains.{Main, block_for, list_of, most_for, run_for}
+use Rattle.argument_runs.specs.Parameters.{IsParameter}
+use Rattle.unit_runs.specs.Changing.{Past, after, past_point}
+use Rattle.unit_numbers.proofs.Mains.{Main, block_for, run_for}
 
 -- ---- static data
 
@@ -125,8 +119,8 @@ settled_writes s k most h =
             variables = λ x is. number_placed k place x (h.variables x is);
             arrays = λ raises x is. array_placed k place x (bounds_known s x) (h.arrays raises x is);
             parameters = λ x is. parameter_placed k place x (h.parameters x is);
-            functions = λ level n is. absurd (cc is);
             given = λ may. absurd (cc may);
+            functions = λ level n is. absurd (cc is);
           };
       error = λ words may place labels line.
           error_ends (List ℕ) (within place (setting_around words k labels line most)) (record {
@@ -137,61 +131,4 @@ settled_writes s k most h =
             most = omega (arith, few);
           });
       lists = h.lists;
-    }
-
--- ---- the statements
-
--- such a block is ready for them, too
-pub written_ready :
-    MarkedOnce → {program : Y.Program} (m : Main program) (input : List ℕ) (more : ℕ) (past : Past) →
-    suc more + 1 < 2 ^ 64 → IsBegun (block_for m input (suc more)) →
-    IsPast (block_for m input (suc more)) (list_of m) (start_of m) past →
-    IsReady (own_scope program m.head) false (after (block_for m input (suc more)) past) (labels_in (list_of m))
-    (most_for program) left_over →
-    IsReady (written_scope program m.head (list_of m)) false (after (block_for m input (suc more)) past)
-    (labels_in (list_of m)) (most_for program) left_over
-written_ready once {program} m input more past few b known ready =
-    let raises = ready.raises in
-    let calls = ready.calls in
-    let s = written_scope program m.head (list_of m) in
-    let k = after (block_for m input (suc more)) past in
-    let routines = raise_routines once program m.loadable in
-    let inside = routines.linked.inside in
-    record {
-      begun = ready.begun;
-      acts = ready.acts;
-      turns = ready.turns;
-      held = ready.held;
-      raises = record {
-        overflow = λ may. raises.overflow refl;
-        divisor = λ may. raises.divisor refl;
-        subscript = raises.subscript;
-      };
-      variables = ready.variables;
-      arrays = ready.arrays;
-      parameters = ready.parameters;
-      given = λ may. absurd (cc may);
-      calls = record { functions = calls.functions; procedures = calls.procedures };
-      puts = λ may.
-          settled_writes s k (most_for program)
-          (record {
-            begun = ready.begun;
-            routines = routines;
-            place = error_routine once program m.loadable;
-            overflow = none_system once m input (suc more) past known C.FixedOverflow;
-            divisor = none_system once m input (suc more) past known C.ZeroDivide;
-            error = error_system once m input (suc more) past known;
-            acts = few;
-            few = omega (arith, inside);
-            variables = ready.variables;
-            arrays = ready.arrays;
-            parameters = ready.parameters;
-            lists = lists_known program k m.memory (main_told m input (suc more) past b);
-          });
-      loops = λ e. absurd (cc e);
-      jumps = ready.jumps;
-      room = ready.room;
-      home = λ may.
-          let h = ready.home refl in
-          record { level = h.level; own = h.own; block = h.block; returns = h.returns; values = h.values };
     }

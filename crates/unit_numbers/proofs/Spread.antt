@@ -1,6 +1,6 @@
 -- A list whose groups with ON stand for their statements: its code, what its temporaries take and what it means are the
 -- same.
-use Rattle.std.proofs.Common.{◌≡◌, ℕ, zero, suc, ◌+◌, ◌≤◌, List, [], ◌∷◌, ◌++◌, Option, Some, None, Bool, true, false}
+use Rattle.std.proofs.Common.{◌≡◌, ℕ, zero, suc, List, [], ◌∷◌, ◌++◌, Option, Some, None, Bool, true, false}
 use Rattle.std.proofs.Common.{refl, sym, ap, ◌∙◌, subst, arith}
 use Rattle.std.specs.Prelude.{◌&&◌, ◌==◌, cond, max}
 use Rattle.std.proofs.lemmas.Bool.{and_parts}
@@ -16,8 +16,8 @@ use Rattle.pli_meaning.specs.Raising.{Around}
 use Rattle.pli_meaning.specs.StorageState.{State, newest_height}
 use Rattle.pli_meaning.specs.World.{counted}
 use Rattle.pli_coding.specs.Allocating.{act_code}
-use Rattle.pli_coding.specs.Environments.{Environment, most_taken, none_taken}
-use Rattle.pli_coding.specs.Statements.{marked, stmt_code, stmt_takes, stmts_code, stmts_take}
+use Rattle.pli_coding.specs.Environments.{Environment, none_taken}
+use Rattle.pli_coding.specs.Statements.{marked, stmt_code, stmts_code, stmts_take}
 use Rattle.number_runs.specs.Numbers.{has_none}
 use Rattle.unit_numbers.specs.Groups.{before, group_in, groups_deep, have_on, spread, spread_all, spread_times}
 use Rattle.unit_numbers.specs.Groups.{spread_with}

@@ -1,8 +1,8 @@
 -- A unit of the main procedure: what the class says of it, and what of its frame.
-use Rattle.std.proofs.Common.{◌≡◌, ◌⊎◌, inl, inr, ◌^◌, ◌<◌, ◌≤◌, List, [], ◌∷◌, ◌++◌, true, false, refl}
+use Rattle.std.proofs.Common.{◌≡◌, ◌⊎◌, inl, inr, ℕ, ◌^◌, ◌<◌, ◌≤◌, List, [], ◌∷◌, ◌++◌, true, false, refl}
 use Rattle.std.proofs.Common.{sym, ap, ◌∙◌}
-use Rattle.std.specs.Prelude.{◌&&◌, ◌==◌, nat_le}
-use Rattle.std.proofs.lemmas.Bool.{and_parts, eqb-true, leb-true, ltb-true}
+use Rattle.std.specs.Prelude.{◌&&◌, ◌==◌, Bool, nat_le}
+use Rattle.std.proofs.lemmas.Bool.{and_parts, eqb-true, leb-true, ltb-true, or_cases}
 use Rattle.pli_language.specs.declared.condition.Condition.{Condition}
 use Rattle.pli_language.specs.declared.condition.Condition.TheVariants as C
 use Rattle.pli_typing.specs.TypedTree as Y
@@ -16,7 +16,8 @@ use Rattle.unit_runs.specs.Establishing.{OnUnit}
 use Rattle.number_runs.specs.Numbers.{has_none}
 use Rattle.number_runs.specs.Statements.{are_statements, is_line, statements_need, statements_set}
 use Rattle.number_headlines.specs.Programs.{is_body, most_waiting}
-use Rattle.unit_numbers.specs.Units.{is_bare, is_of_numbers, is_unit, unit_scope}
+use Rattle.unit_numbers.specs.Calls.{is_body_in, scope_in}
+use Rattle.unit_numbers.specs.Units.{is_bare, is_of_numbers, is_unit}
 
 abbrev pub IsBare : Y.Program → Y.BlockHead → Type 0
 IsBare program head =
@@ -26,15 +27,55 @@ IsBare program head =
 abbrev pub IsOfNumbers : Condition → Type 0
 IsOfNumbers c = (c ≡ C.FixedOverflow) ⊎ (c ≡ C.ZeroDivide)
 
-pub record Unit' (program : Y.Program) (main : Y.BlockHead) (all : Y.Stmts) (x : OnUnit) : Type 0 where
+-- a body that writes or not, with what its temporaries and its loops take
+pub record Fit (program : Y.Program) (ns : List ℕ) (all : Y.Stmts) (caller : Y.BlockHead) (unit valued : Bool)
+    (body : Y.Stmts) : Type 0
+  where
+    pub writes : Bool
+    pub statements :
+        are_statements (scope_in program ns all caller unit writes) valued (labels_in body ++ []) body ≡ true
+    pub fits : statements_need body ≤ held_registers
+    pub waiting : statements_set body ≤ most_waiting
+
+pub fit_is :
+    (program : Y.Program) (ns : List ℕ) (all : Y.Stmts) (caller : Y.BlockHead) (unit valued : Bool) (body : Y.Stmts) →
+    is_body_in program ns all caller unit valued body ≡ true → Fit program ns all caller unit valued body
+fit_is program ns all caller unit valued body h =
+    by (or_cases (is_body (scope_in program ns all caller unit false) valued body)
+    (is_body (scope_in program ns all caller unit true) valued body) h)
+  where
+    one :
+        (writes : Bool) → is_body (scope_in program ns all caller unit writes) valued body ≡ true →
+        Fit program ns all caller unit valued body
+    one writes g =
+        let fits = nat_le (statements_need body) held_registers in
+        let waiting = nat_le (statements_set body) most_waiting in
+        let a = and_parts (are_statements (scope_in program ns all caller unit writes) valued (labels_in body ++ [])
+        body)
+        (fits && waiting) g in
+        let b = and_parts fits waiting a.1 in
+        record {
+          writes = writes;
+          statements = a.0;
+          fits = leb-true (statements_need body) held_registers b.0;
+          waiting = leb-true (statements_set body) most_waiting b.1;
+        }
+
+    by :
+        (is_body (scope_in program ns all caller unit false) valued body ≡ true)
+        ⊎ (is_body (scope_in program ns all caller unit true) valued body ≡ true) →
+        Fit program ns all caller unit valued body
+    by (inl g) = one false g
+    by (inr g) = one true g
+
+pub record Unit' (program : Y.Program) (ns : List ℕ) (main : Y.BlockHead) (all : Y.Stmts) (x : OnUnit) : Type 0 where
   pub condition : IsOfNumbers x.condition
   pub line : x.line < 2 ^ 31
   pub begins : x.head.line < 2 ^ 31
   pub level : x.head.level ≡ 1
   pub later : main.number ≤ x.head.number
   pub bare : IsBare program x.head
-  pub statements : are_statements (unit_scope program main all) false (labels_in x.body ++ []) x.body ≡ true
-  pub fits : statements_need x.body ≤ held_registers
+  pub fit : Fit program ns all main true false x.body
 
 condition_is : (c : Condition) → is_of_numbers c ≡ true → IsOfNumbers c
 condition_is C.FixedOverflow h = inl refl
@@ -60,13 +101,12 @@ bare_is program head Y.BeginBlock e h = absurd (cc h)
 bare_is program head Y.ProcedureBlock e h = absurd (cc h)
 
 pub unit_is :
-    (program : Y.Program) (main : Y.BlockHead) (all : Y.Stmts) (x : OnUnit) →
-    is_unit program main all x ≡ true → Unit' program main all x
-unit_is program main all x h =
-    let s = unit_scope program main all in
-    let fits = nat_le (statements_need x.body) held_registers in
+    (program : Y.Program) (ns : List ℕ) (main : Y.BlockHead) (all : Y.Stmts) (x : OnUnit) →
+    is_unit program ns main all x ≡ true → Unit' program ns main all x
+unit_is program ns main all x h =
     let bare = is_bare program x.head x.head.kind in
-    let five = bare && is_body s false x.body in
+    let body = is_body_in program ns all main true false x.body in
+    let five = bare && body in
     let four = nat_le main.number x.head.number && five in
     let three = (x.head.level == 1) && four in
     let two = is_line x.head.line && three in
@@ -75,10 +115,7 @@ unit_is program main all x h =
     let c = and_parts (is_line x.head.line) three b.1 in
     let d = and_parts (x.head.level == 1) four c.1 in
     let e = and_parts (nat_le main.number x.head.number) five d.1 in
-    let f = and_parts bare (is_body s false x.body) e.1 in
-    let g = and_parts (are_statements s false (labels_in x.body ++ []) x.body)
-    (fits && nat_le (statements_set x.body) most_waiting) f.1 in
-    let l = and_parts fits (nat_le (statements_set x.body) most_waiting) g.1 in
+    let f = and_parts bare body e.1 in
     record {
       condition = condition_is x.condition a.0;
       line = ltb-true x.line (2 ^ 31) b.0;
@@ -86,8 +123,7 @@ unit_is program main all x h =
       level = eqb-true x.head.level 1 d.0;
       later = leb-true main.number x.head.number e.0;
       bare = bare_is program x.head x.head.kind refl f.0;
-      statements = g.0;
-      fits = leb-true (statements_need x.body) held_registers l.0;
+      fit = fit_is program ns all main true false x.body f.1;
     }
 
 -- it makes no variables

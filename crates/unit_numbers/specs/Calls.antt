@@ -1,52 +1,98 @@
--- What the main procedure of such a program may call: procedures and functions of level 1 without parameters, in which
--- its units may be raised, too.
-use Rattle.std.specs.Prelude.{ℕ, ◌&&◌, ◌||◌, ◌==◌, Bool, true, false, [], ◌∷◌, not, Option, None, Some}
+-- What such a program may call: procedures and functions without parameters that call one another, in which the main
+-- procedure's units may be raised, too.
+use Rattle.std.specs.Prelude.{ℕ, zero, suc, ◌&&◌, ◌||◌, ◌==◌, Bool, true, false, List, [], ◌∷◌, length, not, Option}
+use Rattle.std.specs.Prelude.{None, Some, if◌then◌else◌}
+use Rattle.pli_language.specs.declared.condition.Condition.{Condition}
+use Rattle.pli_language.specs.declared.condition.Condition.TheVariants as C
 use Rattle.pli_typing.specs.TypedTree as Y
+use Rattle.pli_meaning.specs.Control.{is_among}
 use Rattle.pli_meaning.specs.DeclaredShapes.{head_of, procedure_numbered}
-use Rattle.pli_coding.specs.Images.{place_of_head}
+use Rattle.pli_meaning.specs.Executing.{labels_in}
+use Rattle.pli_meaning.specs.StorageState.{same_condition}
+use Rattle.program_places.specs.Programs.{environment_for}
+use Rattle.unit_runs.specs.Establishing.{OnUnit}
 use Rattle.number_runs.specs.Numbers.{Scope, has_none}
-use Rattle.number_headlines.specs.Programs.{body_of, has_result, is_body}
+use Rattle.number_headlines.specs.Programs.{body_of, is_body, is_callable, is_valued, numbers_of, places_to}
 
--- one may name its own variables and those of the main procedure, and calls none; it writes numbers, or raises
--- FIXEDOVERFLOW and ZERODIVIDE, so that no unit is raised while a place in a format list is in use
-abbrev pub called_scope : Y.Program → (main head : Y.BlockHead) → (writes : Bool) → Scope
-called_scope program main head writes =
+-- ---- the units of a list
+
+-- the unit of an ON
+abbrev pub unit_in : Y.Stmt → Option OnUnit
+unit_in (Y.OnUnit condition (Y.BlockOf head body) line) =
+    Some (record { condition = condition; head = head; body = body; line = line })
+unit_in _ = None
+
+-- a list has one for a condition
+abbrev pub is_unit_for : Condition → Option OnUnit → Bool
+is_unit_for c None = false
+is_unit_for c (Some x) = same_condition x.condition c
+
+abbrev pub has_unit : Condition → Y.Stmts → Bool
+has_unit c (Y.EndOfList own) = false
+has_unit c (Y.StmtThen own first rest) = is_unit_for c (unit_in first) || has_unit c rest
+
+-- ---- blocks
+
+-- a block whose statements may name the variables that a block may name, and call what that may: itself, or the main
+-- procedure, of which it is a unit. It writes numbers, and then raises no condition for which the main procedure's list
+-- has a unit, so that none is raised while a place in a format list is in use; or it writes none. A unit doesn't
+-- return, and may jump to the labels of that list.
+abbrev pub scope_in :
+    Y.Program → List ℕ → (all : Y.Stmts) → (caller : Y.BlockHead) → (unit writes : Bool) → Scope
+scope_in program ns all caller unit writes =
     record {
       program = program;
-      level = head.level;
-      blocks = place_of_head head ∷ place_of_head main ∷ [];
+      level = caller.level;
+      blocks = places_to (environment_for program caller) caller.level;
       receivers = [];
-      is_function = λ level n. false;
-      is_procedure = λ level n. false;
+      is_function = is_callable program ns caller false true;
+      is_procedure = is_callable program ns caller false false;
       gives = false;
       is_given_function = λ level n. false;
       is_given_procedure = λ level n. false;
-      counts = false;
+      counts = true;
       puts = writes;
-      overflows = not writes;
-      divides = not writes;
+      overflows = not (writes && has_unit C.FixedOverflow all);
+      divides = not (writes && has_unit C.ZeroDivide all);
       elements = true;
-      own = true;
-      is_outer = λ level label. false;
+      own = not unit;
+      is_outer = λ level label. unit && ((level == caller.level) && is_among label (labels_in all));
     }
 
--- its statements do one or the other
-abbrev pub is_called_body : Y.Program → (main head : Y.BlockHead) → (valued : Bool) → Y.Stmts → Bool
-is_called_body program main head valued body =
-    is_body (called_scope program main head false) valued body
-    || is_body (called_scope program main head true) valued body
+-- it does one or the other
+abbrev pub is_body_in :
+    Y.Program → List ℕ → (all : Y.Stmts) → (caller : Y.BlockHead) → (unit valued : Bool) → Y.Stmts → Bool
+is_body_in program ns all caller unit valued body =
+    is_body (scope_in program ns all caller unit false) valued body
+    || is_body (scope_in program ns all caller unit true) valued body
 
-abbrev pub is_called : Y.Program → (main : Y.BlockHead) → (valued : Bool) → Y.Procedure → Bool
-is_called program main valued p =
-    has_none p.parameters
-    && (has_result valued p.result
-    && (((head_of p.block).level == 1)
-    && is_called_body program main (head_of p.block) valued (body_of p.block)))
+-- ---- what is called
 
-abbrev pub is_called_if : Y.Program → (main : Y.BlockHead) → (valued : Bool) → Option Y.Procedure → Bool
-is_called_if program main valued None = false
-is_called_if program main valued (Some p) = is_called program main valued p
+abbrev pub is_called : Y.Program → List ℕ → (all : Y.Stmts) → Y.Procedure → Bool
+is_called program ns all p =
+    has_none p.parameters && is_body_in program ns all (head_of p.block) false (is_valued p.result) (body_of p.block)
 
--- what a number finds is one
-abbrev pub may_call : Y.Program → (main : Y.BlockHead) → (valued : Bool) → (number : ℕ) → Bool
-may_call program main valued number = is_called_if program main valued (procedure_numbered number program.procedures)
+abbrev pub is_called_if : Y.Program → List ℕ → (all : Y.Stmts) → Option Y.Procedure → Bool
+is_called_if program ns all None = false
+is_called_if program ns all (Some p) = is_called program ns all p
+
+-- each of these numbers finds one that calls those
+abbrev pub are_called : Y.Program → (all : Y.Stmts) → (called : List ℕ) → List ℕ → Bool
+are_called program all called [] = true
+are_called program all called (n ∷ ns) =
+    is_called_if program called all (procedure_numbered n program.procedures) && are_called program all called ns
+
+-- those that call only these
+abbrev pub kept_of : Y.Program → (all : Y.Stmts) → List ℕ → List Y.Procedure → List ℕ
+kept_of program all ns [] = []
+kept_of program all ns (p ∷ ps) =
+    if is_called program ns all p then (head_of p.block).number ∷ kept_of program all ns ps
+    else kept_of program all ns ps
+
+-- after as many rounds as there are procedures, those that call only one another
+abbrev pub closed_of : Y.Program → (all : Y.Stmts) → (rounds : ℕ) → List ℕ → List ℕ
+closed_of program all zero ns = ns
+closed_of program all (suc rounds) ns = closed_of program all rounds (kept_of program all ns program.procedures)
+
+abbrev pub called_ones : Y.Program → (all : Y.Stmts) → List ℕ
+called_ones program all = closed_of program all (length program.procedures) (numbers_of program.procedures)

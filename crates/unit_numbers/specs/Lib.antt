@@ -6,4 +6,7 @@ pub mod Rows
 pub mod GuardRows
 pub mod GroupRows
 pub mod MendRows
+pub mod AgainRows
+pub mod ClimbRows
+pub mod TallyRows
 pub mod Groups

@@ -1,10 +1,13 @@
 // Laws of the definitions: each function's contract is one law, and calling it does nothing.
 
+ghost use Rattle.unit_numbers.specs.AgainRows.{AgainKept};
+ghost use Rattle.unit_numbers.specs.ClimbRows.{ClimbKept};
 ghost use Rattle.unit_numbers.specs.GroupRows.{GroupKept};
 ghost use Rattle.unit_numbers.specs.GuardRows.{GuardKept};
 ghost use Rattle.unit_numbers.specs.Headlines.{UnitNumberHeadlinesKept};
 ghost use Rattle.unit_numbers.specs.MendRows.{MendKept};
 ghost use Rattle.unit_numbers.specs.Rows.{HealKept};
+ghost use Rattle.unit_numbers.specs.TallyRows.{TallyKept};
 
 use block_headlines::laws::unit_headlines_kept;
 use code_marks::laws::marked_once;
@@ -43,6 +46,27 @@ pub fn group_kept()
 /// A worked row: a number that is written again and again, and overflows on its way, where a unit sets it.
 pub fn mend_kept()
     ensures { MendKept }
+{
+    unit_number_headlines_kept();
+}
+
+/// A worked row: a unit that raises its own condition, and so enters itself.
+pub fn again_kept()
+    ensures { AgainKept }
+{
+    unit_number_headlines_kept();
+}
+
+/// A worked row: a procedure that calls itself until its unit is raised, which leaves all of its blocks by a jump.
+pub fn climb_kept()
+    ensures { ClimbKept }
+{
+    unit_number_headlines_kept();
+}
+
+/// A worked row: loops that count, one of them in a unit that is raised in the other, and elements that both assign.
+pub fn tally_kept()
+    ensures { TallyKept }
 {
     unit_number_headlines_kept();
 }

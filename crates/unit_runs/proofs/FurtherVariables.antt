@@ -1,11 +1,11 @@
 -- Variables of the block that established a unit, which is raised in a block that was entered since.
-use Rattle.std.proofs.Common.{◌≡◌, inl, inr, ℕ, zero, suc, ◌+◌, ◌*◌, ◌^◌, ◌<◌, ◌≤◌, List, [], ◌∷◌, length, Some, true}
+use Rattle.std.proofs.Common.{◌≡◌, inl, inr, ℕ, zero, suc, ◌+◌, ◌*◌, ◌^◌, ◌<◌, ◌≤◌, List, [], ◌∷◌, length, Some}
 use Rattle.std.proofs.Common.{false, refl, sym, ap, ◌∙◌, subst, arith}
 use Rattle.std.proofs.lemmas.Bool.{eq-eqb, eqb-true}
 use Rattle.std.specs.Prelude.{◌==◌, cond, drop}
 use Rattle.pli_meaning.specs.DeclaredShapes.{declared_variable}
-use Rattle.pli_meaning.specs.StorageState.{Activation, ancestor, ancestor_at, binding_in, height_of, living_of}
-use Rattle.pli_meaning.specs.StorageState.{newest_height}
+use Rattle.pli_meaning.specs.StorageState.{Activation, Living, ancestor, ancestor_at, binding_in, height_of}
+use Rattle.pli_meaning.specs.StorageState.{living_of, newest_height}
 use Rattle.storage_relation.proofs.Holders.{eqb-other, eqb-refl}
 use Rattle.storage_relation.proofs.Placing.{none_above}
 use Rattle.activation_relation.specs.Chains.{AreActive, UnitPlaces, frame_at}
@@ -91,26 +91,27 @@ frame_by_height level base at b among (inr outer) = (outer.2, outer.4)
 
 -- ---- the unit's block over it
 
-pub further_number :
-    (k : Setting) (x : Standing) (more : ℕ) (h : IsRaised k x more) (r : Raise) (spot : Spot) (o : Block) (p : Point)
+-- what it has of that block: the ancestor at a level, the frame of that, and what lives there
+pub record IsBeneath (o u : Block) (level : ℕ) : Type 0 where
+  pub same : ancestor_at u.first.state level ≡ ancestor_at o.first.state level
+  pub frame : (base : ℕ) → IsFrameOf o level base → IsFrameOf u level base
+  pub remains : Remains o.first u.first
+
+-- what lives there stands where it stood
+pub beneath_place :
+    {o u : Block} {level : ℕ} (serial : ℕ) (living : Living) → IsBegun o → IsBeneath o u level →
+    living_of o.first.state.living serial ≡ Some living → u.first.places.at serial ≡ o.first.places.at serial
+beneath_place {o} serial living b is lives =
+    let low = none_above (o.first.state.serials + 1) o.first.state.living serial living b.resumes.stands.lives.falling
+    lives in
+    is.remains.at serial (omega (arith, low))
+
+pub further_beneath :
+    (k : Setting) (x : Standing) (more : ℕ) (h : IsRaised k x more) (r : Raise) (level : ℕ) (o : Block) (p : Point)
     (numbers : ℕ → ℕ) (count : ℕ) → IsFurther k x more h o p numbers count → IsRaiseOf k x more h r →
-    AreMade k x r → IsBegun (unit_block k x r) → spot.level < x.unit.head.level → IsNumber o spot →
-    IsNumber (unit_block k x r) spot
-further_number k x more h r spot o p numbers count z is made b less n =
-    record {
-      initial = n.initial;
-      declared = ap (λ y. declared_variable y (variable_of spot)) z.program ∙ n.declared;
-      serial = n.serial;
-      binding = ap (λ a'. binding_in a' spot.index) same ∙ n.binding;
-      living = on.there;
-      lives = on.lives;
-      shape = on.shape ∙ n.shape;
-      base = n.base;
-      frame = inr (other, less, above, h.level, frame);
-      at = moved ∙ n.at ∙ ap (λ m. n.base + m) (sym place);
-      low = subst (λ m. 2 ^ 22 ≤ n.base + m) (sym place) n.low;
-      inside = subst (λ m. n.base + m + 4 ≤ 15 * 2 ^ 20) (sym place) n.inside;
-    }
+    AreMade k x r → IsBegun (unit_block k x r) → level < x.unit.head.level → IsBeneath o (unit_block k x r) level
+further_beneath k x more h r level o p numbers count z is made b less =
+    record { same = same; frame = λ base at. inr (other, less, above base at, h.level, frame base at); remains = to }
   where
     w : Surroundings
     w = k.block.call.surroundings
@@ -148,21 +149,16 @@ further_number k x more h r spot o p numbers count z is made b less n =
         let l1 = ap (λ xs. length xs) e.active in
         omega (arith, l0, l1)
 
-    same : ancestor_at u.first.state spot.level ≡ ancestor_at o.first.state spot.level
+    same : ancestor_at u.first.state level ≡ ancestor_at o.first.state level
     same =
         let at = active.0.level in
-        ap (λ xs. ancestor xs (newest_height xs) spot.level) made.activations
-        ∙ ancestor_above a qs spot.level (eqb-other a.level spot.level (omega (arith, at, less)))
-        ∙ ap (λ m. ancestor qs m spot.level) (made.parent ∙ is.height ∙ z.own)
-        ∙ ancestor_dropped w.units count qs φs (own_height o) spot.level active.1 (omega (arith, many))
-        ∙ ap (λ xs. ancestor xs (own_height o) spot.level) to_p
-        ∙ ap (λ m. ancestor p.state.activations m spot.level) (sym (newest_own (newest_at z.begun z.among)))
-        ∙ ap (λ xs. ancestor xs (newest_height xs) spot.level) z.among.later.activations
-
-    place : number_place u.environment spot ≡ number_place o.environment spot
-    place =
-        ap (λ y. number_place (record u.environment { program = y }) spot) z.program
-        ∙ ap (λ y. number_place (record o.environment { parts = y }) spot) z.parts
+        ap (λ xs. ancestor xs (newest_height xs) level) made.activations
+        ∙ ancestor_above a qs level (eqb-other a.level level (omega (arith, at, less)))
+        ∙ ap (λ m. ancestor qs m level) (made.parent ∙ is.height ∙ z.own)
+        ∙ ancestor_dropped w.units count qs φs (own_height o) level active.1 (omega (arith, many))
+        ∙ ap (λ xs. ancestor xs (own_height o) level) to_p
+        ∙ ap (λ m. ancestor p.state.activations m level) (sym (newest_own (newest_at z.begun z.among)))
+        ∙ ap (λ xs. ancestor xs (newest_height xs) level) z.among.later.activations
 
     to : Remains o.first u.first
     to =
@@ -170,45 +166,73 @@ further_number k x more h r spot o p numbers count z is made b less n =
         (remains_then p r.point u.first (remains_then p k.block.first r.point z.remains is.among.later.remains)
         b.remains)
 
-    on : LivesOn n.living (living_of u.first.state.living n.serial)
-    on = to.living n.serial n.living n.lives
-
-    low : n.serial < o.first.state.serials + 1
-    low = none_above (o.first.state.serials + 1) o.first.state.living n.serial n.living
-        z.begun.resumes.stands.lives.falling n.lives
-
-    moved : u.first.places.at n.serial ≡ o.first.places.at n.serial
-    moved = to.at n.serial (omega (arith, low))
-
-    other : (spot.level == u.environment.level) ≡ false
-    other = let code = z.inner in eqb-other spot.level u.environment.level (omega (arith, code, less))
+    other : (level == u.environment.level) ≡ false
+    other = let code = z.inner in eqb-other level u.environment.level (omega (arith, code, less))
 
     below :
-        (0 < height_of (ancestor_at o.first.state spot.level))
-        × (n.base ≡ frame_at o.first.control.layers (height_of (ancestor_at o.first.state spot.level)))
-    below = frame_by_height spot.level n.base z.level z.begun z.among n.frame
+        (base : ℕ) → IsFrameOf o level base →
+        (0 < height_of (ancestor_at o.first.state level))
+        × (base ≡ frame_at o.first.control.layers (height_of (ancestor_at o.first.state level)))
+    below base at = frame_by_height level base z.level z.begun z.among at
 
-    above : 0 < height_of (ancestor_at u.first.state spot.level)
-    above = subst (λ a'. 0 < height_of a') (sym same) below.0
+    above : (base : ℕ) → IsFrameOf o level base → 0 < height_of (ancestor_at u.first.state level)
+    above base at = subst (λ a'. 0 < height_of a') (sym same) (below base at).0
 
-    high : height_of (ancestor_at o.first.state spot.level) ≤ length (drop count φs)
+    high : height_of (ancestor_at o.first.state level) ≤ length (drop count φs)
     high =
         let units = o.call.surroundings.units in
-        let short = ancestor_low units p.state.activations p.control.layers (newest_height p.state.activations)
-        spot.level z.among.stands.active in
+        let short = ancestor_low units p.state.activations p.control.layers (newest_height p.state.activations) level
+        z.among.stands.active in
         let l0 = same_length units p.state.activations p.control.layers z.among.stands.active in
         let l1 = ap (λ ls. length ls) to_layers in
-        let e = ap (λ xs. height_of (ancestor xs (newest_height xs) spot.level)) z.among.later.activations in
+        let e = ap (λ xs. height_of (ancestor xs (newest_height xs) level)) z.among.later.activations in
         omega (arith, short, l0, l1, e)
 
-    frame : n.base ≡ frame_at u.first.control.layers (height_of (ancestor_at u.first.state spot.level))
-    frame =
-        let height = height_of (ancestor_at o.first.state spot.level) in
+    frame :
+        (base : ℕ) → IsFrameOf o level base →
+        base ≡ frame_at u.first.control.layers (height_of (ancestor_at u.first.state level))
+    frame base at =
+        let height = height_of (ancestor_at o.first.state level) in
         let short = drop_short count φs in
-        below.1
+        (below base at).1
         ∙ ap (λ ls. frame_at ls height) (sym z.among.later.layers)
         ∙ ap (λ ls. frame_at ls height) (sym to_layers)
         ∙ sym (frame_dropped count φs height high)
         ∙ sym (frame_below φ φs height (omega (arith, high, short)))
         ∙ ap (λ ls. frame_at ls height) (sym made.layers)
         ∙ ap (λ a'. frame_at u.first.control.layers (height_of a')) (sym same)
+
+pub further_number :
+    (k : Setting) (x : Standing) (more : ℕ) (h : IsRaised k x more) (r : Raise) (spot : Spot) (o : Block) (p : Point)
+    (numbers : ℕ → ℕ) (count : ℕ) → IsFurther k x more h o p numbers count → IsRaiseOf k x more h r →
+    AreMade k x r → IsBegun (unit_block k x r) → spot.level < x.unit.head.level → IsNumber o spot →
+    IsNumber (unit_block k x r) spot
+further_number k x more h r spot o p numbers count z is made b less n =
+    record {
+      initial = n.initial;
+      declared = ap (λ y. declared_variable y (variable_of spot)) z.program ∙ n.declared;
+      serial = n.serial;
+      binding = ap (λ a'. binding_in a' spot.index) beneath.same ∙ n.binding;
+      living = on.there;
+      lives = on.lives;
+      shape = on.shape ∙ n.shape;
+      base = n.base;
+      frame = beneath.frame n.base n.frame;
+      at = beneath_place n.serial n.living z.begun beneath n.lives ∙ n.at ∙ ap (λ m. n.base + m) (sym place);
+      low = subst (λ m. 2 ^ 22 ≤ n.base + m) (sym place) n.low;
+      inside = subst (λ m. n.base + m + 4 ≤ 15 * 2 ^ 20) (sym place) n.inside;
+    }
+  where
+    u : Block
+    u = unit_block k x r
+
+    beneath : IsBeneath o u spot.level
+    beneath = further_beneath k x more h r spot.level o p numbers count z is made b less
+
+    place : number_place u.environment spot ≡ number_place o.environment spot
+    place =
+        ap (λ y. number_place (record u.environment { program = y }) spot) z.program
+        ∙ ap (λ y. number_place (record o.environment { parts = y }) spot) z.parts
+
+    on : LivesOn n.living (living_of u.first.state.living n.serial)
+    on = beneath.remains.living n.serial n.living n.lives

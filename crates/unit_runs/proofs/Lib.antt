@@ -5,6 +5,7 @@ pub mod UnitMeaning
 pub mod UnitRaises
 pub mod UnitBlocks
 pub mod UnitRuns
+pub mod DeepRaises
 pub mod UnitVariables
 pub mod Bodies
 pub mod Rows

@@ -1,5 +1,5 @@
 -- The block of a unit that is raised in a block: where its statements begin, and where it ends.
-use Rattle.std.proofs.Common.{◌≡◌, ℕ, ◌+◌, ◌*◌, ◌<◌, ◌≤◌, List, [], ◌∷◌, length, Option, true, refl, sym}
+use Rattle.std.proofs.Common.{◌≡◌, ℕ, ◌+◌, ◌*◌, ◌<◌, ◌≤◌, List, [], ◌∷◌, length, Bool, Option, refl, sym}
 use Rattle.std.proofs.Common.{ap, ◌∙◌, subst, arith}
 use Rattle.std.specs.Prelude.{nat_lt}
 use Rattle.pli_meaning.specs.BasicValues.{BasicValue}
@@ -34,9 +34,10 @@ use Rattle.block_runs.proofs.PointActs.{stands_acted}
 use Rattle.program_runs.specs.Statements.{IsAmong, IsBegun, JumpsOut, JumpsTo}
 use Rattle.program_runs.proofs.JumpsOut.{jumps_later}
 use Rattle.program_runs.proofs.Waiting.{outer_among}
-use Rattle.unit_runs.specs.Raised.{AreMade, IsRaiseOf, IsRaised, Raise, Standing, begun_unit, end_index, raise_aims}
+use Rattle.unit_runs.specs.Raised.{AreMade, IsRaiseOf, IsRaised, IsRaisedAt, Raise, Standing, begun_unit, end_index}
+use Rattle.unit_runs.specs.Raised.{raise_aims}
 use Rattle.unit_runs.specs.Raised.{unit_beginning, unit_block, unit_call, unit_layer}
-use Rattle.unit_runs.specs.UnitBeginnings.{IsUnit}
+use Rattle.unit_runs.specs.UnitBeginnings.{IsUnitAt}
 use Rattle.unit_runs.proofs.UnitEndings as N
 use Rattle.unit_runs.proofs.UnitEntries as U
 use Rattle.expression_runs.specs.Values.{Setting}
@@ -66,32 +67,30 @@ waiting z = awaiting z.raise.code (4 * z.raise.back) z.raise.point
 
 -- ---- its beginning
 
-unit_begins :
-    (z : Here) → IsHere z →
-    IsUnit z.setting.block.call.surroundings (waiting z) z.raise.numbers
-    (unit_beginning z.setting.block.call.surroundings z.standing z.raise)
-unit_begins z h =
-    let k = z.setting.block in
-    let w = k.call.surroundings in
-    let x = z.standing in
-    let o = h.is.among in
-    let r = h.raised in
+-- whether one more block may be active or not
+pub raise_begins :
+    {may : Bool} (k : Setting) (x : Standing) (more : ℕ) (h : IsRaisedAt may k x more) (r : Raise) →
+    IsAmong k.block r.numbers r.point → (r.height ≡ h.by.height) × (0 < r.code) × (r.back ≤ most_code) →
+    IsUnitAt may k.block.call.surroundings (awaiting r.code (4 * r.back) r.point) r.numbers
+    (unit_beginning k.block.call.surroundings x r)
+raise_begins {may} k x more h r o of =
+    let w = k.block.call.surroundings in
     record {
       next = record {
         layer = record {
           level = refl;
-          runs = (refl, h.is.some);
+          runs = (refl, of.1);
           units = refl;
-          parent = subst (λ n. HasParent x.unit.head.level n z.raise.point.state.activations) (sym h.is.height)
-              (subst (λ xs. HasParent x.unit.head.level r.by.height xs) (sym o.later.activations) r.parent);
+          parent = subst (λ n. HasParent x.unit.head.level n r.point.state.activations) (sym of.0)
+              (subst (λ xs. HasParent x.unit.head.level h.by.height xs) (sym o.later.activations) h.parent);
         };
         laid = record {
           above = refl;
           fixed = omega arith;
           falls = omega arith;
           free = subst (λ ls. upper_top w.parts ls + temporary_bytes x.words + fixed_size x.unit.head.level 0
-              ≤ lower_end w.parts ls) (sym o.later.layers) r.room;
-          saved = r.saved;
+              ≤ lower_end w.parts ls) (sym o.later.layers) h.room;
+          saved = h.saved;
           told = λ n v e. absurd (cc e);
         };
         entries = ([], refl);
@@ -107,12 +106,12 @@ unit_begins z h =
         places = refl;
         units = refl;
       };
-      shallow = subst (λ xs. nat_lt (length xs) most_activations ≡ true) (sym o.later.activations) r.shallow;
-      code = z.raise.code;
+      shallow = subst (λ xs. nat_lt (length xs) most_activations ≡ may) (sym o.later.activations) h.shallow;
+      code = r.code;
       kind = refl;
-      level = r.level;
-      line = r.line;
-      back = h.back;
+      level = h.level;
+      line = h.line;
+      back = of.2;
       held = refl;
       words = λ n less. o.words n;
       waits = λ n. refl;
@@ -136,7 +135,7 @@ premises z h =
       stands = awaited_stands z.setting.block.call.surroundings z.raise.point z.raise.code (4 * z.raise.back)
           h.is.among.stands;
       image = waiting_image z h;
-      is = unit_begins z h;
+      is = raise_begins z.setting z.standing z.more h.raised z.raise h.is.among (h.is.height, h.is.some, h.back);
     }
 
 pub begun_known :

@@ -1,6 +1,6 @@
 -- A unit's block is entered: from its first instruction to the machine of the new point.
 use Rattle.std.proofs.Common.{◌≡◌, ℕ, ◌+◌, ◌*◌, ◌%◌, ◌^◌, ◌<◌, ◌≤◌, List, [], ◌∷◌, ◌++◌, refl, sym, ap, ◌∙◌, subst}
-use Rattle.std.proofs.Common.{arith}
+use Rattle.std.proofs.Common.{Bool, true, arith}
 use Rattle.std.specs.Prelude.{pos}
 use Rattle.rv_meaning.specs.declared.instr.Instr.{Instr}
 use Rattle.rv_meaning.specs.declared.instr.Instr.TheVariants as I
@@ -41,14 +41,20 @@ use Rattle.block_runs.proofs.FrameBeginnings.{new_display, new_frame, outside, o
 use Rattle.block_runs.proofs.Places.{IsFrame, word_in, bounds, even_top}
 use Rattle.block_runs.proofs.PointGrounds.{StandsIn, point_ground, registers_in, in_known, call_is}
 use Rattle.block_runs.proofs.StoredGrounds.{StoredOver, making_ground}
-use Rattle.unit_runs.specs.UnitBeginnings.{IsAtUnit, IsUnit, unit_beginning_code}
+use Rattle.unit_runs.specs.UnitBeginnings.{IsAtUnit, IsUnit, IsUnitAt, unit_beginning_code}
 
 -- ---- what is premised, and what follows
 
-pub record Premises (w : Surroundings) (code : List Instr) (p : Point) (numbers : ℕ → ℕ) (x : Beginning) : Type 0 where
-  pub stands : Stands w p
-  pub image : IsImage w code p
-  pub is : IsUnit w p numbers x
+pub record PremisesAt (may : Bool) (w : Surroundings) (code : List Instr) (p : Point) (numbers : ℕ → ℕ)
+    (x : Beginning) : Type 0
+  where
+    pub stands : Stands w p
+    pub image : IsImage w code p
+    pub is : IsUnitAt may w p numbers x
+
+-- one more block may be active
+abbrev pub Premises : Surroundings → List Instr → Point → (numbers : ℕ → ℕ) → Beginning → Type 0
+Premises w code p numbers x = PremisesAt true w code p numbers x
 
 -- the words that it stores are a procedure's: it is told where its raise goes on
 unit_stored :
@@ -81,8 +87,8 @@ begun_at w p x f =
     }
 
 pub is_begun :
-    {w : Surroundings} {code : List Instr} {p : Point} {numbers : ℕ → ℕ} {x : Beginning} (f : Family) →
-    Premises w code p numbers x → ((b : Base) → IsAtUnit p x b (f b)) → IsBegun (begun_at w p x f)
+    {may : Bool} {w : Surroundings} {code : List Instr} {p : Point} {numbers : ℕ → ℕ} {x : Beginning} (f : Family) →
+    PremisesAt may w code p numbers x → ((b : Base) → IsAtUnit p x b (f b)) → IsBegun (begun_at w p x f)
 is_begun {p = p} {x = x} f q at =
     record {
       active = q.stands.active;
@@ -104,9 +110,9 @@ is_begun {p = p} {x = x} f q at =
     }
 
 are_words :
-    {w : Surroundings} {code : List Instr} {p : Point} {numbers : ℕ → ℕ} {x : Beginning} →
-    Premises w code p numbers x → (b : Base) → AreWords b.at x.layer
-are_words {w} {p = p} {x = x} q b =
+    {may : Bool} {w : Surroundings} {code : List Instr} {p : Point} {numbers : ℕ → ℕ} {x : Beginning} →
+    PremisesAt may w code p numbers x → (b : Base) → AreWords b.at x.layer
+are_words {w = w} {p = p} {x = x} q b =
     let o = bounds w.parts p.control.layers q.stands.laid in
     let v = b.valid.1 in
     let back = q.is.back in
@@ -120,18 +126,18 @@ are_words {w} {p = p} {x = x} q b =
     }
 
 pub new_point_frame :
-    {w : Surroundings} {code : List Instr} {p : Point} {numbers : ℕ → ℕ} {x : Beginning} (f : Family) →
-    Premises w code p numbers x → ((b : Base) → IsAtUnit p x b (f b)) →
+    {may : Bool} {w : Surroundings} {code : List Instr} {p : Point} {numbers : ℕ → ℕ} {x : Beginning} (f : Family) →
+    PremisesAt may w code p numbers x → ((b : Base) → IsAtUnit p x b (f b)) →
     IsFrame (frame_under w.parts (begun_point x p).control.layers)
-new_point_frame {w} {p = p} {x = x} f q at = new_frame (begun_at w p x f) (is_begun f q at)
+new_point_frame {w = w} {p = p} {x = x} f q at = new_frame (begun_at w p x f) (is_begun f q at)
 
 -- ---- memory at the new point
 
 memory_new :
-    {w : Surroundings} {code : List Instr} {p : Point} {numbers : ℕ → ℕ} {x : Beginning} (f : Family) →
-    Premises w code p numbers x → (b : Base) (m : List ℕ) → StoredOver w p (all_words (begun_at w p x f) b) b m →
+    {may : Bool} {w : Surroundings} {code : List Instr} {p : Point} {numbers : ℕ → ℕ} {x : Beginning} (f : Family) →
+    PremisesAt may w code p numbers x → (b : Base) (m : List ℕ) → StoredOver w p (all_words (begun_at w p x f) b) b m →
     StandsIn w (begun_point x p) b m
-memory_new {w} {p = p} {x = x} f q b m o =
+memory_new {w = w} {p = p} {x = x} f q b m o =
     let k = begun_at w p x f in
     let e : m ≡ stored (frame_stores w.parts b.at x.entry.parent p.state.activations x.layer p.control.layers) o.first =
     o.is ∙ ap (λ xs. stored xs o.first) (unit_stored k b q.is.code (4 * x.layer.back) q.is.kind refl) in
@@ -146,14 +152,15 @@ memory_new {w} {p = p} {x = x} f q b m o =
 -- ---- the frame is made
 
 pub frame_stands :
-    {w : Surroundings} {code : List Instr} {p : Point} {numbers : ℕ → ℕ} {x : Beginning} (c index : ℕ) (f : Family)
-    (q : Premises w code p numbers x) (at : (b : Base) → IsAtUnit p x b (f b)) →
+    {may : Bool} {w : Surroundings} {code : List Instr} {p : Point} {numbers : ℕ → ℕ} {x : Beginning}
+    (c index : ℕ) (f : Family)
+    (q : PremisesAt may w code p numbers x) (at : (b : Base) → IsAtUnit p x b (f b)) →
     Linked w.links code index (frame_code (begun_at w p x f)) → ((b : Base) → IsIn w p numbers index b (f b)) →
     Reach code c f (services_of p) (c + size_of (frame_code (begun_at w p x f))) (services_of p)
     (λ b y. At b (index + size_of (frame_code (begun_at w p x f)))
     (Known (point_ground w (begun_point x p) (new_point_frame f q at)) (services_of p) numbers (λ n. 0)
     (own_regs (begun_at w p x f)) b) y)
-frame_stands {w} {p = p} {numbers = numbers} {x = x} c index f q at l there =
+frame_stands {w = w} {p = p} {numbers = numbers} {x = x} c index f q at l there =
     let k = begun_at w p x f in
     let h = is_begun f q at in
     let r = frame_made k h {t = λ n. 0} c f (λ b. refl) l
@@ -191,9 +198,10 @@ frame_stands {w} {p = p} {numbers = numbers} {x = x} c index f q at l there =
       };
     })
 
-frame_comes :
-    {w : Surroundings} {code : List Instr} {p : Point} {numbers : ℕ → ℕ} {x : Beginning} (c index : ℕ) (f : Family)
-    (q : Premises w code p numbers x) (at : (b : Base) → IsAtUnit p x b (f b)) →
+pub frame_comes :
+    {may : Bool} {w : Surroundings} {code : List Instr} {p : Point} {numbers : ℕ → ℕ} {x : Beginning}
+    (c index : ℕ) (f : Family)
+    (q : PremisesAt may w code p numbers x) (at : (b : Base) → IsAtUnit p x b (f b)) →
     Linked w.links code index (frame_code (begun_at w p x f)) → ((b : Base) → IsIn w p numbers index b (f b)) →
     Reach code c f (services_of p) (c + size_of (frame_code (begun_at w p x f))) (services_of p)
     (λ b y. At b (index + size_of (frame_code (begun_at w p x f)))
@@ -205,23 +213,23 @@ frame_comes c index f q at l there =
 
 -- ---- the call of service 4
 
-abbrev enter_front : Code
+abbrev pub enter_front : Code
 enter_front = small a3 0 ∷ (load_word a1 frame_register own_offset ++ small a0 2 ∷ [])
 
-abbrev enter_regs : (at : ℕ) → Base → List (ℕ × ℕ)
+abbrev pub enter_regs : (at : ℕ) → Base → List (ℕ × ℕ)
 enter_regs at b = (10, 2) ∷ (11, at) ∷ (13, 0) ∷ []
 
 -- the register of the frame's own place, the kind and the texts
-front_comes :
-    {w : Surroundings} {code : List Instr} {p : Point} {numbers : ℕ → ℕ} {x : Beginning} {i : ℕ} (c : ℕ)
-    (f g : Family) (q : Premises w code p numbers x) (at : (b : Base) → IsAtUnit p x b (f b)) →
+pub front_comes :
+    {may : Bool} {w : Surroundings} {code : List Instr} {p : Point} {numbers : ℕ → ℕ} {x : Beginning}
+    {i : ℕ} (c : ℕ) (f g : Family) (q : PremisesAt may w code p numbers x) (at : (b : Base) → IsAtUnit p x b (f b)) →
     Linked w.links code i enter_front →
     ((b : Base) → At b i (Known (point_ground w (begun_point x p) (new_point_frame f q at)) (services_of p) numbers
     (λ n. 0) (regs_of (begun_at w p x f)) b) (g b)) →
     Reach code c g (services_of p) (c + 3) (services_of p)
     (λ b y. At b (i + 3) (Known (point_ground w (begun_point x p) (new_point_frame f q at)) (services_of p) numbers
     (λ n. 0) (enter_regs x.layer.at) b) y)
-front_comes {w} {p = p} {numbers = numbers} {x = x} c f g q at l there =
+front_comes {w = w} {p = p} {numbers = numbers} {x = x} c f g q at l there =
     let frame = new_point_frame f q at in
     let v = services_of p in
     straight c g v v
@@ -247,9 +255,9 @@ front_comes {w} {p = p} {numbers = numbers} {x = x} c f g q at l there =
     ))
 
 -- up to the call
-asked_comes :
-    {w : Surroundings} {code : List Instr} {p : Point} {numbers : ℕ → ℕ} {x : Beginning} {i : ℕ} (c : ℕ)
-    (f g : Family) (q : Premises w code p numbers x) (at : (b : Base) → IsAtUnit p x b (f b)) →
+pub asked_comes :
+    {may : Bool} {w : Surroundings} {code : List Instr} {p : Point} {numbers : ℕ → ℕ} {x : Beginning}
+    {i : ℕ} (c : ℕ) (f g : Family) (q : PremisesAt may w code p numbers x) (at : (b : Base) → IsAtUnit p x b (f b)) →
     Linked w.links code i (number a2 x.head.line) →
     Linked w.links code (i + size_of (number a2 x.head.line)) (small a7 4 ∷ []) →
     ((b : Base) → At b i (Known (point_ground w (begun_point x p) (new_point_frame f q at)) (services_of p) numbers
@@ -258,7 +266,7 @@ asked_comes :
     (λ b y. At b (i + size_of (number a2 x.head.line) + 1) (Known (point_ground w (begun_point x p)
     (new_point_frame f q at)) (services_of p) numbers (λ n. 0)
     (λ b'. (17, 4) ∷ (12, x.head.line) ∷ enter_regs x.layer.at b') b) y)
-asked_comes {w} {p = p} {numbers = numbers} {x = x} c f g q at l l' there =
+asked_comes {w = w} {p = p} {numbers = numbers} {x = x} c f g q at l l' there =
     let frame = new_point_frame f q at in
     let v = services_of p in
     let line = x.head.line in

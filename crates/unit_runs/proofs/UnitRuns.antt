@@ -101,7 +101,7 @@ behind_act x = list_code x ++ tail_of x
 abbrev behind_made : Standing → Code
 behind_made x = act_code x.unit.head.line ++ behind_act x
 
-abbrev behind_beginning : Standing → Code
+abbrev pub behind_beginning : Standing → Code
 behind_beginning x = x.variables ++ behind_made x
 
 mark_size : (head : Y.BlockHead) (kind : Y.BlockKind) → IsUnitKind kind → size_of (unit_mark head kind) ≡ 0
@@ -109,7 +109,7 @@ mark_size head kind (inl e) = ap (λ q. size_of (unit_mark head q)) e
 mark_size head kind (inr e) = ap (λ q. size_of (unit_mark head q)) e
 
 -- how many words it has, part by part
-standing_size :
+pub standing_size :
     (x : Standing) → IsUnitKind x.unit.head.kind →
     size_of (standing_code x)
     ≡ size_of (begin_of x)
@@ -347,10 +347,20 @@ raise_as c k x more h does e code codes p numbers credits wanted index f o line 
 
 -- ---- FIXEDOVERFLOW in an expression
 
-pub overflow_comes :
-    (k : Setting) (x : Standing) (more : ℕ) (h : IsRaised k x more) → UnitComes k x more h →
-    x.unit.condition ≡ C.FixedOverflow → OverflowComes k
-overflow_comes k x more h does condition p numbers taken c index given f o line registers small' l paid at =
+-- a raise of the condition with the code comes behind it, or to where a unit jumps
+abbrev pub RaisesTo : Setting → Condition → (code : ℕ) → Type 0
+RaisesTo k c code =
+    (p : Point) (numbers : ℕ → ℕ) (credits wanted index : ℕ) (f : Family) → IsAmong k.block numbers p →
+    p.control.line ≡ k.around.line →
+    Linked k.block.call.surroundings.links k.block.call.code index (A.raised c code) →
+    credits + size_of (A.raised c code) + k.most ≤ cost k.block.call.code →
+    AreIn k.block.call.surroundings p numbers index f →
+    Comes k.block.call.code credits f (services_of p)
+    (raise_aims k p numbers (index + size_of (A.raised c code)) wanted)
+    (R.raised k.around c code k.block.call.surroundings.acts p.state)
+
+pub overflow_by : (k : Setting) → RaisesTo k C.FixedOverflow fixed_overflow_code → OverflowComes k
+overflow_by k raises p numbers taken c index given f o line registers small' l paid at =
     let w = k.block.call.surroundings in
     let code = k.block.call.code in
     let t = in_registers k.words taken in
@@ -395,9 +405,17 @@ overflow_comes k x more h does condition p numbers taken c index given f o line 
     })
     (λ c' f' v' height label s q. q)
     (λ c' f' v' r s q. absurd q)
-    (raise_as C.FixedOverflow k x more h does condition fixed_overflow_code (omega arith, omega arith) p held
-    (c + size_of first) wanted i f1 o' line (front_of raise' back l1) (omega (arith, paid, n))
+    (raises p held (c + size_of first) wanted i f1 o' line (front_of raise' back l1) (omega (arith, paid, n))
     (λ b. in_known g o.image.parts (at1 b))))
+
+pub overflow_comes :
+    (k : Setting) (x : Standing) (more : ℕ) (h : IsRaised k x more) → UnitComes k x more h →
+    x.unit.condition ≡ C.FixedOverflow → OverflowComes k
+overflow_comes k x more h does condition =
+    overflow_by k
+    (λ p numbers credits wanted index f o line l paid there.
+    raise_as C.FixedOverflow k x more h does condition fixed_overflow_code (omega arith, omega arith) p numbers credits
+    wanted index f o line l paid there)
 
 -- ---- where each statement of the unit does what it means
 

@@ -157,6 +157,7 @@ host_image input acts =
       units = host_units;
       signatures = map template_of (table_of host_program);
       constants = no_constants;
+      fills = [];
       input = input;
       acts = acts;
       serials = 1;

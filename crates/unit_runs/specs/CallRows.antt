@@ -146,6 +146,7 @@ lend_image input acts =
       units = lend_units;
       signatures = map template_of (table_of lend_program);
       constants = no_constants;
+      fills = [];
       input = input;
       acts = acts;
       serials = 1;

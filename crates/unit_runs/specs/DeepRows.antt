@@ -157,6 +157,7 @@ deep_image input acts =
       units = deep_units;
       signatures = map template_of (table_of deep_program);
       constants = no_constants;
+      fills = [];
       input = input;
       acts = acts;
       serials = 1;

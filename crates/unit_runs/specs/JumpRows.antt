@@ -124,6 +124,7 @@ skip_image input acts =
       units = skip_units;
       signatures = map template_of (table_of skip_program);
       constants = no_constants;
+      fills = [];
       input = input;
       acts = acts;
       serials = 1;

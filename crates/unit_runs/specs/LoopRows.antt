@@ -128,6 +128,7 @@ loop_image input acts =
       units = loop_units;
       signatures = map template_of (table_of loop_program);
       constants = no_constants;
+      fills = [];
       input = input;
       acts = acts;
       serials = 1;

@@ -1,7 +1,7 @@
 -- A condition is raised while a unit is in force: the unit's block, and what the raise comes to. (X3.53-1976,
 -- chapter 6, conditions and on-units.)
 use Rattle.std.specs.Prelude.{ℕ, suc, ◌+◌, ◌*◌, ◌^◌, ◌<◌, ◌≤◌, ◌≡◌, ◌⊎◌, List, [], ◌∷◌, ◌++◌, nat_lt, false, true}
-use Rattle.std.specs.Prelude.{length, None, Some}
+use Rattle.std.specs.Prelude.{Bool, length, None, Some}
 use Rattle.pli_language.specs.declared.condition.Condition.{Condition}
 use Rattle.pli_language.specs.declared.condition.Condition.TheVariants as C
 use Rattle.pli_typing.specs.TypedTree as Y
@@ -210,8 +210,9 @@ pub record AreMade (k : Setting) (x : Standing) (r : Raise) : Type 0 where
 
 -- ---- the raise
 
--- where the block's first statement begins the unit is in force, and its frame fits between the stacks
-pub record IsRaised (k : Setting) (x : Standing) (more : ℕ) : Type 0 where
+-- where the block's first statement begins the unit is in force, and its frame fits between the stacks; one more block
+-- may be active there, or not
+pub record IsRaisedAt (may : Bool) (k : Setting) (x : Standing) (more : ℕ) : Type 0 where
   pub begun : IsBegun k.block
   pub routines : Routines k.block.call.surroundings.links k.block.call.code
   pub by : Activation
@@ -221,7 +222,7 @@ pub record IsRaised (k : Setting) (x : Standing) (more : ℕ) : Type 0 where
       upper_top k.block.call.surroundings.parts k.block.first.control.layers + temporary_bytes x.words
       + fixed_size x.unit.head.level 0
       ≤ lower_end k.block.call.surroundings.parts k.block.first.control.layers
-  pub shallow : nat_lt (length k.block.first.state.activations) most_activations ≡ true
+  pub shallow : nat_lt (length k.block.first.state.activations) most_activations ≡ may
   -- the program has it at no other place
   pub only :
       (at : ℕ) → StandsAt k.block.call.surroundings.units (unit_of x.unit) at → at ≡ 4 * x.entry
@@ -241,6 +242,9 @@ pub record IsRaised (k : Setting) (x : Standing) (more : ℕ) : Type 0 where
   pub enough : k.block.call.surroundings.acts < suc more + k.block.first.state.world.acts
   -- what comes before its first act, and its end, have room among the credits
   pub most : 30 + size_of (standing_code x) ≤ k.most
+
+abbrev pub IsRaised : Setting → Standing → (more : ℕ) → Type 0
+IsRaised k x more = IsRaisedAt true k x more
 
 -- a raise of the condition in the block, behind its act
 pub record IsRaiseOf (k : Setting) (x : Standing) (more : ℕ) (h : IsRaised k x more) (r : Raise) : Type 0 where
@@ -294,3 +298,19 @@ pub record RaisesReturn : Type 0 where
   pub overflow :
       (k : Setting) (x : Standing) (more : ℕ) (h : IsRaised k x more) → UnitDoes k x more h →
       x.unit.condition ≡ C.FixedOverflow → OverflowComes k
+
+-- where as many blocks are active as may be the raise ends the run, whatever the unit's statements are
+pub record DeepRaisesEnd : Type 0 where
+  pub raise :
+      (k : Setting) (x : Standing) (more : ℕ) → IsRaisedAt false k x more → (code : ℕ) →
+      (0 < code) × (code < 2 ^ 16) → (p : Point) (numbers : ℕ → ℕ) (credits wanted index : ℕ) (f : Family) →
+      IsAmong k.block numbers p → Linked k.block.call.surroundings.links k.block.call.code index
+      (A.raised x.unit.condition code) →
+      credits + size_of (A.raised x.unit.condition code) + k.most ≤ cost k.block.call.code →
+      AreIn k.block.call.surroundings p numbers index f →
+      Comes k.block.call.code credits f (services_of p)
+      (raise_aims k p numbers (index + size_of (A.raised x.unit.condition code)) wanted)
+      (raised k.around x.unit.condition code k.block.call.surroundings.acts p.state)
+  pub overflow :
+      (k : Setting) (x : Standing) (more : ℕ) → IsRaisedAt false k x more → x.unit.condition ≡ C.FixedOverflow →
+      OverflowComes k

@@ -119,6 +119,7 @@ mend_image input acts =
       units = mend_units;
       signatures = map template_of (table_of mend_program);
       constants = no_constants;
+      fills = [];
       input = input;
       acts = acts;
       serials = 1;

@@ -1,6 +1,7 @@
 -- Where a unit's block begins and ends: its code, and what is known where its raise comes to it. (X3.53-1976,
 -- chapter 6, on-units.)
-use Rattle.std.specs.Prelude.{ℕ, List, ◌+◌, ◌*◌, ◌^◌, ◌<◌, ◌≤◌, ◌≡◌, nat_lt, true, [], ◌∷◌, ◌++◌, length, Some, None}
+use Rattle.std.specs.Prelude.{ℕ, List, ◌+◌, ◌*◌, ◌^◌, ◌<◌, ◌≤◌, ◌≡◌, nat_lt, Bool, true, [], ◌∷◌, ◌++◌, length}
+use Rattle.std.specs.Prelude.{Some, None}
 use Rattle.rv_meaning.specs.declared.instr.Instr.{Instr}
 use Rattle.rv_meaning.specs.Machine.{value}
 use Rattle.image_runs.specs.Runs.{Whole}
@@ -28,11 +29,11 @@ use Rattle.block_runs.specs.Machines.{AreIn, IsImage, IsIn}
 
 -- ---- its beginning
 
--- the layer is what its code makes, above all others, while its raise waits
-pub record IsUnit (w : Surroundings) (p : Point) (numbers : ℕ → ℕ) (x : Beginning) : Type 0 where
+-- the layer is what its code makes, above all others, while its raise waits; one more block may be active, or not
+pub record IsUnitAt (may : Bool) (w : Surroundings) (p : Point) (numbers : ℕ → ℕ) (x : Beginning) : Type 0 where
   pub next : IsNext w p x.head x.entry x.layer
   pub entering : IsEntering p x.layer 2 0
-  pub shallow : nat_lt (length p.state.activations) most_activations ≡ true
+  pub shallow : nat_lt (length p.state.activations) most_activations ≡ may
   -- for its condition's code, and it goes on where the raise said
   pub code : ℕ
   pub kind : x.layer.kind ≡ S.OnUnitBlock code (4 * x.layer.back)
@@ -48,6 +49,9 @@ pub record IsUnit (w : Surroundings) (p : Point) (numbers : ℕ → ℕ) (x : Be
   pub list : x.layer.list ≡ None
   pub top : x.layer.top ≡ x.layer.at + fixed_size x.layer.level x.layer.parameters
   pub lower : x.layer.lower ≡ lower_end w.parts p.control.layers
+
+abbrev pub IsUnit : Surroundings → Point → (numbers : ℕ → ℕ) → Beginning → Type 0
+IsUnit w p numbers x = IsUnitAt true w p numbers x
 
 abbrev pub unit_beginning_code : Beginning → Code
 unit_beginning_code x =

@@ -9,7 +9,7 @@ ghost use Rattle.unit_runs.specs.Establishing.{UnitsEstablished};
 ghost use Rattle.unit_runs.specs.InnerLists.{InnerListsChange};
 ghost use Rattle.unit_runs.specs.JumpRows.{SkipRan};
 ghost use Rattle.unit_runs.specs.LoopRows.{LoopRan};
-ghost use Rattle.unit_runs.specs.Raised.{RaisesReturn};
+ghost use Rattle.unit_runs.specs.Raised.{DeepRaisesEnd, RaisesReturn};
 ghost use Rattle.unit_runs.specs.Rows.{MendRan};
 ghost use Rattle.unit_runs.specs.Signals.{SignalsDo};
 ghost use Rattle.unit_runs.specs.UnitBeginnings.{UnitsBegin, UnitsEnd};
@@ -36,6 +36,11 @@ pub fn units_end()
 /// FIXEDOVERFLOW in an expression with the value that was saved; or at the label to which the unit jumps.
 pub fn raises_return()
     ensures { RaisesReturn }
+{}
+
+/// Where as many blocks are active as may be such a raise ends the run.
+pub fn deep_raises_end()
+    ensures { DeepRaisesEnd }
 {}
 
 /// A unit makes no variables of its own, and those of the block that established it are variables of it.

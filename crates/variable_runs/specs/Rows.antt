@@ -113,6 +113,7 @@ pair_image input acts =
       units = [];
       signatures = map template_of (table_of pair_program);
       constants = no_constants;
+      fills = [];
       input = input;
       acts = acts;
       serials = 2;

@@ -5,6 +5,8 @@ pub returns : goal.returns
 returns c = record {
   same = R.remains_same;
   shapes = λ p q r. R.shapes_remain r;
+  numbers = R.numbers_remain;
+  few = R.signatures_few;
   then' = R.remains_then;
   acted = R.remains_acted;
   entered = R.remains_entered;

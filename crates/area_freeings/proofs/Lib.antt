@@ -1,0 +1,7 @@
+mod FreeAnswers
+mod FreePoints
+mod FreeCode
+mod FreeMeaning
+mod FreeRuns
+mod Freeing
+pub mod Rows

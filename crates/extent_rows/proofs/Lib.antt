@@ -1,0 +1,4 @@
+pub mod GrowCode
+pub mod GrowRows
+pub mod BendCode
+pub mod BendRows

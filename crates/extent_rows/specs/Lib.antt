@@ -1,0 +1,2 @@
+pub mod GrowRows
+pub mod BendRows

@@ -1,0 +1,4 @@
+// Worked rows of arrays whose bounds are evaluated.
+#![tactic(auto)]
+
+pub mod laws;

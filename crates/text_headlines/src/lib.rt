@@ -1,0 +1,4 @@
+// The headline of a worked row of texts, by the relation of activations.
+#![tactic(auto)]
+
+pub mod laws;

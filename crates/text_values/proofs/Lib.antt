@@ -1,0 +1,9 @@
+pub mod Known
+pub mod Asking
+pub mod Constants
+pub mod TextPoints
+pub mod Variables
+pub mod Comparisons
+pub mod Conversions
+pub mod TextStores
+pub mod Assignments

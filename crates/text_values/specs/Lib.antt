@@ -1,0 +1,5 @@
+pub mod Variables
+pub mod Known
+pub mod Bits
+pub mod Laws
+pub mod Assignments

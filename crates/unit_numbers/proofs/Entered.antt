@@ -1,0 +1,753 @@
+-- A procedure or a function that is called in a block: its variables are made, and what is known there is known of it.
+use Rattle.std.proofs.Common.{◌≡◌, ◌⊎◌, inl, inr, ℕ, suc, ◌+◌, ◌<◌, ◌≤◌, List, [], ◌∷◌, length}
+use Rattle.std.proofs.Common.{Bool, None, Some, true, false, refl, sym, ap, ◌∙◌, arith}
+use Rattle.std.specs.Prelude.{cond, nat_le, nat_lt, ◌==◌}
+use Rattle.std.specs.List.{list_any}
+use Rattle.std.proofs.lemmas.Bool.{and_from, and_parts, leb-true, ltb-true}
+use Rattle.std.proofs.lemmas.Bool.Decides.{nat_tests}
+use Rattle.pli_language.specs.declared.condition.Condition.{Condition}
+use Rattle.pli_typing.specs.Signatures.{Bounds}
+use Rattle.pli_typing.specs.TypedTree as Y
+use Rattle.pli_meaning.specs.Control.{Label}
+use Rattle.pli_meaning.specs.DeclaredShapes.{declared_variable, variables_of_block}
+use Rattle.pli_meaning.specs.StorageState.{Activation, Binding, ancestor, automatic_in_use, force, height_of}
+use Rattle.pli_meaning.specs.StorageState.{most_activations, most_automatic, newest_height}
+use Rattle.pli_meaning.specs.BasicValues.{VariableName}
+use Rattle.pli_meaning.specs.Making.{with_binding}
+use Rattle.pli_meaning.specs.World.{World}
+use Rattle.pli_coding.specs.Environments.{block_around}
+use Rattle.pli_coding.specs.Frames.{fixed_size, parameters_in, temporary_bytes}
+use Rattle.pli_coding.specs.Images.{linked_code}
+use Rattle.code_marks.specs.CodeMarks.{MarkedOnce}
+use Rattle.storage_relation.proofs.Holders.{eqb-other, eqb-refl}
+use Rattle.activation_relation.specs.Frames.{lower_end, upper_top}
+use Rattle.activation_relation.specs.Layers.{Layer, Point}
+use Rattle.activation_relation.proofs.Returning.{in_use_later}
+use Rattle.program_places.specs.Programs.{body_for, code_for, environment_for, procedure_for}
+use Rattle.program_places.proofs.Blocks.{own_block}
+use Rattle.program_places.proofs.Callees.{end_is}
+use Rattle.program_places.proofs.Found.{known}
+use Rattle.program_places.proofs.Functions.{function_end_is}
+use Rattle.program_places.proofs.Procedures.{body_placed}
+use Rattle.program_runs.specs.Calls.{AreMade, Callee, begun_at, left_over}
+use Rattle.program_runs.specs.Procedures.{Procedure, layer_for}
+use Rattle.program_runs.specs.Starts.{image_parts}
+use Rattle.program_runs.specs.Statements.{Block, IsAmong, IsBegun, Outer, as_outer}
+use Rattle.program_runs.specs.Variables.{Declared, generation_for}
+use Rattle.expression_runs.specs.Variables.{IsNumber, Spot, variable_of}
+use Rattle.element_runs.specs.Arrays.{IsArray}
+use Rattle.element_runs.proofs.Outer.{outer_array}
+use Rattle.variable_runs.specs.Lists.{AreAll, all_made, behind_made, layer_after, layer_behind}
+use Rattle.variable_runs.proofs.Lists.{all_procedure}
+use Rattle.block_headlines.proofs.Constants.{called_of_program}
+use Rattle.nested_calls.specs.Nested.{IsNested, parent_at}
+use Rattle.nested_calls.specs.NestedVariables.{IsInside}
+use Rattle.nested_calls.proofs.NestedVariables.{function_known, function_nested, function_number, procedure_known}
+use Rattle.nested_calls.proofs.NestedVariables.{procedure_nested, procedure_number}
+use Rattle.number_runs.specs.Arrays.{bounds_if, is_array_if}
+use Rattle.number_runs.specs.Knowledge.{IsHome}
+use Rattle.number_runs.specs.Numbers.{Scope, bounds_known, is_array_known, is_known, is_place, is_plain_if}
+use Rattle.number_runs.specs.Statements.{statements_set}
+use Rattle.number_runs.specs.Variables.{HasWords, HaveRoom, bytes_of, words_in}
+use Rattle.number_runs.proofs.Takes.{plain_known, registers_held, words_set}
+use Rattle.number_runs.proofs.Words.{all_words, function_array, function_word, own_array, own_word, room_behind}
+use Rattle.number_runs.proofs.Words.{room_fewer}
+use Rattle.number_headlines.specs.Programs.{places_to}
+use Rattle.number_headlines.proofs.FullWords.{words_at, words_count, words_lower}
+use Rattle.number_headlines.proofs.Loops.{after_waits, after_words}
+use Rattle.number_headlines.proofs.Mains.{result_of}
+use Rattle.number_headlines.proofs.Places.{alike_at, around_is, is_around}
+use Rattle.number_headlines.proofs.Running.{free_among, table_later}
+use Rattle.number_headlines.proofs.Tables.{block_plain}
+use Rattle.jump_runs.proofs.Numbers.{alone, leaving, number_leaving}
+use Rattle.unit_numbers.specs.Calls.{scope_in}
+use Rattle.unit_numbers.proofs.Arrays.{array_leaving}
+use Rattle.unit_numbers.proofs.Callees.{Called, called_block, callee_of}
+use Rattle.unit_numbers.proofs.Homes.{Home, home_block, low_array, low_spot, world_of}
+use Rattle.unit_numbers.proofs.Inner.{Inner}
+use Rattle.unit_numbers.proofs.Mains.{Main, level_of, list_of, main_scope}
+use Rattle.unit_numbers.proofs.Scenes.{IsAt, IsEntered, Part, block_of}
+
+-- ---- what is called at a point of a block
+
+pub record Moment {program : Y.Program} (m : Main program) (h : Home) (more blocks : ℕ) (part : Part) (out : Outer)
+    (os : List Outer) (p : Point) (numbers : ℕ → ℕ) : Type 0
+  where
+    pub at : IsAt m h more blocks part out os
+    pub among : IsAmong (block_of m h out os) numbers p
+
+abbrev pub entered_at :
+    {program : Y.Program} → {m : Main program} → {caller : Y.BlockHead} → {valued : Bool} → {level number : ℕ} →
+    Inner m caller valued level number → Block → (call : ℕ) → Point → (numbers : ℕ → ℕ) → Called
+entered_at {level = level} i k call p numbers =
+    record {
+      head = i.head;
+      body = i.body;
+      parent = parent_at k level;
+      call = call;
+      point = p;
+      numbers = numbers;
+    }
+
+-- its block, whatever is further out
+abbrev pub bare_block :
+    {program : Y.Program} → Main program → Home → (valued : Bool) → (more : ℕ) → Called → Block
+bare_block {program} m h valued more a =
+    called_block valued (world_of m h) (linked_code (code_for program)) (callee_of program valued more a) a.point
+    a.numbers
+
+-- and what it may name and call
+abbrev pub called_scope :
+    {program : Y.Program} → (m : Main program) → {caller : Y.BlockHead} → {valued : Bool} → {level number : ℕ} →
+    Inner m caller valued level number → Scope
+called_scope {program} m i = scope_in program m.called (list_of m) i.head false i.fit.writes
+
+-- ---- its words
+
+pub inner_set :
+    {program : Y.Program} (m : Main program) {caller : Y.BlockHead} {valued : Bool} {level number : ℕ}
+    (i : Inner m caller valued level number) → (procedure_for program i.head i.body).words ≡ statements_set i.body
+inner_set {program} m {valued = valued} i =
+    let plain = block_plain program.variables i.head.number m.plain in
+    words_set (called_scope m i) valued (environment_for program i.head) i.head.number i.body
+    (plain_known (variables_of_block program i.head.number) plain.plain) i.fit.statements i.fit.fits
+
+-- they don't pass the limit on what is AUTOMATIC
+abbrev pub DontPass : {program : Y.Program} → Block → {m : Main program} → {caller : Y.BlockHead} → {valued : Bool} →
+    {level number : ℕ} → Inner m caller valued level number → Type 0
+DontPass {program} k i =
+    automatic_in_use k.first.state.living + bytes_of (variables_of_block program i.head.number) ≤ most_automatic
+
+-- then there is room for them where it begins
+pub begun_room :
+    {program : Y.Program} (m : Main program) {h : Home} {more b : ℕ} {part : Part} {out : Outer} {os : List Outer}
+    {p : Point} {numbers : ℕ → ℕ} (o : Moment m h (suc more) (suc b) part out os p numbers)
+    {v : Bool} {level number : ℕ} (i : Inner m part.caller v level number) (c : Callee) →
+    c.procedure ≡ procedure_for program i.head i.body →
+    DontPass (block_of m h out os) i →
+    HaveRoom (world_of m h) (begun_at (world_of m h) c p numbers)
+    (layer_for (world_of m h) p numbers c.procedure c.calling) p.control.layers
+    (fixed_size i.head.level 0) (bytes_of (variables_of_block program i.head.number) + 0)
+begun_room {program} m {h} {more} {b} {part} {out} {os} {p} {numbers} o {v} i c is pass =
+    let k = o.at in
+    let block = block_of m h out os in
+    let f = free_among (suc b) k.begun o.among k.free in
+    let same = in_use_later (world_of m h) block.first p k.begun.resumes.stands o.among.stands
+    o.among.later in
+    let words = ap (λ (x : Procedure). x.words) is ∙ inner_set m i in
+    let waiting = i.fit.waiting in
+    let inside = ap (λ (x : Procedure). x.head.level) is in
+    let level = (known program i.head i.body (result_of v) m.loadable.well_formed i.is).level in
+    let few = (block_plain program.variables i.head.number m.plain).room in
+    let fits = f.fits in
+    let even = f.even in
+    let top = ap (λ ls. upper_top image_parts ls) f.newest in
+    let low = ap (λ ls. lower_end image_parts ls) f.newest in
+    record {
+      newest = refl;
+      here = ap (λ n. upper_top image_parts p.control.layers + temporary_bytes c.procedure.words + fixed_size n 0)
+          (sym inside);
+      even = omega (arith, words, waiting, level, inside, even, top);
+      counted = omega (arith, level, few);
+      fits = omega (arith, words, waiting, level, inside, fits, pass, same, top, low);
+      low = f.low;
+      limit = omega (arith, pass, same);
+    }
+
+pub has_words :
+    {program : Y.Program} (m : Main program) {h : Home} {more b : ℕ} {part : Part} {out : Outer} {os : List Outer}
+    {p : Point} {numbers : ℕ → ℕ} (o : Moment m h (suc more) (suc b) part out os p numbers)
+    {v : Bool} {level number : ℕ} (i : Inner m part.caller v level number) (call : ℕ) →
+    DontPass (block_of m h out os) i →
+    HasWords (world_of m h)
+    (callee_of program v more (entered_at i (block_of m h out os) call p numbers)) p
+    numbers
+has_words {program} m {h} {more} {b} {part} {out} {os} {p = p} {numbers = numbers} o {v = v} i call pass =
+    let w = world_of m h in
+    let k = block_of m h out os in
+    let c = callee_of program v more (entered_at i k call p numbers) in
+    let n = bytes_of (variables_of_block program i.head.number) in
+    let plain = block_plain program.variables i.head.number m.plain in
+    record {
+      kind = (known program i.head i.body (result_of v) m.loadable.well_formed i.is).kind;
+      code = refl;
+      block = refl;
+      level = refl;
+      program = refl;
+      parts = refl;
+      bare = ap parameters_in i.is;
+      made = refl;
+      plain = plain.plain;
+      few = plain.few;
+      tabled = table_later program o.among.later.remains o.at.tabled i.head;
+      room = room_fewer w (begun_at w c p numbers) (layer_for w p numbers c.procedure c.calling) p.control.layers
+          (fixed_size i.head.level 0) n (n + 0) (omega arith) (begun_room m o i c refl pass);
+    }
+
+pub has_all :
+    {program : Y.Program} (m : Main program) {h : Home} {more b : ℕ} {part : Part} {out : Outer} {os : List Outer}
+    {p : Point} {numbers : ℕ → ℕ} (o : Moment m h (suc more) (suc b) part out os p numbers)
+    {v : Bool} {level number : ℕ} (i : Inner m part.caller v level number) (call : ℕ) →
+    DontPass (block_of m h out os) i →
+    AreAll (world_of m h)
+    (callee_of program v more (entered_at i (block_of m h out os) call p numbers)) p
+    numbers (words_in (environment_for program i.head))
+has_all {program} m {h} {more} {part = part} {out = out} {os = os} {p = p} {numbers = numbers} o {v = v} i call pass =
+    all_words (world_of m h)
+    (callee_of program v more (entered_at i (block_of m h out os) call p numbers)) p
+    numbers (has_words m o i call pass)
+
+pub are_made :
+    {program : Y.Program} (m : Main program) {h : Home} {more b : ℕ} {part : Part} {out : Outer} {os : List Outer}
+    {p : Point} {numbers : ℕ → ℕ} (o : Moment m h (suc more) (suc b) part out os p numbers)
+    {v : Bool} {level number : ℕ} (i : Inner m part.caller v level number) (call : ℕ) →
+    DontPass (block_of m h out os) i →
+    AreMade (world_of m h) (linked_code (code_for program))
+    (callee_of program v more (entered_at i (block_of m h out os) call p numbers)) p
+    numbers
+are_made {program} m {h} {more} {part = part} {out = out} {os = os} {p = p} {numbers = numbers} o {v = v} i call pass =
+    all_procedure (world_of m h) (linked_code (code_for program))
+    (callee_of program v more (entered_at i (block_of m h out os) call p numbers)) p
+    numbers (words_in (environment_for program i.head)) (has_all m o i call pass)
+
+-- ---- what stays as it is while variables are made
+
+pub made_idle :
+    (φ : Layer) (xs : List Declared) (p : Point) → (all_made image_parts φ xs p).control.waiting ≡ p.control.waiting
+made_idle φ [] p = refl
+made_idle φ (x ∷ xs) p =
+    made_idle (layer_behind image_parts (p.state.serials + 1) φ x) xs (behind_made image_parts φ x p)
+
+-- ---- where its first statement begins
+
+pub is_inside :
+    {program : Y.Program} (m : Main program) {h : Home} {more blocks : ℕ} {part : Part} {out : Outer} {os : List Outer}
+    {p : Point} {numbers : ℕ → ℕ}
+    (o : Moment m h (suc more) blocks part out os p numbers) {v : Bool} {level number : ℕ}
+    (i : Inner m part.caller v level number) (call : ℕ) →
+    IsInside (block_of m h out os)
+    (callee_of program v more (entered_at i (block_of m h out os) call p numbers)) level
+is_inside {program} m o {v = v} i call =
+    let level = (known program i.head i.body (result_of v) m.loadable.well_formed i.is).level in
+    let around = i.around_it in
+    let inside = o.at.inside in
+    record {
+      begun = o.at.begun;
+      nested = o.at.nested;
+      around_it = omega (arith, around, inside);
+      inner = i.inside;
+      parent = refl;
+      code = refl;
+      few = omega (arith, level);
+      program = sym o.at.source;
+      parts = sym o.at.parts;
+    }
+
+nested_by :
+    (v : Bool) {program : Y.Program} (m : Main program) {h : Home} {more b : ℕ} {part : Part} {out : Outer}
+    {os : List Outer} {p : Point} {numbers : ℕ → ℕ}
+    (o : Moment m h (suc more) (suc b) part out os p numbers) {level number : ℕ}
+    (i : Inner m part.caller v level number) (call : ℕ) →
+    DontPass (block_of m h out os) i →
+    IsBegun (bare_block m h v more
+    (entered_at i (block_of m h out os) call p numbers)) →
+    IsNested (bare_block m h v more
+    (entered_at i (block_of m h out os) call p numbers))
+nested_by false {program} m {h} {more} {part = part} {out = out} {os = os} {p = p} {numbers = numbers} o {level} i call
+    pass b' =
+    let k = block_of m h out os in
+    procedure_nested k (callee_of program false more (entered_at i k call p numbers)) level (is_inside m o i call) p
+    numbers o.among (are_made m o i call pass) b'
+nested_by true {program} m {h} {more} {part = part} {out = out} {os = os} {p = p} {numbers = numbers} o {level} i call
+    pass b' =
+    let k = block_of m h out os in
+    function_nested k (callee_of program true more (entered_at i k call p numbers)) level (is_inside m o i call) p
+    numbers o.among (are_made m o i call pass) b'
+
+-- a variable of a block around is the one of the calling block
+outer_by :
+    (v : Bool) {program : Y.Program} (m : Main program) {h : Home} {more b : ℕ} {part : Part} {out : Outer}
+    {os : List Outer} {p : Point} {numbers : ℕ → ℕ}
+    (o : Moment m h (suc more) (suc b) part out os p numbers) {level number : ℕ}
+    (i : Inner m part.caller v level number) (call : ℕ) →
+    DontPass (block_of m h out os) i →
+    IsBegun (bare_block m h v more
+    (entered_at i (block_of m h out os) call p numbers)) → (x : Spot) →
+    x.level ≤ level → IsNumber (block_of m h out os) x →
+    IsNumber (bare_block m h v more
+    (entered_at i (block_of m h out os) call p numbers)) x
+outer_by false {program} m {h} {more} {part = part} {out = out} {os = os} {p = p} {numbers = numbers} o {level} i call
+    pass b' x low is =
+    let k = block_of m h out os in
+    procedure_number k (callee_of program false more (entered_at i k call p numbers)) level x (is_inside m o i call) low
+    is p numbers o.among (are_made m o i call pass) b'
+outer_by true {program} m {h} {more} {part = part} {out = out} {os = os} {p = p} {numbers = numbers} o {level} i call
+    pass b' x low is =
+    let k = block_of m h out os in
+    function_number k (callee_of program true more (entered_at i k call p numbers)) level x (is_inside m o i call) low
+    is p numbers o.among (are_made m o i call pass) b'
+
+-- one of its own stands in its frame
+own_by :
+    (v : Bool) {program : Y.Program} (m : Main program) {h : Home} {more b : ℕ} {part : Part} {out : Outer}
+    {os : List Outer} {p : Point} {numbers : ℕ → ℕ}
+    (o : Moment m h (suc more) (suc b) part out os p numbers) {level number : ℕ}
+    (i : Inner m part.caller v level number) (call : ℕ) →
+    DontPass (block_of m h out os) i →
+    IsBegun (bare_block m h v more
+    (entered_at i (block_of m h out os) call p numbers)) → (x : Spot) →
+    (x.block ≡ i.head.number) × (x.level ≡ i.head.level) →
+    is_plain_if (declared_variable program (variable_of x)) ≡ true →
+    IsNumber (bare_block m h v more
+    (entered_at i (block_of m h out os) call p numbers)) x
+own_by false {program} m {h} {more} {part = part} {out = out} {os = os} {p = p} {numbers = numbers} o i call pass b' x
+    is
+    plain =
+    let k = block_of m h out os in
+    own_word (world_of m h) (linked_code (code_for program))
+    (callee_of program false more (entered_at i k call p numbers)) p p numbers x
+    (record { high = omega arith; inside = omega arith }) (has_words m o i call pass, has_all m o i call pass)
+    (record { block = is.0; level = is.1; plain = plain }) b'
+own_by true {program} m {h} {more} {part = part} {out = out} {os = os} {p = p} {numbers = numbers} o i call pass b' x is
+    plain =
+    let k = block_of m h out os in
+    function_word (world_of m h) (linked_code (code_for program))
+    (callee_of program true more (entered_at i k call p numbers)) p p numbers x
+    (record { high = omega arith; inside = omega arith }) (has_words m o i call pass, has_all m o i call pass)
+    (record { block = is.0; level = is.1; plain = plain }) b'
+
+-- ---- its arrays
+
+-- an array of a block around is the one of the calling block
+outer_array_by :
+    (v : Bool) {program : Y.Program} (m : Main program) {h : Home} {more b : ℕ} {part : Part} {out : Outer}
+    {os : List Outer} {p : Point} {numbers : ℕ → ℕ}
+    (o : Moment m h (suc more) (suc b) part out os p numbers) {level number : ℕ}
+    (i : Inner m part.caller v level number) (call : ℕ) →
+    DontPass (block_of m h out os) i →
+    IsBegun (bare_block m h v more
+    (entered_at i (block_of m h out os) call p numbers)) → (x : Spot) (s : Bounds) →
+    x.level ≤ level → IsArray (block_of m h out os) x s →
+    IsArray (bare_block m h v more
+    (entered_at i (block_of m h out os) call p numbers)) x s
+outer_array_by false {program} m {h} {more} {part = part} {out = out} {os = os} {p = p} {numbers = numbers} o {level} i
+    call
+    pass b' x s low is =
+    let k = block_of m h out os in
+    let r = entered_at i k call p numbers in
+    outer_array k (bare_block m h false more r) x s
+    (λ d known'. procedure_known k (callee_of program false more r) level x d (is_inside m o i call) low known' p
+    numbers o.among (are_made m o i call pass) b') is
+outer_array_by true {program} m {h} {more} {part = part} {out = out} {os = os} {p = p} {numbers = numbers} o {level} i
+    call
+    pass b' x s low is =
+    let k = block_of m h out os in
+    let r = entered_at i k call p numbers in
+    outer_array k (bare_block m h true more r) x s
+    (λ d known'. function_known k (callee_of program true more r) level x d (is_inside m o i call) low known' p
+    numbers o.among (are_made m o i call pass) b') is
+
+-- one of its own stands in its frame
+own_array_by :
+    (v : Bool) {program : Y.Program} (m : Main program) {h : Home} {more b : ℕ} {part : Part} {out : Outer}
+    {os : List Outer} {p : Point} {numbers : ℕ → ℕ}
+    (o : Moment m h (suc more) (suc b) part out os p numbers) {level number : ℕ}
+    (i : Inner m part.caller v level number) (call : ℕ) →
+    DontPass (block_of m h out os) i →
+    IsBegun (bare_block m h v more
+    (entered_at i (block_of m h out os) call p numbers)) → (x : Spot) →
+    (x.block ≡ i.head.number) × (x.level ≡ i.head.level) →
+    is_array_if (declared_variable program (variable_of x)) ≡ true →
+    IsArray (bare_block m h v more
+    (entered_at i (block_of m h out os) call p numbers)) x
+    (bounds_if (declared_variable program (variable_of x)))
+own_array_by false {program} m {h} {more} {part = part} {out = out} {os = os} {p = p} {numbers = numbers} o i call pass
+    b' x is
+    array =
+    let k = block_of m h out os in
+    own_array (world_of m h) (linked_code (code_for program))
+    (callee_of program false more (entered_at i k call p numbers)) p p numbers x
+    (record { high = omega arith; inside = omega arith }) (has_words m o i call pass, has_all m o i call pass)
+    (record { block = is.0; level = is.1; array = array }) b'
+own_array_by true {program} m {h} {more} {part = part} {out = out} {os = os} {p = p} {numbers = numbers} o i call pass
+    b' x is
+    array =
+    let k = block_of m h out os in
+    function_array (world_of m h) (linked_code (code_for program))
+    (callee_of program true more (entered_at i k call p numbers)) p p numbers x
+    (record { high = omega arith; inside = omega arith }) (has_words m o i call pass, has_all m o i call pass)
+    (record { block = is.0; level = is.1; array = array }) b'
+
+-- ---- what it may name
+
+-- where the block that declares it stands: around the calling block too, or it is the block that is entered
+record StandsAt {program : Y.Program} {m : Main program} {caller : Y.BlockHead} {v : Bool} {level number : ℕ}
+    (i : Inner m caller v level number) (x : Spot) : Type 0
+  where
+    at :
+        ((x.level ≤ level)
+        × (list_any (is_place x) (places_to (environment_for program caller) caller.level) ≡ true))
+        ⊎ ((x.block ≡ i.head.number) × (x.level ≡ i.head.level))
+
+stands_at :
+    {program : Y.Program} {m : Main program} {caller : Y.BlockHead} {v : Bool} {level number : ℕ}
+    (i : Inner m caller v level number) (x : Spot) →
+    list_any (is_place x) (places_to (environment_for program i.head) i.head.level) ≡ true → StandsAt i x
+stands_at {program} {caller = caller} {v} {level} i x h =
+    record { at = by (nat_le x.level level) refl }
+  where
+    there : (x.level ≤ i.head.level) × (x.block ≡ block_around (environment_for program i.head) x.level)
+    there = around_is (environment_for program i.head) i.head.level x h
+
+    by :
+        (q : Bool) → nat_le x.level level ≡ q →
+        ((x.level ≤ level)
+        × (list_any (is_place x) (places_to (environment_for program caller) caller.level) ≡ true))
+        ⊎ ((x.block ≡ i.head.number) × (x.level ≡ i.head.level))
+    by true e =
+        let low = leb-true x.level level e in
+        let within = i.around_it in
+        let same = alike_at (environment_for program caller) (environment_for program i.head) level x.level i.alike
+        low in
+        inl (
+          low,
+          is_around (environment_for program caller) caller.level x
+              (omega (arith, low, within), there.1 ∙ sym same),
+        )
+    by false e =
+        let less = there.0 in
+        let inside = i.inside in
+        let high : level < x.level = grind (arith, nat_tests) in
+        let same : x.level ≡ i.head.level = omega (arith, less, inside, high) in
+        inr (
+          there.1 ∙ ap (λ n. block_around (environment_for program i.head) n) same
+              ∙ own_block program i.head i.body (result_of v) i.is,
+          same,
+        )
+
+each_number :
+    {program : Y.Program} (m : Main program) {h : Home} {more b : ℕ} {part : Part} {out : Outer} {os : List Outer}
+    {p : Point} {numbers : ℕ → ℕ}
+    (o : Moment m h (suc more) (suc b) part out os p numbers) {v : Bool} {level number : ℕ}
+    (i : Inner m part.caller v level number) (call : ℕ) →
+    DontPass (block_of m h out os) i →
+    IsBegun (bare_block m h v more
+    (entered_at i (block_of m h out os) call p numbers)) → (x : Spot) →
+    is_known (called_scope m i) x ≡ true →
+    IsNumber (bare_block m h v more
+    (entered_at i (block_of m h out os) call p numbers)) x
+each_number {program} m {h} {more} {b} {part} {out} {os} {p} {numbers} o {v} {level} i call pass b' x named =
+    by (stands_at i x parts.0).at
+  where
+    plain : Bool
+    plain = is_plain_if (declared_variable program (variable_of x))
+
+    parts :
+        (list_any (is_place x) (places_to (environment_for program i.head) i.head.level) ≡ true) × (plain ≡ true)
+    parts = and_parts (list_any (is_place x) (places_to (environment_for program i.head) i.head.level)) plain named
+
+    by :
+        ((x.level ≤ level)
+        × (list_any (is_place x) (places_to (environment_for program part.caller) part.caller.level) ≡ true))
+        ⊎ ((x.block ≡ i.head.number) × (x.level ≡ i.head.level)) →
+        IsNumber (bare_block m h v more
+        (entered_at i (block_of m h out os) call p numbers)) x
+    by (inl low) =
+        outer_by v m o i call pass b' x low.0
+        (o.at.variables x
+        (and_from (list_any (is_place x) (places_to (environment_for program part.caller) part.caller.level)) plain
+        low.1
+        parts.1))
+    by (inr own) = own_by v m o i call pass b' x own parts.1
+
+each_array :
+    {program : Y.Program} (m : Main program) {h : Home} {more b : ℕ} {part : Part} {out : Outer} {os : List Outer}
+    {p : Point} {numbers : ℕ → ℕ}
+    (o : Moment m h (suc more) (suc b) part out os p numbers) {v : Bool} {level number : ℕ}
+    (i : Inner m part.caller v level number) (call : ℕ) →
+    DontPass (block_of m h out os) i →
+    IsBegun (bare_block m h v more
+    (entered_at i (block_of m h out os) call p numbers)) → (x : Spot) →
+    is_array_known (called_scope m i) x ≡ true →
+    IsArray (bare_block m h v more
+    (entered_at i (block_of m h out os) call p numbers)) x
+    (bounds_if (declared_variable program (variable_of x)))
+each_array {program} m {h} {more} {b} {part} {out} {os} {p} {numbers} o {v} {level} i call pass b' x named =
+    by (stands_at i x parts.0).at
+  where
+    array : Bool
+    array = is_array_if (declared_variable program (variable_of x))
+
+    parts :
+        (list_any (is_place x) (places_to (environment_for program i.head) i.head.level) ≡ true) × (array ≡ true)
+    parts = and_parts (list_any (is_place x) (places_to (environment_for program i.head) i.head.level)) array named
+
+    by :
+        ((x.level ≤ level)
+        × (list_any (is_place x) (places_to (environment_for program part.caller) part.caller.level) ≡ true))
+        ⊎ ((x.block ≡ i.head.number) × (x.level ≡ i.head.level)) →
+        IsArray (bare_block m h v more
+        (entered_at i (block_of m h out os) call p numbers)) x
+        (bounds_if (declared_variable program (variable_of x)))
+    by (inl low) =
+        outer_array_by v m o i call pass b' x (bounds_if (declared_variable program (variable_of x))) low.0
+        (o.at.arrays x
+        (and_from (list_any (is_place x) (places_to (environment_for program part.caller) part.caller.level)) array
+        low.1
+        parts.1))
+    by (inr own) = own_array_by v m o i call pass b' x own parts.1
+
+-- ---- its activation: it has no units of its own
+
+abbrev visited : (level height parent : ℕ) → List Binding → Activation
+visited level height parent bindings =
+    record { height = height; level = level; parent = parent; oncode = 0; bindings = bindings; units = [] }
+
+record Above (level height parent : ℕ) (below as' : List Activation) : Type 0 where
+  bindings : List Binding
+  is : as' ≡ visited level height parent bindings ∷ below
+
+made_above :
+    (level height parent : ℕ) (below : List Activation) (φ : Layer) (xs : List Declared) (p : Point) →
+    Above level height parent below p.state.activations →
+    Above level height parent below (all_made image_parts φ xs p).state.activations
+made_above level height parent below φ [] p h = h
+made_above level height parent below φ (x ∷ xs) p h =
+    let b : Binding = record {
+      variable = x.index;
+      name = VariableName (p.state.serials + 1);
+      shape = (generation_for x).shape;
+    } in
+    made_above level height parent below (layer_behind image_parts (p.state.serials + 1) φ x) xs
+    (behind_made image_parts φ x p)
+    (record { bindings = b ∷ h.bindings; is = ap (λ as'. with_binding b as') h.is })
+
+called_above :
+    (v : Bool) {program : Y.Program} (m : Main program) {h : Home} {more blocks : ℕ} {part : Part} {out : Outer}
+    {os : List Outer} {p : Point} {numbers : ℕ → ℕ} (o : Moment m h (suc more) blocks part out os p numbers)
+    {level number : ℕ} (i : Inner m part.caller v level number) (call : ℕ) →
+    Above i.head.level (length p.state.activations + 1) (parent_at (block_of m h out os) level) p.state.activations
+    (bare_block m h v more (entered_at i (block_of m h out os) call p numbers)).first.state.activations
+called_above false {program} m {h} {out = out} {os} {p} o {level} i call =
+    made_above i.head.level (length p.state.activations + 1) (parent_at (block_of m h out os) level)
+    p.state.activations _ (words_in (environment_for program i.head)) _ (record { bindings = []; is = refl })
+called_above true {program} m {h} {out = out} {os} {p} o {level} i call =
+    made_above i.head.level (length p.state.activations + 1) (parent_at (block_of m h out os) level)
+    p.state.activations _ (words_in (environment_for program i.head)) _ (record { bindings = []; is = refl })
+
+-- the units in force in it are those that are in force where it is called
+pub forced_there :
+    {program : Y.Program} (m : Main program) {h : Home} {more blocks : ℕ} {part : Part} {out : Outer}
+    {os : List Outer} {p : Point} {numbers : ℕ → ℕ} (o : Moment m h (suc more) blocks part out os p numbers)
+    {v : Bool} {level number : ℕ} (i : Inner m part.caller v level number) (call : ℕ) (d : Condition) →
+    force (bare_block m h v more (entered_at i (block_of m h out os) call p numbers)).first.state.activations d
+    ≡ force (home_block m h).first.state.activations d
+forced_there m o {v = v} i call d =
+    ap (λ as'. force as' d) (called_above v m o i call).is ∙ ap (λ as'. force as' d) o.among.later.activations
+    ∙ o.at.forced d
+
+ancestor_above :
+    (a : Activation) (as' : List Activation) (level : ℕ) → (a.level == level) ≡ false →
+    ancestor (a ∷ as') a.height level ≡ ancestor as' a.parent level
+ancestor_above a as' level other =
+    ap (λ q. cond q (cond (a.level == level) (Some a) (ancestor as' a.parent level)) (ancestor as' a.height level))
+    (eqb-refl a.height)
+    ∙ ap (λ q. cond q (Some a) (ancestor as' a.parent level)) other
+
+-- and its ancestor of level 0 is that of the block that calls it
+oldest_there :
+    {program : Y.Program} (m : Main program) {h : Home} {more blocks : ℕ} {part : Part} {out : Outer}
+    {os : List Outer} {p : Point} {numbers : ℕ → ℕ} (o : Moment m h (suc more) blocks part out os p numbers)
+    {v : Bool} {level number : ℕ} (i : Inner m part.caller v level number) (call : ℕ) →
+    parent_at (bare_block m h v more (entered_at i (block_of m h out os) call p numbers)) 0 ≡ 1
+oldest_there m {h} {out = out} {os} {p} o {v} {level} i call =
+    let k = block_of m h out os in
+    let above = called_above v m o i call in
+    let a = visited i.head.level (length p.state.activations + 1) (parent_at k level) above.bindings in
+    let inside = i.inside in
+    let around = i.around_it in
+    let within = o.at.inside in
+    ap (λ as'. height_of (ancestor as' (newest_height as') 0)) above.is
+    ∙ ap height_of (ancestor_above a p.state.activations 0
+    (eqb-other i.head.level 0 (λ e. omega (arith, inside, e))))
+    ∙ ap (λ xs. height_of (ancestor xs (parent_at k level) 0)) o.among.later.activations
+    ∙ ap height_of (o.at.nested.same level 0 (omega arith) (omega (arith, around, within)))
+    ∙ o.at.oldest
+
+-- ---- all of it
+
+nested_leaving : (k : Block) (os : List Outer) → IsNested k → IsNested (leaving k os)
+nested_leaving k os n = record { own = n.own; few = n.few; some = n.some; same = n.same }
+
+-- what runs
+abbrev pub called_part :
+    {program : Y.Program} → {m : Main program} → {caller : Y.BlockHead} → {valued : Bool} → {level number : ℕ} →
+    Inner m caller valued level number → Part
+called_part {program} {valued = valued} i =
+    record {
+      caller = i.head;
+      unit = false;
+      writes = i.fit.writes;
+      valued = valued;
+      body = i.body;
+      index = body_for program i.head i.body;
+    }
+
+-- further out are the block that calls it, with the labels that a jump may name there, and those around that
+abbrev pub whole_block :
+    {program : Y.Program} → Main program → Home → (valued : Bool) → (more : ℕ) → Called → List Outer → Block
+whole_block m h valued more a os = leaving (bare_block m h valued more a) os
+
+-- where its code is, and how it is left
+called_home :
+    MarkedOnce → (v : Bool) {program : Y.Program} (m : Main program) (h : Home) (more : ℕ) {caller : Y.BlockHead}
+    {level number : ℕ} (i : Inner m caller v level number) (k : Block) (call : ℕ) (p : Point) (numbers : ℕ → ℕ)
+    (os : List Outer) → IsBegun (whole_block m h v more (entered_at i k call p numbers) os) →
+    IsHome (called_scope m i) v (whole_block m h v more (entered_at i k call p numbers) os) left_over
+called_home once false {program} m h more i k call p numbers os b =
+    let end = end_is once program i.head i.body m.loadable i.is in
+    record {
+      level = refl;
+      own = refl;
+      block = own_block program i.head i.body None i.is;
+      returns = λ e. record {
+        owner = refl;
+        end = end.place;
+        near = end.near;
+        enough = omega arith;
+        function = refl;
+        begun = b;
+        kind = refl;
+        registers = omega arith;
+      };
+      values = λ e. absurd (cc e);
+    }
+called_home once true {program} m h more i k call p numbers os b =
+    let inside = i.inside in
+    let end = function_end_is once program i.head i.body 31 m.loadable i.is (omega (arith, inside)) in
+    record {
+      level = refl;
+      own = refl;
+      block = own_block program i.head i.body (Some (Y.FixedLeaf 31)) i.is;
+      returns = λ e. absurd (cc e);
+      values = λ e. record {
+        owner = refl;
+        end = end.place;
+        near = end.near;
+        enough = omega arith;
+        function = refl;
+        kind = refl;
+        saved = omega arith;
+      };
+    }
+
+pub called_entered :
+    MarkedOnce → {program : Y.Program} (m : Main program) {h : Home} {more b : ℕ} {part : Part} {out : Outer}
+    {os : List Outer} {p : Point} {numbers : ℕ → ℕ} (o : Moment m h (suc more) (suc b) part out os p numbers)
+    {v : Bool} {level number : ℕ} (i : Inner m part.caller v level number) (call : ℕ) (labels : List Label) →
+    DontPass (block_of m h out os) i →
+    nat_lt (length out.first.state.activations) most_activations ≡ true →
+    IsBegun (whole_block m h v more (entered_at i (block_of m h out os) call p numbers)
+    (as_outer (block_of m h out os) labels ∷ os)) →
+    IsEntered m h more b (called_part i)
+    (as_outer (bare_block m h v more (entered_at i (block_of m h out os) call p numbers)) [])
+    (as_outer (block_of m h out os) labels ∷ os)
+called_entered once {program} m {h} {more} {b} {part} {out} {os} {p} {numbers} o {v} {level} i call labels pass few b'
+    =
+    let w = world_of m h in
+    let k = block_of m h out os in
+    let r = entered_at i k call p numbers in
+    let c = callee_of program v more r in
+    let inner = bare_block m h v more r in
+    let os' = as_outer k labels ∷ os in
+    let bare = alone inner os' b' in
+    let φ = layer_for w p numbers c.procedure c.calling in
+    let start = begun_at w c p numbers in
+    let ds = variables_of_block program i.head.number in
+    let first = fixed_size i.head.level 0 in
+    let xs = words_in (environment_for program i.head) in
+    let serial = start.state.serials + 1 in
+    let made = are_made m o i call pass in
+    let later = o.among.later.acts in
+    let enough = o.at.enough in
+    let world = ap (λ (u : World). u.acts) made.world in
+    let there = ap (λ (as' : List Activation). length as') made.activations in
+    let here = ap (λ (as' : List Activation). length as') o.among.later.activations in
+    let shallow = ltb-true (length out.first.state.activations) most_activations few in
+    let deep = o.at.depth.all in
+    let begun' = begun_room m o i c refl pass in
+    let e = environment_for program i.head in
+    let plain = (block_plain program.variables i.head.number m.plain).plain in
+    let room = room_behind w start φ p.control.layers e first 0 0 ds plain begun' in
+    let f = free_among (suc b) o.at.begun o.among o.at.free in
+    let words = inner_set m i in
+    let waiting = i.fit.waiting in
+    let high = (known program i.head i.body (result_of v) m.loadable.well_formed i.is).level in
+    let used = f.used in
+    let fits = f.fits in
+    let under = f.under in
+    let top = ap (λ ls. upper_top image_parts ls) f.newest in
+    let low = ap (λ ls. lower_end image_parts ls) f.newest in
+    let place = room.here in
+    let lower = words_lower image_parts (start.state.serials + 1) φ xs in
+    let at = words_at image_parts (start.state.serials + 1) φ xs in
+    let limit = begun'.limit in
+    let counts = words_count image_parts start φ e first 0 ds plain
+    (record { activation = _; below = _; active = refl; some = omega arith }) in
+    let registers = registers_held (called_scope m i) v e i.head.number i.body (plain_known ds plain) i.fit.statements
+    i.fit.fits in
+    let outer = level_of m in
+    record {
+      at = record {
+        begun = b';
+        source = refl;
+        parts = refl;
+        around = refl;
+        enter = refl;
+        turns = omega (arith, later, enough, world);
+        enough = omega (arith, later, enough, world);
+        held = omega arith;
+        nested = nested_leaving inner os' (nested_by v m o i call pass bare);
+        inside = omega arith;
+        variables = λ x is. number_leaving inner os' x (each_number m o i call pass bare x is);
+        arrays = λ x is.
+            array_leaving inner os' x (bounds_known (called_scope m i) x) (each_array m o i call pass bare x is);
+        forced = λ d. forced_there m o i call d;
+        oldest = oldest_there m o i call;
+        mains = λ x is.
+            let low = low_spot m h x is in
+            number_leaving inner os' x (outer_by v m o i call pass bare x (omega (arith, low)) (o.at.mains x is));
+        main_arrays = λ x is.
+            let low = low_array m h x is in
+            array_leaving inner os' x (bounds_known (main_scope m false) x)
+            (outer_array_by v m o i call pass bare x (bounds_known (main_scope m false) x) (omega (arith, low))
+            (o.at.main_arrays x is));
+        idle = made_idle φ xs start;
+        told = called_of_program program k (whole_block m h v more r os') numbers o.at.told o.among refl refl b';
+        free = record {
+          layer = layer_after image_parts serial φ xs;
+          below = _;
+          newest = room.newest;
+          even = room.even;
+          under = omega (arith, lower, low, under);
+          low = room.low;
+          used = omega (arith, counts, limit);
+          fits = omega (arith, words, waiting, high, fits, top, low, place, at, lower, counts);
+        };
+        tabled = table_later program b'.remains (table_later program o.among.later.remains o.at.tabled);
+        depth = record {
+          some = omega (arith, shallow, deep);
+          all = omega (arith, deep, there, here);
+        };
+      };
+      part = record {
+        statements = i.fit.statements;
+        needs = registers;
+        waiting = i.fit.waiting;
+        placed = body_placed once program i.head i.body (result_of v) m.loadable i.is;
+      };
+      words = after_words serial φ xs ∙ inner_set m i;
+      clear = λ n. ap (λ waits. waits n) (after_waits serial φ xs);
+      inner = λ unit. absurd (cc unit);
+      home = λ own. called_home once v m h more i k call p numbers os' b';
+    }

@@ -1,0 +1,193 @@
+-- A block that runs above the main procedure's: of a procedure, of a function, or of a unit; and what is known at its
+-- first statement.
+use Rattle.std.proofs.Common.{◌≡◌, ℕ, suc, ◌+◌, ◌<◌, ◌≤◌, List, [], ◌∷◌, ◌++◌, Bool, Option, None, true, false, refl}
+use Rattle.std.specs.Prelude.{drop}
+use Rattle.pli_language.specs.declared.condition.Condition.{Condition}
+use Rattle.pli_typing.specs.TypedTree as Y
+use Rattle.pli_meaning.specs.Control.{Label}
+use Rattle.pli_meaning.specs.Executing.{entered, labels_in}
+use Rattle.pli_meaning.specs.StorageState.{force}
+use Rattle.pli_coding.specs.Environments.{block_around, none_taken}
+use Rattle.pli_coding.specs.Images.{linked_code}
+use Rattle.pli_coding.specs.Registers.{held_registers}
+use Rattle.pli_coding.specs.Statements.{stmts_code}
+use Rattle.activation_relation.specs.FrameLaws.{with_waits}
+use Rattle.activation_relation.specs.Layers.{Layer}
+use Rattle.program_places.specs.Placed.{Placed}
+use Rattle.program_places.specs.Programs.{code_for, links_for}
+use Rattle.program_runs.specs.Calls.{left_over}
+use Rattle.program_runs.specs.Starts.{image_parts}
+use Rattle.program_runs.specs.Statements.{Block, EachDoes, IsBegun, Outer, as_outer, outer_block}
+use Rattle.expression_runs.specs.Variables.{IsNumber, Spot}
+use Rattle.element_runs.specs.Arrays.{IsArray}
+use Rattle.counter_runs.proofs.Known.{array_told, number_told}
+use Rattle.counter_runs.proofs.Words.{begun_telling}
+use Rattle.argument_runs.specs.Lists.{with_list}
+use Rattle.block_headlines.specs.Constants.{IsOf}
+use Rattle.nested_calls.specs.Nested.{IsNested, parent_at}
+use Rattle.number_runs.specs.Knowledge.{Includes, IsHome}
+use Rattle.number_runs.specs.Numbers.{Scope, bounds_known, is_array_known, is_known}
+use Rattle.number_runs.specs.Statements.{are_statements, statements_need, statements_set}
+use Rattle.number_headlines.specs.Programs.{most_waiting}
+use Rattle.number_headlines.proofs.Running.{Free, HasDepth, HasTable}
+use Rattle.unit_numbers.specs.Calls.{scope_in}
+use Rattle.unit_numbers.proofs.Homes.{Home, IsHome', home_block, world_of}
+use Rattle.unit_numbers.proofs.Mains.{Main, list_of, main_scope}
+
+-- ---- what runs
+
+-- its statements name what this procedure's may; it is a unit or a procedure's own block, writes or not, and returns a
+-- number or not; its list, and where that stands
+pub record Part : Type 0 where
+  pub caller : Y.BlockHead
+  pub unit : Bool
+  pub writes : Bool
+  pub valued : Bool
+  pub body : Y.Stmts
+  pub index : ℕ
+
+abbrev pub scope_of : {program : Y.Program} → Main program → Part → Scope
+scope_of {program} m c = scope_in program m.called (list_of m) c.caller c.unit c.writes
+
+abbrev pub block_of : {program : Y.Program} → Main program → Home → Outer → List Outer → Block
+block_of {program} m h o os = outer_block (world_of m h) (linked_code (code_for program)) o os
+
+-- where blocks may be entered so many deep inside it, and so many frames have room above it
+pub record IsAt {program : Y.Program} (m : Main program) (h : Home) (more blocks : ℕ) (c : Part) (o : Outer)
+    (os : List Outer) : Type 0
+  where
+    pub begun : IsBegun (block_of m h o os)
+    pub source : o.environment.program ≡ program
+    pub parts : o.environment.parts ≡ image_parts
+    pub around : o.around.program ≡ program
+    pub enter : o.around.enter ≡ entered program more
+    pub turns : h.acts < o.around.turns + o.first.state.world.acts
+    pub enough : h.acts < more + o.first.state.world.acts
+    pub held : o.registers ≤ held_registers
+    pub nested : IsNested (block_of m h o os)
+    pub inside : c.caller.level ≤ o.environment.level
+    pub variables : (x : Spot) → is_known (scope_of m c) x ≡ true → IsNumber (block_of m h o os) x
+    pub arrays :
+        (x : Spot) → is_array_known (scope_of m c) x ≡ true →
+        IsArray (block_of m h o os) x (bounds_known (scope_of m c) x)
+    -- the units in force are those of the main procedure
+    pub forced :
+        (condition : Condition) →
+        force o.first.state.activations condition ≡ force (home_block m h).first.state.activations condition
+    -- the oldest block is that, and its variables are variables here
+    pub oldest : parent_at (block_of m h o os) 0 ≡ 1
+    pub mains : (x : Spot) → is_known (main_scope m false) x ≡ true → IsNumber (block_of m h o os) x
+    pub main_arrays :
+        (x : Spot) → is_array_known (main_scope m false) x ≡ true →
+        IsArray (block_of m h o os) x (bounds_known (main_scope m false) x)
+    pub idle : o.first.control.waiting ≡ None
+    -- what the program tells of its static data is told there
+    pub told : IsOf program (block_of m h o os)
+    pub free : Free (world_of m h) o.first blocks
+    pub tabled : HasTable program o.first
+    pub depth : HasDepth o.first blocks
+
+-- its list is of the class and stands in the code
+pub record IsPart {program : Y.Program} (m : Main program) (c : Part) (o : Outer) : Type 0 where
+  pub statements : are_statements (scope_of m c) c.valued (labels_in c.body ++ []) c.body ≡ true
+  pub needs : statements_need c.body ≤ o.registers
+  pub waiting : statements_set c.body ≤ most_waiting
+  pub placed :
+      Placed (links_for program) (linked_code (code_for program)) c.index
+      (stmts_code o.environment none_taken c.body)
+
+-- a unit's own block
+pub record IsInside {program : Y.Program} (m : Main program) (c : Part) (o : Outer) : Type 0 where
+  pub caller : c.caller ≡ m.head
+  pub level : o.beginning.layer.level ≡ 1
+  pub block : block_around o.environment m.head.level ≡ m.head.number
+
+-- where it was entered just now: its frame has the words that its loops set aside, and nothing waits in them
+pub record IsEntered {program : Y.Program} (m : Main program) (h : Home) (more blocks : ℕ) (c : Part) (o : Outer)
+    (os : List Outer) : Type 0
+  where
+    pub at : IsAt m h more blocks c o os
+    pub part : IsPart m c o
+    pub words : at.free.layer.words ≡ statements_set c.body
+    pub clear : (n : ℕ) → at.free.layer.waits n ≡ None
+    pub inner : c.unit ≡ true → IsInside m c o
+    pub home : c.unit ≡ false → IsHome (scope_of m c) c.valued (block_of m h o os) left_over
+
+-- ---- above the main procedure's block
+
+-- further out is that, with the labels of lists that it is carrying out
+pub record IsAbove {program : Y.Program} (m : Main program) (h : Home) (os : List Outer) : Type 0 where
+  pub behind : ℕ
+  pub carried : List Label
+  pub there : drop behind os ≡ as_outer (home_block m h) carried ∷ []
+  pub includes : Includes (labels_in (list_of m)) carried
+
+-- so is it of each block that is entered in a list of a block
+abbrev pub Rises : {program : Y.Program} → Main program → Home → Block → (own : List Label) → Type 0
+Rises m h k own =
+    (labels : List Label) → Includes own labels → IsAbove m h (as_outer k labels ∷ k.outers)
+
+pub rises_home :
+    {program : Y.Program} (m : Main program) (h : Home) → Rises m h (home_block m h) (labels_in (list_of m))
+rises_home m h labels includes = record { behind = 0; carried = labels; there = refl; includes = includes }
+
+pub rises_above :
+    {program : Y.Program} (m : Main program) (h : Home) (k : Block) (own : List Label) → IsAbove m h k.outers →
+    Rises m h k own
+rises_above m h k own a labels includes =
+    record { behind = suc a.behind; carried = a.carried; there = a.there; includes = a.includes }
+
+-- ---- while limits of loops wait in words of its frame
+
+abbrev pub told_outer : Outer → (waits : ℕ → Option ℕ) → Layer → List Layer → Outer
+told_outer o waits φ φs = record o { first = with_list waits φ φs o.first }
+
+pub at_told :
+    {program : Y.Program} {m : Main program} {h : Home} {more blocks : ℕ} {c : Part} {o : Outer} {os : List Outer}
+    (a : IsAt m h more blocks c o os) (waits : ℕ → Option ℕ) →
+    IsAt m h more blocks c (told_outer o waits a.free.layer a.free.below) os
+at_told {program} {m} {h} {more} {blocks} {c} {o} {os} a waits =
+    let φ = a.free.layer in
+    let φs = a.free.below in
+    let k = block_of m h o os in
+    let free = a.free in
+    record {
+      begun = begun_telling k φ φs waits free.newest a.begun;
+      source = a.source;
+      parts = a.parts;
+      around = a.around;
+      enter = a.enter;
+      turns = a.turns;
+      enough = a.enough;
+      held = a.held;
+      nested = record { own = a.nested.own; few = a.nested.few; some = a.nested.some; same = a.nested.same };
+      inside = a.inside;
+      variables = λ x is. number_told k φ φs waits free.newest x (a.variables x is);
+      arrays = λ x is. array_told k φ φs waits free.newest x (bounds_known (scope_of m c) x) (a.arrays x is);
+      forced = a.forced;
+      oldest = a.oldest;
+      mains = λ x is. number_told k φ φs waits free.newest x (a.mains x is);
+      main_arrays = λ x is.
+          array_told k φ φs waits free.newest x (bounds_known (main_scope m false) x) (a.main_arrays x is);
+      idle = a.idle;
+      told = record { code = a.told.code; links = a.told.links; constants = a.told.constants };
+      free = record {
+        layer = with_waits waits φ;
+        below = φs;
+        newest = refl;
+        even = free.even;
+        under = free.under;
+        low = free.low;
+        used = free.used;
+        fits = free.fits;
+      };
+      tabled = a.tabled;
+      depth = record { some = a.depth.some; all = a.depth.all };
+    }
+
+-- ---- what is proved of each block that may be entered so many deep
+
+abbrev pub EachBody : {program : Y.Program} → Main program → (more : ℕ) → Type 0
+EachBody {program} m more =
+    (h : Home) (blocks : ℕ) (c : Part) (o : Outer) (os : List Outer) → IsHome' m h → IsEntered m h more blocks c o os →
+    IsAbove m h os → EachDoes (block_of m h o os) (labels_in c.body ++ []) c.body c.index left_over
