@@ -178,6 +178,7 @@ given_image input acts =
       units = [];
       signatures = map template_of (table_of given_program);
       constants = no_constants;
+      fills = [];
       input = input;
       acts = acts;
       serials = 1;

@@ -317,7 +317,8 @@ entry_act_same Y.SimpleUnit = act_same counted (λ w. refl)
 
 -- ERROR is an act, before its unit is entered
 end_error_same : (l : Level)
-    → Same {R = Unit {0}} 0 1 l.left (G.error (fewer_at l) no_value_code) (G.error (more_at l) no_value_code)
+    → Same 0 1 l.left (G.error {R = Unit {0}} (fewer_at l) no_value_code) (G.error {R = Unit {0}} (more_at l)
+    no_value_code)
 unfolding G.error
 end_error_same l =
     slow (act_then (raising C.Error _) (λ w. refl) (λ c e. loose

@@ -396,6 +396,7 @@ grow_layout =
       end = grow_finish;
       units = [];
       constants = constants_in grow_code;
+      fills = [];
       serials = 1;
       made = newest_made parts grow_made;
     }
