@@ -2,6 +2,7 @@
 
 ghost use Rattle.area_keeper.specs.KeeperLaws.{Keeps};
 ghost use Rattle.run_keeper.specs.RunKeeper.{run_keeper};
+
 use granule_keeper::laws::granules_keep;
 
 /// Areas of a run are kept as the storage machine keeps generations.
