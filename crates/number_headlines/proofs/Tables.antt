@@ -154,8 +154,12 @@ serials_enough program n h = by (are_single program.variables) refl
     by true e = single_by program.variables n e
     by false e = (block_known program.variables n h).few
 
-pub one_serial : (program : Y.Program) → are_single program.variables ≡ true → serials_for program ≡ 1
-one_serial program e = ap (λ q. if q then 1 else most_words) e
+pub some_serials : (program : Y.Program) → 1 ≤ serials_for program
+some_serials program = by (are_single program.variables)
+  where
+    by : (q : Bool) → 1 ≤ (if q then 1 else most_words)
+    by true = omega arith
+    by false = omega arith
 
 -- ---- the table
 
