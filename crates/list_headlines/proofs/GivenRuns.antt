@@ -26,7 +26,6 @@ given_layout =
       units = [];
       constants = no_constants;
       fills = [];
-      fills = [];
       serials = 1;
       made = newest_named parts number_declared;
     }

@@ -74,6 +74,7 @@ ready m h ih more blocks c o os a own few clear home knows told =
       raises = knows.raises;
       variables = a.variables;
       arrays = λ may. a.arrays;
+      narrows = λ may. absurd (cc may);
       parameters = λ x is. absurd (cc is);
       given = λ may. absurd (cc may);
       calls = knows.calls;

@@ -25,9 +25,12 @@ use Rattle.edit_runs.proofs.Places.{begun_placed, number_placed}
 use Rattle.block_headlines.specs.Constants.{IsOf}
 use Rattle.block_headlines.proofs.Constants.{main_of_program}
 use Rattle.number_runs.specs.Knowledge.{KnowsLists, KnowsPuts}
-use Rattle.number_runs.specs.Numbers.{Scope, bounds_known, is_array_known, is_known, is_received}
+use Rattle.number_runs.specs.Numbers.{Scope, bounds_known, is_array_known, is_known, is_narrow_known, is_received}
+use Rattle.number_runs.specs.Numbers.{type_known}
+use Rattle.number_runs.proofs.Puts.{narrow_placed}
 use Rattle.number_runs.proofs.Received.{parameter_placed}
 use Rattle.argument_runs.specs.Parameters.{IsParameter}
+use Rattle.scalar_runs.specs.Scalars.{IsScalar}
 use Rattle.unit_runs.specs.Changing.{Past, after, past_point}
 use Rattle.unit_numbers.proofs.Mains.{Main, block_for, run_for}
 
@@ -83,6 +86,7 @@ pub record IsSettled (s : Scope) (k : Block) (most : ℕ) : Type 0 where
   pub few : 18 < most
   pub variables : (x : Spot) → is_known s x ≡ true → IsNumber k x
   pub arrays : s.elements ≡ true → (x : Spot) → is_array_known s x ≡ true → IsArray k x (bounds_known s x)
+  pub narrows : s.narrows ≡ true → (x : Spot) → is_narrow_known s x ≡ true → IsScalar k x (type_known s x)
   pub parameters : (x : Spot) → is_received s x ≡ true → IsParameter k x
   pub lists : KnowsLists k
 
@@ -118,6 +122,7 @@ settled_writes s k most h =
             });
             variables = λ x is. number_placed k place x (h.variables x is);
             arrays = λ raises x is. array_placed k place x (bounds_known s x) (h.arrays raises x is);
+            narrows = λ may x is. narrow_placed k place x (type_known s x) (h.narrows may x is);
             parameters = λ x is. parameter_placed k place x (h.parameters x is);
             given = λ may. absurd (cc may);
             functions = λ level n is. absurd (cc is);

@@ -219,6 +219,7 @@ puts_of once {program} m h ih more blocks c o os a writes =
       few = omega (arith, inside);
       variables = a.variables;
       arrays = λ may. a.arrays;
+      narrows = λ may. absurd (cc may);
       parameters = λ x is. absurd (cc is);
       lists = lists_known program (block_of m h o os) m.memory a.told;
     })

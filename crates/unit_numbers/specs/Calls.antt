@@ -54,6 +54,7 @@ scope_in program ns all caller unit writes =
       puts = writes;
       overflows = not (writes && has_unit C.FixedOverflow all);
       divides = not (writes && has_unit C.ZeroDivide all);
+      narrows = false;
       elements = true;
       own = not unit;
       is_outer = λ level label. unit && ((level == caller.level) && is_among label (labels_in all));
