@@ -1,7 +1,7 @@
 -- The table of a program whose variables are all FIXED BINARY(31), scalars and arrays, and parameters: each signature
 -- is there once, and its number leads to it.
 use Rattle.std.proofs.Common.{◌≡◌, ◌⊎◌, inl, inr, ℕ, zero, suc, ◌*◌, ◌<◌, ◌≤◌, List, [], ◌∷◌, ◌++◌, length, Bool}
-use Rattle.std.proofs.Common.{true, false, map, refl, sym, ap, subst, arith, rules}
+use Rattle.std.proofs.Common.{true, false, map, refl, sym, subst, arith, rules}
 use Rattle.std.specs.Prelude.{◌&&◌, ◌||◌, nat_le, nat_lt, slice_get, unwrap_or, if◌then◌else◌}
 use Rattle.std.specs.List.{flat_map}
 use Rattle.std.proofs.lemmas.Bool.{and_from, and_parts, leb-true, ltb-true, or_cases}
