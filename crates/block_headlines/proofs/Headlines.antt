@@ -18,8 +18,9 @@ use Rattle.run_steps.proofs.Linking.{linked_length}
 use Rattle.code_marks.specs.CodeMarks.{MarkedOnce}
 use Rattle.storage_relation.specs.ServiceLaws.{TableDiffers}
 use Rattle.program_places.specs.Rows.{turning_program}
+use Rattle.pli_headline.specs.Within.{HeadlineWithin}
 use Rattle.pli_headline.specs.Headline.{FitsMemory, Headline, parts}
-use Rattle.pli_headline.proofs.Promises.{Comes_at, Laws, Works, from_flow, promised}
+use Rattle.pli_headline.proofs.Promises.{Comes_at, Laws, WorksWithin, from_flow, promised, promised_within}
 use Rattle.pli_headline.proofs.WholeSizes.{first_length}
 use Rattle.program_runs.specs.Rows.{main_entry, row_end, row_environment, row_inner, row_main, row_procedure}
 use Rattle.program_runs.specs.Rows.{row_program}
@@ -83,7 +84,7 @@ use Rattle.unit_runs.proofs.DeepRows.{deep_does, deep_finish, deep_is}
 use Rattle.unit_runs.proofs.JumpRows.{skip_does, skip_finish, skip_is}
 use Rattle.unit_runs.proofs.LoopRows.{loop_does, loop_finish, loop_is}
 use Rattle.unit_runs.proofs.Rows.{mend_does, mend_finish, mend_is}
-use Rattle.block_headlines.specs.Headlines.{HeadlinesOfRows, Layout, Runs, UnitsRun, whole_of}
+use Rattle.block_headlines.specs.Headlines.{HeadlinesOfRows, Layout, Runs, RunsWithin, UnitsRun, whole_of}
 use Rattle.block_headlines.proofs.JumpRuns.{bolt_layout, bolt_program_runs, flee_layout, flee_program_runs}
 use Rattle.block_headlines.proofs.JumpRuns.{mute_layout, mute_program_runs, shed_layout, shed_program_runs}
 use Rattle.block_headlines.proofs.OperatorRuns.{square_layout, square_program_runs, turn_layout, turn_program_runs}
@@ -97,12 +98,12 @@ use Rattle.block_headlines.proofs.GroupRuns.{group_layout, group_program_runs}
 use Rattle.block_headlines.proofs.PlacedRuns.{turning_layout, turning_program_runs}
 
 -- a program whose run is known at each number of acts, from its first instruction
-record IsKnown (program : Y.Program) (x : Layout) : Type 0 where
+record IsKnown (limit : ℕ) (program : Y.Program) (x : Layout) : Type 0 where
   whole :
-      (input : List ℕ) (acts : ℕ) → acts + 1 < 2 ^ 64 →
+      (input : List ℕ) (acts : ℕ) → acts + 1 < limit →
       IsWhole (whole_of program x input acts) (first_bytes (picture_of parts program))
   runs :
-      (input : List ℕ) (acts : ℕ) → acts + 1 < 2 ^ 64 →
+      (input : List ℕ) (acts : ℕ) → acts + 1 < limit →
       Comes (whole_of program x input acts).image.code 0
       (first_family (first_bytes (picture_of parts program))
       (services_of (start_point (whole_of program x input acts).image)))
@@ -110,28 +111,45 @@ record IsKnown (program : Y.Program) (x : Layout) : Type 0 where
       (run program (suc acts) acts (first_state input))
 
 comes :
-    Laws → (program : Y.Program) (x : Layout) → IsKnown program x → (input : List ℕ) (k : ℕ) → k + 1 < 2 ^ 64 →
+    Laws → (limit : ℕ) (program : Y.Program) (x : Layout) → IsKnown limit program x → (input : List ℕ) (k : ℕ) →
+    k + 1 < limit →
     Comes_at (picture_of parts program) (table_of program) program input k
 unfolding meaning
-comes laws program x is input k few =
+comes laws limit program x is input k few =
     from_flow laws (picture_of parts program) (table_of program) program input k
     (run program (suc k) k (first_state input)) refl (is.runs input k few)
 
 works :
-    Laws → (program : Y.Program) (x : Layout) → IsKnown program x →
-    Works (picture_of parts program) (table_of program) program
-works laws program x is =
+    Laws → (limit : ℕ) (program : Y.Program) (x : Layout) → IsKnown limit program x → 1 < limit →
+    WorksWithin limit (picture_of parts program) (table_of program) program
+works laws limit program x is some =
     record {
-      comes = comes laws program x is;
+      some = some;
+      comes = comes laws limit program x is;
       first = λ input b. first_step_of (first_bytes (picture_of parts program))
-          (first_services (table_of program) input) x.main.head.number (is.whole input 0 (omega arith)).start.linked b;
+          (first_services (table_of program) input) x.main.head.number (is.whole input 0 some).start.linked b;
     }
 
 promised_by :
-    Laws → (program : Y.Program) (x : Layout) → IsKnown program x →
+    Laws → (program : Y.Program) (x : Layout) → IsKnown (2 ^ 64) program x →
     Headline program (picture_of parts program) (table_of program)
 promised_by laws program x is =
-    promised laws (picture_of parts program) (table_of program) program (works laws program x is)
+    promised laws (picture_of parts program) (table_of program) program
+    (works laws (2 ^ 64) program x is (omega arith))
+
+pub short_kept :
+    Laws → Keeps run_keeper → (limit : ℕ) (program : Y.Program) (x : Layout) → RunsWithin limit program x →
+    (1 < limit) × (limit ≤ 2 ^ 64) → HeadlineWithin limit program (picture_of parts program) (table_of program)
+short_kept laws keeps limit program x is low =
+    promised_within limit laws (picture_of parts program) (table_of program) program
+    (works laws limit program x
+    (record {
+      whole = is.whole;
+      runs = λ input k few.
+          program_runs keeps (whole_of program x input k) (first_bytes (picture_of parts program))
+          (is.whole input k few) (is.each input k few);
+    }) low.0)
+    low.1
 
 pub kept :
     Laws → Keeps run_keeper → (program : Y.Program) (x : Layout) → Runs program x →

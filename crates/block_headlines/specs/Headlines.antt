@@ -1,5 +1,5 @@
 -- The headline of programs whose run is known by the relation of activations.
-use Rattle.std.specs.Prelude.{ℕ, ◌+◌, ◌^◌, ◌<◌, List, map, Option}
+use Rattle.std.specs.Prelude.{ℕ, ◌+◌, ◌^◌, ◌<◌, ◌≤◌, List, map, Option}
 use Rattle.pli_typing.specs.TypedTree as Y
 use Rattle.pli_meaning.specs.Pictures.{first_bytes}
 use Rattle.pli_serving.specs.Templates.{template_of}
@@ -10,6 +10,7 @@ use Rattle.pli_coding.specs.SignatureTable.{table_of}
 use Rattle.storage_relation.specs.Fills.{Fills}
 use Rattle.activation_relation.specs.Chains.{UnitPlaces}
 use Rattle.activation_relation.specs.Layers.{Point}
+use Rattle.pli_headline.specs.Within.{HeadlineWithin}
 use Rattle.pli_headline.specs.Headline.{Headline, parts}
 use Rattle.program_runs.specs.Calls.{block_at, body_index, labels_of, left_over}
 use Rattle.program_runs.specs.Procedures.{Procedure}
@@ -92,13 +93,14 @@ whole_of program x input acts =
       made = x.made;
     }
 
--- whatever the input and the number of acts, it is a whole program, of which each statement does what it means
-pub record Runs (program : Y.Program) (x : Layout) : Type 0 where
+-- whatever the input and the number of acts below a limit, it is a whole program, of which each statement does what it
+-- means
+pub record RunsWithin (limit : ℕ) (program : Y.Program) (x : Layout) : Type 0 where
   pub whole :
-      (input : List ℕ) (acts : ℕ) → acts + 1 < 2 ^ 64 →
+      (input : List ℕ) (acts : ℕ) → acts + 1 < limit →
       IsWhole (whole_of program x input acts) (first_bytes (picture_of parts program))
   pub each :
-      (input : List ℕ) (acts : ℕ) → acts + 1 < 2 ^ 64 →
+      (input : List ℕ) (acts : ℕ) → acts + 1 < limit →
       IsBegun
       (block_at (surroundings_of (whole_of program x input acts).image) (linked_code (code_of parts program))
       (main_of (whole_of program x input acts)) (start_point (whole_of program x input acts).image) no_numbers) →
@@ -107,6 +109,9 @@ pub record Runs (program : Y.Program) (x : Layout) : Type 0 where
       (main_of (whole_of program x input acts)) (start_point (whole_of program x input acts).image) no_numbers)
       (labels_of (main_of (whole_of program x input acts))) x.main.body
       (body_index (main_of (whole_of program x input acts))) left_over
+
+abbrev pub Runs : Y.Program → Layout → Type 0
+Runs program x = RunsWithin (2 ^ 64) program x
 
 -- the same with ON among its statements: its list comes to the end of its block
 pub record UnitsRun (program : Y.Program) (x : Layout) : Type 0 where
@@ -123,7 +128,13 @@ pub record UnitsRun (program : Y.Program) (x : Layout) : Type 0 where
       (main_of (whole_of program x input acts)) (start_point (whole_of program x input acts).image) no_numbers)
       x.main.body (body_index (main_of (whole_of program x input acts))) left_over
 
--- such a program keeps the headline
+-- such a program keeps the headline, where runs are that short
+abbrev pub ShortHeadlinesKept : Type 0
+ShortHeadlinesKept =
+    (limit : ℕ) (program : Y.Program) (x : Layout) → RunsWithin limit program x → (1 < limit) × (limit ≤ 2 ^ 64) →
+    HeadlineWithin limit program (picture_of parts program) (table_of program)
+
+-- or each run
 abbrev pub HeadlinesKept : Type 0
 HeadlinesKept =
     (program : Y.Program) (x : Layout) → Runs program x → Headline program (picture_of parts program) (table_of program)

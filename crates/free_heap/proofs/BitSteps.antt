@@ -1,5 +1,6 @@
 -- A bit of a byte by shifts and masks.
-use Rattle.std.proofs.Common.{◌≡◌, ℕ, zero, suc, ◌+◌, ◌-◌, ◌*◌, ◌/◌, ◌%◌, ◌^◌, ◌<◌, refl, ap, ◌∙◌, arith, bit_and, bit_or}
+use Rattle.std.proofs.Common.{◌≡◌, ℕ, zero, suc, ◌+◌, ◌-◌, ◌*◌, ◌/◌, ◌%◌, ◌^◌, ◌<◌, refl, ap, ◌∙◌, arith, bit_and}
+use Rattle.std.proofs.Common.{bit_or}
 use Rattle.std.proofs.Math.Nat.{pow-suc}
 use Rattle.std.proofs.lemmas.Nat.{and_le_r, and_comm, and_block, or_block, or_disjoint, and-not, pow_below}
 use Rattle.free_keeper.specs.Bits.{bit, with_bit}
@@ -46,7 +47,8 @@ bit_or_set (suc k) b =
     let e = or_block 1 (b / 2) (2 ^ k) (b % 2) 0 (low b) (omega arith) in
     let x = or_zero (b % 2) in
     let r = bit_or_set k (b / 2) in
-    let z : bit_or (b / 2) (2 ^ k) * 2 ^ 1 + bit_or (b % 2) 0 ≡ b % 2 + 2 * with_bit k 1 (b / 2) = omega (arith, x, r) in
+    let z : bit_or (b / 2) (2 ^ k) * 2 ^ 1 + bit_or (b % 2) 0 ≡ b % 2 + 2 * with_bit k 1 (b / 2) = omega (arith, x, r)
+    in
     ap (λ n. bit_or n (2 ^ suc k)) (halves b) ∙ (ap (λ n. bit_or (b / 2 * 2 ^ 1 + b % 2) n) p ∙ (e ∙ z))
 
 -- what a mask takes is what the byte loses

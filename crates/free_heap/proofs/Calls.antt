@@ -1,5 +1,6 @@
 -- What a keeper's calls need, and where there is no room at all.
-use Rattle.std.proofs.Common.{◌≡◌, ◌⊎◌, inl, inr, ℕ, ℤ, ◌+◌, ◌-◌, ◌%◌, ◌^◌, ◌<◌, ◌≤◌, List, [], ◌∷◌, length, Option, Some, None, Bool, true, false, refl, sym, ap, ◌∙◌, subst, arith}
+use Rattle.std.proofs.Common.{◌≡◌, ◌⊎◌, inl, inr, ℕ, ℤ, ◌+◌, ◌-◌, ◌%◌, ◌^◌, ◌<◌, ◌≤◌, List, [], ◌∷◌, length, Option}
+use Rattle.std.proofs.Common.{Some, None, Bool, true, false, refl, sym, ap, ◌∙◌, subst, arith}
 use Rattle.std.specs.Prelude.{cond, ◌==◌, IsSome}
 use Rattle.pli_typing.specs.Signatures.{footprint}
 use Rattle.area_keeper.specs.Keeper.{Kept}
@@ -13,7 +14,8 @@ use Rattle.free_keeper.proofs.Order.{last_within, last_aligned}
 use Rattle.free_keeper.proofs.Links.{Before, no_room, joins_found, blocks_split, blocks_within, last_before}
 use Rattle.free_keeper.proofs.Relisting.{place_before}
 use Rattle.free_keeper.proofs.FreeCopies.{ends_of}
-use Rattle.free_keeper.specs.FreeList.{Free, front_for, link_place, link_behind, size_of, gaps, kept_in, steps_for, placed_behind, allocated_with, Joined, joined_from, end_in, free_list_area}
+use Rattle.free_keeper.specs.FreeList.{Free, front_for, link_place, link_behind, size_of, gaps, kept_in, steps_for}
+use Rattle.free_keeper.specs.FreeList.{placed_behind, allocated_with, Joined, joined_from, end_in, free_list_area}
 use Rattle.free_heap.specs.Places.{as_joined, IsFound, IsRoom}
 use Rattle.free_heap.proofs.Opened.{opened}
 
@@ -27,14 +29,18 @@ none_large start c n (f ∷ fs) b h =
     ∙ none_large (f.offset + f.size) c n fs b.4 h
 
 pub too_much :
-    (bytes : List ℕ) (size signature capacity : ℕ) (extent : ℤ) → IsSome (free_list_area bytes) → capacity ≡ capacity_in bytes →
-    capacity < size → allocated_with (front_for (capacity_in bytes)) (capacity_in bytes) size signature extent bytes ≡ None
+    (bytes : List ℕ) (size signature capacity : ℕ) (extent : ℤ) → IsSome (free_list_area bytes) →
+    capacity ≡ capacity_in bytes →
+    capacity < size → allocated_with (front_for (capacity_in bytes)) (capacity_in bytes) size signature extent bytes ≡
+    None
 too_much bytes size signature capacity extent s e h =
     let x = opened bytes s in
     let c = capacity_in bytes in
     let f = front_for c in
-    let none = none_large 0 c (footprint size) (gaps 0 c x.placed) (blocks_of 0 c x.placed refl x.rounded x.stands.ordered) (omega (arith, e, h)) in
-    ap (placed_behind size signature extent f bytes) (no_room (steps_for c) f 0 (link_behind f 0 bytes) (footprint size) bytes (gaps 0 c x.placed) x.stands.listed none)
+    let none = none_large 0 c (footprint size) (gaps 0 c x.placed) (blocks_of 0 c x.placed refl x.rounded
+    x.stands.ordered) (omega (arith, e, h)) in
+    ap (placed_behind size signature extent f bytes) (no_room (steps_for c) f 0 (link_behind f 0 bytes) (footprint
+    size) bytes (gaps 0 c x.placed) x.stands.listed none)
 
 pub header_inside :
     (bytes : List ℕ) (front f before needed offset : ℕ) → IsRoom bytes f needed before → front ≡ f →
@@ -46,9 +52,11 @@ header_inside bytes front f before needed offset r e o =
     by_fit r.fits q i w
   where
     by_fit :
-        (size_of f (link_behind f before bytes - 1) bytes ≡ needed) ⊎ (needed + 16 ≤ size_of f (link_behind f before bytes - 1) bytes) →
+        (size_of f (link_behind f before bytes - 1) bytes ≡ needed) ⊎ (needed + 16 ≤ size_of f (link_behind f before
+        bytes - 1) bytes) →
         offset ≡ link_behind f before bytes - 1 →
-        f + (link_behind f before bytes - 1) + size_of f (link_behind f before bytes - 1) bytes ≤ length bytes → 16 ≤ needed →
+        f + (link_behind f before bytes - 1) + size_of f (link_behind f before bytes - 1) bytes ≤ length bytes →
+        16 ≤ needed →
         front + offset + 12 ≤ length bytes
     by_fit (inl z) q i w = omega (arith, e, z, q, i, w)
     by_fit (inr z) q i w = omega (arith, e, z, q, i, w)
@@ -80,10 +88,12 @@ pub record Writable (bytes : List ℕ) (before offset : ℕ) : Type 0 where
   pub small : offset + 1 < 2 ^ 32
 
 pub joined_writable :
-    (bytes : List ℕ) (o signature header size before offset n link : ℕ) → IsSome (free_list_area bytes) → IsFound bytes o signature header →
+    (bytes : List ℕ) (o signature header size before offset n link : ℕ) → IsSome (free_list_area bytes) →
+    IsFound bytes o signature header →
     size ≡ footprint (word_at header bytes) →
     as_joined before offset n link
-    ≡ joined_from (steps_for (capacity_in bytes)) (front_for (capacity_in bytes)) o size 0 (link_behind (front_for (capacity_in bytes)) 0 bytes) bytes →
+    ≡ joined_from (steps_for (capacity_in bytes)) (front_for (capacity_in bytes)) o size 0 (link_behind (front_for
+    (capacity_in bytes)) 0 bytes) bytes →
     Writable bytes before offset
 joined_writable bytes o signature header size before offset n link s f e q =
     let x = opened bytes s in
@@ -94,7 +104,8 @@ joined_writable bytes o signature header size before offset n link s f e q =
     let fs = gaps 0 c gs in
     let there = kept_part signature (kept_at gs o) g (sym (ap (λ a. kept_of o signature a) x.is) ∙ f.is) in
     let j = joined_from (steps_for c) front o size 0 (link_behind front 0 bytes) bytes in
-    let d = joins_found (steps_for c) front o size 0 (link_behind front 0 bytes) 0 c bytes fs refl x.stands.listed (blocks_of 0 c gs refl x.rounded x.stands.ordered) (omega arith) in
+    let d = joins_found (steps_for c) front o size 0 (link_behind front 0 bytes) 0 c bytes fs refl x.stands.listed
+    (blocks_of 0 c gs refl x.rounded x.stands.ordered) (omega arith) in
     let order = order_freed 0 c o gs x.stands.ordered in
     let left = gaps_freed 0 c o gs g x.stands.ordered there ∙ (ap (λ y. joined o y fs) (sym e) ∙ d.joins) in
     let blocks = subst (λ xs. Blocks 0 c xs) left (blocks_of 0 c (without_kept o gs) refl x.rounded order) in
@@ -135,20 +146,26 @@ end_facts from s =
     record {
       within = omega (arith, is, within);
       aligned = omega (arith, is, aligned);
-      before = subst P (fin ∙ (omega arith ∙ sym is)) (last_before (front_for c) 0 (end_in from).before 0 _ from (inner 0 gs) q.chained blocks tt);
+      before =
+          subst P (fin ∙ (omega arith ∙ sym is)) (last_before (front_for c) 0 (end_in from).before 0 _ from (inner 0
+          gs) q.chained blocks tt);
     }
 
 pub end_place :
-    (from bytes : List ℕ) (front capacity before end : ℕ) → IsSome (free_list_area from) → 12 ≤ front → front + capacity ≤ length bytes →
-    end ≤ capacity → end ≡ (end_in from).from → before ≡ (end_in from).before → link_place front before + 4 ≤ length bytes
+    (from bytes : List ℕ) (front capacity before end : ℕ) → IsSome (free_list_area from) → 12 ≤ front →
+    front + capacity ≤ length bytes →
+    end ≤ capacity → end ≡ (end_in from).from → before ≡ (end_in from).before →
+    link_place front before + 4 ≤ length bytes
 end_place from bytes front capacity before end s h n l e b =
     let x = end_facts from s in
-    let back : Before before end = subst (λ y. Before y end) (sym b) (subst (λ y. Before (end_in from).before y) (sym e) x.before) in
+    let back : Before before end = subst (λ y. Before y end) (sym b) (subst (λ y. Before (end_in from).before y) (sym
+    e) x.before) in
     let p = place_before front before end h back in
     omega (arith, p, n, l)
 
 pub end_rounded :
-    (from : List ℕ) (capacity end : ℕ) → IsSome (free_list_area from) → capacity % 16 ≡ 0 → end ≤ capacity → end ≡ (end_in from).from →
+    (from : List ℕ) (capacity end : ℕ) → IsSome (free_list_area from) → capacity % 16 ≡ 0 → end ≤ capacity →
+    end ≡ (end_in from).from →
     (end ≡ capacity) ⊎ (end + 8 ≤ capacity)
 end_rounded from capacity end s a l e =
     let x = (end_facts from s).aligned in

@@ -1,5 +1,7 @@
 -- A map that is copied: as far as both go, and zeros.
-use Rattle.std.proofs.Common.{◌≡◌, ◌⊎◌, inl, inr, ℕ, zero, suc, ◌+◌, ◌-◌, ◌≤◌, min, List, [], ◌∷◌, ◌++◌, length, take, drop, replicate, drop-drop, length-append, length-drop, length-take-le, refl, sym, ap, ◌∙◌, arith}
+use Rattle.std.proofs.Common.{◌≡◌, ◌⊎◌, inl, inr, ℕ, zero, suc, ◌+◌, ◌-◌, ◌≤◌, min, List, [], ◌∷◌, ◌++◌, length}
+use Rattle.std.proofs.Common.{take, drop, replicate, drop-drop, length-append, length-drop, length-take-le, refl}
+use Rattle.std.proofs.Common.{sym, ap, ◌∙◌, arith}
 use Rattle.std.proofs.lemmas.List.{length-replicate}
 use borrow.Rule.Slice.PartMut.{put_mid}
 use Rattle.area_keeper.specs.KeptAreas.{part, with_part}
@@ -38,11 +40,14 @@ part_put bytes xs count e =
     ap (λ ys. take 12 bytes ++ (xs ++ ys)) (drop-drop (12 + count - 12) 12 bytes ∙ ap (λ k. drop (12 + k) bytes) q)
 
 pub map_put :
-    (bytes from new : List ℕ) (count from_count shared : ℕ) → 12 + count ≤ length bytes → 12 + from_count ≤ length from →
+    (bytes from new : List ℕ) (count from_count shared : ℕ) → 12 + count ≤ length bytes →
+    12 + from_count ≤ length from →
     shared ≡ min count from_count →
     new
-    ≡ take shared (take (12 + from_count - 12) (drop 12 from)) ++ replicate (length (take (12 + count - 12) (drop 12 bytes)) - shared) 0 →
-    put_mid 12 (12 + count - 12) bytes new ≡ with_part (take count (part 12 from_count from ++ replicate count 0)) 12 bytes
+    ≡ take shared (take (12 + from_count - 12) (drop 12 from)) ++ replicate (length (take (12 + count - 12) (drop 12
+    bytes)) - shared) 0 →
+    put_mid 12 (12 + count - 12) bytes new ≡ with_part (take count (part 12 from_count from ++ replicate count 0)) 12
+    bytes
 map_put bytes from new count from_count shared h i m n =
     let old = take (12 + count - 12) (drop 12 bytes) in
     let source = take (12 + from_count - 12) (drop 12 from) in
@@ -57,11 +62,18 @@ map_put bytes from new count from_count shared h i m n =
     let b : shared ≤ length xs = omega (arith, m, k) in
     let e : (shared ≡ count) ⊎ (shared ≡ length xs) = either shared count from_count (length xs) m k in
     let r : new ≡ take shared xs ++ replicate (count - shared) 0 =
-    n ∙ (ap (λ ys. take shared ys ++ replicate (length old - shared) 0) s ∙ ap (λ y. take shared xs ++ replicate (y - shared) 0) l)
+    n ∙ (ap (λ ys. take shared ys ++ replicate (length old - shared) 0) s ∙ ap (λ y. take shared xs ++ replicate (y -
+    shared) 0) l)
     in
     let zeros : List ℕ = replicate (count - shared) 0 in
     let z : length zeros ≡ count - shared = length-replicate (count - shared) 0 in
-    let w : length (take shared xs ++ zeros) ≡ count = omega (arith, length-append (take shared xs) zeros, length-take-le shared xs b, z, a) in
+    let w : length (take shared xs ++ zeros) ≡ count = omega (
+      arith,
+      length-append (take shared xs) zeros,
+      length-take-le shared xs b,
+      z,
+      a,
+    ) in
     ap (λ ys. put_mid 12 (12 + count - 12) bytes ys) r
     ∙ (part_put bytes (take shared xs ++ zeros) count w
     ∙ ap (λ ys. with_part ys 12 bytes) (sym (padded count count shared xs (omega arith) a b e)))

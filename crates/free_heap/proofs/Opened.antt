@@ -1,5 +1,6 @@
 -- Bytes that stand for an area, and what is found at an offset.
-use Rattle.std.proofs.Common.{◌≡◌, ◌≢◌, ℕ, ◌+◌, ◌*◌, ◌/◌, ◌%◌, ◌^◌, ◌<◌, ◌≤◌, List, [], ◌∷◌, length, Option, Some, None, Bool, true, false, refl, sym, ap, ◌∙◌, subst, arith}
+use Rattle.std.proofs.Common.{◌≡◌, ◌≢◌, ℕ, ◌+◌, ◌*◌, ◌/◌, ◌%◌, ◌^◌, ◌<◌, ◌≤◌, List, [], ◌∷◌, length, Option, Some}
+use Rattle.std.proofs.Common.{None, Bool, true, false, refl, sym, ap, ◌∙◌, subst, arith}
 use Rattle.std.specs.Prelude.{cond, ◌==◌, IsSome}
 use Rattle.area_keeper.specs.Keeper.{Kept, KeptArea}
 use Rattle.area_keeper.specs.KeptAreas.{InOrder, kept_at}
@@ -61,7 +62,8 @@ pub no_offset :
     kept_of o signature (free_list_area bytes) ≡ None
 no_offset bytes o signature s f =
     let x = opened bytes s in
-    kept_of_known bytes o signature x ∙ ap (of_signature signature) (by_kept x.placed x.stands.ordered (kept_at x.placed o) refl)
+    kept_of_known bytes o signature x ∙ ap (of_signature signature) (by_kept x.placed x.stands.ordered (kept_at
+    x.placed o) refl)
   where
     by_kept :
         (gs : List Kept) → InOrder 0 (capacity_in bytes) gs → (k : Option Kept) → kept_at gs o ≡ k → k ≡ None
@@ -77,7 +79,8 @@ kept_begins front bytes o [] h = refl
 kept_begins front bytes o (g ∷ gs) h = by_test (g.offset == o) refl (kept_begins front bytes o gs h.1)
   where
     by_test :
-        (t : Bool) → (g.offset == o) ≡ t → kept_at gs o ≡ cond (begins o gs == 1) (Some (kept_in (front + o) o bytes)) None →
+        (t : Bool) → (g.offset == o) ≡ t → kept_at gs o ≡ cond (begins o gs == 1) (Some (kept_in (front + o) o bytes))
+        None →
         cond t (Some g) (kept_at gs o) ≡ cond (cond t 1 (begins o gs) == 1) (Some (kept_in (front + o) o bytes)) None
     by_test true t rest =
         let q : g.offset ≡ o = by_true t in
@@ -100,7 +103,8 @@ kept_marked bytes o x a h =
     ∙ ap (λ y. cond (y == 1) (Some k) None) (sym (m ∙ ap (λ y. begins y x.placed) e))
 
 pub found :
-    (bytes : List ℕ) (o signature capacity front header : ℕ) → IsSome (free_list_area bytes) → capacity ≡ capacity_in bytes →
+    (bytes : List ℕ) (o signature capacity front header : ℕ) → IsSome (free_list_area bytes) →
+    capacity ≡ capacity_in bytes →
     front ≡ front_for capacity → o % 16 ≡ 0 → o < capacity → (bit_at 12 (o / 16) bytes == 1) ≡ true →
     header ≡ front + o → signature ≡ word_at (header + 4) bytes → IsFound bytes o signature header
 found bytes o signature capacity front header s c f a h b e w =
@@ -113,7 +117,8 @@ found bytes o signature capacity front header s c f a h b e w =
       stands = p;
       is =
           kept_of_known bytes o signature x
-          ∙ (ap (of_signature signature) (kept_marked bytes o x a l ∙ ap (λ b. cond b (Some (kept_in (front_for (capacity_in bytes) + o) o bytes)) None) b)
+          ∙ (ap (of_signature signature) (kept_marked bytes o x a l ∙ ap (λ b. cond b (Some (kept_in (front_for
+          (capacity_in bytes) + o) o bytes)) None) b)
           ∙ (ap (λ k. of_signature signature (Some (kept_in k o bytes))) (sym p)
           ∙ ap (λ b. cond b (Some (kept_in header o bytes)) None) t));
       inside = omega (arith, p, a, l, x.rounded, x.as_many);
@@ -126,10 +131,12 @@ pub none_begins :
 none_begins bytes o signature s a l b =
     let x = opened bytes s in
     kept_of_known bytes o signature x
-    ∙ ap (of_signature signature) (kept_marked bytes o x a l ∙ ap (λ b. cond b (Some (kept_in (front_for (capacity_in bytes) + o) o bytes)) None) b)
+    ∙ ap (of_signature signature) (kept_marked bytes o x a l ∙ ap (λ b. cond b (Some (kept_in (front_for (capacity_in
+    bytes) + o) o bytes)) None) b)
 
 pub of_another :
-    (bytes : List ℕ) (o signature other capacity front : ℕ) → IsSome (free_list_area bytes) → capacity ≡ capacity_in bytes →
+    (bytes : List ℕ) (o signature other capacity front : ℕ) → IsSome (free_list_area bytes) →
+    capacity ≡ capacity_in bytes →
     front ≡ front_for capacity → o % 16 ≡ 0 → o < capacity → (bit_at 12 (o / 16) bytes == 1) ≡ true →
     other ≡ word_at (front + o + 4) bytes → other ≢ signature → kept_of o signature (free_list_area bytes) ≡ None
 of_another bytes o signature other capacity front s c f a h b w ne =

@@ -2,7 +2,8 @@
 use Rattle.std.specs.Prelude.{ℕ, ◌+◌, ◌-◌, ◌^◌, ◌<◌, ◌≤◌, ◌≡◌, ◌⊎◌, Bool, false, List, length, Option, Some, None}
 use Rattle.area_keeper.specs.Chain.{capacity_in}
 use Rattle.area_heap.specs.Answers.{kept_of}
-use Rattle.free_keeper.specs.FreeList.{Free, free, front_for, link_place, link_behind, size_of, kept_in, is_listed, Joined, free_list_area}
+use Rattle.free_keeper.specs.FreeList.{Free, free, front_for, link_place, link_behind, size_of, kept_in, is_listed}
+use Rattle.free_keeper.specs.FreeList.{Joined, free_list_area}
 
 abbrev pub as_joined : (before offset size link : ℕ) → Joined
 as_joined before offset size link = record { before = before; block = free offset size; link = link }
@@ -16,7 +17,9 @@ is_listed_from front bytes fs (Some link) = is_listed front link bytes fs
 pub record IsRoom (bytes : List ℕ) (front needed before : ℕ) : Type 0 where
   pub place : link_place front before + 4 ≤ length bytes
   pub some : 1 ≤ link_behind front before bytes
-  pub inside : front + (link_behind front before bytes - 1) + size_of front (link_behind front before bytes - 1) bytes ≤ length bytes
+  pub inside :
+      front + (link_behind front before bytes - 1) + size_of front (link_behind front before bytes - 1) bytes ≤ length
+      bytes
   pub fits :
       (size_of front (link_behind front before bytes - 1) bytes ≡ needed)
       ⊎ (needed + 16 ≤ size_of front (link_behind front before bytes - 1) bytes)

@@ -54,7 +54,7 @@ use Rattle.number_headlines.proofs.Entered.{unraised_there}
 use Rattle.number_headlines.proofs.Full.{are_full}
 use Rattle.number_headlines.proofs.GivenBodies.{knows_given}
 use Rattle.number_headlines.proofs.Inner.{Inner, inner_is}
-use Rattle.number_headlines.proofs.Mains.{Main, most_for, result_of, run_for}
+use Rattle.number_headlines.proofs.Mains.{Main, few_acts, limit_by, most_for, result_of, run_for}
 use Rattle.number_headlines.proofs.Puts.{error_routine, lists_known}
 use Rattle.number_headlines.proofs.Running.{EachBody, EachGiven, IsEntered, IsRunning, Running, block_of_run, told_run}
 use Rattle.number_headlines.proofs.Running.{told_running}
@@ -118,22 +118,22 @@ unraised_of once {program} m input acts valued more a blocks few h =
 raises_of :
     MarkedOnce → {program : Y.Program} (m : Main program) (input : List ℕ) (acts : ℕ) (valued : Bool) (more : ℕ)
     (a : Running) (blocks : ℕ) → acts + 1 < 2 ^ 64 → IsRunning m input acts valued more a blocks →
-    KnowsRaises (scope_of program m.called a.head a.body) (block_of_run program input acts valued more a)
+    KnowsRaises (scope_of m.short program m.called a.head a.body) (block_of_run program input acts valued more a)
     (labels_in a.body ++ []) (most_for program)
 raises_of once {program} m input acts valued more a blocks few h =
-    none_raised (scope_of program m.called a.head a.body) (block_of_run program input acts valued more a)
+    none_raised (scope_of m.short program m.called a.head a.body) (block_of_run program input acts valued more a)
     (labels_in a.body ++ []) (most_for program) (unraised_of once m input acts valued more a blocks few h)
 
 -- numbers are written by the lists of the program
 puts_of :
     MarkedOnce → {program : Y.Program} (m : Main program) (input : List ℕ) (acts : ℕ) (valued : Bool) (more : ℕ)
     (a : Running) (blocks : ℕ) → acts + 1 < 2 ^ 64 → IsRunning m input acts valued more a blocks →
-    KnowsPuts (scope_of program m.called a.head a.body) (block_of_run program input acts valued more a)
+    KnowsPuts (scope_of m.short program m.called a.head a.body) (block_of_run program input acts valued more a)
     (most_for program)
 unfolding unraised_of
 puts_of once {program} m input acts valued more a blocks few h =
     let k = block_of_run program input acts valued more a in
-    puts_known (scope_of program m.called a.head a.body) k (most_for program) h.begun
+    puts_known (scope_of m.short program m.called a.head a.body) k (most_for program) h.begun
     (unraised_of once m input acts valued more a blocks few h) h.variables (λ may. h.arrays)
     (λ may. h.narrows) h.parameters (lists_known program k m.memory h.told)
 
@@ -143,7 +143,7 @@ abbrev EachCall : {program : Y.Program} → Main program → (input : List ℕ) 
 EachCall {program} m input acts valued more a blocks =
     (layers : List Layer → List Layer) →
     IsRunning m input acts valued more (record a { layers = layers }) blocks →
-    KnowsCalls (scope_of program m.called a.head a.body)
+    KnowsCalls (scope_of m.short program m.called a.head a.body)
     (block_of_run program input acts valued more (record a { layers = layers })) (labels_in a.body ++ [])
     (most_for program) left_over
 
@@ -151,7 +151,7 @@ ready :
     MarkedOnce → {program : Y.Program} (m : Main program) (input : List ℕ) (acts : ℕ) (valued : Bool) (more : ℕ)
     (a : Running) (blocks : ℕ) → acts + 1 < 2 ^ 64 → IsEntered m input acts valued more a blocks →
     EachCall m input acts valued more a blocks → EachGiven m input acts valued more a →
-    IsReady (scope_of program m.called a.head a.body) valued (block_of_run program input acts valued more a)
+    IsReady (scope_of m.short program m.called a.head a.body) valued (block_of_run program input acts valued more a)
     (labels_in a.body ++ []) (most_for program) left_over
 ready once {program} m input acts valued more a blocks few e calls given =
     let h = e.running in
@@ -216,7 +216,7 @@ body_each :
     EachDoes (block_of_run program input acts valued more a) (labels_in a.body ++ []) a.body a.index left_over
 body_each once {program} m input acts valued more a blocks few e calls given =
     let h = e.running in
-    let s = scope_of program m.called a.head a.body in
+    let s = scope_of m.short program m.called a.head a.body in
     let known' = (block_known program.variables a.head.number m.known).known in
     body_does s valued (block_of_run program input acts valued more a) a.body a.index
     (most_for program) left_over (ready once m input acts valued more a blocks few e calls given) h.statements
@@ -363,7 +363,7 @@ knows_calls :
     MarkedOnce → {program : Y.Program} (m : Main program) (input : List ℕ) (acts : ℕ) (valued : Bool)
     (more blocks : ℕ) (a : Running) → acts + 1 < 2 ^ 64 → IsRunning m input acts valued (suc more) a blocks →
     EachBody m input acts more →
-    KnowsCalls (scope_of program m.called a.head a.body) (block_of_run program input acts valued (suc more) a)
+    KnowsCalls (scope_of m.short program m.called a.head a.body) (block_of_run program input acts valued (suc more) a)
     (labels_in a.body ++ []) (most_for program) left_over
 knows_calls once m input acts valued more zero a few h each =
     let some = h.depth.some in absurd (omega (arith, some))
@@ -378,15 +378,15 @@ knows_calls once m input acts valued more (suc b) a few h each =
     }
 
 pub each_body :
-    MarkedOnce → {program : Y.Program} (m : Main program) (input : List ℕ) (acts : ℕ) → acts + 1 < 2 ^ 64 →
+    MarkedOnce → {program : Y.Program} (m : Main program) (input : List ℕ) (acts : ℕ) → acts + 1 < limit_by m.short →
     (more : ℕ) → EachBody m input acts more
 each_body once m input acts few zero valued a blocks h =
     let enough = h.running.enough in
     let allowed = h.running.begun.resumes.stands.allowed in
     absurd (omega (arith, enough, allowed))
 each_body once m input acts few (suc more) valued a blocks h =
-    body_each once m input acts valued (suc more) a blocks few h
+    body_each once m input acts valued (suc more) a blocks (few_acts m.short acts few) h
     (λ layers is.
-    knows_calls once m input acts valued more blocks (record a { layers = layers }) few is
+    knows_calls once m input acts valued more blocks (record a { layers = layers }) (few_acts m.short acts few) is
     (each_body once m input acts few more))
     (knows_given once m input acts valued more blocks a few h (each_body once m input acts few more))

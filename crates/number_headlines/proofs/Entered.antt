@@ -109,7 +109,7 @@ pub inner_set :
     {program : Y.Program} (m : Main program) {caller : Y.BlockHead} {given valued : Bool} {level number : ℕ}
     (i : Inner m caller given valued level number) → (procedure_for program i.head i.body).words ≡ statements_set i.body
 inner_set {program} m {valued = valued} i =
-    words_set (scope_of program m.called i.head i.body) valued (environment_for program i.head) i.head.number i.body
+    words_set (scope_of m.short program m.called i.head i.body) valued (environment_for program i.head) i.head.number i.body
     (block_known program.variables i.head.number m.known).known i.statements i.fits
 
 -- they don't pass the limit on what is AUTOMATIC
@@ -484,7 +484,7 @@ each_number :
     DontPass (block_of_run program input acts valued (suc more) a) i →
     IsBegun (block_of_run program input acts v more
     (entered_at i (block_of_run program input acts valued (suc more) a) call p numbers)) → (x : Spot) →
-    is_known (scope_of program m.called i.head i.body) x ≡ true →
+    is_known (scope_of m.short program m.called i.head i.body) x ≡ true →
     IsNumber (block_of_run program input acts v more
     (entered_at i (block_of_run program input acts valued (suc more) a) call p numbers)) x
 each_number {program} m {input} {acts} {valued} {more} {b} {a} {p} {numbers} o {v} {level} i call pass b' x h =
@@ -518,7 +518,7 @@ each_array :
     DontPass (block_of_run program input acts valued (suc more) a) i →
     IsBegun (block_of_run program input acts v more
     (entered_at i (block_of_run program input acts valued (suc more) a) call p numbers)) → (x : Spot) →
-    is_array_known (scope_of program m.called i.head i.body) x ≡ true →
+    is_array_known (scope_of m.short program m.called i.head i.body) x ≡ true →
     IsArray (block_of_run program input acts v more
     (entered_at i (block_of_run program input acts valued (suc more) a) call p numbers)) x
     (bounds_if (declared_variable program (variable_of x)))
@@ -554,7 +554,7 @@ each_narrow :
     DontPass (block_of_run program input acts valued (suc more) a) i →
     IsBegun (block_of_run program input acts v more
     (entered_at i (block_of_run program input acts valued (suc more) a) call p numbers)) → (x : Spot) →
-    is_narrow_known (scope_of program m.called i.head i.body) x ≡ true →
+    is_narrow_known (scope_of m.short program m.called i.head i.body) x ≡ true →
     IsScalar (block_of_run program input acts v more
     (entered_at i (block_of_run program input acts valued (suc more) a) call p numbers)) x
     (type_if (declared_variable program (variable_of x)))
@@ -607,9 +607,9 @@ ends_by true once {program} m i =
 
 -- without a parameter it names none
 pub none_received :
-    (program : Y.Program) (ns : List ℕ) (head : Y.BlockHead) (body : Y.Stmts) (result : Option Y.LeafType) (x : Spot) →
-    IsProcedure program head body result → is_received (scope_of program ns head body) x ≡ true → ⊥
-none_received program ns head body result x is h =
+    (short : Bool) (program : Y.Program) (ns : List ℕ) (head : Y.BlockHead) (body : Y.Stmts)
+    (result : Option Y.LeafType) (x : Spot) → IsProcedure program head body result → is_received (scope_of short program ns head body) x ≡ true → ⊥
+none_received short program ns head body result x is h =
     let rest = (x.index == 0) && is_parameter_if (declared_variable program (parameter_of x)) in
     let none = ap parameters_in is in
     let some : (list_any (is_place x) (receivers_of program head) && rest) ≡ true = h in
@@ -683,7 +683,7 @@ entered once {program} m {input} {acts} {valued} {more} {b} {a} {p} {numbers} o 
         variables = λ x h. each_number m o i call pass b' x h;
         arrays = λ x h. each_array m o i call pass b' x h;
         narrows = λ x h. each_narrow m o i call pass b' x h;
-        parameters = λ x h. absurd (none_received program m.called i.head i.body (result_of v) x i.is h);
+        parameters = λ x h. absurd (none_received m.short program m.called i.head i.body (result_of v) x i.is h);
         unraised = λ condition. unraised_there m o i call condition;
         idle = made_idle φ xs start;
         told = called_of_program program k (block_of_run program input acts v more (entered_at i k call p numbers))

@@ -40,12 +40,12 @@ use Rattle.number_headlines.proofs.GivenEntered.{MayGive, given_at, given_beside
 use Rattle.number_headlines.proofs.GivenEntered.{given_in, may_give}
 use Rattle.number_headlines.proofs.GivenPlaces.{function_given, own_parameter, procedure_given}
 use Rattle.number_headlines.proofs.Inner.{Inner, inner_is}
-use Rattle.number_headlines.proofs.Mains.{Main, most_for}
+use Rattle.number_headlines.proofs.Mains.{Main, few_acts, limit_by, most_for}
 use Rattle.number_headlines.proofs.Running.{EachBody, EachGiven, IsEntered, Running, around_for, block_of_run}
 
 given_value_by :
     MarkedOnce → {program : Y.Program} (m : Main program) (input : List ℕ) (acts : ℕ) (valued : Bool) (more b : ℕ)
-    (a : Running) → acts + 1 < 2 ^ 64 → IsEntered m input acts valued (suc more) a (suc b) → MayGive program a.body →
+    (a : Running) → acts + 1 < 2 ^ 64 → IsEntered m input acts valued (suc more) a (suc b) → MayGive program acts a.body →
     EachBody m input acts more → (labels : List Label) (line level number need : ℕ) (x : Y.Number) →
     Inner m a.head true true level number →
     L.Does (setting_around list_sets (block_of_run program input acts valued (suc more) a) labels line
@@ -69,7 +69,7 @@ given_value_by once {program} m input acts valued more b a few e may each labels
     + footprint_of (copy_generation (copy_for u.callee (pos 0))) in
     let is : IsGivenValue z u more = record {
       function = stands;
-      declared = given_declared m e may few i 0 x;
+      declared = given_declared m e may i 0 x;
       words = refl;
       found = i.is;
       enter = refl;
@@ -91,7 +91,6 @@ given_value_by once {program} m input acts valued more b a few e may each labels
     (given_entered once m (record {
       caller = e;
       may = may;
-      small = few;
       inner = i;
       shallow = shallow;
       fits = fits;
@@ -108,7 +107,7 @@ given_value_by once {program} m input acts valued more b a few e may each labels
 
 given_call_by :
     MarkedOnce → {program : Y.Program} (m : Main program) (input : List ℕ) (acts : ℕ) (valued : Bool) (more b : ℕ)
-    (a : Running) → acts + 1 < 2 ^ 64 → IsEntered m input acts valued (suc more) a (suc b) → MayGive program a.body →
+    (a : Running) → acts + 1 < 2 ^ 64 → IsEntered m input acts valued (suc more) a (suc b) → MayGive program acts a.body →
     EachBody m input acts more → (labels : List Label) (level number line index need : ℕ) (x : Y.Number) →
     Inner m a.head true false level number → line < 2 ^ 31 →
     need ≤ (block_of_run program input acts valued (suc more) a).registers →
@@ -149,7 +148,7 @@ given_call_by once {program} m input acts valued more b a few e may each labels 
       callee = procedure_given once program i.head i.body input acts (parent_at k level) call
           (around_for program more) m.loadable i.is (omega (arith, inside)) own
           (back_of giving last (back_of value' (giving ++ last) (back_of one (value' ++ (giving ++ last)) l'))) few;
-      declared = given_declared m e may few i call x;
+      declared = given_declared m e may i call x;
       found = i.is;
       enter = refl;
       around = refl;
@@ -172,7 +171,6 @@ given_call_by once {program} m input acts valued more b a few e may each labels 
     (given_entered once m (record {
       caller = e;
       may = may;
-      small = few;
       inner = i;
       shallow = shallow;
       fits = fits;
@@ -191,12 +189,13 @@ given_call_by once {program} m input acts valued more b a few e may each labels 
 
 pub knows_given :
     MarkedOnce → {program : Y.Program} (m : Main program) (input : List ℕ) (acts : ℕ) (valued : Bool)
-    (more blocks : ℕ) (a : Running) → acts + 1 < 2 ^ 64 → IsEntered m input acts valued (suc more) a blocks →
+    (more blocks : ℕ) (a : Running) → acts + 1 < limit_by m.short → IsEntered m input acts valued (suc more) a blocks →
     EachBody m input acts more → EachGiven m input acts valued (suc more) a
 knows_given once m input acts valued more zero a few e each gives =
     let some = e.running.depth.some in absurd (omega (arith, some))
-knows_given once {program} m input acts valued more (suc b) a few e each gives =
-    let may = may_give program m.called a.head a.body gives in
+knows_given once {program} m input acts valued more (suc b) a short e each gives =
+    let may = may_give m.short program acts m.called a.head a.body short gives in
+    let few = few_acts m.short acts short in
     record {
       set = (omega arith, λ none. absurd (cc none));
       functions = λ labels line level n need x includes is does.

@@ -45,15 +45,15 @@ use Rattle.number_runs.proofs.Narrow.{outer_narrow}
 use Rattle.number_runs.specs.Statements.{statements_set}
 use Rattle.number_runs.specs.Variables.{AreTabled}
 use Rattle.number_runs.proofs.Variables.{parameter_declared_is}
-use Rattle.number_headlines.specs.Programs.{are_single, is_first_alone, places_to, receivers_of, scope_of}
+use Rattle.number_headlines.specs.Programs.{serials_for, are_single, is_first_alone, places_to, receivers_of, scope_of}
 use Rattle.number_headlines.proofs.Entered.{inner_set, stands_at}
 use Rattle.number_headlines.proofs.GivenPlaces.{copying_at, given_body_placed, given_end, given_ends, given_index}
 use Rattle.number_headlines.proofs.GivenPlaces.{none_made, none_means, own_parameter}
 use Rattle.number_headlines.proofs.Inner.{Inner}
-use Rattle.number_headlines.proofs.Mains.{Main, result_of, surroundings_for}
+use Rattle.number_headlines.proofs.Mains.{Main, few_serials, limit_by, result_of, surroundings_for}
 use Rattle.number_headlines.proofs.Running.{IsEntered, Running, around_for, block_of_run, free_among, function_by}
 use Rattle.number_headlines.proofs.Running.{table_later}
-use Rattle.number_headlines.proofs.Tables.{one_serial}
+use Rattle.number_headlines.proofs.Tables.{some_serials}
 
 -- ---- the call
 
@@ -99,30 +99,33 @@ given_at {program} {valued = valued} i more k call source φ φs p numbers z =
 
 -- ---- what it asks for
 
--- where the frame has words for a list, and no more serial numbers come than acts
-pub record MayGive (program : Y.Program) (body : Y.Stmts) : Type 0 where
-  pub single : are_single program.variables ≡ true
+-- where the frame has words for a list, and serial numbers have 8 bytes
+pub record MayGive (program : Y.Program) (acts : ℕ) (body : Y.Stmts) : Type 0 where
+  pub small : serials_for program * acts + 1 < 2 ^ 64
   pub words : list_sets ≤ statements_set body
 
 pub may_give :
-    (program : Y.Program) (ns : List ℕ) (head : Y.BlockHead) (body : Y.Stmts) →
-    (scope_of program ns head body).gives ≡ true → MayGive program body
-may_give program ns head body h =
-    let a = and_parts (are_single program.variables) (nat_le list_sets (statements_set body)) h in
-    record { single = a.0; words = leb-true list_sets (statements_set body) a.1 }
+    (short : Bool) (program : Y.Program) (acts : ℕ) (ns : List ℕ) (head : Y.BlockHead) (body : Y.Stmts) →
+    acts + 1 < limit_by short → (scope_of short program ns head body).gives ≡ true → MayGive program acts body
+may_give short program acts ns head body few h =
+    let a = and_parts (short || are_single program.variables) (nat_le list_sets (statements_set body)) h in
+    record {
+      small = few_serials short program acts a.0 few;
+      words = leb-true list_sets (statements_set body) a.1;
+    }
 
 pub given_declared :
     {program : Y.Program} (m : Main program) {input : List ℕ} {acts : ℕ} {valued : Bool} {more b : ℕ} {a : Running}
-    (e : IsEntered m input acts valued (suc more) a (suc b)) → MayGive program a.body → acts + 1 < 2 ^ 64 →
+    (e : IsEntered m input acts valued (suc more) a (suc b)) → MayGive program acts a.body →
     {v : Bool} {level number : ℕ} (i : Inner m a.head true v level number) (call : ℕ) (source : Y.Number) →
     IsDeclared (block_of_run program input acts valued (suc more) a)
     (given_in i more (block_of_run program input acts valued (suc more) a) call source e.running.free.layer
     e.running.free.below) more
-given_declared {program} m {input} {acts} {valued} {more} {a = a} e may few {v} i call source =
+given_declared {program} m {input} {acts} {valued} {more} {a = a} e may {v} i call source =
     let k = block_of_run program input acts valued (suc more) a in
     let h = e.running in
     let f = h.free in
-    let one = one_serial program may.single in
+    let one = some_serials program in
     let set = inner_set m i in
     let waiting = i.waiting in
     let level = (known program i.head i.body (result_of v) m.loadable.well_formed i.is).level in
@@ -150,7 +153,7 @@ given_declared {program} m {input} {acts} {valued} {more} {a = a} e may few {v} 
         number = tabled.0.small;
       };
       few = omega (arith, one);
-      small = subst (λ n. n * acts + 1 < 2 ^ 64) (sym one) (omega (arith, few));
+      small = may.small;
       nested = h.nested;
       around_it = i.around_it;
       inner = i.inside;
@@ -160,7 +163,7 @@ given_declared {program} m {input} {acts} {valued} {more} {a = a} e may few {v} 
 
 pub given_beside :
     {program : Y.Program} (m : Main program) {input : List ℕ} {acts : ℕ} {valued : Bool} {more b : ℕ} {a : Running}
-    (e : IsEntered m input acts valued (suc more) a (suc b)) → MayGive program a.body →
+    (e : IsEntered m input acts valued (suc more) a (suc b)) → MayGive program acts a.body →
     {v : Bool} {level number : ℕ} (i : Inner m a.head true v level number) (call : ℕ) (source : Y.Number)
     (p : Point) (numbers : ℕ → ℕ) (z : ℤ) →
     AreBeside (function_by v)
@@ -170,7 +173,7 @@ given_beside {program} m {input} {acts} {valued} {more} {b} {a} e may {v} i call
     let k = block_of_run program input acts valued (suc more) a in
     let y = passed_at i more k call source e.running.free.layer e.running.free.below p numbers z in
     let own = own_parameter (variables_of_block program i.head.number) i.own in
-    let one = one_serial program may.single in
+    let one = some_serials program in
     none_beside (function_by v) y (none_made (environment_for program i.head) i.head.line own) (omega (arith, one))
     (none_means (at_line (around_for program more) i.head.line) i.head acts (copied_point (function_by v) y).state
     (known program i.head i.body (result_of v) m.loadable.well_formed i.is).kind own)
@@ -210,8 +213,7 @@ found_parameter (Some d) h = ap (λ d'. Some d') (parameter_declared_is d h)
 pub record Given {program : Y.Program} (m : Main program) (input : List ℕ) (acts : ℕ) (valued : Bool) (more b : ℕ)
     (a : Running) (v : Bool) (level number : ℕ) : Type 0 where
   pub caller : IsEntered m input acts valued (suc more) a (suc b)
-  pub may : MayGive program a.body
-  pub small : acts + 1 < 2 ^ 64
+  pub may : MayGive program acts a.body
   pub inner : Inner m a.head true v level number
   pub shallow :
       nat_lt (length (block_of_run program input acts valued (suc more) a).first.state.activations) most_activations
@@ -255,7 +257,7 @@ begins {program} m {v = v} o =
     let i = o.inner in
     let level = (known program i.head i.body (result_of v) m.loadable.well_formed i.is).level in
     record {
-      declared = given_declared m o.caller o.may o.small i o.call o.source;
+      declared = given_declared m o.caller o.may i o.call o.source;
       inner = record { code = refl; few = omega (arith, level); program = refl; parts = refl };
       among = o.among;
       beside = given_beside m o.caller o.may i o.call o.source o.point o.numbers o.value;
@@ -265,7 +267,7 @@ begins {program} m {v = v} o =
 given_numbers :
     {program : Y.Program} (m : Main program) {input : List ℕ} {acts : ℕ} {valued : Bool} {more b : ℕ} {a : Running}
     {v : Bool} {level number : ℕ} (o : Given m input acts valued more b a v level number) (x : Spot) →
-    is_known (scope_of program m.called o.inner.head o.inner.body) x ≡ true →
+    is_known (scope_of m.short program m.called o.inner.head o.inner.body) x ≡ true →
     IsNumber (block_of_run program input acts v more (run_given o)) x
 given_numbers {program} m {input} {acts} {valued} {more} {b} {a} {v} {level} {number} o x h =
     by (stands_at i x parts.0).at
@@ -298,7 +300,7 @@ given_numbers {program} m {input} {acts} {valued} {more} {b} {a} {v} {level} {nu
 given_arrays :
     {program : Y.Program} (m : Main program) {input : List ℕ} {acts : ℕ} {valued : Bool} {more b : ℕ} {a : Running}
     {v : Bool} {level number : ℕ} (o : Given m input acts valued more b a v level number) (x : Spot) →
-    is_array_known (scope_of program m.called o.inner.head o.inner.body) x ≡ true →
+    is_array_known (scope_of m.short program m.called o.inner.head o.inner.body) x ≡ true →
     IsArray (block_of_run program input acts v more (run_given o)) x
     (bounds_if (declared_variable program (variable_of x)))
 given_arrays {program} m {input} {acts} {valued} {more} {b} {a} {v} {level} {number} o x h =
@@ -338,7 +340,7 @@ given_arrays {program} m {input} {acts} {valued} {more} {b} {a} {v} {level} {num
 given_narrows :
     {program : Y.Program} (m : Main program) {input : List ℕ} {acts : ℕ} {valued : Bool} {more b : ℕ} {a : Running}
     {v : Bool} {level number : ℕ} (o : Given m input acts valued more b a v level number) (x : Spot) →
-    is_narrow_known (scope_of program m.called o.inner.head o.inner.body) x ≡ true →
+    is_narrow_known (scope_of m.short program m.called o.inner.head o.inner.body) x ≡ true →
     IsScalar (block_of_run program input acts v more (run_given o)) x
     (type_if (declared_variable program (variable_of x)))
 given_narrows {program} m {input} {acts} {valued} {more} {b} {a} {v} {level} {number} o x h =
@@ -382,11 +384,11 @@ only_here true h = refl
 only_here false h = absurd (cc h)
 
 own_received :
-    (program : Y.Program) (ns : List ℕ) (head : Y.BlockHead) (body : Y.Stmts) (result : Option Y.LeafType) (x : Spot) →
-    IsReceiving program head body (0 ∷ []) result → is_received (scope_of program ns head body) x ≡ true →
+    (short : Bool) (program : Y.Program) (ns : List ℕ) (head : Y.BlockHead) (body : Y.Stmts)
+    (result : Option Y.LeafType) (x : Spot) → IsReceiving program head body (0 ∷ []) result → is_received (scope_of short program ns head body) x ≡ true →
     (is_place x (record { number = head.number; level = head.level }) ≡ true)
     × (((x.index == 0) && is_parameter_if (declared_variable program (parameter_of x))) ≡ true)
-own_received program ns head body result x is h =
+own_received short program ns head body result x is h =
     let rest = (x.index == 0) && is_parameter_if (declared_variable program (parameter_of x)) in
     let here = is_place x (record { number = head.number; level = head.level }) in
     let some : (list_any (is_place x) (receivers_of program head) && rest) ≡ true = h in
@@ -400,11 +402,11 @@ own_received program ns head body result x is h =
 given_parameters :
     {program : Y.Program} (m : Main program) {input : List ℕ} {acts : ℕ} {valued : Bool} {more b : ℕ} {a : Running}
     {v : Bool} {level number : ℕ} (o : Given m input acts valued more b a v level number) (x : Spot) →
-    is_received (scope_of program m.called o.inner.head o.inner.body) x ≡ true →
+    is_received (scope_of m.short program m.called o.inner.head o.inner.body) x ≡ true →
     IsParameter (block_of_run program input acts v more (run_given o)) x
 given_parameters {program} m {more = more} {v = v} o x h =
     let i = o.inner in
-    let a = own_received program m.called i.head i.body (result_of v) x i.is h in
+    let a = own_received m.short program m.called i.head i.body (result_of v) x i.is h in
     let here = and_parts (x.block == i.head.number) (x.level == i.head.level) a.0 in
     let rest = and_parts (x.index == 0) (is_parameter_if (declared_variable program (parameter_of x))) a.1 in
     let block = eqb-true x.block i.head.number here.0 in

@@ -29,7 +29,7 @@ pub record Inner {program : Y.Program} (m : Main program) (caller : Y.BlockHead)
     pub inside : head.level ≡ suc level
     pub around_it : level ≤ caller.level
     pub alike : stand_alike (environment_for program caller) (environment_for program head) level ≡ true
-    pub statements : are_statements (scope_of program m.called head body) valued (labels_in body ++ []) body ≡ true
+    pub statements : are_statements (scope_of m.short program m.called head body) valued (labels_in body ++ []) body ≡ true
     pub fits : statements_need body ≤ held_registers
     pub waiting : statements_set body ≤ most_waiting
 
@@ -50,26 +50,27 @@ number_found number p (q ∷ qs) e = by ((head_of q.block).number == number) ref
 
 -- one of the numbers of a closed list
 listed_inner :
-    (program : Y.Program) (called : List ℕ) (number : ℕ) (ns : List ℕ) → are_inner program called ns ≡ true →
+    (short : Bool) (program : Y.Program) (called : List ℕ) (number : ℕ) (ns : List ℕ) →
+    are_inner short program called ns ≡ true →
     list_any (λ n. n == number) ns ≡ true →
-    is_inner_if program called (procedure_numbered number program.procedures) ≡ true
-listed_inner program called number [] all h = absurd (cc h)
-listed_inner program called number (n ∷ ns) all h =
-    by (n == number) refl h (λ f. listed_inner program called number ns parts.1 f)
+    is_inner_if short program called (procedure_numbered number program.procedures) ≡ true
+listed_inner short program called number [] all h = absurd (cc h)
+listed_inner short program called number (n ∷ ns) all h =
+    by (n == number) refl h (λ f. listed_inner short program called number ns parts.1 f)
   where
     parts :
-        (is_inner_if program called (procedure_numbered n program.procedures) ≡ true)
-        × (are_inner program called ns ≡ true)
-    parts = and_parts (is_inner_if program called (procedure_numbered n program.procedures))
-        (are_inner program called ns) all
+        (is_inner_if short program called (procedure_numbered n program.procedures) ≡ true)
+        × (are_inner short program called ns ≡ true)
+    parts = and_parts (is_inner_if short program called (procedure_numbered n program.procedures))
+        (are_inner short program called ns) all
 
     by :
         (q : Bool) → (n == number) ≡ q → (q || list_any (λ i. i == number) ns) ≡ true →
         (list_any (λ i. i == number) ns ≡ true →
-        is_inner_if program called (procedure_numbered number program.procedures) ≡ true) →
-        is_inner_if program called (procedure_numbered number program.procedures) ≡ true
+        is_inner_if short program called (procedure_numbered number program.procedures) ≡ true) →
+        is_inner_if short program called (procedure_numbered number program.procedures) ≡ true
     by true e f rest =
-        subst (λ i. is_inner_if program called (procedure_numbered i program.procedures) ≡ true)
+        subst (λ i. is_inner_if short program called (procedure_numbered i program.procedures) ≡ true)
         (eqb-true n number e) parts.0
     by false e f rest = rest f
 
@@ -85,21 +86,21 @@ neither [] h g = cc g
 neither (n ∷ ns) h g = cc h
 
 inner_of :
-    (given : Bool) (program : Y.Program) (called : List ℕ) (p : Y.Procedure) →
+    (short given : Bool) (program : Y.Program) (called : List ℕ) (p : Y.Procedure) →
     has_parameters given p.parameters ≡ true →
-    is_inner program called p ≡ true → is_inner_with given program called p ≡ true
-inner_of given program called p h g =
-    by given h (or_cases (is_inner_with false program called p) (is_inner_with true program called p) g)
+    is_inner short program called p ≡ true → is_inner_with short given program called p ≡ true
+inner_of short given program called p h g =
+    by given h (or_cases (is_inner_with short false program called p) (is_inner_with short true program called p) g)
   where
     rest : Bool → Bool
     rest given' =
         are_own given' (variables_of_block program (head_of p.block).number)
-        && is_body (scope_of program called (head_of p.block) (body_of p.block)) (is_valued p.result) (body_of p.block)
+        && is_body (scope_of short program called (head_of p.block) (body_of p.block)) (is_valued p.result) (body_of p.block)
 
     by :
         (given' : Bool) → has_parameters given' p.parameters ≡ true →
-        (is_inner_with false program called p ≡ true) ⊎ (is_inner_with true program called p ≡ true) →
-        is_inner_with given' program called p ≡ true
+        (is_inner_with short false program called p ≡ true) ⊎ (is_inner_with short true program called p ≡ true) →
+        is_inner_with short given' program called p ≡ true
     by false h' (inl q) = q
     by false h' (inr q) =
         absurd (neither p.parameters h' (and_parts (is_first_alone p.parameters) (rest true) q).0)
@@ -111,7 +112,7 @@ pub inner_is :
     is_callable program m.called caller given valued level number ≡ true → Inner m caller given valued level number
 inner_is {program} m caller given valued level number h =
     by (procedure_numbered number program.procedures) refl parts.1
-    (listed_inner program m.called number m.called m.inners parts.0)
+    (listed_inner m.short program m.called number m.called m.inners parts.0)
   where
     parts :
         (list_any (λ n. n == number) m.called ≡ true)
@@ -121,14 +122,14 @@ inner_is {program} m caller given valued level number h =
 
     by :
         (o : Option Y.Procedure) → procedure_numbered number program.procedures ≡ o →
-        is_declared_if program caller given valued level o ≡ true → is_inner_if program m.called o ≡ true →
+        is_declared_if program caller given valued level o ≡ true → is_inner_if m.short program m.called o ≡ true →
         Inner m caller given valued level number
     by None e f g = absurd (cc f)
     by (Some p) e f g =
         let head = head_of p.block in
         let body = body_of p.block in
         let alike = stand_alike (environment_for program caller) (environment_for program head) level in
-        let s = scope_of program m.called head body in
+        let s = scope_of m.short program m.called head body in
         let a = and_parts (has_parameters given p.parameters)
         (has_result valued p.result && ((head.level == suc level) && (nat_le level caller.level && alike))) f in
         let b = and_parts (has_result valued p.result)
@@ -137,7 +138,7 @@ inner_is {program} m caller given valued level number h =
         let d = and_parts (nat_le level caller.level) alike c.1 in
         let ds = variables_of_block program head.number in
         let i = and_parts (has_parameters given p.parameters)
-        (are_own given ds && is_body s (is_valued p.result) body) (inner_of given program m.called p a.0 g) in
+        (are_own given ds && is_body s (is_valued p.result) body) (inner_of m.short given program m.called p a.0 g) in
         let u = and_parts (are_own given ds) (is_body s (is_valued p.result) body) i.1 in
         let own = subst (λ v. is_body s v body ≡ true) (valued_is valued p.result b.0) u.1 in
         let j = and_parts (are_statements s valued (labels_in body ++ []) body)

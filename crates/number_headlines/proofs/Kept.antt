@@ -1,7 +1,7 @@
 -- The main procedure of a program of the class: each of its statements does what it means, and so it keeps the
 -- headline.
-use Rattle.std.proofs.Common.{◌≡◌, ℕ, ◌+◌, ◌^◌, ◌<◌, List, [], ◌∷◌, ◌++◌, length, None}
-use Rattle.std.proofs.Common.{true, false, refl, sym, ap, ◌∙◌, subst, arith}
+use Rattle.std.proofs.Common.{◌≡◌, ℕ, ◌+◌, ◌<◌, List, [], ◌∷◌, ◌++◌, length, None, true, false, refl, sym, ap, ◌∙◌}
+use Rattle.std.proofs.Common.{subst, arith}
 use Rattle.std.specs.List.{list_any}
 use Rattle.std.proofs.lemmas.Bool.{and_parts}
 use Rattle.pli_typing.specs.TypedTree as Y
@@ -10,8 +10,7 @@ use Rattle.pli_meaning.specs.DeclaredShapes.{declared_variable, variables_of_blo
 use Rattle.pli_meaning.specs.Executing.{labels_in}
 use Rattle.pli_meaning.specs.Making.{with_binding}
 use Rattle.pli_meaning.specs.Pictures.{first_bytes}
-use Rattle.pli_meaning.specs.StorageState.{Activation, Binding, ancestor, height_of, most_activations}
-use Rattle.pli_meaning.specs.StorageState.{newest_height}
+use Rattle.pli_meaning.specs.StorageState.{Activation, Binding, ancestor, height_of, most_activations, newest_height}
 use Rattle.pli_coding.specs.Environments.{block_around}
 use Rattle.pli_coding.specs.Frames.{fixed_size}
 use Rattle.pli_coding.specs.Images.{linked_code, picture_of}
@@ -39,24 +38,25 @@ use Rattle.variable_runs.specs.Lists.{all_made, behind_made, layer_after, layer_
 use Rattle.variable_runs.proofs.Lists.{all_procedure}
 use Rattle.pli_headline.specs.Headline.{FitsMemory, Headline, parts}
 use Rattle.block_headlines.proofs.Constants.{constants_stand}
-use Rattle.block_headlines.specs.Headlines.{HeadlinesKept, Layout, Runs}
+use Rattle.block_headlines.specs.Headlines.{HeadlinesKept, Layout, RunsWithin, ShortHeadlinesKept}
 use Rattle.nested_calls.specs.Nested.{IsNested}
 use Rattle.number_runs.specs.Arrays.{bounds_if, is_array_if}
 use Rattle.number_runs.specs.Narrow.{is_narrow_if, type_if}
 use Rattle.number_runs.specs.Numbers.{is_array_known, is_known, is_narrow_known, is_place, is_plain_if}
 use Rattle.number_runs.specs.Variables.{words_in}
 use Rattle.number_runs.proofs.Words.{room_behind}
-use Rattle.number_headlines.specs.Headlines.{IsNumberProgram}
-use Rattle.number_headlines.specs.Programs.{are_all_known, has_main, places_to, scope_of, serials_for}
+use Rattle.pli_headline.specs.Within.{HeadlineWithin}
+use Rattle.number_headlines.specs.Headlines.{IsGivenProgram, IsNumberProgram}
+use Rattle.number_headlines.specs.Programs.{are_all_known, has_main, places_to, scope_of, serials_for, short_limit}
 use Rattle.number_headlines.proofs.Bodies.{each_body}
 use Rattle.number_headlines.proofs.Entered.{made_idle, none_received}
 use Rattle.number_headlines.proofs.FullWords.{words_at, words_count, words_lower}
-use Rattle.number_headlines.proofs.Mains.{Main, block_for, level_of, made_for, made_system, main_all, main_begun}
-use Rattle.number_headlines.proofs.Loops.{after_waits, after_words}
-use Rattle.number_headlines.proofs.Mains.{main_array, main_narrow, main_for}
-use Rattle.number_headlines.proofs.Mains.{main_is, main_layer, main_number, main_room, main_spare, main_told, own_words}
-use Rattle.number_headlines.proofs.Mains.{placed, run_for}
+use Rattle.number_headlines.proofs.Mains.{few_acts, limit_by, limit_low, Main, block_for, level_of, made_for}
+use Rattle.number_headlines.proofs.Mains.{made_system, main_all, main_begun, main_array, main_narrow, main_for, main_is}
+use Rattle.number_headlines.proofs.Mains.{main_layer, main_number, main_room, main_spare, main_told, own_words, placed}
+use Rattle.number_headlines.proofs.Mains.{run_for}
 use Rattle.number_headlines.proofs.Mains.{spare, start_for, surroundings_for}
+use Rattle.number_headlines.proofs.Loops.{after_waits, after_words}
 use Rattle.number_headlines.proofs.Places.{around_is}
 use Rattle.number_headlines.proofs.Running.{IsEntered, Running, run_of, table_later}
 use Rattle.number_headlines.proofs.Tables.{has_start, has_table, plain_block}
@@ -141,7 +141,7 @@ main_owns {program} m x h =
 
 main_variable :
     {program : Y.Program} (m : Main program) (input : List ℕ) (acts : ℕ) → IsBegun (block_for m input acts) →
-    (x : Spot) → is_known (scope_of program m.called m.head m.body) x ≡ true → IsNumber (block_for m input acts) x
+    (x : Spot) → is_known (scope_of m.short program m.called m.head m.body) x ≡ true → IsNumber (block_for m input acts) x
 main_variable {program} m input acts b x h =
     let plain = is_plain_if (declared_variable program (variable_of x)) in
     let a = and_parts (list_any (is_place x) (places_to (environment_for program m.head) m.head.level)) plain h in
@@ -150,7 +150,7 @@ main_variable {program} m input acts b x h =
 
 main_element :
     {program : Y.Program} (m : Main program) (input : List ℕ) (acts : ℕ) → IsBegun (block_for m input acts) →
-    (x : Spot) → is_array_known (scope_of program m.called m.head m.body) x ≡ true →
+    (x : Spot) → is_array_known (scope_of m.short program m.called m.head m.body) x ≡ true →
     IsArray (block_for m input acts) x (bounds_if (declared_variable program (variable_of x)))
 main_element {program} m input acts b x h =
     let array = is_array_if (declared_variable program (variable_of x)) in
@@ -160,7 +160,7 @@ main_element {program} m input acts b x h =
 
 main_scalar :
     {program : Y.Program} (m : Main program) (input : List ℕ) (acts : ℕ) → IsBegun (block_for m input acts) →
-    (x : Spot) → is_narrow_known (scope_of program m.called m.head m.body) x ≡ true →
+    (x : Spot) → is_narrow_known (scope_of m.short program m.called m.head m.body) x ≡ true →
     IsScalar (block_for m input acts) x (type_if (declared_variable program (variable_of x)))
 main_scalar {program} m input acts b x h =
     let narrow = is_narrow_if (declared_variable program (variable_of x)) in
@@ -215,7 +215,7 @@ main_running once {program} m input acts b =
         variables = λ x h. main_variable m input acts b x h;
         arrays = λ x h. main_element m input acts b x h;
         narrows = λ x h. main_scalar m input acts b x h;
-        parameters = λ x h. absurd (none_received program m.called m.head m.body None x found h);
+        parameters = λ x h. absurd (none_received m.short program m.called m.head m.body None x found h);
         unraised = λ c. made_system image_parts _ xs _ c tt;
         idle = made_idle φ xs start;
         told = main_told m input acts b;
@@ -237,7 +237,7 @@ main_running once {program} m input acts b =
     }
 
 main_each :
-    MarkedOnce → {program : Y.Program} (m : Main program) (input : List ℕ) (acts : ℕ) → acts + 1 < 2 ^ 64 →
+    MarkedOnce → {program : Y.Program} (m : Main program) (input : List ℕ) (acts : ℕ) → acts + 1 < limit_by m.short →
     IsBegun (block_for m input acts) →
     EachDoes (block_for m input acts) (labels_in m.body ++ []) m.body (body_for program m.head m.body) left_over
 main_each once {program} m input acts few b =
@@ -263,14 +263,14 @@ layout_for {program} m =
 
 program_runs :
     MarkedOnce → TableDiffers → {program : Y.Program} (m : Main program) → FitsMemory (picture_of parts program) →
-    Runs program (layout_for m)
+    RunsWithin (limit_by m.short) program (layout_for m)
 program_runs once tables {program} m fits =
     record {
       whole = λ input acts few.
           whole_stands once tables program (placed m) (run_for program input acts) (made_for program m.head)
           (first_bytes (picture_of parts program)) m.loadable (has_start program m.known) m.main
           (first_length (picture_of parts program) m.loadable.fits fits.statics_fit)
-          (constants_stand (code_for program) fits) few
+          (constants_stand (code_for program) fits) (few_acts m.short acts few)
           (all_procedure (surroundings_for program input acts) (linked_code (code_for program))
           (main_for m input acts)
           (start_for program input acts) no_numbers (words_in (environment_for program m.head))
@@ -284,7 +284,19 @@ pub headline_kept :
     FitsMemory (picture_of parts program) →
     Headline program (picture_of parts program) (table_of program)
 headline_kept once tables kept program h fits =
-    let a = and_parts (are_all_known program.variables) (has_main program program.procedures) h.numbers in
+    let a = and_parts (are_all_known program.variables) (has_main false program program.procedures) h.numbers in
     let load : IsLoadable program = record { well_formed = h.well_formed; fits = fits.code_fits } in
-    let m = main_is program program.procedures refl a.0 load fits a.1 in
-    kept program (layout_for m) (program_runs once tables m fits)
+    let m = main_is false program program.procedures refl a.0 load fits a.1 in
+    kept program (layout_for m.is) (subst (λ q. RunsWithin (limit_by q) program (layout_for m.is)) m.same
+    (program_runs once tables m.is fits))
+
+pub short_headline_kept :
+    MarkedOnce → TableDiffers → ShortHeadlinesKept → (program : Y.Program) → IsGivenProgram program →
+    FitsMemory (picture_of parts program) →
+    HeadlineWithin short_limit program (picture_of parts program) (table_of program)
+short_headline_kept once tables kept program h fits =
+    let a = and_parts (are_all_known program.variables) (has_main true program program.procedures) h.numbers in
+    let load : IsLoadable program = record { well_formed = h.well_formed; fits = fits.code_fits } in
+    let m = main_is true program program.procedures refl a.0 load fits a.1 in
+    kept short_limit program (layout_for m.is) (subst (λ q. RunsWithin (limit_by q) program (layout_for m.is)) m.same
+    (program_runs once tables m.is fits)) (limit_low true)

@@ -22,3 +22,4 @@ pub mod PutRows
 pub mod ArrayRows
 pub mod GivenRows
 pub mod FlagRows
+pub mod SumRows

@@ -1,7 +1,7 @@
 -- The main procedure of a program of the class where it begins: its variables are made, and there is room for more.
-use Rattle.std.proofs.Common.{◌≡◌, ℕ, ◌+◌, ◌*◌, ◌≤◌, List, [], ◌∷◌, ◌++◌, Option, None, Some, true, false, length, refl}
-use Rattle.std.proofs.Common.{sym, ap, ◌∙◌, subst, arith}
-use Rattle.std.specs.Prelude.{◌&&◌, Bool, nat_le}
+use Rattle.std.proofs.Common.{◌^◌, ◌<◌, ◌≡◌, ℕ, ◌+◌, ◌*◌, ◌≤◌, List, [], ◌∷◌, ◌++◌, Option, None, Some, true, false}
+use Rattle.std.proofs.Common.{length, refl, sym, ap, ◌∙◌, subst, arith}
+use Rattle.std.specs.Prelude.{◌&&◌, ◌||◌, Bool, nat_le, if◌then◌else◌}
 use Rattle.std.proofs.lemmas.Bool.{and_parts, eqb-true, leb-true}
 use Rattle.pli_language.specs.declared.condition.Condition.{Condition}
 use Rattle.pli_typing.specs.TypedTree as Y
@@ -44,7 +44,8 @@ use Rattle.number_runs.proofs.Takes.{plain_known, words_set}
 use Rattle.number_runs.proofs.Words.{all_words, own_array, own_narrow, own_word, room_fewer}
 use Rattle.number_runs.proofs.Variables.{fixed_is}
 use Rattle.number_headlines.specs.Programs.{are_all_known, are_inner, body_of, callable_ones, has_main, has_parameters}
-use Rattle.number_headlines.specs.Programs.{has_result, is_body, most_bytes, most_waiting, scope_of, serials_for}
+use Rattle.number_headlines.specs.Programs.{are_single, has_result, is_body, most_bytes, most_waiting, most_words}
+use Rattle.number_headlines.specs.Programs.{scope_of, serials_for, short_limit}
 use Rattle.number_headlines.proofs.Tables.{has_table, plain_block, serials_enough}
 
 -- ---- no unit comes with variables
@@ -124,6 +125,8 @@ procedure_is valued p h g = received_is false valued p h g
 
 -- its program, with what the class says of it
 pub record Main (program : Y.Program) : Type 0 where
+  -- whether calls may have arguments in short runs alone
+  pub short : Bool
   pub head : Y.BlockHead
   pub body : Y.Stmts
   pub others : List Y.Procedure
@@ -134,27 +137,31 @@ pub record Main (program : Y.Program) : Type 0 where
   pub memory : FitsMemory (picture_of parts program)
   -- the numbers of the procedures that it calls, and that they call
   pub called : List ℕ
-  pub statements : are_statements (scope_of program called head body) false (labels_in body ++ []) body ≡ true
+  pub statements : are_statements (scope_of short program called head body) false (labels_in body ++ []) body ≡ true
   pub fits : statements_need body ≤ held_registers
   pub waiting : statements_set body ≤ most_waiting
-  pub inners : are_inner program called called ≡ true
+  pub inners : are_inner short program called called ≡ true
 
 -- as it is placed
 abbrev pub placed : {program : Y.Program} → Main program → Placed.Main
 placed m = record { head = m.head; body = m.body; others = m.others }
 
+pub record MainOf (short : Bool) (program : Y.Program) : Type 0 where
+  pub is : Main program
+  pub same : is.short ≡ short
+
 pub main_is :
-    (program : Y.Program) (ps : List Y.Procedure) → program.procedures ≡ ps →
+    (short : Bool) (program : Y.Program) (ps : List Y.Procedure) → program.procedures ≡ ps →
     are_all_known program.variables ≡ true → IsLoadable program → FitsMemory (picture_of parts program) →
-    has_main program ps ≡ true → Main program
-main_is program [] e known load fits h = absurd (cc h)
-main_is program (p ∷ ps) e known load fits h =
+    has_main short program ps ≡ true → MainOf short program
+main_is short program [] e known load fits h = absurd (cc h)
+main_is short program (p ∷ ps) e known load fits h =
     let head = head_of p.block in
     let body = body_of p.block in
-    let called = callable_ones program in
-    let s = scope_of program called head body in
+    let called = callable_ones short program in
+    let s = scope_of short program called head body in
     let plain = are_plain (variables_of_block program head.number) in
-    let all = are_inner program called called in
+    let all = are_inner short program called called in
     let a = and_parts (has_none p.parameters) (has_result false p.result && (plain && (is_body s false body && all))) h
     in
     let b = and_parts (has_result false p.result) (plain && (is_body s false body && all)) a.1 in
@@ -164,22 +171,52 @@ main_is program (p ∷ ps) e known load fits h =
     (nat_le (statements_need body) held_registers && nat_le (statements_set body) most_waiting) c.0 in
     let g = and_parts (nat_le (statements_need body) held_registers) (nat_le (statements_set body) most_waiting) f.1 in
     record {
-      head = head;
-      body = body;
-      others = ps;
-      main = e ∙ ap (λ x. x ∷ ps) (procedure_is false p a.0 b.0);
-      known = known;
-      own = d.0;
-      loadable = load;
-      memory = fits;
-      called = called;
-      statements = f.0;
-      fits = leb-true (statements_need body) held_registers g.0;
-      waiting = leb-true (statements_set body) most_waiting g.1;
-      inners = c.1;
+      same = refl;
+      is = record {
+        short = short;
+        head = head;
+        body = body;
+        others = ps;
+        main = e ∙ ap (λ x. x ∷ ps) (procedure_is false p a.0 b.0);
+        known = known;
+        own = d.0;
+        loadable = load;
+        memory = fits;
+        called = called;
+        statements = f.0;
+        fits = leb-true (statements_need body) held_registers g.0;
+        waiting = leb-true (statements_set body) most_waiting g.1;
+        inners = c.1;
+      };
     }
 
 -- ---- in a run
+
+-- of fewer acts than that
+abbrev pub limit_by : (short : Bool) → ℕ
+limit_by false = 2 ^ 64
+limit_by true = short_limit
+
+pub limit_low : (short : Bool) → (1 < limit_by short) × (limit_by short ≤ 2 ^ 64)
+limit_low false = (omega arith, omega arith)
+limit_low true = (omega arith, omega arith)
+
+pub few_acts : (short : Bool) (acts : ℕ) → acts + 1 < limit_by short → acts + 1 < 2 ^ 64
+few_acts short acts few = let low = (limit_low short).1 in omega (arith, few, low)
+
+-- then serial numbers have 8 bytes
+pub few_serials :
+    (short : Bool) (program : Y.Program) (acts : ℕ) → (short || are_single program.variables) ≡ true →
+    acts + 1 < limit_by short → serials_for program * acts + 1 < 2 ^ 64
+few_serials short program acts may few = by short (are_single program.variables) may few
+  where
+    by :
+        (q r : Bool) → (q || r) ≡ true → acts + 1 < limit_by q →
+        (if r then 1 else most_words) * acts + 1 < 2 ^ 64
+    by false false may' few' = absurd (cc may')
+    by false true may' few' = omega (arith, few')
+    by true false may' few' = omega (arith, few')
+    by true true may' few' = omega (arith, few')
 
 abbrev pub run_for : Y.Program → (input : List ℕ) → (acts : ℕ) → Run
 run_for program input acts = record { units = []; input = input; acts = acts; serials = serials_for program }
@@ -204,7 +241,7 @@ pub own_words :
     {program : Y.Program} (m : Main program) → (procedure_for program m.head m.body).words ≡ statements_set m.body
 own_words {program} m =
     let plain = plain_block program.variables m.head.number m.known m.own in
-    words_set (scope_of program m.called m.head m.body) false (environment_for program m.head) m.head.number m.body
+    words_set (scope_of m.short program m.called m.head m.body) false (environment_for program m.head) m.head.number m.body
     (plain_known (variables_of_block program m.head.number) plain.plain) m.statements m.fits
 
 parented : (level parent : ℕ) → level ≡ 0 → HasParent level parent []

@@ -167,25 +167,25 @@ pub record IsRunning {program : Y.Program} (m : Main program) (input : List ℕ)
         Placed (links_for program) (linked_code (code_for program)) a.index
         (stmts_code (environment_for program a.head) none_taken a.body)
     pub statements :
-        are_statements (scope_of program m.called a.head a.body) valued (labels_in a.body ++ []) a.body ≡ true
+        are_statements (scope_of m.short program m.called a.head a.body) valued (labels_in a.body ++ []) a.body ≡ true
     pub fits : statements_need a.body ≤ held_registers
     pub waiting : statements_set a.body ≤ most_waiting
     pub begun : IsBegun (block_of_run program input acts valued more a)
     pub enough : acts < more + (block_of_run program input acts valued more a).first.state.world.acts
     pub nested : IsNested (block_of_run program input acts valued more a)
     pub variables :
-        (x : Spot) → is_known (scope_of program m.called a.head a.body) x ≡ true →
+        (x : Spot) → is_known (scope_of m.short program m.called a.head a.body) x ≡ true →
         IsNumber (block_of_run program input acts valued more a) x
     pub arrays :
-        (x : Spot) → is_array_known (scope_of program m.called a.head a.body) x ≡ true →
+        (x : Spot) → is_array_known (scope_of m.short program m.called a.head a.body) x ≡ true →
         IsArray (block_of_run program input acts valued more a) x
-        (bounds_known (scope_of program m.called a.head a.body) x)
+        (bounds_known (scope_of m.short program m.called a.head a.body) x)
     pub narrows :
-        (x : Spot) → is_narrow_known (scope_of program m.called a.head a.body) x ≡ true →
+        (x : Spot) → is_narrow_known (scope_of m.short program m.called a.head a.body) x ≡ true →
         IsScalar (block_of_run program input acts valued more a) x
-        (type_known (scope_of program m.called a.head a.body) x)
+        (type_known (scope_of m.short program m.called a.head a.body) x)
     pub parameters :
-        (x : Spot) → is_received (scope_of program m.called a.head a.body) x ≡ true →
+        (x : Spot) → is_received (scope_of m.short program m.called a.head a.body) x ≡ true →
         IsParameter (block_of_run program input acts valued more a) x
     pub unraised :
         (c : Condition) → IsSystem (force (block_of_run program input acts valued more a).first.state.activations c)
@@ -215,8 +215,8 @@ EachBody {program} m input acts more =
 abbrev pub EachGiven : {program : Y.Program} → Main program → (input : List ℕ) → (acts : ℕ) → (valued : Bool) →
     (more : ℕ) → Running → Type 0
 EachGiven {program} m input acts valued more a =
-    (scope_of program m.called a.head a.body).gives ≡ true →
-    KnowsGivenCalls (scope_of program m.called a.head a.body) (block_of_run program input acts valued more a)
+    (scope_of m.short program m.called a.head a.body).gives ≡ true →
+    KnowsGivenCalls (scope_of m.short program m.called a.head a.body) (block_of_run program input acts valued more a)
     (labels_in a.body ++ []) (most_for program) left_over
 
 -- at each of its points there is as much room
@@ -284,10 +284,10 @@ told_running {program} {m} {input} {acts} {valued} {more} {a} {blocks} h waits =
       nested = record { own = h.nested.own; few = h.nested.few; some = h.nested.some; same = h.nested.same };
       variables = λ x is. number_told k φ φs waits free.newest x (h.variables x is);
       arrays = λ x is.
-          array_told k φ φs waits free.newest x (bounds_known (scope_of program m.called a.head a.body) x)
+          array_told k φ φs waits free.newest x (bounds_known (scope_of m.short program m.called a.head a.body) x)
           (h.arrays x is);
       narrows = λ x is.
-          narrow_told k φ φs waits free.newest x (type_known (scope_of program m.called a.head a.body) x)
+          narrow_told k φ φs waits free.newest x (type_known (scope_of m.short program m.called a.head a.body) x)
           (h.narrows x is);
       parameters = λ x is. parameter_told k φ φs waits free.newest x (h.parameters x is);
       unraised = h.unraised;

@@ -1,7 +1,7 @@
 -- The table of a program whose variables are all FIXED BINARY(31), scalars and arrays, and parameters: each signature
 -- is there once, and its number leads to it.
 use Rattle.std.proofs.Common.{◌≡◌, ◌⊎◌, inl, inr, ℕ, zero, suc, ◌*◌, ◌<◌, ◌≤◌, List, [], ◌∷◌, ◌++◌, length, Bool}
-use Rattle.std.proofs.Common.{true, false, map, refl, sym, ap, subst, arith, rules}
+use Rattle.std.proofs.Common.{true, false, map, refl, sym, subst, arith, rules}
 use Rattle.std.specs.Prelude.{◌&&◌, ◌||◌, nat_le, nat_lt, slice_get, unwrap_or, if◌then◌else◌}
 use Rattle.std.specs.List.{flat_map}
 use Rattle.std.proofs.lemmas.Bool.{and_from, and_parts, leb-true, ltb-true, or_cases}
@@ -154,8 +154,12 @@ serials_enough program n h = by (are_single program.variables) refl
     by true e = single_by program.variables n e
     by false e = (block_known program.variables n h).few
 
-pub one_serial : (program : Y.Program) → are_single program.variables ≡ true → serials_for program ≡ 1
-one_serial program e = ap (λ q. if q then 1 else most_words) e
+pub some_serials : (program : Y.Program) → 1 ≤ serials_for program
+some_serials program = by (are_single program.variables)
+  where
+    by : (q : Bool) → 1 ≤ (if q then 1 else most_words)
+    by true = omega arith
+    by false = omega arith
 
 -- ---- the table
 

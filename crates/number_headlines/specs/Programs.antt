@@ -139,9 +139,9 @@ is_callable program ns caller given valued level number =
     && is_declared_if program caller given valued level (procedure_numbered number program.procedures)
 
 -- a block may name its own variables and parameter, and the variables of the blocks around it, and call these, with an
--- argument where its frame has words for the list, and serial numbers have 8 bytes
-abbrev pub scope_of : Y.Program → List ℕ → Y.BlockHead → Y.Stmts → Scope
-scope_of program ns head body =
+-- argument where its frame has words for the list, and serial numbers have 8 bytes: in short runs they do
+abbrev pub scope_of : (short : Bool) → Y.Program → List ℕ → Y.BlockHead → Y.Stmts → Scope
+scope_of short program ns head body =
     record {
       program = program;
       level = head.level;
@@ -149,7 +149,7 @@ scope_of program ns head body =
       receivers = receivers_of program head;
       is_function = is_callable program ns head false true;
       is_procedure = is_callable program ns head false false;
-      gives = are_single program.variables && nat_le list_sets (statements_set body);
+      gives = (short || are_single program.variables) && nat_le list_sets (statements_set body);
       is_given_function = is_callable program ns head true true;
       is_given_procedure = is_callable program ns head true false;
       counts = true;
@@ -163,24 +163,24 @@ scope_of program ns head body =
     }
 
 -- with a parameter or without
-abbrev pub is_inner_with : (given : Bool) → Y.Program → List ℕ → Y.Procedure → Bool
-is_inner_with given program ns p =
+abbrev pub is_inner_with : (short given : Bool) → Y.Program → List ℕ → Y.Procedure → Bool
+is_inner_with short given program ns p =
     has_parameters given p.parameters
     && (are_own given (variables_of_block program (head_of p.block).number)
-    && is_body (scope_of program ns (head_of p.block) (body_of p.block)) (is_valued p.result) (body_of p.block))
+    && is_body (scope_of short program ns (head_of p.block) (body_of p.block)) (is_valued p.result) (body_of p.block))
 
-abbrev pub is_inner : Y.Program → List ℕ → Y.Procedure → Bool
-is_inner program ns p = is_inner_with false program ns p || is_inner_with true program ns p
+abbrev pub is_inner : (short : Bool) → Y.Program → List ℕ → Y.Procedure → Bool
+is_inner short program ns p = is_inner_with short false program ns p || is_inner_with short true program ns p
 
-abbrev pub is_inner_if : Y.Program → List ℕ → Option Y.Procedure → Bool
-is_inner_if program ns None = false
-is_inner_if program ns (Some p) = is_inner program ns p
+abbrev pub is_inner_if : (short : Bool) → Y.Program → List ℕ → Option Y.Procedure → Bool
+is_inner_if short program ns None = false
+is_inner_if short program ns (Some p) = is_inner short program ns p
 
 -- each of these numbers finds one that calls those
-abbrev pub are_inner : Y.Program → (called : List ℕ) → List ℕ → Bool
-are_inner program called [] = true
-are_inner program called (n ∷ ns) =
-    is_inner_if program called (procedure_numbered n program.procedures) && are_inner program called ns
+abbrev pub are_inner : (short : Bool) → Y.Program → (called : List ℕ) → List ℕ → Bool
+are_inner short program called [] = true
+are_inner short program called (n ∷ ns) =
+    is_inner_if short program called (procedure_numbered n program.procedures) && are_inner short program called ns
 
 -- ---- programs
 
@@ -189,32 +189,41 @@ numbers_of [] = []
 numbers_of (p ∷ ps) = (head_of p.block).number ∷ numbers_of ps
 
 -- those that call only these
-abbrev pub kept_of : Y.Program → List ℕ → List Y.Procedure → List ℕ
-kept_of program ns [] = []
-kept_of program ns (p ∷ ps) =
-    if is_inner program ns p then (head_of p.block).number ∷ kept_of program ns ps else kept_of program ns ps
+abbrev pub kept_of : (short : Bool) → Y.Program → List ℕ → List Y.Procedure → List ℕ
+kept_of short program ns [] = []
+kept_of short program ns (p ∷ ps) =
+    if is_inner short program ns p then (head_of p.block).number ∷ kept_of short program ns ps
+    else kept_of short program ns ps
 
 -- after as many rounds as there are procedures, those that call only one another
-abbrev pub closed_of : Y.Program → (rounds : ℕ) → List ℕ → List ℕ
-closed_of program zero ns = ns
-closed_of program (suc rounds) ns = closed_of program rounds (kept_of program ns program.procedures)
+abbrev pub closed_of : (short : Bool) → Y.Program → (rounds : ℕ) → List ℕ → List ℕ
+closed_of short program zero ns = ns
+closed_of short program (suc rounds) ns = closed_of short program rounds (kept_of short program ns program.procedures)
 
-abbrev pub callable_ones : Y.Program → List ℕ
-callable_ones program = closed_of program (length program.procedures) (numbers_of program.procedures)
+abbrev pub callable_ones : (short : Bool) → Y.Program → List ℕ
+callable_ones short program = closed_of short program (length program.procedures) (numbers_of program.procedures)
 
 -- the main procedure calls these, which call one another and themselves
-abbrev pub is_main : Y.Program → (called : List ℕ) → Y.Procedure → Bool
-is_main program called p =
+abbrev pub is_main : (short : Bool) → Y.Program → (called : List ℕ) → Y.Procedure → Bool
+is_main short program called p =
     has_none p.parameters
     && (has_result false p.result
     && (are_plain (variables_of_block program (head_of p.block).number)
-    && (is_body (scope_of program called (head_of p.block) (body_of p.block)) false (body_of p.block)
-    && are_inner program called called)))
+    && (is_body (scope_of short program called (head_of p.block) (body_of p.block)) false (body_of p.block)
+    && are_inner short program called called)))
 
 -- the first one is the main procedure; what isn't called may be any
-abbrev pub has_main : Y.Program → List Y.Procedure → Bool
-has_main program [] = false
-has_main program (p ∷ ps) = is_main program (callable_ones program) p
+abbrev pub has_main : (short : Bool) → Y.Program → List Y.Procedure → Bool
+has_main short program [] = false
+has_main short program (p ∷ ps) = is_main short program (callable_ones short program) p
 
 abbrev pub is_number_program : Y.Program → Bool
-is_number_program program = are_all_known program.variables && has_main program program.procedures
+is_number_program program = are_all_known program.variables && has_main false program program.procedures
+
+-- where calls may have arguments whatever variables there are, in short runs
+abbrev pub is_given_program : Y.Program → Bool
+is_given_program program = are_all_known program.variables && has_main true program program.procedures
+
+-- of fewer instructions than that
+abbrev pub short_limit : ℕ
+short_limit = 2 ^ 51

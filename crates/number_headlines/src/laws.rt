@@ -5,12 +5,13 @@ ghost use Rattle.number_headlines.specs.CallRows.{CallingKept};
 ghost use Rattle.number_headlines.specs.CountRows.{CountingKept};
 ghost use Rattle.number_headlines.specs.FlagRows.{FlagKept};
 ghost use Rattle.number_headlines.specs.GivenRows.{FactKept};
-ghost use Rattle.number_headlines.specs.Headlines.{NumberHeadlinesKept};
+ghost use Rattle.number_headlines.specs.Headlines.{GivenHeadlinesKept, NumberHeadlinesKept};
 ghost use Rattle.number_headlines.specs.NestRows.{NestKept};
 ghost use Rattle.number_headlines.specs.PutRows.{SquaresKept};
 ghost use Rattle.number_headlines.specs.Rows.{TotalKept};
+ghost use Rattle.number_headlines.specs.SumRows.{SumKept};
 
-use block_headlines::laws::headlines_kept;
+use block_headlines::laws::{headlines_kept, short_headlines_kept};
 use code_marks::laws::marked_once;
 use storage_relation::laws::table_differs;
 
@@ -21,6 +22,15 @@ pub fn number_headlines_kept()
     marked_once();
     table_differs();
     headlines_kept();
+}
+
+/// Each with arguments does for runs of fewer than 2^51 instructions, whatever variables its blocks have.
+pub fn given_headlines_kept()
+    ensures { GivenHeadlinesKept }
+{
+    marked_once();
+    table_differs();
+    short_headlines_kept();
 }
 
 /// A worked row: a loop with a choice, a program of the class.
@@ -77,4 +87,11 @@ pub fn flag_kept()
     ensures { FlagKept }
 {
     number_headlines_kept();
+}
+
+/// A worked row with two variables beside a function with a parameter, for short runs.
+pub fn sum_kept()
+    ensures { SumKept }
+{
+    given_headlines_kept();
 }

@@ -17,6 +17,7 @@ use Rattle.pli_meaning.specs.Pictures.{Picture, first_machine}
 use Rattle.image_runs.specs.Runs.{Whole, Run, Runs, Ended, Stopped, shown_by}
 use Rattle.run_steps.specs.Unlimited.{next, run_on}
 use Rattle.run_steps.proofs.Unlimited.{same_runs}
+use Rattle.pli_headline.specs.Within.{HeadlineWithin}
 use Rattle.pli_headline.specs.Headline.{Keeps, Headline}
 use Rattle.run_steps.specs.Engine.{Base, at_base}
 use Rattle.run_steps.proofs.Engine.{run_on-add, run_on-ended, run_on-stopped}
@@ -53,9 +54,10 @@ from_flow laws image signatures program input k (Paused s) e c =
     pauses c.to.0 m ((laws.allowed program input k c.to.0.world m).1 c.to.2.running) c.to.2.running c.to.2
 from_flow laws image signatures program input k Stuck e c = absurd c.to
 
--- a program whose code is proved to do what it means
-pub record Works (image : Picture) (signatures : List TableSignature) (program : Program) : Type 0 where
-  pub comes : (input : List ℕ) (k : ℕ) → k + 1 < 2 ^ 64 → Comes_at image signatures program input k
+-- a program whose code is proved to do what it means, for fewer acts than a limit
+pub record WorksWithin (limit : ℕ) (image : Picture) (signatures : List TableSignature) (program : Program) : Type 0 where
+  pub some : 1 < limit
+  pub comes : (input : List ℕ) (k : ℕ) → k + 1 < limit → Comes_at image signatures program input k
   pub first : (input : List ℕ) (b : Base) → (w : Whole) × (next (at_base image.code b) (first_family image signatures input b) ≡ Runs w) × (w.services ≡ first_services signatures input)
 
 -- ---- one run against another length of it
@@ -63,7 +65,7 @@ pub record Works (image : Picture) (signatures : List TableSignature) (program :
 one_less : (n : ℕ) → suc n - n ≡ 1
 one_less n = omega arith
 
-module _ (image : Picture) (signatures : List TableSignature) (program : Program) (input : List ℕ) (works : Works image signatures program) (b : Base) where
+module _ {limit : ℕ} (image : Picture) (signatures : List TableSignature) (program : Program) (input : List ℕ) (works : WorksWithin limit image signatures program) (b : Base) where
   start : Whole
   start = first_family image signatures input b
 
@@ -138,7 +140,7 @@ module _ (image : Picture) (signatures : List TableSignature) (program : Program
   world_of u v e = ap (λ (x : Services). x.world) (sym e)
 
   -- a run that goes on
-  running : (n : ℕ) (u : Whole) → n < 2 ^ 64 → after n ≡ Runs u → Result n u.services.world
+  running : (n : ℕ) (u : Whole) → n < limit → after n ≡ Runs u → Result n u.services.world
   unfolding after start
   running n u bound e = by_few (few_runs n u e)
     where
@@ -175,10 +177,10 @@ module _ (image : Picture) (signatures : List TableSignature) (program : Program
 
       by_few : (suc u.services.world.acts ≤ n) ⊎ ((n ≡ 0) × (u.services.world.acts ≡ 0)) → Result n u.services.world
       by_few (inl h) = by_comes (works.comes input u.services.world.acts (omega (arith, h, bound)))
-      by_few (inr h) = by_comes (works.comes input u.services.world.acts (let z = h.1 in omega (arith, z)))
+      by_few (inr h) = by_comes (works.comes input u.services.world.acts (let z = h.1 in let some = works.some in omega (arith, z, some)))
 
   -- a run that has ended
-  ended : (n : ℕ) (u : Whole) → n < 2 ^ 64 → after n ≡ Ended u → Result n u.services.world
+  ended : (n : ℕ) (u : Whole) → n < limit → after n ≡ Ended u → Result n u.services.world
   unfolding after start
   ended n u bound e = by_comes (works.comes input u.services.world.acts (let h = few_ended n u e in omega (arith, h, bound)))
     where
@@ -212,7 +214,7 @@ module _ (image : Picture) (signatures : List TableSignature) (program : Program
       by_comes (ends v m a r p) = by_end v m r p (cases_lt n p.count)
 
   -- no run stops at a fault
-  never_stops : (n : ℕ) (fault : Fault) → n < 2 ^ 64 → after n ≡ Stopped fault → ⊥
+  never_stops : (n : ℕ) (fault : Fault) → n < limit → after n ≡ Stopped fault → ⊥
   unfolding after run_on start
   never_stops zero fault bound e = cc e
   never_stops (suc m) fault bound e = by_comes (works.comes input m (omega (arith, bound)))
@@ -239,12 +241,12 @@ module _ (image : Picture) (signatures : List TableSignature) (program : Program
       by_comes (ends v q a r p) = by_end v p (cases_lt (suc m) p.count)
 
   -- what a run of n instructions comes to
-  result_by : (n : ℕ) (r : Run) → n < 2 ^ 64 → after n ≡ r → (w : World) × Result n w
+  result_by : (n : ℕ) (r : Run) → n < limit → after n ≡ r → (w : World) × Result n w
   result_by n (Runs u) bound e = (u.services.world, running n u bound e)
   result_by n (Ended u) bound e = (u.services.world, ended n u bound e)
   result_by n (Stopped fault) bound e = absurd (never_stops n fault bound e)
 
-  result : (n : ℕ) → n < 2 ^ 64 → (w : World) × Result n w
+  result : (n : ℕ) → n < limit → (w : World) × Result n w
   result n bound = result_by n (after n) bound refl
 
 -- ---- the promise
@@ -269,7 +271,7 @@ quotient_below n c k p h =
     let g : n / c < k + 1 = (div-lt_iff_lt-mul p).1 f in
     omega (arith, g)
 
-worked : (image : Picture) (signatures : List TableSignature) (program : Program) (input : List ℕ) (works : Works image signatures program) (b : Base) (n : ℕ) (w : World) → Result image signatures program input works b n w → w.end ≡ E.Running → n / cost image.code ≤ w.acts
+worked : {limit : ℕ} (image : Picture) (signatures : List TableSignature) (program : Program) (input : List ℕ) (works : WorksWithin limit image signatures program) (b : Base) (n : ℕ) (w : World) → Result image signatures program input works b n w → w.end ≡ E.Running → n / cost image.code ≤ w.acts
 worked image signatures program input works b n w r running' = by_status r.status
   where
     by_status : ((v : Services) × (v.world ≡ w) × (w.end ≡ E.Running) × (p : Pausing image.code 0 (first_family image signatures input) (first_services signatures input) v) × (n ≤ p.to.count) × (u : Whole) × (after image signatures program input works b n ≡ Runs u) × (u.services.world ≡ w)) ⊎ ((u : Whole) × (after image signatures program input works b n ≡ Ended u) × (w.end ≢ E.Running)) → n / cost image.code ≤ w.acts
@@ -284,7 +286,7 @@ worked image signatures program input works b n w r running' = by_status r.statu
 more_acts : (n c m k : ℕ) → 0 < c → n / c ≤ k → (m + 1) * c ≤ n → m + 1 ≤ k
 more_acts n c m k p h i = let g : m + 1 ≤ n / c = (le-div_iff_mul-le p).1 i in omega (arith, g, h)
 
-keeps : (laws : Laws) (image : Picture) (signatures : List TableSignature) (program : Program) (input : List ℕ) (works : Works image signatures program) (b : Base) (n : ℕ) (w : World) → Result image signatures program input works b n w → Keeps program image input n w
+keeps : {limit : ℕ} (laws : Laws) (image : Picture) (signatures : List TableSignature) (program : Program) (input : List ℕ) (works : WorksWithin limit image signatures program) (b : Base) (n : ℕ) (w : World) → Result image signatures program input works b n w → Keeps program image input n w
 keeps laws image signatures program input works b n w r =
     record {
       meant = r.meant;
@@ -298,7 +300,7 @@ keeps laws image signatures program input works b n w r =
     }
 
 -- a run that goes on at one base, against a pause that comes as late at every base
-against : (image : Picture) (signatures : List TableSignature) (program : Program) (input : List ℕ) (works : Works image signatures program) (b : Base) (n : ℕ) (u : Whole) (v : Services) (p : Pausing image.code 0 (first_family image signatures input) (first_services signatures input) v) → after image signatures program input works b n ≡ Runs u → n ≤ p.to.count → (u.services.world.acts ≤ v.world.acts) × (v.world.acts ≤ u.services.world.acts → v.world ≡ u.services.world)
+against : {limit : ℕ} (image : Picture) (signatures : List TableSignature) (program : Program) (input : List ℕ) (works : WorksWithin limit image signatures program) (b : Base) (n : ℕ) (u : Whole) (v : Services) (p : Pausing image.code 0 (first_family image signatures input) (first_services signatures input) v) → after image signatures program input works b n ≡ Runs u → n ≤ p.to.count → (u.services.world.acts ≤ v.world.acts) × (v.world.acts ≤ u.services.world.acts → v.world ≡ u.services.world)
 unfolding after start
 against image signatures program input works b n u v p e h =
     let g = p.to.goes b in
@@ -308,7 +310,7 @@ against image signatures program input works b n u v p e h =
     (omega (arith, l.0, s), λ i. sym t ∙ l.1 (omega (arith, i, l.0, s)))
 
 -- a run that has ended at one base has ended before any pause that comes as late
-not_over : (image : Picture) (signatures : List TableSignature) (program : Program) (input : List ℕ) (works : Works image signatures program) (b : Base) (n : ℕ) (u : Whole) (v : Services) (p : Pausing image.code 0 (first_family image signatures input) (first_services signatures input) v) → after image signatures program input works b n ≡ Ended u → n ≤ p.to.count → ⊥
+not_over : {limit : ℕ} (image : Picture) (signatures : List TableSignature) (program : Program) (input : List ℕ) (works : WorksWithin limit image signatures program) (b : Base) (n : ℕ) (u : Whole) (v : Services) (p : Pausing image.code 0 (first_family image signatures input) (first_services signatures input) v) → after image signatures program input works b n ≡ Ended u → n ≤ p.to.count → ⊥
 unfolding after start
 not_over image signatures program input works b n u v p e h =
     let g = p.to.goes b in
@@ -320,7 +322,7 @@ both_ended laws program input w w' e f h i (inl l) = let j = ended_from laws pro
 both_ended laws program input w w' e f h i (inr l) = let j = ended_from laws program input w'.acts w.acts w' l f i in cc (j, e)
 
 -- two bases show the same
-same_anywhere : (laws : Laws) (image : Picture) (signatures : List TableSignature) (program : Program) (input : List ℕ) (works : Works image signatures program) (b c : Base) (n : ℕ) (w w' : World) → Result image signatures program input works b n w → Result image signatures program input works c n w' → w ≡ w'
+same_anywhere : {limit : ℕ} (laws : Laws) (image : Picture) (signatures : List TableSignature) (program : Program) (input : List ℕ) (works : WorksWithin limit image signatures program) (b c : Base) (n : ℕ) (w w' : World) → Result image signatures program input works b n w → Result image signatures program input works c n w' → w ≡ w'
 same_anywhere laws image signatures program input works b c n w w' r q = by_both r.status q.status
   where
     by_both : ((v : Services) × (v.world ≡ w) × (w.end ≡ E.Running) × (p : Pausing image.code 0 (first_family image signatures input) (first_services signatures input) v) × (n ≤ p.to.count) × (u : Whole) × (after image signatures program input works b n ≡ Runs u) × (u.services.world ≡ w)) ⊎ ((u : Whole) × (after image signatures program input works b n ≡ Ended u) × (w.end ≢ E.Running)) → ((v : Services) × (v.world ≡ w') × (w'.end ≡ E.Running) × (p : Pausing image.code 0 (first_family image signatures input) (first_services signatures input) v) × (n ≤ p.to.count) × (u : Whole) × (after image signatures program input works c n ≡ Runs u) × (u.services.world ≡ w')) ⊎ ((u : Whole) × (after image signatures program input works c n ≡ Ended u) × (w'.end ≢ E.Running)) → w ≡ w'
@@ -338,17 +340,23 @@ same_anywhere laws image signatures program input works b c n w w' r q = by_both
     by_both (inr x) (inr y) = both_ended laws program input w w' r.meant q.meant x.2 y.2 (cases_lt w.acts w'.acts)
 
 -- a program whose code works keeps the promise
-pub promised : (laws : Laws) (image : Picture) (signatures : List TableSignature) (program : Program) → Works image signatures program → Headline program image signatures
+pub promised_within : (limit : ℕ) (laws : Laws) (image : Picture) (signatures : List TableSignature) (program : Program) → WorksWithin limit image signatures program → limit ≤ 2 ^ 64 → HeadlineWithin limit program image signatures
 unfolding after start
-promised laws image signatures program works base input bound valid fits =
+promised_within limit laws image signatures program works low base input bound valid fits =
     let b : Base = record { at = base; valid = valid } in
     let r = result image signatures program input works b bound fits in
     record {
       world = r.0;
-      shows = ap shown_by (sym (same_runs bound (at_base image.code b) (first_family image signatures input b) (omega (arith, fits)))) ∙ r.1.shows;
+      shows = ap shown_by (sym (same_runs bound (at_base image.code b) (first_family image signatures input b) (omega (arith, fits, low)))) ∙ r.1.shows;
       keeps = keeps laws image signatures program input works b bound r.0 r.1;
       anywhere = λ other valid'.
           let c : Base = record { at = other; valid = valid' } in
           let q = result image signatures program input works c bound fits in
-          ap shown_by (sym (same_runs bound (at_base image.code c) (first_family image signatures input c) (omega (arith, fits)))) ∙ q.1.shows ∙ ap Some (sym (same_anywhere laws image signatures program input works b c bound r.0 q.0 r.1 q.1));
+          ap shown_by (sym (same_runs bound (at_base image.code c) (first_family image signatures input c) (omega (arith, fits, low)))) ∙ q.1.shows ∙ ap Some (sym (same_anywhere laws image signatures program input works b c bound r.0 q.0 r.1 q.1));
     }
+
+abbrev pub Works : Picture → List TableSignature → Program → Type 0
+Works image signatures program = WorksWithin (2 ^ 64) image signatures program
+
+pub promised : (laws : Laws) (image : Picture) (signatures : List TableSignature) (program : Program) → Works image signatures program → Headline program image signatures
+promised laws image signatures program works = promised_within (2 ^ 64) laws image signatures program works (omega arith)

@@ -158,6 +158,7 @@ comes laws program is fits input k room =
 works : (laws : Laws) (program : Y.Program) (is : IsProvedSoFar program) → FitsMemory (picture_of parts program) → Works (picture_of parts program) (table_of program) program
 works laws program is fits =
     record {
+      some = omega arith;
       comes = comes laws program is fits;
       first = λ input b. first_step_of (memory_for program) (first_services (table_of program) input) (block_in is) (placed_for program is fits).start b;
     }

@@ -1,6 +1,6 @@
 -- What a run of a source's image tells.
 use Rattle.std.proofs.Common.{◌≡◌, ◌≢◌, ℕ, ◌+◌, ◌^◌, ◌<◌, List, [], Some, Result, Ok, Err, inl, inr, refl, sym, ap, ◌∙◌}
-use Rattle.std.proofs.Common.{subst, arith}
+use Rattle.std.proofs.Common.{false, subst, arith}
 use Rattle.std.proofs.lemmas.Bool.{and_parts}
 use Rattle.rv_meaning.specs.Machine.{IsValidBase}
 use Rattle.rv_meaning.specs.Images as Images
@@ -20,8 +20,8 @@ use Rattle.pli_language.specs.declared.fault.SourceKind.TheVariants as SourceKin
 use Rattle.rv_program.specs.Generated.{IsCodeOf}
 use Rattle.pli_headline.specs.Headline.{parts, Headline, Keeps}
 use Rattle.pli_headline.proofs.PlainTables.{plain_table_fits}
-use Rattle.number_headlines.specs.Programs.{are_all_plain, has_main}
-use Rattle.number_headlines.proofs.Tables.{number_table_fits}
+use Rattle.number_headlines.specs.Programs.{are_all_known, are_all_plain, has_main}
+use Rattle.number_headlines.proofs.Tables.{all_known, number_table_fits}
 use Rattle.unit_numbers.specs.Programs.{has_unit_main}
 use Rattle.pli_compile.specs.Compiling.{IsImageFor, IsProved, IsRefused}
 use Rattle.pli_run.specs.Answering.{Answers, AnswersMeant, AnswersWith, IsUncompiledFor, ShowsPart, TellsRun}
@@ -44,10 +44,11 @@ table_fits : (program : Y.Program) → IsProved program → AreSignatures (table
 table_fits program (inl forms) = plain_table_fits program forms
 table_fits program (inr (inl numbers)) =
     number_table_fits program
-    (and_parts (are_all_plain program.variables) (has_main program program.procedures) numbers).0
+    (and_parts (are_all_known program.variables) (has_main false program program.procedures) numbers).0
 table_fits program (inr (inr units)) =
     number_table_fits program
-    (and_parts (are_all_plain program.variables) (has_unit_main program program.procedures) units).0
+    (all_known program.variables
+    (and_parts (are_all_plain program.variables) (has_unit_main program program.procedures) units).0)
 
 -- and so is its table
 own_table : (program : Y.Program) (image : Images.Image) → IsCodeOf program image → IsProved program →

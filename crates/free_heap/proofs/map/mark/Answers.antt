@@ -6,4 +6,5 @@ use Rattle.free_heap.proofs.map.mark.Goals as goal
 pub returns : goal.returns
 returns c =
     let at = 12 + c.args.place / 8 in
-    ap (λ v. slice_set c.args.bytes.now at v) (bit_set (c.args.place % 8) (slice_index c.args.bytes.now at) (omega arith))
+    ap (λ v. slice_set c.args.bytes.now at v) (bit_set (c.args.place % 8) (slice_index c.args.bytes.now at) (omega
+    arith))

@@ -11,7 +11,8 @@ overflow_cast-size c =
     let bytes = c.args.bytes.now in
     let header = c.in_ok-header.header in
     let f = c.in_ok-header.ensures {u = tt} in
-    let e : c.footprint-size.result ≡ footprint (word_at header bytes) = c.footprint-size.ensures ∙ ap footprint c.word_at.ensures in
+    let e : c.footprint-size.result ≡ footprint (word_at header bytes) = c.footprint-size.ensures ∙ ap footprint
+    c.word_at.ensures in
     let w = frees bytes c.args.offset c.args.signature header c.footprint-size.result c.requires f e in
     let b = (opened bytes c.requires).bounded in
     record { fits = omega (arith, w, b) }
@@ -21,7 +22,8 @@ joined-requires-clause-within c =
     let bytes = c.args.bytes.now in
     let header = c.in_ok-header.header in
     let f = c.in_ok-header.ensures {u = tt} in
-    let e : c.footprint-size.result ≡ footprint (word_at header bytes) = c.footprint-size.ensures ∙ ap footprint c.word_at.ensures in
+    let e : c.footprint-size.result ≡ footprint (word_at header bytes) = c.footprint-size.ensures ∙ ap footprint
+    c.word_at.ensures in
     frees bytes c.args.offset c.args.signature header c.footprint-size.result c.requires f e
 
 pub write-requires-clause-inside : goal.write-requires-clause-inside
@@ -29,9 +31,11 @@ write-requires-clause-inside c =
     let bytes = c.args.bytes.now in
     let header = c.in_ok-header.header in
     let f = c.in_ok-header.ensures {u = tt} in
-    let e : c.footprint-size.result ≡ footprint (word_at header bytes) = c.footprint-size.ensures ∙ ap footprint c.word_at.ensures in
+    let e : c.footprint-size.result ≡ footprint (word_at header bytes) = c.footprint-size.ensures ∙ ap footprint
+    c.word_at.ensures in
     let j = c.joined.result in
-    let w = joined_writable bytes c.args.offset c.args.signature header c.footprint-size.result j.before j.offset j.size j.link c.requires f e c.joined.ensures in
+    let w = joined_writable bytes c.args.offset c.args.signature header c.footprint-size.result j.before j.offset
+    j.size j.link c.requires f e c.joined.ensures in
     let s = f.stands in
     let q : header - c.args.offset ≡ front_for (capacity_in bytes) = omega (arith, s) in
     let i = w.inside in
@@ -42,9 +46,11 @@ write-requires-clause-place c =
     let bytes = c.args.bytes.now in
     let header = c.in_ok-header.header in
     let f = c.in_ok-header.ensures {u = tt} in
-    let e : c.footprint-size.result ≡ footprint (word_at header bytes) = c.footprint-size.ensures ∙ ap footprint c.word_at.ensures in
+    let e : c.footprint-size.result ≡ footprint (word_at header bytes) = c.footprint-size.ensures ∙ ap footprint
+    c.word_at.ensures in
     let j = c.joined.result in
-    let w = joined_writable bytes c.args.offset c.args.signature header c.footprint-size.result j.before j.offset j.size j.link c.requires f e c.joined.ensures in
+    let w = joined_writable bytes c.args.offset c.args.signature header c.footprint-size.result j.before j.offset
+    j.size j.link c.requires f e c.joined.ensures in
     let s = f.stands in
     let q : header - c.args.offset ≡ front_for (capacity_in bytes) = omega (arith, s) in
     subst (λ y. link_place y j.before + 4 ≤ length bytes) (sym q) w.place
@@ -54,9 +60,11 @@ write-requires-clause-small c =
     let bytes = c.args.bytes.now in
     let header = c.in_ok-header.header in
     let f = c.in_ok-header.ensures {u = tt} in
-    let e : c.footprint-size.result ≡ footprint (word_at header bytes) = c.footprint-size.ensures ∙ ap footprint c.word_at.ensures in
+    let e : c.footprint-size.result ≡ footprint (word_at header bytes) = c.footprint-size.ensures ∙ ap footprint
+    c.word_at.ensures in
     let j = c.joined.result in
-    let w = joined_writable bytes c.args.offset c.args.signature header c.footprint-size.result j.before j.offset j.size j.link c.requires f e c.joined.ensures in
+    let w = joined_writable bytes c.args.offset c.args.signature header c.footprint-size.result j.before j.offset
+    j.size j.link c.requires f e c.joined.ensures in
     let s = f.stands in
     let q : header - c.args.offset ≡ front_for (capacity_in bytes) = omega (arith, s) in
     w.small
