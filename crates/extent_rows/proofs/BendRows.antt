@@ -121,7 +121,8 @@ inner_from {more} g p numbers first =
     numbers first
 
 inner_number :
-    {more : ℕ} (g : Given more) (p first : Point) (numbers : ℕ → ℕ) → IsBegun (main_of_run g) → IsAmong (main_of_run g) numbers p →
+    {more : ℕ} (g : Given more) (p first : Point) (numbers : ℕ → ℕ) → IsBegun (main_of_run g) →
+    IsAmong (main_of_run g) numbers p →
     IsBegun (inner_from g p numbers first) → IsNumber (inner_from g p numbers first) bend_spot
 inner_number {more} g p first numbers b o b' =
     let k = main_of_run g in
@@ -155,7 +156,8 @@ inner_number {more} g p first numbers b o b' =
     }) b o (omega arith) refl refl (behind_number g.constants g.input (suc more))
 
 begun_system :
-    {more : ℕ} (g : Given more) (p : Point) (numbers : ℕ → ℕ) (condition : Condition) → IsAmong (main_of_run g) numbers p →
+    {more : ℕ} (g : Given more) (p : Point) (numbers : ℕ → ℕ) (condition : Condition) →
+    IsAmong (main_of_run g) numbers p →
     IsSystem (force (main_of_run g).first.state.activations condition) →
     IsSystem
     (force
@@ -233,7 +235,8 @@ room_there {more} g p numbers o =
 
 -- where the act of its extents has been made the block has begun, and knows the variable
 entered_there :
-    {more : ℕ} (g : Given more) (p : Point) (numbers : ℕ → ℕ) → IsAmong (main_of_run g) numbers p → p.state.world.acts < suc more →
+    {more : ℕ} (g : Given more) (p : Point) (numbers : ℕ → ℕ) → IsAmong (main_of_run g) numbers p →
+    p.state.world.acts < suc more →
     IsBegun (setting_there g p numbers).block
 entered_there {more} g p numbers o less =
     let w = around_it g in
@@ -353,7 +356,8 @@ bound_does {more} g p numbers b o q held taken credits index f among line regist
 -- ---- it fits, or passes the limit
 
 fits_there :
-    {more : ℕ} (g : Given more) (p : Point) (numbers : ℕ → ℕ) → IsAmong (main_of_run g) numbers p → (q : Point) (held : ℕ → ℕ)
+    {more : ℕ} (g : Given more) (p : Point) (numbers : ℕ → ℕ) → IsAmong (main_of_run g) numbers p →
+    (q : Point) (held : ℕ → ℕ)
     (upper : ℤ) → IsAmong (setting_there g p numbers).block held q → IsWide upper → int_le (pos 1) upper ≡ true →
     Fits (setting_there g p numbers).block (array_there g p numbers) upper q
     ⊎ Passes (setting_there g p numbers).block (array_there g p numbers) upper q
@@ -378,7 +382,8 @@ fits_there {more} g p numbers o q held upper among wide less =
     (λ e. subst (λ fs. IsFill fs (template_with x upper)) (sym few.1) (upper_fill upper wide less))
 
 array_is :
-    {more : ℕ} (g : Given more) (p : Point) (numbers : ℕ → ℕ) → IsBegun (main_of_run g) → IsAmong (main_of_run g) numbers p →
+    {more : ℕ} (g : Given more) (p : Point) (numbers : ℕ → ℕ) → IsBegun (main_of_run g) →
+    IsAmong (main_of_run g) numbers p →
     IsEvaluatedArray (inner_from g p numbers (acted 2 (start_there g p numbers))) (setting_there g p numbers)
     (array_there g p numbers) (start_there g p numbers) numbers
 array_is {more} g p numbers b o =
@@ -430,7 +435,8 @@ array_is {more} g p numbers b o =
 -- ---- the call
 
 array_made :
-    {more : ℕ} (g : Given more) (p : Point) (numbers : ℕ → ℕ) → IsBegun (main_of_run g) → IsAmong (main_of_run g) numbers p →
+    {more : ℕ} (g : Given more) (p : Point) (numbers : ℕ → ℕ) → IsBegun (main_of_run g) →
+    IsAmong (main_of_run g) numbers p →
     MakesUnpaid (Some (start_there g p numbers))
     (site_at (around_it g) (linked_code bend_code) (bend_callee more) p
     numbers) left_over (made_at (bend_callee more))
@@ -466,7 +472,8 @@ main_nested {more} g =
     record {
       own = refl;
       few = omega arith;
-      some = λ n less. subst (λ m. 0 < height_of (ancestor_at (main_of_run g).first.state m)) (none_below n less) (omega arith);
+      some = λ n less. subst (λ m. 0 < height_of (ancestor_at (main_of_run g).first.state m)) (none_below n less)
+          (omega arith);
       same = λ outer n less high. same_by outer n less high;
     }
   where

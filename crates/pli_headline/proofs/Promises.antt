@@ -1,5 +1,6 @@
 -- The promise to a program and its image, from what its code does at every number of acts.
-use Rattle.std.proofs.Common.{◌≡◌, ◌≢◌, ℕ, zero, suc, ◌+◌, ◌-◌, ◌*◌, ◌/◌, ◌^◌, ◌<◌, ◌≤◌, ◌⊎◌, inl, inr, List, Some, refl, sym, ap, ◌∙◌, subst, arith}
+use Rattle.std.proofs.Common.{◌≡◌, ◌≢◌, ℕ, zero, suc, ◌+◌, ◌-◌, ◌*◌, ◌/◌, ◌^◌, ◌<◌, ◌≤◌, ◌⊎◌, inl, inr, List, Some}
+use Rattle.std.proofs.Common.{refl, sym, ap, ◌∙◌, subst, arith}
 use Rattle.std.proofs.lemmas.Bool.{cases_lt}
 use Rattle.std.proofs.Math.Nat.{mul_comm, div-lt_iff_lt-mul, le-div_iff_mul-le}
 use Rattle.rv_meaning.specs.declared.instr.Fault.{Fault}
@@ -38,11 +39,19 @@ pub record Laws : Type 0 where
 -- ---- what comes at a number of acts
 
 -- the program pauses, and so does the code, or it ends, and so does the code
-pub data Comes_at (image : Picture) (signatures : List TableSignature) (program : Program) (input : List ℕ) (k : ℕ) : Type 0 where
-  pauses : (v : Services) → meaning program input k ≡ Some v.world → v.world.acts ≡ k → v.world.end ≡ E.Running → Pausing image.code 0 (first_family image signatures input) (first_services signatures input) v → Comes_at image signatures program input k
-  ends : (v : Services) → meaning program input k ≡ Some v.world → v.world.acts ≤ k → v.world.end ≢ E.Running → Ending image.code 0 (first_family image signatures input) (first_services signatures input) v → Comes_at image signatures program input k
+pub data Comes_at (image : Picture) (signatures : List TableSignature) (program : Program) (input : List ℕ)
+    (k : ℕ) : Type 0 where
+  pauses : (v : Services) → meaning program input k ≡ Some v.world → v.world.acts ≡ k → v.world.end ≡ E.Running →
+      Pausing image.code 0 (first_family image signatures input) (first_services signatures input) v →
+      Comes_at image signatures program input k
+  ends : (v : Services) → meaning program input k ≡ Some v.world → v.world.acts ≤ k → v.world.end ≢ E.Running →
+      Ending image.code 0 (first_family image signatures input) (first_services signatures input) v →
+      Comes_at image signatures program input k
 
-pub from_flow : (laws : Laws) (image : Picture) (signatures : List TableSignature) (program : Program) (input : List ℕ) (k : ℕ) (flow : Flow (Unit {0})) → meaning program input k ≡ M.shown flow → Comes image.code 0 (first_family image signatures input) (first_services signatures input) never flow → Comes_at image signatures program input k
+pub from_flow : (laws : Laws) (image : Picture) (signatures : List TableSignature) (program : Program)
+    (input : List ℕ) (k : ℕ) (flow : Flow (Unit {0})) → meaning program input k ≡ M.shown flow →
+    Comes image.code 0 (first_family image signatures input) (first_services signatures input) never flow →
+    Comes_at image signatures program input k
 from_flow laws image signatures program input k (Normal x s) e c = absurd c.to
 from_flow laws image signatures program input k (Jump height label s) e c = absurd c.to
 from_flow laws image signatures program input k (Return x s) e c = absurd c.to
@@ -55,17 +64,21 @@ from_flow laws image signatures program input k (Paused s) e c =
 from_flow laws image signatures program input k Stuck e c = absurd c.to
 
 -- a program whose code is proved to do what it means, for fewer acts than a limit
-pub record WorksWithin (limit : ℕ) (image : Picture) (signatures : List TableSignature) (program : Program) : Type 0 where
+pub record WorksWithin (limit : ℕ) (image : Picture) (signatures : List TableSignature)
+    (program : Program) : Type 0 where
   pub some : 1 < limit
   pub comes : (input : List ℕ) (k : ℕ) → k + 1 < limit → Comes_at image signatures program input k
-  pub first : (input : List ℕ) (b : Base) → (w : Whole) × (next (at_base image.code b) (first_family image signatures input b) ≡ Runs w) × (w.services ≡ first_services signatures input)
+  pub first : (input : List ℕ) (b : Base) → (w : Whole) ×
+      (next (at_base image.code b) (first_family image signatures input b) ≡ Runs w) ×
+      (w.services ≡ first_services signatures input)
 
 -- ---- one run against another length of it
 
 one_less : (n : ℕ) → suc n - n ≡ 1
 one_less n = omega arith
 
-module _ {limit : ℕ} (image : Picture) (signatures : List TableSignature) (program : Program) (input : List ℕ) (works : WorksWithin limit image signatures program) (b : Base) where
+module _ {limit : ℕ} (image : Picture) (signatures : List TableSignature) (program : Program) (input : List ℕ)
+    (works : WorksWithin limit image signatures program) (b : Base) where
   start : Whole
   start = first_family image signatures input b
 
@@ -77,26 +90,33 @@ module _ {limit : ℕ} (image : Picture) (signatures : List TableSignature) (pro
   unfolding after
   after_more m n h =
       let e : n ≡ m + (n - m) = omega arith in
-      ap (λ u. run_on u (at_base image.code b) (Runs start)) e ∙ run_on-add m (n - m) (at_base image.code b) (Runs start)
+      ap (λ u. run_on u (at_base image.code b) (Runs start)) e ∙
+      run_on-add m (n - m) (at_base image.code b) (Runs start)
 
   -- from a machine that runs on, what is shown later
   later : (m n : ℕ) (w : Whole) → m ≤ n → after m ≡ Runs w → Grows (n - m) w (after n)
   later m n w h e =
-      let f : run_on (n - m) (at_base image.code b) (Runs w) ≡ after n = ap (run_on (n - m) (at_base image.code b)) (sym e) ∙ sym (after_more m n h) in
+      let f : run_on (n - m) (at_base image.code b) (Runs w) ≡ after n =
+      ap (run_on (n - m) (at_base image.code b)) (sym e) ∙ sym (after_more m n h) in
       subst (Grows (n - m) w) f (runs_grow (n - m) (at_base image.code b) w)
 
   ended_later : (m n : ℕ) (w : Whole) → m ≤ n → after m ≡ Ended w → after n ≡ Ended w
-  ended_later m n w h e = after_more m n h ∙ ap (run_on (n - m) (at_base image.code b)) e ∙ run_on-ended (n - m) (at_base image.code b) w
+  ended_later m n w h e = after_more m n h ∙ ap (run_on (n - m) (at_base image.code b)) e ∙
+      run_on-ended (n - m) (at_base image.code b) w
 
   stopped_later : (m n : ℕ) (fault : Fault) → m ≤ n → after m ≡ Stopped fault → after n ≡ Stopped fault
-  stopped_later m n fault h e = after_more m n h ∙ ap (run_on (n - m) (at_base image.code b)) e ∙ run_on-stopped (n - m) (at_base image.code b) fault
+  stopped_later m n fault h e = after_more m n h ∙ ap (run_on (n - m) (at_base image.code b)) e ∙
+      run_on-stopped (n - m) (at_base image.code b) fault
 
   -- the first instruction makes no act, so that n instructions make fewer than n
-  few_by : (n : ℕ) (w : Whole) → next (at_base image.code b) start ≡ Runs w → w.services ≡ first_services signatures input → Grows n w (after (suc n))
+  few_by : (n : ℕ) (w : Whole) → next (at_base image.code b) start ≡ Runs w →
+      w.services ≡ first_services signatures input → Grows n w (after (suc n))
   unfolding after run_on
-  few_by n w e f = subst (λ r. Grows n w (run_on n (at_base image.code b) r)) (sym e) (runs_grow n (at_base image.code b) w)
+  few_by n w e f =
+      subst (λ r. Grows n w (run_on n (at_base image.code b) r)) (sym e) (runs_grow n (at_base image.code b) w)
 
-  few_runs : (n : ℕ) (w : Whole) → after n ≡ Runs w → (suc w.services.world.acts ≤ n) ⊎ ((n ≡ 0) × (w.services.world.acts ≡ 0))
+  few_runs : (n : ℕ) (w : Whole) → after n ≡ Runs w → (suc w.services.world.acts ≤ n) ⊎ ((n ≡ 0) ×
+      (w.services.world.acts ≡ 0))
   unfolding after run_on start
   few_runs zero w e =
       let P : Run → Type 0 = elim [ Runs x ↦ x.services.world.acts ≡ 0 | Ended x ↦ Unit {0} | Stopped x ↦ Unit {0} ] in
@@ -120,18 +140,27 @@ module _ {limit : ℕ} (image : Picture) (signatures : List TableSignature) (pro
   record Result (n : ℕ) (w : World) : Type 0 where
     shows : shown_by (after n) ≡ Some w
     meant : meaning program input w.acts ≡ Some w
-    status : ((v : Services) × (v.world ≡ w) × (w.end ≡ E.Running) × (p : Pausing image.code 0 (first_family image signatures input) (first_services signatures input) v) × (n ≤ p.to.count) × (u : Whole) × (after n ≡ Runs u) × (u.services.world ≡ w)) ⊎ ((u : Whole) × (after n ≡ Ended u) × (w.end ≢ E.Running))
+    status : ((v : Services) × (v.world ≡ w) × (w.end ≡ E.Running) ×
+        (p : Pausing image.code 0 (first_family image signatures input) (first_services signatures input) v) ×
+        (n ≤ p.to.count) × (u : Whole) × (after n ≡ Runs u) × (u.services.world ≡ w)) ⊎ ((u : Whole) ×
+        (after n ≡ Ended u) × (w.end ≢ E.Running))
 
   -- past a pause the acts are more
-  past_pause : (n m : ℕ) (w : Whole) (v : Services) (r : Run) → n < m → after n ≡ Runs w → next (at_base image.code b) w ≡ r → acts_of r ≡ Some (suc v.world.acts) → (u : Whole) → after m ≡ Runs u → u.services.world.acts ≡ v.world.acts → ⊥
+  past_pause : (n m : ℕ) (w : Whole) (v : Services) (r : Run) → n < m → after n ≡ Runs w →
+      next (at_base image.code b) w ≡ r → acts_of r ≡ Some (suc v.world.acts) → (u : Whole) → after m ≡ Runs u →
+      u.services.world.acts ≡ v.world.acts → ⊥
   unfolding after run_on start
   past_pause n m w v (Runs x) h e f a u g same =
-      let at : after (suc n) ≡ Runs x = after_more n (suc n) (omega arith) ∙ ap (λ k. run_on k (at_base image.code b) (after n)) (one_less n) ∙ ap (run_on 1 (at_base image.code b)) e ∙ f in
+      let at : after (suc n) ≡ Runs x = after_more n (suc n) (omega arith) ∙
+      ap (λ k. run_on k (at_base image.code b) (after n)) (one_less n) ∙
+      ap (run_on 1 (at_base image.code b)) e ∙ f in
       let l = subst (Grows (m - suc n) x) g (later (suc n) m x h at) in
       let i : x.services.world.acts ≡ suc v.world.acts = cc a in
       absurd (omega (arith, l.0, i, same))
   past_pause n m w v (Ended x) h e f a u g same =
-      let at : after (suc n) ≡ Ended x = after_more n (suc n) (omega arith) ∙ ap (λ k. run_on k (at_base image.code b) (after n)) (one_less n) ∙ ap (run_on 1 (at_base image.code b)) e ∙ f in
+      let at : after (suc n) ≡ Ended x = after_more n (suc n) (omega arith) ∙
+      ap (λ k. run_on k (at_base image.code b) (after n)) (one_less n) ∙
+      ap (run_on 1 (at_base image.code b)) e ∙ f in
       let l = ended_later (suc n) m x h at in
       absurd (cc (l, g))
   past_pause n m w v (Stopped x) h e f a u g same = absurd (cc a)
@@ -144,10 +173,14 @@ module _ {limit : ℕ} (image : Picture) (signatures : List TableSignature) (pro
   unfolding after start
   running n u bound e = by_few (few_runs n u e)
     where
-      by_pause : (v : Services) → meaning program input u.services.world.acts ≡ Some v.world → v.world.acts ≡ u.services.world.acts → v.world.end ≡ E.Running → (p : Pausing image.code 0 (first_family image signatures input) (first_services signatures input) v) → (p.to.count < n) ⊎ (n ≤ p.to.count) → Result n u.services.world
+      by_pause : (v : Services) → meaning program input u.services.world.acts ≡ Some v.world →
+          v.world.acts ≡ u.services.world.acts → v.world.end ≡ E.Running →
+          (p : Pausing image.code 0 (first_family image signatures input) (first_services signatures input) v) →
+          (p.to.count < n) ⊎ (n ≤ p.to.count) → Result n u.services.world
       by_pause v m a r p (inl h) =
           let g = p.to.goes b in
-          absurd (past_pause p.to.count n g.after v (next (at_base image.code b) g.after) h g.ran refl g.holds.act u e (sym a))
+          absurd (past_pause p.to.count n g.after v (next
+          (at_base image.code b) g.after) h g.ran refl g.holds.act u e (sym a))
       by_pause v m a r p (inr h) =
           let g = p.to.goes b in
           let l = subst (Grows (p.to.count - n) u) g.ran (later n p.to.count u h e) in
@@ -160,7 +193,9 @@ module _ {limit : ℕ} (image : Picture) (signatures : List TableSignature) (pro
             status = inl (v, w, ap (λ (x : World). x.end) (sym w) ∙ r, p, h, u, e, refl);
           }
 
-      by_end : (v : Services) → v.world.acts ≤ u.services.world.acts → (p : Ending image.code 0 (first_family image signatures input) (first_services signatures input) v) → (n < p.count) ⊎ (p.count ≤ n) → Result n u.services.world
+      by_end : (v : Services) → v.world.acts ≤ u.services.world.acts →
+          (p : Ending image.code 0 (first_family image signatures input) (first_services signatures input) v) →
+          (n < p.count) ⊎ (p.count ≤ n) → Result n u.services.world
       by_end v a p (inl h) =
           let g = p.goes b in
           let l = subst (Grows (p.count - n) u) g.ran (later n p.count u (omega (arith, h)) e) in
@@ -177,14 +212,18 @@ module _ {limit : ℕ} (image : Picture) (signatures : List TableSignature) (pro
 
       by_few : (suc u.services.world.acts ≤ n) ⊎ ((n ≡ 0) × (u.services.world.acts ≡ 0)) → Result n u.services.world
       by_few (inl h) = by_comes (works.comes input u.services.world.acts (omega (arith, h, bound)))
-      by_few (inr h) = by_comes (works.comes input u.services.world.acts (let z = h.1 in let some = works.some in omega (arith, z, some)))
+      by_few (inr h) = by_comes (works.comes input u.services.world.acts (let z = h.1 in let some =
+          works.some in omega (arith, z, some)))
 
   -- a run that has ended
   ended : (n : ℕ) (u : Whole) → n < limit → after n ≡ Ended u → Result n u.services.world
   unfolding after start
-  ended n u bound e = by_comes (works.comes input u.services.world.acts (let h = few_ended n u e in omega (arith, h, bound)))
+  ended n u bound e = by_comes (works.comes input u.services.world.acts (let h =
+      few_ended n u e in omega (arith, h, bound)))
     where
-      by_pause : (v : Services) → v.world.acts ≡ u.services.world.acts → (p : Pausing image.code 0 (first_family image signatures input) (first_services signatures input) v) → (p.to.count < n) ⊎ (n ≤ p.to.count) → Result n u.services.world
+      by_pause : (v : Services) → v.world.acts ≡ u.services.world.acts →
+          (p : Pausing image.code 0 (first_family image signatures input) (first_services signatures input) v) →
+          (p.to.count < n) ⊎ (n ≤ p.to.count) → Result n u.services.world
       by_pause v a p (inl h) =
           let g = p.to.goes b in
           let l = subst (Grows (n - p.to.count) g.after) e (later p.to.count n g.after (omega (arith, h)) g.ran) in
@@ -195,19 +234,34 @@ module _ {limit : ℕ} (image : Picture) (signatures : List TableSignature) (pro
           let l = ended_later n p.to.count u h e in
           absurd (cc (l, g.ran))
 
-      by_end : (v : Services) → meaning program input u.services.world.acts ≡ Some v.world → v.world.end ≢ E.Running → (p : Ending image.code 0 (first_family image signatures input) (first_services signatures input) v) → (n < p.count) ⊎ (p.count ≤ n) → Result n u.services.world
+      by_end : (v : Services) → meaning program input u.services.world.acts ≡ Some v.world →
+          v.world.end ≢ E.Running →
+          (p : Ending image.code 0 (first_family image signatures input) (first_services signatures input) v) →
+          (n < p.count) ⊎ (p.count ≤ n) → Result n u.services.world
       by_end v m r p (inl h) =
           let g = p.goes b in
           let l = ended_later n p.count u (omega (arith, h)) e in
           let same : u ≡ g.after = cc (l, g.ran) in
-          let w : v.world ≡ u.services.world = ap (λ (x : Services). x.world) (sym g.services) ∙ ap (λ (x : Whole). x.services.world) (sym same) in
-          record { shows = ap shown_by e; meant = m ∙ ap Some w; status = inr (u, e, subst (λ (x : World). x.end ≢ E.Running) w r) }
+          let w : v.world ≡ u.services.world = ap (λ (x : Services). x.world) (sym g.services) ∙
+          ap (λ (x : Whole). x.services.world) (sym same) in
+          record {
+            shows = ap shown_by e;
+            meant = m ∙ ap Some w;
+            status =
+                inr (u, e, subst (λ (x : World). x.end ≢ E.Running) w r);
+          }
       by_end v m r p (inr h) =
           let g = p.goes b in
           let l = ended_later p.count n g.after h g.ran in
           let same : u ≡ g.after = cc (l, e) in
-          let w : v.world ≡ u.services.world = ap (λ (x : Services). x.world) (sym g.services) ∙ ap (λ (x : Whole). x.services.world) (sym same) in
-          record { shows = ap shown_by e; meant = m ∙ ap Some w; status = inr (u, e, subst (λ (x : World). x.end ≢ E.Running) w r) }
+          let w : v.world ≡ u.services.world = ap (λ (x : Services). x.world) (sym g.services) ∙
+          ap (λ (x : Whole). x.services.world) (sym same) in
+          record {
+            shows = ap shown_by e;
+            meant = m ∙ ap Some w;
+            status =
+                inr (u, e, subst (λ (x : World). x.end ≢ E.Running) w r);
+          }
 
       by_comes : Comes_at image signatures program input u.services.world.acts → Result n u.services.world
       by_comes (pauses v m a r p) = by_pause v a p (cases_lt p.to.count n)
@@ -219,8 +273,11 @@ module _ {limit : ℕ} (image : Picture) (signatures : List TableSignature) (pro
   never_stops zero fault bound e = cc e
   never_stops (suc m) fault bound e = by_comes (works.comes input m (omega (arith, bound)))
     where
-      by_count : (v : Services) → v.world.acts ≡ m → (p : Pausing image.code 0 (first_family image signatures input) (first_services signatures input) v) → (suc m ≤ p.to.count) ⊎ ((p.to.count ≡ 0) × (m ≡ 0)) → ⊥
-      by_count v a p (inl h) = let l = stopped_later (suc m) p.to.count fault h e in let g = p.to.goes b in cc (l, g.ran)
+      by_count : (v : Services) → v.world.acts ≡ m →
+          (p : Pausing image.code 0 (first_family image signatures input) (first_services signatures input) v) →
+          (suc m ≤ p.to.count) ⊎ ((p.to.count ≡ 0) × (m ≡ 0)) → ⊥
+      by_count v a p (inl h) = let l = stopped_later (suc m) p.to.count fault h e in let g =
+          p.to.goes b in cc (l, g.ran)
       by_count v a p (inr h) =
           let f = works.first input b in
           let z = h.1 in
@@ -228,16 +285,24 @@ module _ {limit : ℕ} (image : Picture) (signatures : List TableSignature) (pro
           let l : after 1 ≡ Stopped fault = subst (λ k. after (suc k) ≡ Stopped fault) z e in
           cc (at, l)
 
-      few : (v : Services) → v.world.acts ≡ m → (p : Pausing image.code 0 (first_family image signatures input) (first_services signatures input) v) → (suc (p.to.goes b).after.services.world.acts ≤ p.to.count) ⊎ ((p.to.count ≡ 0) × ((p.to.goes b).after.services.world.acts ≡ 0)) → (suc m ≤ p.to.count) ⊎ ((p.to.count ≡ 0) × (m ≡ 0))
-      few v a p (inl h) = let s = ap (λ (x : Services). x.world.acts) (p.to.goes b).holds.services in inl (omega (arith, h, s, a))
-      few v a p (inr h) = let s = ap (λ (x : Services). x.world.acts) (p.to.goes b).holds.services in inr (h.0, sym a ∙ sym s ∙ h.1)
+      few : (v : Services) → v.world.acts ≡ m →
+          (p : Pausing image.code 0 (first_family image signatures input) (first_services signatures input) v) →
+          (suc (p.to.goes b).after.services.world.acts ≤ p.to.count) ⊎ ((p.to.count ≡ 0) ×
+          ((p.to.goes b).after.services.world.acts ≡ 0)) → (suc m ≤ p.to.count) ⊎ ((p.to.count ≡ 0) × (m ≡ 0))
+      few v a p (inl h) = let s =
+          ap (λ (x : Services). x.world.acts) (p.to.goes b).holds.services in inl (omega (arith, h, s, a))
+      few v a p (inr h) = let s =
+          ap (λ (x : Services). x.world.acts) (p.to.goes b).holds.services in inr (h.0, sym a ∙ sym s ∙ h.1)
 
-      by_end : (v : Services) (p : Ending image.code 0 (first_family image signatures input) (first_services signatures input) v) → (suc m < p.count) ⊎ (p.count ≤ suc m) → ⊥
-      by_end v p (inl h) = let l = stopped_later (suc m) p.count fault (omega (arith, h)) e in let g = p.goes b in cc (l, g.ran)
+      by_end : (v : Services) (p : Ending image.code 0 (first_family image signatures input)
+          (first_services signatures input) v) → (suc m < p.count) ⊎ (p.count ≤ suc m) → ⊥
+      by_end v p (inl h) = let l = stopped_later (suc m) p.count fault (omega (arith, h)) e in let g =
+          p.goes b in cc (l, g.ran)
       by_end v p (inr h) = let g = p.goes b in let l = ended_later p.count (suc m) g.after h g.ran in cc (l, e)
 
       by_comes : Comes_at image signatures program input m → ⊥
-      by_comes (pauses v q a r p) = by_count v a p (few v a p (few_runs p.to.count (p.to.goes b).after (p.to.goes b).ran))
+      by_comes (pauses v q a r p) =
+          by_count v a p (few v a p (few_runs p.to.count (p.to.goes b).after (p.to.goes b).ran))
       by_comes (ends v q a r p) = by_end v p (cases_lt (suc m) p.count)
 
   -- what a run of n instructions comes to
@@ -251,13 +316,16 @@ module _ {limit : ℕ} (image : Picture) (signatures : List TableSignature) (pro
 
 -- ---- the promise
 
-ended_by : (laws : Laws) (program : Program) (input : List ℕ) (m k : ℕ) (w : World) → meaning program input m ≡ Some w → w.end ≢ E.Running → m ≤ suc k → (m ≤ k → meaning program input k ≡ Some w) → (m < suc k) ⊎ (suc k ≤ m) → meaning program input (suc k) ≡ Some w
+ended_by : (laws : Laws) (program : Program) (input : List ℕ) (m k : ℕ) (w : World) →
+    meaning program input m ≡ Some w → w.end ≢ E.Running → m ≤ suc k → (m ≤ k → meaning program input k ≡ Some w) →
+    (m < suc k) ⊎ (suc k ≤ m) → meaning program input (suc k) ≡ Some w
 ended_by laws program input m k w e r h ih (inl i) = laws.stays program input k w (ih (omega arith)) r
 ended_by laws program input m k w e r h ih (inr i) =
     let z : m ≡ suc k = omega arith in
     subst (λ n. meaning program input n ≡ Some w) z e
 
-ended_from : (laws : Laws) (program : Program) (input : List ℕ) (m k : ℕ) (w : World) → m ≤ k → meaning program input m ≡ Some w → w.end ≢ E.Running → meaning program input k ≡ Some w
+ended_from : (laws : Laws) (program : Program) (input : List ℕ) (m k : ℕ) (w : World) → m ≤ k →
+    meaning program input m ≡ Some w → w.end ≢ E.Running → meaning program input k ≡ Some w
 ended_from laws program input m zero w h e r =
     let z : m ≡ 0 = omega arith in
     subst (λ n. meaning program input n ≡ Some w) z e
@@ -271,10 +339,16 @@ quotient_below n c k p h =
     let g : n / c < k + 1 = (div-lt_iff_lt-mul p).1 f in
     omega (arith, g)
 
-worked : {limit : ℕ} (image : Picture) (signatures : List TableSignature) (program : Program) (input : List ℕ) (works : WorksWithin limit image signatures program) (b : Base) (n : ℕ) (w : World) → Result image signatures program input works b n w → w.end ≡ E.Running → n / cost image.code ≤ w.acts
+worked : {limit : ℕ} (image : Picture) (signatures : List TableSignature) (program : Program) (input : List ℕ)
+    (works : WorksWithin limit image signatures program) (b : Base) (n : ℕ) (w : World) →
+    Result image signatures program input works b n w → w.end ≡ E.Running → n / cost image.code ≤ w.acts
 worked image signatures program input works b n w r running' = by_status r.status
   where
-    by_status : ((v : Services) × (v.world ≡ w) × (w.end ≡ E.Running) × (p : Pausing image.code 0 (first_family image signatures input) (first_services signatures input) v) × (n ≤ p.to.count) × (u : Whole) × (after image signatures program input works b n ≡ Runs u) × (u.services.world ≡ w)) ⊎ ((u : Whole) × (after image signatures program input works b n ≡ Ended u) × (w.end ≢ E.Running)) → n / cost image.code ≤ w.acts
+    by_status : ((v : Services) × (v.world ≡ w) × (w.end ≡ E.Running) ×
+        (p : Pausing image.code 0 (first_family image signatures input) (first_services signatures input) v) ×
+        (n ≤ p.to.count) × (u : Whole) × (after image signatures program input works b n ≡ Runs u) ×
+        (u.services.world ≡ w)) ⊎ ((u : Whole) × (after image signatures program input works b n ≡ Ended u) ×
+        (w.end ≢ E.Running)) → n / cost image.code ≤ w.acts
     by_status (inl h) =
         let p = h.3 in
         let a = ap (λ (x : World). x.acts) h.1 in
@@ -286,7 +360,9 @@ worked image signatures program input works b n w r running' = by_status r.statu
 more_acts : (n c m k : ℕ) → 0 < c → n / c ≤ k → (m + 1) * c ≤ n → m + 1 ≤ k
 more_acts n c m k p h i = let g : m + 1 ≤ n / c = (le-div_iff_mul-le p).1 i in omega (arith, g, h)
 
-keeps : {limit : ℕ} (laws : Laws) (image : Picture) (signatures : List TableSignature) (program : Program) (input : List ℕ) (works : WorksWithin limit image signatures program) (b : Base) (n : ℕ) (w : World) → Result image signatures program input works b n w → Keeps program image input n w
+keeps : {limit : ℕ} (laws : Laws) (image : Picture) (signatures : List TableSignature) (program : Program)
+    (input : List ℕ) (works : WorksWithin limit image signatures program) (b : Base) (n : ℕ) (w : World) →
+    Result image signatures program input works b n w → Keeps program image input n w
 keeps laws image signatures program input works b n w r =
     record {
       meant = r.meant;
@@ -300,7 +376,11 @@ keeps laws image signatures program input works b n w r =
     }
 
 -- a run that goes on at one base, against a pause that comes as late at every base
-against : {limit : ℕ} (image : Picture) (signatures : List TableSignature) (program : Program) (input : List ℕ) (works : WorksWithin limit image signatures program) (b : Base) (n : ℕ) (u : Whole) (v : Services) (p : Pausing image.code 0 (first_family image signatures input) (first_services signatures input) v) → after image signatures program input works b n ≡ Runs u → n ≤ p.to.count → (u.services.world.acts ≤ v.world.acts) × (v.world.acts ≤ u.services.world.acts → v.world ≡ u.services.world)
+against : {limit : ℕ} (image : Picture) (signatures : List TableSignature) (program : Program) (input : List ℕ)
+    (works : WorksWithin limit image signatures program) (b : Base) (n : ℕ) (u : Whole) (v : Services)
+    (p : Pausing image.code 0 (first_family image signatures input) (first_services signatures input) v) →
+    after image signatures program input works b n ≡ Runs u → n ≤ p.to.count →
+    (u.services.world.acts ≤ v.world.acts) × (v.world.acts ≤ u.services.world.acts → v.world ≡ u.services.world)
 unfolding after start
 against image signatures program input works b n u v p e h =
     let g = p.to.goes b in
@@ -310,22 +390,39 @@ against image signatures program input works b n u v p e h =
     (omega (arith, l.0, s), λ i. sym t ∙ l.1 (omega (arith, i, l.0, s)))
 
 -- a run that has ended at one base has ended before any pause that comes as late
-not_over : {limit : ℕ} (image : Picture) (signatures : List TableSignature) (program : Program) (input : List ℕ) (works : WorksWithin limit image signatures program) (b : Base) (n : ℕ) (u : Whole) (v : Services) (p : Pausing image.code 0 (first_family image signatures input) (first_services signatures input) v) → after image signatures program input works b n ≡ Ended u → n ≤ p.to.count → ⊥
+not_over : {limit : ℕ} (image : Picture) (signatures : List TableSignature) (program : Program) (input : List ℕ)
+    (works : WorksWithin limit image signatures program) (b : Base) (n : ℕ) (u : Whole) (v : Services)
+    (p : Pausing image.code 0 (first_family image signatures input) (first_services signatures input) v) →
+    after image signatures program input works b n ≡ Ended u → n ≤ p.to.count → ⊥
 unfolding after start
 not_over image signatures program input works b n u v p e h =
     let g = p.to.goes b in
     let l = ended_later image signatures program input works b n p.to.count u h e in
     cc (l, g.ran)
 
-both_ended : (laws : Laws) (program : Program) (input : List ℕ) (w w' : World) → meaning program input w.acts ≡ Some w → meaning program input w'.acts ≡ Some w' → w.end ≢ E.Running → w'.end ≢ E.Running → (w.acts < w'.acts) ⊎ (w'.acts ≤ w.acts) → w ≡ w'
-both_ended laws program input w w' e f h i (inl l) = let j = ended_from laws program input w.acts w'.acts w (omega arith) e h in cc (j, f)
-both_ended laws program input w w' e f h i (inr l) = let j = ended_from laws program input w'.acts w.acts w' l f i in cc (j, e)
+both_ended : (laws : Laws) (program : Program) (input : List ℕ) (w w' : World) →
+    meaning program input w.acts ≡ Some w → meaning program input w'.acts ≡ Some w' → w.end ≢ E.Running →
+    w'.end ≢ E.Running → (w.acts < w'.acts) ⊎ (w'.acts ≤ w.acts) → w ≡ w'
+both_ended laws program input w w' e f h i (inl l) = let j =
+    ended_from laws program input w.acts w'.acts w (omega arith) e h in cc (j, f)
+both_ended laws program input w w' e f h i (inr l) = let j =
+    ended_from laws program input w'.acts w.acts w' l f i in cc (j, e)
 
 -- two bases show the same
-same_anywhere : {limit : ℕ} (laws : Laws) (image : Picture) (signatures : List TableSignature) (program : Program) (input : List ℕ) (works : WorksWithin limit image signatures program) (b c : Base) (n : ℕ) (w w' : World) → Result image signatures program input works b n w → Result image signatures program input works c n w' → w ≡ w'
+same_anywhere : {limit : ℕ} (laws : Laws) (image : Picture) (signatures : List TableSignature) (program : Program)
+    (input : List ℕ) (works : WorksWithin limit image signatures program) (b c : Base) (n : ℕ) (w w' : World) →
+    Result image signatures program input works b n w → Result image signatures program input works c n w' → w ≡ w'
 same_anywhere laws image signatures program input works b c n w w' r q = by_both r.status q.status
   where
-    by_both : ((v : Services) × (v.world ≡ w) × (w.end ≡ E.Running) × (p : Pausing image.code 0 (first_family image signatures input) (first_services signatures input) v) × (n ≤ p.to.count) × (u : Whole) × (after image signatures program input works b n ≡ Runs u) × (u.services.world ≡ w)) ⊎ ((u : Whole) × (after image signatures program input works b n ≡ Ended u) × (w.end ≢ E.Running)) → ((v : Services) × (v.world ≡ w') × (w'.end ≡ E.Running) × (p : Pausing image.code 0 (first_family image signatures input) (first_services signatures input) v) × (n ≤ p.to.count) × (u : Whole) × (after image signatures program input works c n ≡ Runs u) × (u.services.world ≡ w')) ⊎ ((u : Whole) × (after image signatures program input works c n ≡ Ended u) × (w'.end ≢ E.Running)) → w ≡ w'
+    by_both : ((v : Services) × (v.world ≡ w) × (w.end ≡ E.Running) ×
+        (p : Pausing image.code 0 (first_family image signatures input) (first_services signatures input) v) ×
+        (n ≤ p.to.count) × (u : Whole) × (after image signatures program input works b n ≡ Runs u) ×
+        (u.services.world ≡ w)) ⊎ ((u : Whole) × (after image signatures program input works b n ≡ Ended u) ×
+        (w.end ≢ E.Running)) → ((v : Services) × (v.world ≡ w') × (w'.end ≡ E.Running) ×
+        (p : Pausing image.code 0 (first_family image signatures input) (first_services signatures input) v) ×
+        (n ≤ p.to.count) × (u : Whole) × (after image signatures program input works c n ≡ Runs u) ×
+        (u.services.world ≡ w')) ⊎ ((u : Whole) × (after image signatures program input works c n ≡ Ended u) ×
+        (w'.end ≢ E.Running)) → w ≡ w'
     by_both (inl x) (inl y) =
         let f = against image signatures program input works b n x.5 y.0 y.3 x.6 y.4 in
         let g = against image signatures program input works c n y.5 x.0 x.3 y.6 x.4 in
@@ -340,23 +437,30 @@ same_anywhere laws image signatures program input works b c n w w' r q = by_both
     by_both (inr x) (inr y) = both_ended laws program input w w' r.meant q.meant x.2 y.2 (cases_lt w.acts w'.acts)
 
 -- a program whose code works keeps the promise
-pub promised_within : (limit : ℕ) (laws : Laws) (image : Picture) (signatures : List TableSignature) (program : Program) → WorksWithin limit image signatures program → limit ≤ 2 ^ 64 → HeadlineWithin limit program image signatures
+pub promised_within : (limit : ℕ) (laws : Laws) (image : Picture) (signatures : List TableSignature)
+    (program : Program) → WorksWithin limit image signatures program → limit ≤ 2 ^ 64 →
+    HeadlineWithin limit program image signatures
 unfolding after start
 promised_within limit laws image signatures program works low base input bound valid fits =
     let b : Base = record { at = base; valid = valid } in
     let r = result image signatures program input works b bound fits in
     record {
       world = r.0;
-      shows = ap shown_by (sym (same_runs bound (at_base image.code b) (first_family image signatures input b) (omega (arith, fits, low)))) ∙ r.1.shows;
+      shows = ap shown_by (sym (same_runs bound (at_base image.code b) (first_family image signatures input b)
+          (omega (arith, fits, low)))) ∙ r.1.shows;
       keeps = keeps laws image signatures program input works b bound r.0 r.1;
       anywhere = λ other valid'.
           let c : Base = record { at = other; valid = valid' } in
           let q = result image signatures program input works c bound fits in
-          ap shown_by (sym (same_runs bound (at_base image.code c) (first_family image signatures input c) (omega (arith, fits, low)))) ∙ q.1.shows ∙ ap Some (sym (same_anywhere laws image signatures program input works b c bound r.0 q.0 r.1 q.1));
+          ap shown_by (sym (same_runs bound (at_base image.code c) (first_family image signatures input c) (omega
+          (arith, fits, low)))) ∙ q.1.shows ∙
+          ap Some (sym (same_anywhere laws image signatures program input works b c bound r.0 q.0 r.1 q.1));
     }
 
 abbrev pub Works : Picture → List TableSignature → Program → Type 0
 Works image signatures program = WorksWithin (2 ^ 64) image signatures program
 
-pub promised : (laws : Laws) (image : Picture) (signatures : List TableSignature) (program : Program) → Works image signatures program → Headline program image signatures
-promised laws image signatures program works = promised_within (2 ^ 64) laws image signatures program works (omega arith)
+pub promised : (laws : Laws) (image : Picture) (signatures : List TableSignature) (program : Program) →
+    Works image signatures program → Headline program image signatures
+promised laws image signatures program works =
+    promised_within (2 ^ 64) laws image signatures program works (omega arith)
